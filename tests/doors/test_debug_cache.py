@@ -37,21 +37,21 @@ class Kept(Case):
     def files(self) -> List[Path]:
         return sorted(self.cache.glob("*.debug"))
 
-    def kept(self) -> Path:
+    def kept_file(self) -> Path:
         """The file that a first load leaves."""
         self.assertIn(ANSWER, self.asked().output)
         self.assertEqual(len(self.files()), 1)
         return self.files()[0]
 
     def test_it_is_used_again(self) -> None:
-        made = self.kept()
+        made = self.kept_file()
         before = made.stat()
         self.assertIn(ANSWER, self.asked().output)
         self.assertEqual(made.stat().st_ino, before.st_ino)
         subprocess.run(["objdump", "-h", str(made)], check=True, capture_output=True)
 
     def test_a_truncated_one(self) -> None:
-        made = self.kept()
+        made = self.kept_file()
         whole = made.read_bytes()
         for length in (len(whole) - 1, len(whole) // 2, 64, 8, 0):
             made.write_bytes(whole[:length])
@@ -60,7 +60,7 @@ class Kept(Case):
             self.assertEqual(made.read_bytes(), whole, length)
 
     def test_a_changed_one(self) -> None:
-        made = self.kept()
+        made = self.kept_file()
         whole = made.read_bytes()
         for at in (0, 20, len(whole) // 3, len(whole) - 1):
             made.write_bytes(whole[:at] + bytes([whole[at] ^ 0xFF]) + whole[at + 1:])
@@ -97,13 +97,13 @@ class Kept(Case):
 
     def test_what_a_crash_has_left(self) -> None:
         """A file that was never written to its end goes, once nobody can be writing it."""
-        self.kept().unlink()
+        self.kept_file().unlink()
         old, new = self.cache / ".new-old", self.cache / ".new-new"
         for path in (old, new):
             path.write_bytes(b"half")
         day = time.time() - 86_400
         os.utime(old, (day, day))
-        self.kept()
+        self.kept_file()
         self.assertFalse(old.exists())
         self.assertTrue(new.exists())
 

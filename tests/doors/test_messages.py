@@ -20,7 +20,7 @@ class Messages(Case):
         self.assert_tame(done, path.name)
         return done
 
-    def made(self, data: bytes, name: str = "made.o") -> Path:
+    def object_of(self, data: bytes, name: str = "made.o") -> Path:
         path = self.folder / name
         path.write_bytes(data)
         return path
@@ -30,13 +30,13 @@ class Messages(Case):
         unknown = "an unknown abbreviation code"  # as gimli has it
         for entries, says in ((TOP + b"\x63", "an entry of abbreviation 99, which is not there"),
                               (TOP[:1], "cut off|the end of input"), (b"\2", "abbreviation 2,")):
-            done = self.converted(self.made(w.debug(w.unit(entries), listed)))
+            done = self.converted(self.object_of(w.debug(w.unit(entries), listed)))
             self.assertEqual(done.status, 2, done.text)
             self.assertRegex(done.errors, f"{says}|{unknown}")
             self.assertIn("damaged", done.errors)
             self.assertNotRegex(done.errors, PYTHON)
         odd = w.abbreviation(1, 0x11, True, [(0x11, 0x01)]) + b"\0"
-        done = self.converted(self.made(w.debug(w.unit(TOP, address=3), odd)))
+        done = self.converted(self.object_of(w.debug(w.unit(TOP, address=3), odd)))
         self.assertRegex(done.errors, "addresses of 3 bytes|address size is not supported")
 
     def test_what_the_system_refuses(self) -> None:
@@ -69,7 +69,7 @@ class Messages(Case):
         self.assertEqual(done.status, 2)
         self.assertRegex(done.errors, "--dictionary 7 .* read from DWARF: leave it out")
         types = struct.pack("<I", 0x01000020)
-        bare = self.made(w.btf(w.btf_type(1, 1, 0, 4, types), b"\0int\0"), "bare.btf")
+        bare = self.object_of(w.btf(w.btf_type(1, 1, 0, 4, types), b"\0int\0"), "bare.btf")
         self.assertRegex(self.converted(bare, "--dictionary", "1").errors, "from BTF: leave it")
 
     def test_what_matters_comes_first(self) -> None:

@@ -61,7 +61,7 @@ def run(command: Path, words: Words, inputs: Path, service: str) -> Ended:
         return Ended(done.returncode, errors, files)
 
 
-def made(folder: Path) -> Iterator[Words]:
+def compiled_cases(folder: Path) -> Iterator[Words]:
     """Files of compilers and what goes with them, and the words to convert each."""
     code = SOURCE.read_text()
     (folder / "types.c").write_text(code)
@@ -215,7 +215,7 @@ def main() -> int:
     wrong = count = 0
     with tempfile.TemporaryDirectory() as made_in:
         folder = Path(made_in)
-        cases = [*made(folder), *installed()]
+        cases = [*compiled_cases(folder), *installed()]
         cases += damaged(folder, DAMAGED * (10 if "--all" in sys.argv else 1))
 
         def pair(words: Words) -> tuple[Words, Ended, Ended]:

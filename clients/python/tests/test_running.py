@@ -14,7 +14,7 @@ LUA = str(EXAMPLES / "lua.ctf")
 
 @unittest.skipUnless(PROGRAM, "CTFD names no built service")
 class Bugs(unittest.TestCase):
-    def told(self, trace: str) -> str:
+    def refusal_text(self, trace: str) -> str:
         """What `ctfd-convert` and `ctfd-types` say of an error that nobody thought of."""
         errors = io.StringIO()
         with mock.patch("ctfd.convert.inputs._form", side_effect=ZeroDivisionError("one\n two")), \
@@ -26,7 +26,7 @@ class Bugs(unittest.TestCase):
         return errors.getvalue()
 
     def test_a_bug_is_ours(self) -> None:
-        lines = self.told("").splitlines()
+        lines = self.refusal_text("").splitlines()
         self.assertEqual(len(lines), 2)
         self.assertRegex(lines[0], r"^ctfd-convert: .*lua\.ctf: a bug in ctfd [\d.]+"
                                    r" \(ZeroDivisionError: one two\): please report it "
@@ -35,7 +35,7 @@ class Bugs(unittest.TestCase):
         self.assertNotIn("damaged", "".join(lines))
 
     def test_where_it_is_can_be_seen(self) -> None:
-        told = self.told("1")
+        told = self.refusal_text("1")
         self.assertEqual(told.count("Traceback (most recent call last)"), 2)
 
     def test_what_the_system_refuses(self) -> None:
