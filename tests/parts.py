@@ -109,7 +109,7 @@ def parts(program: str) -> list[Part]:
         Part("names", ["tests/names.py"]),
         Part("pages", ["tests/pages.py"]),
         Part("reading", ["tests/reading.py"]),
-        Part("faults", ["tests/faults.py"]),
+        Part("faults", ["scripts/faults.py", "--check"]),
         Part("refusals", ["tests/refusals.py"]),
         Part("lists_refused", ["tests/lists_refused.py", program], after=of_library),
         Part("edits", ["tests/further_edits.py", "--apply"]),

@@ -151,8 +151,8 @@ static inline const char *ctfd_status_name(unsigned status)
         "NotFound", "BadSyntax", "NoSymbol", "NotData", "NotFunction", "NoInfo", "NoLabel",
         "BadRef", "Full", "Duplicate", "Settled", "VlenFull", "DeepMember", "BadOffset",
         "NameHasZero", "DictTooBig", "ShortMemory", "NoSlot", "SlotsFull", "StageFull", "ReadOnly",
-        "NameTaken", "NotPublished", "NotUpdated", "LongReply", "NotJson", "BadRequest",
-        "LongLine", "ModelDiffers", "QuotaFull", "FixedParent"
+        "NameTaken", "NotPublished", "NotUpdated", "LongReply", "NotJson", "BadRequest", "LongLine",
+        "ModelDiffers", "QuotaFull", "FixedParent"
     };
     return status < sizeof names / sizeof names[0] ? names[status] : "";
 }

@@ -102,11 +102,12 @@ _BY_CODE: Dict[int, Type[Refused]] = {
 
 ADVICE: Dict[str, str] = {
     "Memory": "ask again, close what is not needed, or start the service with a higher limit",
-    "TooShort": "fewer than 4 bytes were handed in: is the file empty?",
-    "BadMagic": "not the start of a CTF section: f2df is GNU's CTF, 7f454c46 a whole ELF file,"
-    " cff1 big-endian CTF, and none of these is read",
+    "TooShort": "is the file empty?",
+    "BadMagic":
+        "not the start of a CTF section: f2df is GNU's CTF, 7f454c46 a whole ELF file, cff1 "
+        "big-endian CTF, and none of these is read",
     "BadVersion": "only version 2 is read: convert the program's DWARF by a tool that writes it",
-    "Compressed": "inflate the body and clear bit 0 of byte 3, as ctfd.files.source.inflate does",
+    "Compressed": "inflate what follows the header and clear bit 0 of byte 3, as ctfd-convert does",
     "ShortHeader": "the header has 36 bytes: the file is cut off",
     "BadOrder": "the header is damaged, or the body is compressed and its flag was cleared",
     "BadAlign": "the header is damaged, or the body is compressed and its flag was cleared",
@@ -115,19 +116,19 @@ ADVICE: Dict[str, str] = {
     "Truncated": "the bytes at that record are no type: damage, or an extension of the format",
     "BadKind": "the bytes at that record are no type: damage, or an extension of the format",
     "TooMany": "more types than the format has numbers: split it into a parent and a child",
-    "BadName": "a name is in no string table: hand in the strings of the program's symbol table,"
-    " .strtab of the very file that has the section",
+    "BadName":
+        "a name is in no string table: hand in the strings of the program's symbol table, .strtab "
+        "of the very file that has the section",
     "BadReference": "a record names a type that is not there: damage, or a child without parname",
     "ValueDeep": "a value holds itself, or 512 others in each other: no C program has that",
     "DeclDeep": "a declaration goes on for more than 512 steps: no C program has that",
     "BadFuncs": "is this the symbol table that the section was written for? Else leave it out",
     "BadSymbolType": "is this the symbol table that the section was written for? Else leave it out",
-    "BadSymtab": "a symbol table is a list of 24 bytes each: this is none, or it is cut off, or it"
-    " is one of 32 bits, which is not read",
+    "BadSymtab":
+        "a symbol table is a list of 24 bytes each: this is none, or it is cut off, or it is one of"
+        " 32 bits, which is not read",
     "NotChild": "the dictionary names no parent and needs none: were the two swapped?",
     "ParentIsChild": "a parent has no parent itself: is this the file that the child names?",
-    "ModelDiffers": "child and parent are of programs whose pointers differ in size: open both with"
-    " the data model of the one that they belong to",
     "ParentShort": "the child names more types than this parent has: it is not its parent",
     "NoParent": "open the parent's file too and import it",
     "NoType": "no type has this number",
@@ -154,20 +155,23 @@ ADVICE: Dict[str, str] = {
     "BadOffset": "64 bits do not hold the member's place, or the new size",
     "NameHasZero": "a name ends at its first zero byte",
     "DictTooBig": "make a second dictionary, with this one as its parent",
-    "ReadOnly": "the slot has no draft: what was opened or taken is read alone",
-    "NotUpdated": "something is pending: update or discard first",
-    "FixedParent": "the parent of a draft is said where it is created",
     "ShortMemory": "hand in as many bytes as the type's size says",
     "NoSlot": "the dictionary was closed, or was opened in another session",
     "SlotsFull": "a session has 1023 slots: close a dictionary that is not needed",
     "StageFull": "a list has at most 67,108,864 bytes: this one can't be served",
-    "QuotaFull": "a session holds 268,435,456 bytes at most: close, clear or withdraw something",
+    "ReadOnly": "the slot has no draft: what was opened or taken is read alone",
     "NameTaken": "the session has a publication of this name: choose another, or withdraw that",
     "NotPublished": "that session has published nothing by this name, or has withdrawn it",
+    "NotUpdated": "something is pending: update or discard first",
     "LongReply": "ask for fewer items with count",
     "NotJson": "the request is no JSON",
     "BadRequest": "the service does not know this word, or a field is missing or out of range",
     "LongLine": "a request has at most 1,048,576 bytes: hand in a list by several parts",
+    "ModelDiffers":
+        "child and parent are of programs whose pointers differ in size: open both with the data "
+        "model of the one that they belong to",
+    "QuotaFull": "a session holds 268,435,456 bytes at most: close, clear or withdraw something",
+    "FixedParent": "the parent of a draft is said where it is created",
     "ConnectionsFull": "there are too many connections to ctfd-front, of this user or of all: close"
     " one, or raise --connections and --user-connections",
     "SessionsFull": "this user has made too many sessions within the hour: use one for longer, or"

@@ -2,7 +2,7 @@
 
 use std::fmt;
 
-/// A fault, as docs/FAULTS.md has them.
+/// A fault, as docs/FAULTS.md has them. `scripts/faults.py` writes the lists in this file.
 #[derive(Clone, Copy, Debug, PartialEq, Eq, Hash)]
 #[non_exhaustive]
 #[repr(u8)]
@@ -202,7 +202,278 @@ const FAULTS: [Fault; 63] = [
     Fault::FixedParent,
 ];
 
+/// What is wrong, and what to do about it, by the numbers of faults.
+#[rustfmt::skip]
+const TEXTS: [(&str, &str); 63] = [
+    (
+        "memory was refused",
+        "ask again, close what is not needed, or start the service with a higher limit",
+    ),
+    (
+        "fewer than 4 bytes",
+        "is the file empty?",
+    ),
+    (
+        "the first two bytes are no CTF",
+        "not the start of a CTF section: f2df is GNU's CTF, 7f454c46 a whole ELF file, cff1 \
+         big-endian CTF, and none of these is read",
+    ),
+    (
+        "not version 2",
+        "only version 2 is read: convert the program's DWARF by a tool that writes it",
+    ),
+    (
+        "the body is compressed",
+        "inflate what follows the header and clear bit 0 of byte 3, as ctfd-convert does",
+    ),
+    (
+        "fewer than 36 bytes",
+        "the header has 36 bytes: the file is cut off",
+    ),
+    (
+        "the sections are not in order",
+        "the header is damaged, or the body is compressed and its flag was cleared",
+    ),
+    (
+        "a section is not aligned",
+        "the header is damaged, or the body is compressed and its flag was cleared",
+    ),
+    (
+        "a section ends past the bytes",
+        "the list is cut off, or the body is compressed and its flag was cleared",
+    ),
+    (
+        "the strings do not begin with a zero byte",
+        "the header is damaged, or the body is compressed and its flag was cleared",
+    ),
+    (
+        "a record is cut off",
+        "the bytes at that record are no type: damage, or an extension of the format",
+    ),
+    (
+        "a record has an unknown kind",
+        "the bytes at that record are no type: damage, or an extension of the format",
+    ),
+    (
+        "more than 32,766 types",
+        "more types than the format has numbers: split it into a parent and a child",
+    ),
+    (
+        "a reference to a name names nothing",
+        "a name is in no string table: hand in the strings of the program's symbol table, .strtab \
+         of the very file that has the section",
+    ),
+    (
+        "a record names a type that is not there",
+        "a record names a type that is not there: damage, or a child without parname",
+    ),
+    (
+        "values hold each other more than 512 deep",
+        "a value holds itself, or 512 others in each other: no C program has that",
+    ),
+    (
+        "a declaration of more than 512 steps",
+        "a declaration goes on for more than 512 steps: no C program has that",
+    ),
+    (
+        "the entry of a function is bad",
+        "is this the symbol table that the section was written for? Else leave it out",
+    ),
+    (
+        "a symbol names a type that is not there",
+        "is this the symbol table that the section was written for? Else leave it out",
+    ),
+    (
+        "the symbol table is no multiple of 24 bytes",
+        "a symbol table is a list of 24 bytes each: this is none, or it is cut off, or it is one \
+         of 32 bits, which is not read",
+    ),
+    (
+        "the dictionary names no parent",
+        "the dictionary names no parent and needs none: were the two swapped?",
+    ),
+    (
+        "the parent names a parent itself",
+        "a parent has no parent itself: is this the file that the child names?",
+    ),
+    (
+        "the parent has fewer types than are named",
+        "the child names more types than this parent has: it is not its parent",
+    ),
+    (
+        "a type of a parent, and none is imported",
+        "open the parent's file too and import it",
+    ),
+    (
+        "no type has this number",
+        "no type has this number",
+    ),
+    (
+        "no pointer, typedef or qualifier",
+        "only pointers, typedefs and qualifiers refer to another type",
+    ),
+    (
+        "the type has no size, alignment or value",
+        "the type has no size: a forward is declared in full elsewhere, if at all",
+    ),
+    (
+        "a size or an offset is past 64 bits",
+        "the number does not fit 64 bits: no program has such a type",
+    ),
+    (
+        "no member of this name or number",
+        "the struct has no member of this name; the place is the step",
+    ),
+    (
+        "no struct or union",
+        "only structs and unions have members; the place is the step",
+    ),
+    (
+        "not asked of types of this kind",
+        "the question is not one for a type of this kind",
+    ),
+    (
+        "a text of more than 65,536 bytes",
+        "more than 65,536 bytes of text: ask for its parts",
+    ),
+    (
+        "no type has this name, or no pointer leads there",
+        "is the word in front right (struct, union, enum or none)?",
+    ),
+    (
+        "the text is no name of a type",
+        "a name with one blank behind struct, union or enum, and stars behind it",
+    ),
+    (
+        "no symbol of this name or number",
+        "no such symbol: were the symbol table and its strings handed in?",
+    ),
+    (
+        "the symbol is no object",
+        "the symbol is no object",
+    ),
+    (
+        "the symbol is no function",
+        "the symbol is no function",
+    ),
+    (
+        "nothing is told of the symbol",
+        "the compiler told nothing of this symbol",
+    ),
+    (
+        "no label of this name or number",
+        "no label has this name",
+    ),
+    (
+        "what is added names a type that is not there",
+        "add the type that it names first; 0 stands for no type",
+    ),
+    (
+        "the draft has 32,766 types",
+        "make a second dictionary, with this one as its parent",
+    ),
+    (
+        "the name is there already",
+        "a member, an enumerator or a label has its name once",
+    ),
+    (
+        "the type was updated, or is the parent's",
+        "members and enumerators are added before the update",
+    ),
+    (
+        "1,023 members, enumerators or arguments",
+        "the format has room for 1,023 members, enumerators or arguments",
+    ),
+    (
+        "the member's type is more than 512 deep",
+        "a struct can't hold itself: was a pointer to it meant?",
+    ),
+    (
+        "64 bits do not hold the member's place",
+        "64 bits do not hold the member's place, or the new size",
+    ),
+    (
+        "a name has a zero byte",
+        "a name ends at its first zero byte",
+    ),
+    (
+        "more than 67,108,864 bytes",
+        "make a second dictionary, with this one as its parent",
+    ),
+    (
+        "a value lies past the memory",
+        "hand in as many bytes as the type's size says",
+    ),
+    (
+        "nothing is open behind the handle",
+        "the dictionary was closed, or was opened in another session",
+    ),
+    (
+        "all slots are in use",
+        "a session has 1023 slots: close a dictionary that is not needed",
+    ),
+    (
+        "a list of more than 67,108,864 bytes",
+        "a list has at most 67,108,864 bytes: this one can't be served",
+    ),
+    (
+        "what is open is no draft",
+        "the slot has no draft: what was opened or taken is read alone",
+    ),
+    (
+        "the name is published already",
+        "the session has a publication of this name: choose another, or withdraw that",
+    ),
+    (
+        "nothing is published by this name",
+        "that session has published nothing by this name, or has withdrawn it",
+    ),
+    (
+        "something is pending",
+        "something is pending: update or discard first",
+    ),
+    (
+        "a reply of more than 4,194,304 bytes",
+        "ask for fewer items with count",
+    ),
+    (
+        "the line is no JSON",
+        "the request is no JSON",
+    ),
+    (
+        "the line is no request",
+        "the service does not know this word, or a field is missing or out of range",
+    ),
+    (
+        "a line of more than 1,048,576 bytes",
+        "a request has at most 1,048,576 bytes: hand in a list by several parts",
+    ),
+    (
+        "child and parent have other data models",
+        "child and parent are of programs whose pointers differ in size: open both with the data \
+         model of the one that they belong to",
+    ),
+    (
+        "more than a session may hold",
+        "a session holds 268,435,456 bytes at most: close, clear or withdraw something",
+    ),
+    (
+        "the parent of a draft is fixed",
+        "the parent of a draft is said where it is created",
+    ),
+];
+
 impl Fault {
+    /// What is wrong, in a few words: "no symbol of this name or number".
+    pub fn sentence(self) -> &'static str {
+        TEXTS[usize::from(self.code())].0
+    }
+
+    /// What to do about it: "no such symbol: were the symbol table and its strings handed in?".
+    pub fn advice(self) -> &'static str {
+        TEXTS[usize::from(self.code())].1
+    }
+
     /// The number of the fault in docs/FAULTS.md.
     pub fn code(self) -> u16 {
         self as u16
@@ -220,7 +491,16 @@ impl fmt::Display for Fault {
     }
 }
 
-/// A refusal: a fault, and where it lies, where it has a place (else 0).
+/// A refusal: a fault, and where it lies, where it has a place (else 0). Shown, it says what is
+/// wrong, and what to do:
+///
+/// ```
+/// let refused = ctfd::Dictionary::open(b"").map(drop).unwrap_err();
+/// assert_eq!(
+///     refused.to_string(),
+///     "TooShort: fewer than 4 bytes; is the file empty?"
+/// );
+/// ```
 #[derive(Clone, Copy, Debug, PartialEq, Eq)]
 pub struct Refusal {
     /// What was wrong.
@@ -231,9 +511,10 @@ pub struct Refusal {
 
 impl fmt::Display for Refusal {
     fn fmt(&self, to: &mut fmt::Formatter<'_>) -> fmt::Result {
-        match self.place {
-            0 => write!(to, "{}", self.fault),
-            place => write!(to, "{} at {place}", self.fault),
+        let Refusal { fault, place } = *self;
+        match place {
+            0 => write!(to, "{fault}: {}; {}", fault.sentence(), fault.advice()),
+            _ => write!(to, "{fault} at {place}: {}; {}", fault.sentence(), fault.advice()),
         }
     }
 }

@@ -115,7 +115,9 @@ fn a_refused_import_changes_nothing() {
     child.import(&base).unwrap();
     let refused = child.import(&none).unwrap_err();
     assert_eq!((refused.fault, refused.place), (Fault::ParentShort, 2));
-    assert_eq!(refused.to_string(), "ParentShort at 2");
+    let told = refused.to_string();
+    assert!(told.starts_with("ParentShort at 2: the parent has fewer types than are named; "));
+    assert!(told.ends_with(refused.fault.advice()));
     assert_eq!(child.parent_count(), Some(3));
     let mut alone = nodes().into_dictionary().unwrap();
     assert_eq!(alone.import(&base).unwrap_err().fault, Fault::NotChild);

@@ -21,7 +21,7 @@ fn lua() -> Dictionary<'static> {
 }
 
 fn said<T: ToString>(answer: Result<T, ctfd::Refusal>) -> String {
-    answer.map_or_else(|refused| refused.to_string(), |value| value.to_string())
+    answer.map_or_else(|refused| refused.fault.to_string(), |value| value.to_string())
 }
 
 /// The lines of a dump, without what stands in a record behind the name.
