@@ -1,9 +1,9 @@
 #!/usr/bin/env python3
 """Builds the compiled commands in Rust, over the library that is built.
 
-usage: scripts/rust.py [--quiet] [CARGO-WORD..]
+usage: scripts/rust.py [--quiet | --packages] [CARGO-WORD..]
 
-Without words it builds clients/rust/target/release/ctfd-tools, and beside it a link for each command
+`--packages` prints the names of Debian's packages with the crates. Without words it builds clients/rust/target/release/ctfd-tools, and beside it a link for each command
 that it is. With words it runs cargo with these: `scripts/rust.py test`.
 
 The crates that these stand on are taken from Debian's packages (librust-*-dev) where they are
@@ -92,8 +92,11 @@ def build(*words: str) -> Path:
 def main() -> int:
     words = sys.argv[1:]
     try:
-        if words and words[0] not in ("--quiet", "-h", "--help"):
+        if words and words[0] not in ("--quiet", "--packages", "-h", "--help"):
             return run(words)
+        if words[:1] == ["--packages"]:
+            print(*PACKAGES, sep="\n")
+            return 0
         if words[:1] in (["-h"], ["--help"]):
             print(__doc__)
             return 0

@@ -1,6 +1,7 @@
 -- Sizes, alignments and the types that are stood for, as code has them.
 use Rattle.std.specs.Prelude.{◌≡◌, ℕ, Result, Ok, Err}
 use Rattle.ctf_model.specs.figures.Figures.{size, align, resolved, sizing, aligning, resolving, parents_figure}
+use Rattle.ctf_model.specs.opened.Questions.{align_answered, resolved_answered, size_answered}
 use Rattle.ctf_model.specs.rules.Refusals.{placeless}
 use Rattle.ctf_model.specs.spaces.Space.{Space}
 use Rattle.ctf_model.specs.declared.faults.Fault.{Fault}
@@ -65,3 +66,9 @@ pub record IsParentsExtent (s : Space) (n : ℕ) (e : Extent) : Type 0 where
   pub sized : amount e.size ≡ parents_figure (sizing s.model) s.parent n
   pub aligned : amount e.align ≡ parents_figure (aligning s.model) s.parent n
   pub resolves : target e.target ≡ parents_figure resolving s.parent n
+
+-- what is answered of them, each by itself
+pub record IsAnswered (s : Space) (n : ℕ) (e : Extent) : Type 0 where
+  pub sized : amount e.size ≡ size_answered s n
+  pub aligned : amount e.align ≡ align_answered s n
+  pub resolves : target e.target ≡ resolved_answered s n

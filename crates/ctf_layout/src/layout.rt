@@ -3,7 +3,7 @@ ghost use Rattle.std.specs.Prelude.{◌≡◌, ◌+◌, ◌<◌, ◌≤◌, IfOk
 ghost use Rattle.std.specs.Option.{ForSome, option_map};
 ghost use Rattle.std.specs.Result.{result_map_both};
 ghost use Rattle.ctf_chains.specs.Places.{capped};
-ghost use Rattle.ctf_layout.specs.Extents.{IsExtent};
+ghost use Rattle.ctf_layout.specs.Extents.{IsAnswered, IsExtent};
 ghost use Rattle.ctf_layout.specs.Kept.{AreExtents};
 ghost use Rattle.ctf_layout.specs.Fitting.{Fits, steps_of};
 ghost use Rattle.ctf_layout.specs.Over.{OverParent};
@@ -183,6 +183,28 @@ impl Layout {
             },
             Place::Nowhere => refused(Refusal::NoType),
         }
+    }
+
+    /// The same, in fewer steps for an own type of which nothing is refused.
+    #[inline(always)]
+    fn quick_extent(&self, number: TypeNum) -> Extent
+        ensures { (s : WholeSpace) → Fits s self.now → IsExtent s number.0 result }
+    {
+        match number.place(self.child) {
+            Place::Own(i) => self.own.figures_at(i),
+            _ => self.extent(number),
+        }
+    }
+
+    /// The size and the alignment of the type that a number names, and the type that it stands
+    /// for, by one look-up. It takes constant time.
+    #[inline(always)]
+    pub fn figures(&self, number: TypeNum) -> Extent
+        ensures extent { (s : WholeSpace) → Fits s self.now → IsExtent s number.0 result }
+        ensures answered { (s : WholeSpace) → Fits s self.now → 0 < number.0
+            → IsAnswered s number.0 result }
+    {
+        self.quick_extent(number)
     }
 
     /// The size in bytes of a value of the type that a number names. It takes constant time.

@@ -15,6 +15,7 @@ mod rows;
 mod source;
 mod types;
 
+pub use extents::{Amount, Extent, Refusal, Target, refused};
 pub use figures::{reference, referred, resolve};
 pub use layout::Layout;
 pub use path_names::PathNames;
