@@ -244,6 +244,17 @@ enum ctfd_status ctfd_label(struct ctfd *handle, size_t index, char *name, size_
 enum ctfd_status ctfd_label_last(struct ctfd *handle, const char *name, size_t name_len,
     uint32_t *out);
 
+/* Labels by the row; the name as of a member's row, in the dictionary's own lists. Fills rows from
+ * number `from` on, as ctfd_members. */
+struct ctfd_label_row {
+    uint64_t name_at;
+    uint32_t name_list;
+    uint32_t last;
+};
+
+enum ctfd_status ctfd_labels(struct ctfd *handle, size_t from, struct ctfd_label_row *rows,
+    size_t rows_len, uint64_t *count);
+
 /* ---- what a type says of itself: typedefs are not followed */
 
 /* Its kind: a number of enum ctfd_kind. */
@@ -343,6 +354,33 @@ enum ctfd_status ctfd_members(struct ctfd *handle, uint16_t t, size_t from,
 enum ctfd_status ctfd_enumerators(struct ctfd *handle, uint16_t t, size_t from,
     struct ctfd_enumerator_row *rows, size_t rows_len, uint64_t *count);
 
+/* Types by the row: the number of one, its kind, whether look-ups by name see it, and how long its
+ * list is; its size and alignment, the type that it stands for, and the type that it refers to. Of
+ * these four each has the status that its own call answers, as ctfd_size: where that is a refusal,
+ * the number is 0. The name is that of its record, as of ctfd_declared_name. */
+struct ctfd_type_row {
+    uint64_t size;
+    uint64_t align;
+    uint64_t length;
+    uint64_t name_at;
+    uint32_t name_list;
+    uint32_t kind;
+    uint32_t root;
+    uint32_t size_status;
+    uint32_t align_status;
+    uint32_t resolved_status;
+    uint32_t reference_status;
+    uint16_t type;
+    uint16_t resolved;
+    uint16_t reference;
+};
+
+/* Fills rows with the dictionary's own types, from number `from` on, counted from 0, and as far as
+ * both reach; rows behind the last stay. `*count` is how many it has in all. Those of a parent are
+ * in rows of its own handle. */
+enum ctfd_status ctfd_types(struct ctfd *handle, size_t from, struct ctfd_type_row *rows,
+    size_t rows_len, uint64_t *count);
+
 /* A type in a visit: `type` is that of a member of the struct or union `holder`, which lies in
  * `depth` others and begins `offset` bits behind the beginning of the outermost: UINT64_MAX past 64
  * bits. The lists of its name are those of the dictionary that has the holder. The outermost type
@@ -369,6 +407,12 @@ enum ctfd_status ctfd_visit(struct ctfd *handle, uint16_t t, struct ctfd_visit_r
  * Refused alike. */
 enum ctfd_status ctfd_return(struct ctfd *handle, uint16_t t, uint16_t *out);
 enum ctfd_status ctfd_argument(struct ctfd *handle, uint16_t t, size_t index, uint16_t *out);
+
+/* Fills rows with the types of a function type's arguments, as ctfd_argument gives them, from
+ * number `from` on and as far as both reach; rows behind the last stay. `*count` is how many it has
+ * in all, as ctfd_length. Of other kinds CTFD_WRONG_KIND. */
+enum ctfd_status ctfd_arguments(struct ctfd *handle, uint16_t t, size_t from, uint16_t *rows,
+    size_t rows_len, uint64_t *count);
 
 /* ---- what a type comes to: typedefs and qualifiers are followed */
 
@@ -437,6 +481,37 @@ struct ctfd_function {
 enum ctfd_status ctfd_function(struct ctfd *handle, uint32_t number, struct ctfd_function *out);
 enum ctfd_status ctfd_function_argument(struct ctfd *handle, uint32_t number, size_t index,
     uint16_t *out);
+
+/* Fills rows with the types of the arguments that a function takes, from number `from` on, as
+ * ctfd_arguments; `*count` is how many it takes. Refused as ctfd_function. */
+enum ctfd_status ctfd_function_arguments(struct ctfd *handle, uint32_t number, size_t from,
+    uint16_t *rows, size_t rows_len, uint64_t *count);
+
+/* What a symbol stands for, as the low four bits of its st_info have it. */
+enum ctfd_symbol_class {
+    CTFD_OTHER_SYMBOL = 0,
+    CTFD_OBJECT_SYMBOL = 1,
+    CTFD_FUNCTION_SYMBOL = 2
+};
+
+/* Symbols by the row: the number of one, what it stands for, and a type: what a function returns,
+ * with the status of ctfd_function, and else the type of an object, with that of ctfd_object. Where
+ * that is a refusal, the type is 0. The name as of a member's row, in the dictionary's own lists:
+ * `name_list` is 1 or 2. */
+struct ctfd_symbol_row {
+    uint64_t name_at;
+    uint32_t name_list;
+    uint32_t number;
+    uint32_t symbol_class;
+    uint32_t type_status;
+    uint16_t type;
+};
+
+/* Fills rows with all symbols of the table from number `from` on and as far as both reach, also
+ * those that the dictionary tells nothing of; rows behind the last stay. `*count` is how many there
+ * are in all, at most 2^32. */
+enum ctfd_status ctfd_symbols(struct ctfd *handle, size_t from, struct ctfd_symbol_row *rows,
+    size_t rows_len, uint64_t *count);
 
 /* ---- drafts: dictionaries in the making
  *
@@ -540,7 +615,8 @@ CTFD_ASSERT(sizeof(struct ctfd_encoding) == 12 && sizeof(struct ctfd_array) == 8
 CTFD_ASSERT(sizeof(struct ctfd_member) == 24 && sizeof(struct ctfd_label) == 16);
 CTFD_ASSERT(sizeof(struct ctfd_function) == 16);
 CTFD_ASSERT(sizeof(struct ctfd_member_row) == 24 && sizeof(struct ctfd_enumerator_row) == 16);
-CTFD_ASSERT(sizeof(struct ctfd_visit_row) == 32);
+CTFD_ASSERT(sizeof(struct ctfd_visit_row) == 32 && sizeof(struct ctfd_type_row) == 72);
+CTFD_ASSERT(sizeof(struct ctfd_symbol_row) == 32 && sizeof(struct ctfd_label_row) == 16);
 #undef CTFD_ASSERT
 
 #ifdef __cplusplus

@@ -226,6 +226,21 @@ static void ask_visit(struct ctfd *d, uint16_t t, size_t len)
     free(rows);
 }
 
+/* Rows of types, in a block of just their length. */
+static void ask_types(struct ctfd *d, size_t len)
+{
+    struct ctfd_type_row *rows =
+        (struct ctfd_type_row *)calloc(len != 0 ? len : 1, sizeof *rows);
+    uint64_t all = 77;
+    enum ctfd_status status;
+    if (rows == NULL)
+        exit(2);
+    status = ctfd_types(d, some_index(), rows, len, &all);
+    count(status);
+    CHECK(status == CTFD_OK ? all <= 65535 : all == 77 && rows[0].type == 0);
+    free(rows);
+}
+
 /* Rows in a block of just their length. */
 static void ask_rows(struct ctfd *d)
 {
@@ -249,6 +264,7 @@ static void ask_rows(struct ctfd *d)
     free(members);
     free(enumerators);
     ask_visit(d, t, len);
+    ask_types(d, len);
 }
 
 /* Something is added to what may be a draft. */

@@ -16,6 +16,7 @@ static struct results {
     struct ctfd_member_row members[2];
     struct ctfd_enumerator_row enumerators[2];
     struct ctfd_visit_row visited[2];
+    struct ctfd_type_row types[2];
     struct ctfd_function function;
     struct ctfd_label label;
     char text[64];
@@ -100,6 +101,7 @@ static void refuse_all(struct ctfd *d)
     REFUSED(ctfd_pointer(d, 1, &got.to), CTFD_NO_SLOT);
     REFUSED(ctfd_import(d, &other, &place), CTFD_NO_SLOT);
     REFUSED(ctfd_count(d, &got.wide), CTFD_NO_SLOT);
+    REFUSED(ctfd_types(d, 0, got.types, 2, &got.wide), CTFD_NO_SLOT);
     REFUSED(ctfd_child(d, &got.number), CTFD_NO_SLOT);
     REFUSED(ctfd_parent_count(d, &got.wide), CTFD_NO_SLOT);
     REFUSED(ctfd_model(d, &got.number), CTFD_NO_SLOT);

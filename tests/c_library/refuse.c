@@ -188,6 +188,7 @@ static void take_none(void)
     struct ctfd_member_row members[4];
     struct ctfd_enumerator_row enumerators[4];
     struct ctfd_visit_row visited[4];
+    struct ctfd_type_row rows[4];
     char text[64];
     calls = 0;
     for (t = 0; t <= 527; t++) {
@@ -203,6 +204,7 @@ static void take_none(void)
         (void)ctfd_members(&types, (uint16_t)t, 0, members, 4, &wide);
         (void)ctfd_enumerators(&types, (uint16_t)t, 0, enumerators, 4, &wide);
         (void)ctfd_visit(&types, (uint16_t)t, visited, 4, &wide);
+        (void)ctfd_types(&types, (size_t)t, rows, 4, &wide);
         (void)ctfd_enum_name(&types, (uint16_t)t, 1, text, sizeof text, &wide);
         (void)ctfd_enum_value(&types, (uint16_t)t, "OP_MOVE", 7, &value);
         (void)ctfd_field(&types, (uint16_t)t, "next", 4, &wide, &to);

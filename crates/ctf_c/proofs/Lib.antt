@@ -1,3 +1,4 @@
 pub mod Naming
 pub mod NotOpen
 pub mod FilledRows
+pub mod TypeRows

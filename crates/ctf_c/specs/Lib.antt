@@ -8,3 +8,5 @@ pub mod names
 pub mod service
 pub mod Rowed
 pub mod Visiting
+pub mod TypeRows
+pub mod ItemRows

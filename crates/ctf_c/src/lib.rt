@@ -2,20 +2,24 @@
 #![tactic(auto)]
 
 mod additions;
+mod argument_rows;
 mod drafts;
 mod encodings;
 mod enumerators;
 mod given;
 mod handle;
 mod handles;
+mod label_rows;
 mod lists;
 mod names;
 mod opening;
 mod paths;
 mod rows;
 mod service;
+mod symbol_rows;
 mod symbols;
 mod texts;
+mod type_rows;
 mod types;
 mod visits;
 mod whole;

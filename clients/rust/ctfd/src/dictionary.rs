@@ -3,7 +3,7 @@
 use crate::apart::{apart, overlap};
 use crate::faults::{told, told_at, Refusal};
 use crate::names::{text, Name};
-use crate::raw;
+use crate::raw::{self, TypeRow};
 use crate::types::Type;
 use std::cell::UnsafeCell;
 use std::fmt;
@@ -152,6 +152,14 @@ impl<'b> Dictionary<'b> {
         // SAFETY: as `handle` says; so are all calls below.
         certain(unsafe { raw::ctfd_count(self.handle(), &mut count) });
         count as usize
+    }
+
+    /// Fills rows with its own types, from a number on, and answers how many it has. They count
+    /// from 0 here. Rows behind the last stay.
+    pub fn type_rows(&self, from: usize, rows: &mut [TypeRow]) -> u64 {
+        let (at, len, mut count) = (rows.as_mut_ptr(), rows.len(), 0);
+        certain(unsafe { raw::ctfd_types(self.handle(), from, at, len, &mut count) });
+        count
     }
 
     /// Whether its low numbers of types are those of a parent.

@@ -66,6 +66,41 @@ pub struct EnumeratorRow {
     pub value: i32,
 }
 
+/// A type of the dictionary's own, and where the name of its record stands, as of a [`MemberRow`].
+/// Where the call that asks for a number alone is refused, that is 0, with the refusal's status.
+#[repr(C)]
+#[derive(Clone, Copy, Debug, Default, PartialEq, Eq)]
+pub struct TypeRow {
+    /// Its size in bytes.
+    pub size: u64,
+    /// Its alignment in bytes.
+    pub align: u64,
+    /// How many members, enumerators or arguments it has.
+    pub length: u64,
+    /// How many bytes stand in front of its name.
+    pub name_at: u64,
+    /// The number of the list that its name stands in.
+    pub name_list: u32,
+    /// The number of its kind.
+    pub kind: u32,
+    /// 1 where look-ups by name see it, else 0.
+    pub root: u32,
+    /// The status of its size.
+    pub size_status: u32,
+    /// The status of its alignment.
+    pub align_status: u32,
+    /// The status of what it stands for.
+    pub resolved_status: u32,
+    /// The status of what it refers to.
+    pub reference_status: u32,
+    /// Its number.
+    pub tnum: u16,
+    /// The number of the type that it stands for, along typedefs and qualifiers.
+    pub resolved: u16,
+    /// The number of the type that it points to, renames or qualifies.
+    pub reference: u16,
+}
+
 /// A type in a visit: that of a member of a struct or union, and where its name stands, as of a
 /// [`MemberRow`], in the dictionary that has the struct or union.
 #[repr(C)]
@@ -90,6 +125,37 @@ pub struct VisitRow {
 pub struct Label {
     pub name_len: u64,
     pub last: u32,
+}
+
+/// A label, and where its name stands, as of a [`MemberRow`].
+#[repr(C)]
+#[derive(Clone, Copy, Debug, Default, PartialEq, Eq)]
+pub struct LabelRow {
+    /// How many bytes stand in front of its name.
+    pub name_at: u64,
+    /// The number of the list that its name stands in.
+    pub name_list: u32,
+    /// The number of the last type that it covers.
+    pub last: u32,
+}
+
+/// A symbol of the program, and where its name stands, as of a [`MemberRow`]. Where the call that
+/// asks for its type alone is refused, that is 0, with the refusal's status.
+#[repr(C)]
+#[derive(Clone, Copy, Debug, Default, PartialEq, Eq)]
+pub struct SymbolRow {
+    /// How many bytes stand in front of its name.
+    pub name_at: u64,
+    /// The number of the list that its name stands in.
+    pub name_list: u32,
+    /// Its number.
+    pub number: u32,
+    /// 1 where it stands for an object, 2 for a function, 0 for anything else.
+    pub symbol_class: u32,
+    /// The status of its type.
+    pub type_status: u32,
+    /// The number of an object's type, or of what a function returns.
+    pub tnum: u16,
 }
 
 #[repr(C)]
@@ -159,6 +225,13 @@ extern "C" {
         name_len: usize,
         out: *mut u32,
     ) -> u32;
+    pub fn ctfd_labels(
+        handle: *mut Handle,
+        from: usize,
+        rows: *mut LabelRow,
+        rows_len: usize,
+        count: *mut u64,
+    ) -> u32;
     pub fn ctfd_kind(handle: *mut Handle, t: u16, out: *mut u32) -> u32;
     pub fn ctfd_declared_name(
         handle: *mut Handle,
@@ -221,6 +294,13 @@ extern "C" {
         rows_len: usize,
         count: *mut u64,
     ) -> u32;
+    pub fn ctfd_types(
+        handle: *mut Handle,
+        from: usize,
+        rows: *mut TypeRow,
+        rows_len: usize,
+        count: *mut u64,
+    ) -> u32;
     pub fn ctfd_visit(
         handle: *mut Handle,
         t: u16,
@@ -230,6 +310,14 @@ extern "C" {
     ) -> u32;
     pub fn ctfd_return(handle: *mut Handle, t: u16, out: *mut u16) -> u32;
     pub fn ctfd_argument(handle: *mut Handle, t: u16, index: usize, out: *mut u16) -> u32;
+    pub fn ctfd_arguments(
+        handle: *mut Handle,
+        t: u16,
+        from: usize,
+        rows: *mut u16,
+        rows_len: usize,
+        count: *mut u64,
+    ) -> u32;
     pub fn ctfd_resolve(handle: *mut Handle, t: u16, out: *mut u16) -> u32;
     pub fn ctfd_size(handle: *mut Handle, t: u16, out: *mut u64) -> u32;
     pub fn ctfd_align(handle: *mut Handle, t: u16, out: *mut u64) -> u32;
@@ -285,6 +373,21 @@ extern "C" {
         number: u32,
         index: usize,
         out: *mut u16,
+    ) -> u32;
+    pub fn ctfd_function_arguments(
+        handle: *mut Handle,
+        number: u32,
+        from: usize,
+        rows: *mut u16,
+        rows_len: usize,
+        count: *mut u64,
+    ) -> u32;
+    pub fn ctfd_symbols(
+        handle: *mut Handle,
+        from: usize,
+        rows: *mut SymbolRow,
+        rows_len: usize,
+        count: *mut u64,
     ) -> u32;
     pub fn ctfd_create(handle: *mut Handle, ilp32: bool, place: *mut u64) -> u32;
     pub fn ctfd_create_child(

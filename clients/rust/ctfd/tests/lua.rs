@@ -1,7 +1,8 @@
 //! What is told of lua's types is what a dump of them says.
 
 use ctfd::{
-    Dictionary, EnumeratorRow, Fault, Kind, MemberRow, Model, Options, Service, Type, VisitRow,
+    Dictionary, EnumeratorRow, Fault, Kind, MemberRow, Model, Options, Service, Type, TypeRow,
+    VisitRow,
 };
 use std::fs;
 
@@ -148,6 +149,28 @@ fn rows_say_where_names_stand() {
             assert_eq!((rows[0].value, name), (one.value, &*one.name));
             assert_eq!(t.enumerator_value(name).unwrap(), one.value);
         }
+    }
+}
+
+#[test]
+fn rows_of_types_say_what_each_call_says() {
+    let section = read("lua.ctf");
+    let types = lua();
+    let mut rows = vec![TypeRow::default(); types.count() + 1];
+    assert_eq!(types.type_rows(0, &mut rows), types.count() as u64);
+    assert_eq!(rows.pop(), Some(TypeRow::default()));
+    let number = |t: Option<Type<'_>>| t.map_or(0, Type::number);
+    for (t, row) in types.types().zip(&rows) {
+        let name = name_at(&section, row.name_list, row.name_at);
+        assert_eq!((row.tnum, name), (t.number(), &*t.declared_name().unwrap()));
+        assert_eq!((row.kind, row.root), (t.kind() as u32, u32::from(t.is_root().unwrap())));
+        assert_eq!(row.length, t.length().unwrap() as u64);
+        assert_eq!((row.size_status == 0).then_some(row.size), t.size().ok());
+        assert_eq!((row.align_status == 0).then_some(row.align), t.align().ok());
+        let resolved = (row.resolved_status == 0).then_some(row.resolved);
+        assert_eq!(resolved, t.resolve().ok().map(number));
+        let reference = (row.reference_status == 0).then_some(row.reference);
+        assert_eq!(reference, t.reference().ok().map(number));
     }
 }
 

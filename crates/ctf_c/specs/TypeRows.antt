@@ -1,0 +1,40 @@
+-- Rows of types. The words are ours; what a row says of a type is what the single calls answer.
+use Rattle.std.specs.Prelude.{◌≡◌, ℕ, List, length, map, Option, Some, None, Result, Ok, Err, option_and_then}
+use Rattle.std.specs.List.{range_with_len}
+use Rattle.ctf_c.specs.Given.{Gives, asked, flag, number_of_kind}
+use Rattle.ctf_c.specs.Rowed.{lists_with}
+use Rattle.ctf_c.specs.names.Places.{text_in}
+use Rattle.ctf_c.specs.declared.type_rows.GivenTypeRow.{GivenTypeRow}
+use Rattle.ctf_model.specs.figures.Figures.{reference as reference_of}
+use Rattle.ctf_model.specs.format.Dictionary.{Dictionary}
+use Rattle.ctf_model.specs.opened.Open.{Open, space_in}
+use Rattle.ctf_model.specs.opened.Questions.{align_answered, answer_map, kind_answered, length_answered, on_shape, resolved_answered, root_answered, shape_of, size_answered}
+use Rattle.ctf_model.specs.spaces.Space.{space_type}
+use Rattle.ctf_model.specs.spaces.TypePlaces.{own_number}
+use Rattle.ctf_space.specs.TypeView.{name_in}
+
+-- the numbers of a dictionary's own types, in order
+abbrev pub own_numbers : Dictionary → List ℕ
+own_numbers d = map (own_number d.child) (range_with_len 0 (length d.terms))
+
+-- a row tells of the type with a number what is asked of it: its kind, whether look-ups see it and
+-- how long its list is; its size, its alignment, what it stands for and what it refers to, each
+-- with the status of the call that asks for it alone, and 0 where that is refused; and where the
+-- name stands that its record has
+pub record TellsType (s : Option Open) (t : ℕ) (row : GivenTypeRow) : Type 0 where
+  pub number : row.tnum ≡ t
+  pub kind : asked s (λ o. answer_map number_of_kind
+      (on_shape kind_answered (shape_of (space_type (space_in o) t)))) ≡ Ok row.kind
+  pub root : asked s (λ o. answer_map flag (root_answered (space_type (space_in o) t)))
+      ≡ Ok row.root
+  pub items : asked s (λ o. on_shape length_answered (shape_of (space_type (space_in o) t)))
+      ≡ Ok row.length
+  pub size : Gives (asked s (λ o. size_answered (space_in o) t)) row.size_status 0 row.size
+  pub align : Gives (asked s (λ o. align_answered (space_in o) t)) row.align_status 0 row.align
+  pub resolved : Gives (asked s (λ o. resolved_answered (space_in o) t))
+      row.resolved_status 0 row.resolved
+  pub reference : Gives (asked s (λ o. reference_of (space_in o) t))
+      row.reference_status 0 row.reference
+  pub name : (said : List ℕ) × (asked s (λ o. name_in (space_type (space_in o) t)) ≡ Ok said)
+      × (option_and_then (λ lists. text_in lists row.name_list row.name_at) (lists_with s t)
+      ≡ Some said)

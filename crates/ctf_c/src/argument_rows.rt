@@ -1,0 +1,116 @@
+//! Exports that answer many arguments at once, of a function type or of a program's function.
+ghost use Rattle.std.specs.Prelude.{◌≡◌, ◌≤◌, length, take};
+ghost use Rattle.ctf_c.specs.Given.{asked};
+ghost use Rattle.ctf_c.specs.ItemRows.{IsArgument, arguments_answered, named_list};
+ghost use Rattle.ctf_c.specs.Rowed.{GivesRows};
+ghost use Rattle.ctf_c.specs.names.Filling.{Fills, FillsFrom};
+ghost use Rattle.ctf_model.specs.opened.Open.{own_in, space_in};
+ghost use Rattle.ctf_model.specs.opened.Questions.{on_shape, shape_of};
+ghost use Rattle.ctf_model.specs.spaces.Space.{space_type};
+ghost use Rattle.ctf_model.specs.symbols.SymbolQuestions.{function_of};
+
+use crate::given::{dictionary_of, status};
+use crate::handle::Handle;
+use ctf_model::{Fault, TypeNum, placeless};
+use ctf_open::{OpenDictionary, named_count};
+use ctf_views::{Args, Variant};
+
+/// Fills rows with the first arguments of some, from a number on.
+fn fill_arguments(args: &Args<'_>, all: usize, from: usize, rows: &mut [u16])
+    requires { all ≤ length args.now }
+    ensures { Fills IsArgument (take all args.now) from rows.old rows.new }
+{
+    let left = all.saturating_sub(from);
+    let count = left.min(rows.len());
+    for i in 0..count {
+        rows[i] = args.get(from + i).unwrap().0;
+    }
+}
+
+/// Fills rows with the arguments of a function type from a number on, and answers how many it has.
+fn arguments(
+    dictionary: &OpenDictionary,
+    t: TypeNum,
+    from: usize,
+    rows: &mut [u16],
+) -> Result<u64, Fault>
+    ensures { FillsFrom IsArgument
+        (on_shape arguments_answered (shape_of (space_type (space_in dictionary.now) t.0)))
+        from result rows.old rows.new }
+{
+    let found = dictionary.space().term(t)?;
+    match found.variant() {
+        Variant::Args(args) => {
+            fill_arguments(&args, args.len(), from, rows);
+            Ok(args.len() as u64)
+        }
+        _ => Err(placeless(Fault::WRONG_KIND)),
+    }
+}
+
+/// Fills rows with the arguments that a function of the program names, from a number on, and
+/// answers how many it names.
+fn function_arguments(
+    dictionary: &OpenDictionary,
+    number: u32,
+    from: usize,
+    rows: &mut [u16],
+) -> Result<u64, Fault>
+    ensures { FillsFrom IsArgument (named_list (function_of (own_in dictionary.now) number))
+        from result rows.old rows.new }
+{
+    let function = dictionary.function(number)?;
+    let all = named_count(&function.args);
+    fill_arguments(&function.args, all, from, rows);
+    Ok(all as u64)
+}
+
+/// The types of a function type's arguments from a number on, as they are stored, as many as there
+/// are rows, and how many it has in all.
+#[unsafe(no_mangle)]
+pub extern "C" fn ctfd_arguments(
+    handle: &mut Handle,
+    t: u16,
+    from: usize,
+    rows: &mut [u16],
+    count: &mut u64,
+) -> u32
+    ensures same { handle.new.held.dictionary ≡ handle.old.held.dictionary }
+    ensures answer { GivesRows IsArgument (asked handle.old.held.dictionary (λ s.
+        on_shape arguments_answered (shape_of (space_type (space_in s) t)))) from result
+        rows.old rows.new count.old count.new }
+{
+    let dictionary = dictionary_of!(handle);
+    match arguments(dictionary, TypeNum(t), from, rows) {
+        Ok(all) => {
+            *count = all;
+            0
+        }
+        Err(fault) => status(fault),
+    }
+}
+
+/// The types of the arguments that a function of the program names, by the number of its symbol,
+/// from a number on, as many as there are rows, and how many it names in all.
+#[unsafe(no_mangle)]
+pub extern "C" fn ctfd_function_arguments(
+    handle: &mut Handle,
+    number: u32,
+    from: usize,
+    rows: &mut [u16],
+    count: &mut u64,
+) -> u32
+    ensures same { handle.new.held.dictionary ≡ handle.old.held.dictionary }
+    ensures answer { GivesRows IsArgument (asked handle.old.held.dictionary (λ s.
+        named_list (function_of (own_in s) number))) from result
+        rows.old rows.new count.old count.new }
+{
+    let dictionary = dictionary_of!(handle);
+    match function_arguments(dictionary, number, from, rows) {
+        Ok(all) => {
+            *count = all;
+            0
+        }
+        Err(fault) => status(fault),
+    }
+}

@@ -1,0 +1,219 @@
+//! The export that answers many types at once, and where their names stand.
+ghost use Rattle.std.specs.Prelude.{◌≡◌, ◌<◌, ℕ, List, Ok, Some, length};
+ghost use Rattle.ctf_c.specs.Given.{Gives, asked, flag as flag_of, number_of_kind};
+ghost use Rattle.ctf_c.specs.Rowed.{GivesRows};
+ghost use Rattle.ctf_c.specs.TypeRows.{TellsType, own_numbers};
+ghost use Rattle.ctf_c.specs.names.Filling.{Fills};
+ghost use Rattle.ctf_c.specs.names.Places.{text_in};
+ghost use Rattle.ctf_check.specs.CheckedView.{lists_of};
+ghost use Rattle.ctf_check.specs.TypedView.{dictionary_in, spelled};
+ghost use Rattle.ctf_model.specs.figures.Figures.{referred_by};
+ghost use Rattle.ctf_model.specs.opened.Open.{own_in, space_in};
+ghost use Rattle.ctf_model.specs.opened.Questions.{align_answered, answer_map, kind_answered, length_answered, on_shape, resolved_answered, root_answered, shape_of, size_answered};
+ghost use Rattle.ctf_model.specs.spaces.Space.{space_type};
+ghost use Rattle.ctf_model.specs.spaces.TypeNumbers.{or_no_type};
+ghost use Rattle.ctf_model.specs.spaces.TypePlaces.{own_number};
+ghost use Rattle.ctf_space.specs.SpaceView.{own_lists, space_of};
+ghost use Rattle.ctf_space.specs.TypeView.{name_in};
+
+use crate::given::{dictionary_of, flag, give, give_type, kind_number};
+use crate::handle::Handle;
+use crate::names::{NamePosition, name_position};
+use ctf_check::Typed;
+use ctf_layout::referred;
+use ctf_model::TypeNum;
+use ctf_open::OpenDictionary;
+use ctf_space::Space;
+use ctf_views::Variant;
+
+/// A type: `struct ctfd_type_row`. Sizes and alignments are in bytes. Where the call that asks for
+/// one of its numbers alone is refused, that number is 0, with the status of the refusal. Its name
+/// stands so many bytes behind the beginning of a list, a zero byte behind it.
+#[repr(C)]
+#[derive(Clone, Copy)]
+pub struct GivenTypeRow {
+    pub size: u64,
+    pub align: u64,
+    pub length: u64,
+    pub name_at: u64,
+    pub name_list: u32,
+    pub kind: u32,
+    pub root: u32,
+    pub size_status: u32,
+    pub align_status: u32,
+    pub resolved_status: u32,
+    pub reference_status: u32,
+    pub tnum: u16,
+    pub resolved: u16,
+    pub reference: u16,
+}
+
+/// What is worked out of a type: a number, or 0 with the status of its refusal.
+#[derive(Clone, Copy)]
+struct Figures {
+    size: u64,
+    align: u64,
+    size_status: u32,
+    align_status: u32,
+    resolved_status: u32,
+    resolved: u16,
+}
+
+/// What the record of a type says.
+#[derive(Clone, Copy)]
+struct RecordNumbers {
+    length: u64,
+    kind: u32,
+    root: u32,
+    reference_status: u32,
+    reference: u16,
+}
+
+/// What is worked out of a type.
+#[inline(always)]
+fn figures_of(dictionary: &OpenDictionary, t: TypeNum) -> Figures
+    ensures size { Gives (size_answered (space_in dictionary.now) t.0)
+        result.size_status 0 result.size }
+    ensures align { Gives (align_answered (space_in dictionary.now) t.0)
+        result.align_status 0 result.align }
+    ensures resolved { Gives (resolved_answered (space_in dictionary.now) t.0)
+        result.resolved_status 0 result.resolved }
+{
+    let mut size = 0;
+    let mut align = 0;
+    let mut resolved = 0;
+    let size_status = give(dictionary.size(t), &mut size);
+    let align_status = give(dictionary.align(t), &mut align);
+    let resolved_status = give_type(dictionary.resolve(t), &mut resolved);
+    Figures {
+        size,
+        align,
+        size_status,
+        align_status,
+        resolved_status,
+        resolved,
+    }
+}
+
+/// How many members, enumerators or arguments a type has.
+#[inline(always)]
+fn item_count(found: &Typed<'_>) -> u64
+    ensures { on_shape length_answered (shape_of (or_no_type (spelled found.now))) ≡ Ok result }
+{
+    match found.variant() {
+        Variant::Members(members) => members.len() as u64,
+        Variant::Enumerators(enumerators) => enumerators.len() as u64,
+        Variant::Args(args) => args.len() as u64,
+        _ => 0,
+    }
+}
+
+/// What the record of a type says.
+#[inline(always)]
+fn numbers_of(found: &Typed<'_>) -> RecordNumbers
+    ensures kind { answer_map number_of_kind
+        (on_shape kind_answered (shape_of (or_no_type (spelled found.now)))) ≡ Ok result.kind }
+    ensures root { answer_map flag_of (root_answered (or_no_type (spelled found.now)))
+        ≡ Ok result.root }
+    ensures length { on_shape length_answered (shape_of (or_no_type (spelled found.now)))
+        ≡ Ok result.length }
+    ensures reference { Gives (referred_by (or_no_type (spelled found.now)))
+        result.reference_status 0 result.reference }
+{
+    let mut reference = 0;
+    let reference_status = give_type(referred(found.shape()), &mut reference);
+    RecordNumbers {
+        length: item_count(found),
+        kind: kind_number(found.kind()),
+        root: flag(found.root()),
+        reference_status,
+        reference,
+    }
+}
+
+/// Where the name of a type stands.
+#[inline(always)]
+fn name_place(found: &Typed<'_>) -> NamePosition
+    ensures { (name : List ℕ) × (name_in (or_no_type (spelled found.now)) ≡ Ok name)
+        × (text_in (lists_of (dictionary_in found.now)) result.list result.at ≡ Some name) }
+{
+    name_position(&found.dictionary(), found.name_reference())
+}
+
+/// An own type, from 0.
+#[inline(always)]
+fn own_type<'a>(space: &Space<'a>, index: usize) -> Typed<'a>
+    requires { index < length (space_of space.now).own.terms }
+    ensures found { or_no_type (spelled result)
+        ≡ space_type (space_of space.now) (own_number (space_of space.now).own.child index) }
+    ensures lists { lists_of (dictionary_in result) ≡ own_lists space.now }
+{
+    space.dictionary().typed(index + 1).unwrap()
+}
+
+/// What is told of an own type, from 0.
+#[inline(always)]
+fn type_row(dictionary: &OpenDictionary, space: &Space<'_>, index: usize) -> GivenTypeRow
+    requires inside { index < length (own_in dictionary.now).terms }
+    requires space { space_of space.now ≡ space_in dictionary.now }
+    requires lists { own_lists space.now ≡ dictionary.now.own.lists }
+    ensures { TellsType (Some dictionary.now) (own_number (own_in dictionary.now).child index)
+        result }
+{
+    let t = space.own_number(index);
+    let found = own_type(space, index);
+    let place = name_place(&found);
+    let figures = figures_of(dictionary, t);
+    let numbers = numbers_of(&found);
+    GivenTypeRow {
+        size: figures.size,
+        align: figures.align,
+        length: numbers.length,
+        name_at: place.at,
+        name_list: place.list,
+        kind: numbers.kind,
+        root: numbers.root,
+        size_status: figures.size_status,
+        align_status: figures.align_status,
+        resolved_status: figures.resolved_status,
+        reference_status: numbers.reference_status,
+        tnum: t.0,
+        resolved: figures.resolved,
+        reference: numbers.reference,
+    }
+}
+
+/// Fills rows with the own types from a number on, counted from 0, and answers how many there are.
+fn types_into(dictionary: &OpenDictionary, from: usize, rows: &mut [GivenTypeRow]) -> u64
+    ensures count { result ≡ length (own_numbers (own_in dictionary.now)) }
+    ensures filled { Fills (TellsType (Some dictionary.now)) (own_numbers (own_in dictionary.now))
+        from rows.old rows.new }
+{
+    let space = dictionary.space();
+    let all = space.count();
+    let left = all.saturating_sub(from);
+    let count = left.min(rows.len());
+    for i in 0..count {
+        rows[i] = type_row(dictionary, &space, from + i);
+    }
+    all as u64
+}
+
+/// The dictionary's own types from a number on, counted from 0, as many as there are rows, and how
+/// many it has in all.
+#[unsafe(no_mangle)]
+pub extern "C" fn ctfd_types(
+    handle: &mut Handle,
+    from: usize,
+    rows: &mut [GivenTypeRow],
+    count: &mut u64,
+) -> u32
+    ensures same { handle.new.held.dictionary ≡ handle.old.held.dictionary }
+    ensures answer { GivesRows (TellsType handle.old.held.dictionary)
+        (asked handle.old.held.dictionary (λ s. Ok (own_numbers (own_in s)))) from result
+        rows.old rows.new count.old count.new }
+{
+    let dictionary = dictionary_of!(handle);
+    *count = types_into(dictionary, from, rows);
+    0
+}
