@@ -65,6 +65,26 @@ void ctfd__forget_details(ctf_file_t *fp)
     fp->details_bytes = 0;
 }
 
+void ctfd__forget(ctf_file_t *fp)
+{
+    size_t i;
+    fp->generation++;
+    ctfd__forget_details(fp);
+    for (i = 0; i < sizeof fp->pages / sizeof fp->pages[0]; i++) {
+        free(fp->pages[i]);
+        fp->pages[i] = NULL;
+    }
+}
+
+/* The page of a type, or NULL: then nothing is kept. */
+static struct ctfd__page *page_of(ctf_file_t *fp, uint16_t t)
+{
+    struct ctfd__page *page = fp->pages[t / CTFD_PAGE];
+    if (page == NULL)
+        page = fp->pages[t / CTFD_PAGE] = (struct ctfd__page *)calloc(1, sizeof *page);
+    return page;
+}
+
 /* How many rows are read by one call. */
 #define ROWS 32
 
@@ -131,13 +151,19 @@ static enum ctfd_status read_enumerators(ctf_file_t *fp, uint16_t t, struct ctfd
 
 static enum ctfd_status read_arguments(ctf_file_t *fp, uint16_t t, struct ctfd__details *made)
 {
+    uint16_t rows[ROWS];
     enum ctfd_status status = CTFD_OK;
-    uint32_t i;
-    for (i = 0; status == CTFD_OK && i < made->count; i++) {
-        struct ctfd__item *item = &made->items[i];
-        item->name = NULL;
-        item->at = 0;
-        status = ctfd_argument(&fp->types, t, i, &item->type);
+    uint64_t count;
+    uint32_t i, from;
+    for (from = 0; status == CTFD_OK && from < made->count; from += ROWS) {
+        uint32_t more = some(made->count - from);
+        status = ctfd_arguments(&fp->types, t, from, rows, more, &count);
+        for (i = 0; status == CTFD_OK && i < more; i++) {
+            struct ctfd__item *item = &made->items[from + i];
+            item->name = NULL;
+            item->at = 0;
+            item->type = rows[i];
+        }
     }
     return status;
 }
@@ -192,7 +218,7 @@ static struct ctfd__details *placed(ctf_file_t *fp, uint16_t t, uint32_t kind, s
 {
     static const struct ctfd__details none;
     size_t size = sizeof(struct ctfd__details) + count * sizeof(struct ctfd__item);
-    struct ctfd__page *page = ctfd__page(fp, t);
+    struct ctfd__page *page = page_of(fp, t);
     struct ctfd__details *made;
     if (fp->details_bytes + size > MOST_BYTES)
         ctfd__forget_details(fp);
@@ -212,7 +238,7 @@ struct ctfd__details *ctfd__read(ctf_file_t *fp, uint16_t t)
     uint32_t kind = 0;
     uint64_t count = 0;
     struct ctfd__details *made;
-    enum ctfd_status status = ctfd__kind(fp, t, &kind);
+    enum ctfd_status status = ctfd_kind(&fp->types, t, &kind);
     if (status == CTFD_OK)
         status = count_items(fp, t, kind, &count);
     if (ctfd__done(fp, status) != 0)

@@ -62,16 +62,9 @@ struct ctfd__details {
 /* How many types a page has: few, so that one that is asked of a few types stays small. */
 #define CTFD_PAGE 64
 
-/* What was found of some types; each answer is kept as it was given, or is not there yet. */
+/* What was read of some types; NULL of the others. */
 struct ctfd__page {
     struct ctfd__details *details[CTFD_PAGE];
-    uint16_t resolved[CTFD_PAGE];
-    uint16_t references[CTFD_PAGE];
-    uint16_t pointers[CTFD_PAGE]; /* 0 where there is none */
-    uint16_t aligns[CTFD_PAGE];
-    uint32_t sizes[CTFD_PAGE];
-    uint8_t kinds[CTFD_PAGE];
-    uint8_t known[CTFD_PAGE];
 };
 
 struct ctf_file {
@@ -152,21 +145,6 @@ HIDDEN const char *ctfd__numbered(ctf_file_t *fp, ctfd__numbered_f *call, uint32
 /* The name in a type's record. */
 HIDDEN const char *ctfd__declared(ctf_file_t *fp, uint16_t t);
 
-/* ---- known.c: answers that are asked again and again */
-
-/* The page of a type, or NULL: then nothing is kept. */
-HIDDEN struct ctfd__page *ctfd__page(ctf_file_t *fp, uint16_t t);
-
-/* Drops all of them, since what is open becomes another. */
-HIDDEN void ctfd__forget(ctf_file_t *fp);
-HIDDEN enum ctfd_status ctfd__kind(ctf_file_t *fp, uint16_t t, uint32_t *kind);
-HIDDEN enum ctfd_status ctfd__root(ctf_file_t *fp, uint16_t t, uint32_t *root);
-HIDDEN enum ctfd_status ctfd__resolve(ctf_file_t *fp, uint16_t t, uint16_t *to);
-HIDDEN enum ctfd_status ctfd__reference(ctf_file_t *fp, uint16_t t, uint16_t *to);
-HIDDEN enum ctfd_status ctfd__size(ctf_file_t *fp, uint16_t t, uint64_t *bytes);
-HIDDEN enum ctfd_status ctfd__align(ctf_file_t *fp, uint16_t t, uint64_t *bytes);
-HIDDEN enum ctfd_status ctfd__pointer(ctf_file_t *fp, uint16_t t, uint16_t *to);
-
 /* ---- details.c: what records hold, read once */
 
 /* Reads those of a type; NULL and the error where they can't be read, or there are none. */
@@ -180,8 +158,9 @@ static inline struct ctfd__details *ctfd__details(ctf_file_t *fp, uint16_t t)
     return known != NULL ? known : ctfd__read(fp, t);
 }
 
-/* Drops all of them. */
+/* Drops all of them; and all that was read, since what is open becomes another. */
 HIDDEN void ctfd__forget_details(ctf_file_t *fp);
+HIDDEN void ctfd__forget(ctf_file_t *fp);
 
 /* Whether the names of a type are told where they stand in the file's lists, which its caller keeps
  * until it is closed: those of a parent's types and of drafts are copied. */

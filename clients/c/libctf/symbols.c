@@ -3,6 +3,9 @@
 
 #include <string.h>
 
+/* How many arguments are read by one call. */
+#define ROWS 32
+
 static bool is_symbol(ctf_file_t *fp, ulong_t symbol)
 {
     if (symbol <= 0xffffffffUL)
@@ -66,16 +69,20 @@ int ctf_func_info(ctf_file_t *fp, ulong_t symbol, ctf_funcinfo_t *info)
 
 int ctf_func_args(ctf_file_t *fp, ulong_t symbol, uint_t argc, ctf_id_t *argv)
 {
-    ctf_funcinfo_t info;
-    uint_t i;
-    if (ctf_func_info(fp, symbol, &info) != 0)
+    uint16_t rows[ROWS];
+    uint64_t count = 0;
+    uint_t i, from = 0;
+    if (!is_symbol(fp, symbol))
         return (int)CTF_ERR;
-    for (i = 0; i < argc && i < info.ctc_argc; i++) {
-        uint16_t to = 0;
-        if (ctfd__done(fp, ctfd_function_argument(&fp->types, (uint32_t)symbol, i, &to)) != 0)
+    do {
+        uint_t more = argc - from < ROWS ? argc - from : ROWS;
+        if (ctfd__done(fp, ctfd_function_arguments(&fp->types, (uint32_t)symbol, from, rows, more,
+                               &count)) != 0)
             return (int)CTF_ERR;
-        argv[i] = (ctf_id_t)to;
-    }
+        for (i = 0; i < more && from + i < count; i++)
+            argv[from + i] = (ctf_id_t)rows[i];
+        from += more;
+    } while (from < argc && from < count);
     return 0;
 }
 

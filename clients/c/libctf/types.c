@@ -6,7 +6,7 @@ int ctf_type_kind(ctf_file_t *fp, ctf_id_t type)
     uint32_t kind = 0;
     if (!ctfd__is_type(fp, type))
         return (int)CTF_ERR;
-    if (ctfd__done(fp, ctfd__kind(fp, (uint16_t)type, &kind)) != 0)
+    if (ctfd__done(fp, ctfd_kind(&fp->types, (uint16_t)type, &kind)) != 0)
         return (int)CTF_ERR;
     return (int)kind;
 }
@@ -25,7 +25,7 @@ ssize_t ctf_type_size(ctf_file_t *fp, ctf_id_t type)
     enum ctfd_status status;
     if (!ctfd__is_type(fp, type))
         return (ssize_t)CTF_ERR;
-    status = ctfd__size(fp, (uint16_t)type, &bytes);
+    status = ctfd_size(&fp->types, (uint16_t)type, &bytes);
     return as_bytes(fp, status, bytes);
 }
 
@@ -35,7 +35,7 @@ ssize_t ctf_type_align(ctf_file_t *fp, ctf_id_t type)
     enum ctfd_status status;
     if (!ctfd__is_type(fp, type))
         return (ssize_t)CTF_ERR;
-    status = ctfd__align(fp, (uint16_t)type, &bytes);
+    status = ctfd_align(&fp->types, (uint16_t)type, &bytes);
     return as_bytes(fp, status, bytes);
 }
 
@@ -44,7 +44,7 @@ ctf_id_t ctf_type_resolve(ctf_file_t *fp, ctf_id_t type)
     uint16_t to = 0;
     if (!ctfd__is_type(fp, type))
         return CTF_ERR;
-    if (ctfd__done(fp, ctfd__resolve(fp, (uint16_t)type, &to)) != 0)
+    if (ctfd__done(fp, ctfd_resolve(&fp->types, (uint16_t)type, &to)) != 0)
         return CTF_ERR;
     return (ctf_id_t)to;
 }
@@ -54,7 +54,7 @@ ctf_id_t ctf_type_reference(ctf_file_t *fp, ctf_id_t type)
     uint16_t to = 0;
     if (!ctfd__is_type(fp, type))
         return CTF_ERR;
-    if (ctfd__done(fp, ctfd__reference(fp, (uint16_t)type, &to)) != 0)
+    if (ctfd__done(fp, ctfd_reference(&fp->types, (uint16_t)type, &to)) != 0)
         return CTF_ERR;
     return (ctf_id_t)to;
 }
@@ -64,7 +64,7 @@ ctf_id_t ctf_type_pointer(ctf_file_t *fp, ctf_id_t type)
     uint16_t to = 0;
     if (!ctfd__is_type(fp, type))
         return CTF_ERR;
-    if (ctfd__done(fp, ctfd__pointer(fp, (uint16_t)type, &to)) != 0)
+    if (ctfd__done(fp, ctfd_pointer(&fp->types, (uint16_t)type, &to)) != 0)
         return CTF_ERR;
     return (ctf_id_t)to;
 }
@@ -121,7 +121,7 @@ int ctf_type_iter(ctf_file_t *fp, boolean_t hidden, ctf_type_f *each, void *arg)
     for (i = 1; i <= count; i++) {
         uint16_t t = (uint16_t)(child != 0 ? i + 32768 : i);
         int said;
-        if (ctfd__done(fp, ctfd__root(fp, t, &root)) != 0)
+        if (ctfd__done(fp, ctfd_root(&fp->types, t, &root)) != 0)
             return (int)CTF_ERR;
         if (root == 0 && hidden == B_FALSE)
             continue;

@@ -40,7 +40,7 @@ class WithService(unittest.TestCase):
     def setUp(self) -> None:
         if not PROGRAM:
             self.skipTest("CTFD names no built service")
-        self.client = ctfd.Client(None if LIBRARY else PROGRAM)
+        self.client = ctfd.connect() if LIBRARY else ctfd.Client(PROGRAM)
         self.addCleanup(self.client.close)
         self.session = self.client.session()
 

@@ -315,8 +315,7 @@ class Dictionary:
 
     def function(self, number: int) -> Signature:
         """The signature of the function with a number in the symbol table."""
-        said = self._ask_symbols("function", sym=number)
-        return self.signature(said["return"], said["args"], said["varargs"])
+        return self.signature(self._ask_symbols("function", sym=number))
 
     def _ask_symbols(self, op: str, **fields: Any) -> Answer:
         if self.how in ("unread", "differs", "stripped"):
@@ -324,8 +323,12 @@ class Dictionary:
         said: Answer = self.session.ask(op, d=self.slot, **fields)
         return said
 
-    def signature(self, returns: int, taken: List[int], varargs: bool) -> Signature:
-        """A signature by the numbers of types."""
+    def signature(self, said: Answer) -> Signature:
+        """What `args` or `function` answered, with types."""
+        return self.signed(said["return"], said["args"], said["varargs"])
+
+    def signed(self, returns: int, taken: List[int], varargs: bool) -> Signature:
+        """A signature by the numbers of its types."""
         return Signature(self.type(returns), [self.type(t) for t in taken], varargs)
 
     def labels(self) -> List[Tuple[str, int]]:

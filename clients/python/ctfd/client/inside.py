@@ -5,8 +5,7 @@ another but what it publishes.
 """
 from __future__ import annotations
 
-from types import TracebackType
-from typing import TYPE_CHECKING, Callable, Dict, List, Optional, Sequence, Tuple, Type
+from typing import TYPE_CHECKING, Callable, Dict, List, Optional, Sequence, Tuple
 
 from ..text import unescape
 from . import words
@@ -14,7 +13,7 @@ from .additions import Additions
 from .calls import Calls
 from .faults import Gone, Refused
 from .model import Model
-from .session import Answer, Outcome, Request, Session
+from .session import Answer, Outcome, Request, Service, Session
 from .slot import Slot, fault_of
 
 if TYPE_CHECKING:
@@ -33,21 +32,24 @@ class Published:
         self.model = slot.model
 
 
-class Inside:
+class Inside(Service):
     """A service in this process: the sessions of one library."""
-
-    pid: Optional[int] = None
 
     def __init__(self, calls: Calls) -> None:
         self.calls = calls
         self.published: Dict[Tuple[int, bytes], Published] = {}
         self._sessions: List[InsideSession] = []
         self.is_closed = False
+        self.requests = self.rounds = 0
 
     @property
     def where(self) -> str:
         """Where the service is, in words."""
         return f"in this process, by {self.calls.path}"
+
+    @property
+    def pid(self) -> None:
+        """None: there is no other process."""
 
     def session(self) -> InsideSession:
         """A session that nobody has used yet."""
@@ -62,13 +64,6 @@ class Inside:
         for session in self._sessions:
             session.end()
 
-    def __enter__(self) -> Inside:
-        return self
-
-    def __exit__(self, kind: Optional[Type[BaseException]], error: Optional[BaseException],
-                 trace: Optional[TracebackType]) -> None:
-        self.close()
-
 
 class InsideSession(Session):
     """A session of the library in this process."""
@@ -77,7 +72,7 @@ class InsideSession(Session):
 
     def __init__(self, client: Inside, number: int) -> None:
         super().__init__(client, number)
-        self._slots: Dict[int, Slot] = {}
+        self.slots: Dict[int, Slot] = {}
         self._last = 0
         self._words: Dict[str, Callable[[Answer], Answer]] = {
             "create": self._create, "close": self._close, "import": self._import,
@@ -87,6 +82,8 @@ class InsideSession(Session):
 
     def ask_all(self, requests: Sequence[Request]) -> List[Outcome]:
         made: List[Outcome] = []
+        self.client.requests += len(requests)
+        self.client.rounds += 1
         for op, fields in requests:
             try:
                 made.append(self.answer(op, fields))
@@ -111,27 +108,27 @@ class InsideSession(Session):
         return {"d": self._kept(slot), "types": slot.count}
 
     def told(self, types: Dictionary) -> Told:
-        return self._slots[types.slot].rows
+        return self.slots[types.slot].rows
 
     def end(self) -> None:
         """Closes all that is open."""
-        for slot in self._slots.values():
+        for slot in self.slots.values():
             slot.close()
-        self._slots.clear()
+        self.slots.clear()
 
     def _new(self, op: str) -> Slot:
-        if len(self._slots) >= SLOTS:
+        if len(self.slots) >= SLOTS:
             raise fault_of("SlotsFull", op, {})
         return Slot(self.client.calls, self._last + 1)
 
     def _kept(self, slot: Slot) -> int:
         """The number of a slot in which something was opened."""
         self._last = slot.d
-        self._slots[slot.d] = slot
+        self.slots[slot.d] = slot
         return slot.d
 
     def _slot(self, op: str, fields: Answer, name: str = "d") -> Slot:
-        found = self._slots.get(fields.get(name, 0))
+        found = self.slots.get(fields.get(name, 0))
         if found is None:
             raise fault_of("NoSlot", op, fields)
         return found
@@ -147,7 +144,7 @@ class InsideSession(Session):
 
     def _close(self, fields: Answer) -> Answer:
         self._slot("close", fields).close()
-        del self._slots[fields["d"]]
+        del self.slots[fields["d"]]
         return {}
 
     def _import(self, fields: Answer) -> Answer:

@@ -34,7 +34,7 @@ class Names(Dict[int, str]):
     def __missing__(self, at: int) -> str:
         end = self._data.index(b"\0", at)
         bounded.charge(4 * (end - at))
-        name = self[at] = self._data[at:end].decode("utf-8", "surrogateescape")
+        name = self[at] = text.decoded(self._data[at:end])
         return name
 
 
@@ -148,7 +148,8 @@ class Rows:
         if self._at(t) < 0:
             return self._elsewhere(t).arguments(t)
         returned = self._slot.number("return", t)
-        taken = self._slot.numbers("arguments", t, self.length(t))
+        rows = self._slot.listed("arguments", t, self.length(t), 2)
+        taken = memoryview(rows).cast("H").tolist()
         varargs = taken[-1:] == [0]
         return returned, taken[:-1] if varargs else taken, varargs
 

@@ -3,8 +3,9 @@ whether what answers is in this process or behind pipes or a socket."""
 from __future__ import annotations
 
 import abc
-from typing import (TYPE_CHECKING, Any, Dict, List, Literal, Optional, Protocol, Sequence, Tuple,
-                    Union, overload)
+from types import TracebackType
+from typing import (TYPE_CHECKING, Any, Dict, List, Literal, Optional, Sequence, Tuple, Type,
+                    TypeVar, Union, overload)
 
 from .. import text
 from .faults import Refused
@@ -19,24 +20,36 @@ if TYPE_CHECKING:
 Answer = Dict[str, Any]
 Request = Tuple[str, Dict[str, Any]]
 Outcome = Union[Answer, Refused]
+Self = TypeVar("Self", bound="Service")
 
 
-class Service(Protocol):
-    """What has sessions: a Client, or the library in this process."""
+class Service(abc.ABC):
+    """What has sessions: a Client, or the library in this process. As a context it is closed."""
 
     @property
+    @abc.abstractmethod
     def where(self) -> str:
         """Where it is, in words."""
 
     @property
+    @abc.abstractmethod
     def pid(self) -> Optional[int]:
         """Its process; None where it was not started here."""
 
+    @abc.abstractmethod
     def session(self) -> Session:
         """A session that nobody has used yet."""
 
+    @abc.abstractmethod
     def close(self) -> None:
         """Ends it, and what its sessions have open."""
+
+    def __enter__(self: Self) -> Self:
+        return self
+
+    def __exit__(self, kind: Optional[Type[BaseException]], error: Optional[BaseException],
+                 trace: Optional[TracebackType]) -> None:
+        self.close()
 
 
 class Session(abc.ABC):

@@ -116,7 +116,7 @@ class Slot:
     @property
     def handed_in(self) -> Lists:
         """The section, the symbols and the strings of what is open."""
-        return (self.bytes(), None, None) if self.is_draft else self._given
+        return (self.written(), None, None) if self.is_draft else self._given
 
     @property
     def lists(self) -> Tuple[bytes, bytes]:
@@ -153,7 +153,7 @@ class Slot:
         self.made(word, ctypes.byref(found))
         return int(found.value)
 
-    def bytes(self, start: int = 0, count: Optional[int] = None) -> bytes:
+    def written(self, start: int = 0, count: Optional[int] = None) -> bytes:
         """Bytes of what is open, as they are written."""
         whole = U64()
         self.made("bytes", start, room(0), 0, ctypes.byref(whole))
@@ -218,10 +218,10 @@ class Slot:
         return [(names[kept][at] if kept < len(names) - 1 else "", last)
                 for at, kept, last in rows]
 
-    def found(self, word: str, name: bytes, kind: Any, **fields: Any) -> int:
+    def found(self, word: str, data: bytes, kind: Any, **fields: Any) -> int:
         """The number that a name finds, by `find`, `symbol` or `label_last`."""
         number = kind()
-        status = self.calls[word](self._it, name, len(name), ctypes.byref(number))
+        status = self.calls[word](self._it, data, len(data), ctypes.byref(number))
         if status:
             self.refuse("label" if word == "label_last" else word, status, **fields)
         return int(number.value)

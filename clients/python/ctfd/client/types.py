@@ -175,7 +175,7 @@ class Type:
     @property
     def signature(self) -> Signature:
         """What a function takes and returns."""
-        return self.dictionary.signature(*self._told("args").arguments(self.number))
+        return self.dictionary.signed(*self._told("args").arguments(self.number))
 
     @property
     def contents(self) -> Type:

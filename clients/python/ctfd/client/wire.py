@@ -10,14 +10,13 @@ import binascii
 import collections
 import json
 import os
-from types import TracebackType
-from typing import (TYPE_CHECKING, Deque, Iterable, List, NoReturn, Optional, Sequence, Type)
+from typing import TYPE_CHECKING, Deque, Iterable, List, NoReturn, Optional, Sequence
 
 from . import service
 from .asked import Asked
 from .faults import Error, Gone, Refused, refused
 from .model import Model
-from .session import Answer, Outcome, Request, Session
+from .session import Answer, Outcome, Request, Service, Session
 from .told import Told
 from ..files import bounded
 
@@ -41,7 +40,7 @@ class Owed:
         self.reply: Optional[Answer] = None
 
 
-class Client:
+class Client(Service):
     """One service. Where none is named the program is looked for, and started.
 
     With `socket` it is one that others use too: the path of a socket where ctfd-front listens, in
@@ -84,13 +83,6 @@ class Client:
         if self._socket is None:
             return Pipes([service.to_start(command[0]), *command[1:]])
         return Socket(self._socket, self.patience, self._room)
-
-    def __enter__(self) -> Client:
-        return self
-
-    def __exit__(self, kind: Optional[Type[BaseException]], error: Optional[BaseException],
-                 trace: Optional[TracebackType]) -> None:
-        self.close()
 
     @property
     def pid(self) -> Optional[int]:

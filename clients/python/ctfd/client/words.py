@@ -8,7 +8,7 @@ import ctypes
 from typing import Any, Callable, Dict, List, Tuple
 
 from ..text import escape, unescape
-from .calls import U16, U32, U64
+from .calls import U16, U32, U64, room
 from .slot import BAD_REQUEST, Slot
 
 Answer = Dict[str, Any]
@@ -20,7 +20,7 @@ def _record(slot: Slot, fields: Answer) -> Answer:
     rows, t = slot.rows, fields["t"]
     kind = rows.kind(t)
     listed = kind in ("struct", "union", "enum", "function")
-    said: Answer = {"kind": kind, "name": _escaped(rows.name(t)), "root": rows.is_root(t),
+    said: Answer = {"kind": kind, "name": escape(rows.name(t)), "root": rows.is_root(t),
                     "vlen": rows.length(t) if listed else 0}
     if kind in _SIZED:
         said["size"] = rows.size(t)
@@ -40,12 +40,12 @@ def _some(items: List[Answer], word: str, fields: Answer) -> Answer:
 
 
 def _members(slot: Slot, fields: Answer) -> Answer:
-    return _some([{"name": _escaped(name), "offset": offset, "type": t}
+    return _some([{"name": escape(name), "offset": offset, "type": t}
                   for name, t, offset in slot.rows.members(fields["t"])], "members", fields)
 
 
 def _enumerators(slot: Slot, fields: Answer) -> Answer:
-    return _some([{"name": _escaped(name), "value": value}
+    return _some([{"name": escape(name), "value": value}
                   for name, value in slot.rows.enumerators(fields["t"])], "enumerators", fields)
 
 
@@ -75,12 +75,8 @@ def _path(slot: Slot, fields: Answer) -> Answer:
 
 def _show(slot: Slot, fields: Answer) -> Answer:
     memory = bytes.fromhex(fields["bytes"])
-    return {"text": _shown(slot, fields["t"], memory, fields["offset"])}
-
-
-def _shown(slot: Slot, t: int, memory: bytes, offset: int) -> str:
-    said = slot.said("show", t, memory, len(memory), offset)
-    return escape(said)
+    said = slot.said("show", fields["t"], memory, len(memory), fields["offset"])
+    return {"text": escape(said)}
 
 
 def _find(slot: Slot, fields: Answer) -> Answer:
@@ -93,7 +89,7 @@ def _symbol(slot: Slot, fields: Answer) -> Answer:
 
 
 def _labels(slot: Slot, fields: Answer) -> Answer:
-    return _some([{"last": last, "name": _escaped(name)} for name, last in slot.labels()],
+    return _some([{"last": last, "name": escape(name)} for name, last in slot.labels()],
                  "labels", fields)
 
 
@@ -111,17 +107,13 @@ def _info(slot: Slot, fields: Answer) -> Answer:
 
 def _bytes(slot: Slot, fields: Answer) -> Answer:
     whole = U64()
-    slot.made("bytes", 0, b"", 0, ctypes.byref(whole))
+    slot.made("bytes", 0, room(0), 0, ctypes.byref(whole))
     wanted = min(fields.get("count", MOST_BYTES), MOST_BYTES)
-    return {"bytes": slot.bytes(fields["from"], wanted).hex(), "length": whole.value}
+    return {"bytes": slot.written(fields["from"], wanted).hex(), "length": whole.value}
 
 
 def _number(word: str, name: str) -> Callable[[Slot, Answer], Answer]:
     return lambda slot, fields: {name: slot.number(word, fields["t"])}
-
-
-def _escaped(name: str) -> str:
-    return escape(name)
 
 
 ANSWERS: Dict[str, Callable[[Slot, Answer], Answer]] = {
@@ -129,7 +121,7 @@ ANSWERS: Dict[str, Callable[[Slot, Answer], Answer]] = {
     "record": _record, "members": _members, "enumerators": _enumerators,
     "args": lambda slot, fields: _arguments(slot.rows.arguments(fields["t"])),
     "array": _array, "encoding": _encoding, "path": _path, "show": _show, "find": _find,
-    "name": lambda slot, fields: {"name": _escaped(slot.rows.spelled(fields["t"]))},
+    "name": lambda slot, fields: {"name": escape(slot.rows.spelled(fields["t"]))},
     "reference": _number("reference", "t"), "resolve": _number("resolve", "t"),
     "pointer": _number("pointer", "t"), "size": _number("size", "size"),
     "align": _number("align", "align"), "symbol": _symbol,

@@ -12,7 +12,7 @@ from .. import text
 from ..client.dictionary import Dictionary
 from ..client.gather import DETAIL, LISTS
 from ..client.types import Encoding, Enumerator, Member, QUALIFIERS, Type
-from ..client.wire import Answer
+from ..client.session import Answer
 from . import stored
 from .places import Layout, Span, laid
 from .records import AGGREGATES, Part, Record
