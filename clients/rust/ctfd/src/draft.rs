@@ -119,12 +119,14 @@ impl<'b> Draft<'b> {
     /// An empty draft over a parent, which is fixed for good, with the names that its header will
     /// have for that and for its label.
     pub fn child(parent: &Dictionary<'b>, name: &str, label: &str) -> Result<Draft<'b>, Refusal> {
-        let (made, mut place) = (Dictionary::none(), 0);
+        let (mut made, own, mut place) = (Dictionary::none(), parent.again()?, 0);
         let label = apart(label.as_bytes(), &[name.as_bytes()]);
+        // SAFETY: the handles are two, and borrowed by nobody else. The texts live for the call and
+        // share no byte. The parent's lists are kept from here on.
         let status = unsafe {
             raw::ctfd_create_child(
                 made.handle(),
-                parent.handle(),
+                own.handle(),
                 name.as_ptr(),
                 name.len(),
                 label.as_ptr(),
@@ -133,6 +135,7 @@ impl<'b> Draft<'b> {
             )
         };
         told_at(status, place)?;
+        made.keep(own);
         Ok(Draft(made))
     }
 

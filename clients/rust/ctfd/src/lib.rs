@@ -39,11 +39,17 @@
 //! println!("{found}");
 //! ```
 //!
-//! Dictionaries, and all that shares them, stay on the thread that opened them:
+//! A dictionary may go to another thread, and is asked by one at a time:
+//!
+//! ```
+//! let types = ctfd::Dictionary::open(&std::fs::read("../../../examples/lua.ctf").unwrap()).unwrap();
+//! let count = std::thread::spawn(move || types.count()).join().unwrap();
+//! assert_eq!(count, 526);
+//! ```
 //!
 //! ```compile_fail,E0277
 //! let types = ctfd::Dictionary::open(&[]).unwrap();
-//! std::thread::spawn(move || types.count());
+//! std::thread::scope(|scope| scope.spawn(|| types.count()).join());
 //! ```
 
 mod apart;
@@ -51,6 +57,7 @@ mod declaration;
 mod dictionary;
 mod draft;
 mod faults;
+mod given;
 mod lists;
 mod names;
 mod raw;
@@ -63,6 +70,6 @@ pub use draft::{Draft, Named};
 pub use faults::{Fault, Refusal};
 pub use lists::{Arguments, Enumerator, Enumerators, Member, Members};
 pub use names::Name;
-pub use raw::{EnumeratorRow, MemberRow, TypeRow, VisitRow};
+pub use raw::{EnumeratorRow, LabelRow, MemberRow, SymbolRow, TypeRow, VisitRow};
 pub use service::Service;
 pub use types::{Array, Encoding, Kind, Type};

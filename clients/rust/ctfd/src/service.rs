@@ -4,7 +4,6 @@ use crate::faults::{told, Refusal};
 use crate::names::fill;
 use crate::raw;
 use std::fmt;
-use std::marker::PhantomData;
 
 /// A service that answers lines of JSON as `ctfd serve` does, all its sessions in this process.
 ///
@@ -16,8 +15,10 @@ use std::marker::PhantomData;
 pub struct Service {
     raw: raw::Handle,
     room: Vec<u8>,
-    here: PhantomData<*mut ()>,
 }
+
+// SAFETY: a service may be asked on any thread, one call at a time; it shares nothing with others.
+unsafe impl Send for Service {}
 
 impl Service {
     /// A service in which no session holds anything.
@@ -25,7 +26,7 @@ impl Service {
         let mut raw = raw::Handle::NONE;
         // SAFETY: the handle is this value's own; so it is in the calls below.
         told(unsafe { raw::ctfd_begin(&mut raw) })?;
-        Ok(Service { raw, room: Vec::with_capacity(4096), here: PhantomData })
+        Ok(Service { raw, room: Vec::with_capacity(4096) })
     }
 
     /// Answers a line; neither that nor the reply has a newline at its end. What is refused is told

@@ -7,6 +7,7 @@ use crate::lists::{Arguments, Enumerators, Member, Members};
 use crate::names::{fill, text, Name};
 use crate::raw::{self, EnumeratorRow, MemberRow, VisitRow};
 use std::fmt;
+use std::hash::{Hash, Hasher};
 
 /// The kinds of types, by their numbers in sys/ctf.h.
 #[derive(Clone, Copy, Debug, PartialEq, Eq, Hash)]
@@ -103,6 +104,13 @@ impl PartialEq for Type<'_> {
 }
 
 impl Eq for Type<'_> {}
+
+impl Hash for Type<'_> {
+    fn hash<H: Hasher>(&self, to: &mut H) {
+        (self.of as *const Dictionary<'_>).hash(to);
+        self.number.hash(to);
+    }
+}
 
 impl fmt::Debug for Type<'_> {
     fn fmt(&self, to: &mut fmt::Formatter<'_>) -> fmt::Result {
@@ -314,6 +322,14 @@ impl<'d> Type<'d> {
         Ok(Member { name: room, offset: raw.offset, kind: Type::some(self.of, raw.tnum) })
     }
 
+    /// The name of an enumerator by its number.
+    pub(crate) fn enumerator_name_at(self, index: usize) -> Result<Name, Refusal> {
+        let (handle, number, mut value) = (self.of.handle(), self.number, 0);
+        text(|at, len, told| unsafe {
+            raw::ctfd_enumerator(handle, number, index, at, len, &mut value, told)
+        })
+    }
+
     /// The name of the first enumerator that has a value.
     pub fn enumerator_name(self, value: i32) -> Result<Name, Refusal> {
         let (handle, number) = (self.of.handle(), self.number);
@@ -344,6 +360,15 @@ impl<'d> Type<'d> {
         let (at, len, mut count) = (rows.as_mut_ptr(), rows.len(), 0);
         let handle = self.of.handle();
         told(unsafe { raw::ctfd_enumerators(handle, self.number, from, at, len, &mut count) })?;
+        Ok(count)
+    }
+
+    /// Fills rows with the numbers of the types of a function type's arguments: a last 0 says that
+    /// more may follow.
+    pub fn argument_rows(self, from: usize, rows: &mut [u16]) -> Result<u64, Refusal> {
+        let (at, len, mut count) = (rows.as_mut_ptr(), rows.len(), 0);
+        let handle = self.of.handle();
+        told(unsafe { raw::ctfd_arguments(handle, self.number, from, at, len, &mut count) })?;
         Ok(count)
     }
 
