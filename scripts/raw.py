@@ -123,8 +123,12 @@ def call(status: str, name: str, taken: str) -> Iterator[str]:
     listed = [f"{name}: {kind}" for name, kind in map(rust_type, taken.split(","))]
     answer = "" if status == "void" else " -> u32"
     whole = f"    pub fn {name}({', '.join(listed)}){answer};"
-    if len(whole) <= WIDTH:
+    if len(whole) < WIDTH:
         yield whole
+        return
+    if len(whole) == WIDTH and answer:  # rustfmt counts what comes behind too
+        yield whole[:-len(f"{answer};")]
+        yield f"       {answer};"
         return
     yield f"    pub fn {name}("
     for one in listed:

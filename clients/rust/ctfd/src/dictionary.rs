@@ -157,33 +157,24 @@ impl<'b> Dictionary<'b> {
 
     /// How many types it has of its own.
     pub fn count(&self) -> usize {
-        let mut count = 0;
-        // SAFETY: as `handle` says; so are all calls below.
-        certain(unsafe { raw::ctfd_count(self.handle(), &mut count) });
-        count as usize
+        certain(self.asked(raw::ctfd_count)) as usize
     }
 
     /// Fills rows with its own types, from a number on, and answers how many it has. They count
     /// from 0 here. Rows behind the last stay.
     pub fn type_rows(&self, from: usize, rows: &mut [TypeRow]) -> u64 {
-        let (at, len, mut count) = (rows.as_mut_ptr(), rows.len(), 0);
-        certain(unsafe { raw::ctfd_types(self.handle(), from, at, len, &mut count) });
-        count
+        certain(self.filled(raw::ctfd_types, from, rows))
     }
 
     /// Fills rows with the symbols of its table, as [`type_rows`](Dictionary::type_rows): those of
     /// which nothing is told too.
     pub fn symbol_rows(&self, from: usize, rows: &mut [SymbolRow]) -> u64 {
-        let (at, len, mut count) = (rows.as_mut_ptr(), rows.len(), 0);
-        certain(unsafe { raw::ctfd_symbols(self.handle(), from, at, len, &mut count) });
-        count
+        certain(self.filled(raw::ctfd_symbols, from, rows))
     }
 
     /// Fills rows with its labels, as [`type_rows`](Dictionary::type_rows).
     pub fn label_rows(&self, from: usize, rows: &mut [LabelRow]) -> u64 {
-        let (at, len, mut count) = (rows.as_mut_ptr(), rows.len(), 0);
-        certain(unsafe { raw::ctfd_labels(self.handle(), from, at, len, &mut count) });
-        count
+        certain(self.filled(raw::ctfd_labels, from, rows))
     }
 
     /// The name that a row says stands at a place of a list, where the row is of a type with a
@@ -204,24 +195,17 @@ impl<'b> Dictionary<'b> {
 
     /// Whether its low numbers of types are those of a parent.
     pub fn is_child(&self) -> bool {
-        let mut child = 0;
-        certain(unsafe { raw::ctfd_child(self.handle(), &mut child) });
-        child != 0
+        certain(self.asked(raw::ctfd_child)) != 0
     }
 
     /// How many types its parent has, where it imported one.
     pub fn parent_count(&self) -> Option<usize> {
-        let mut count = 0;
-        told(unsafe { raw::ctfd_parent_count(self.handle(), &mut count) })
-            .ok()
-            .map(|()| count as usize)
+        self.asked(raw::ctfd_parent_count).ok().map(|count| count as usize)
     }
 
     /// Its data model.
     pub fn model(&self) -> Model {
-        let mut model = 0;
-        certain(unsafe { raw::ctfd_model(self.handle(), &mut model) });
-        match model {
+        match certain(self.asked(raw::ctfd_model)) {
             0 => Model::Lp64,
             _ => Model::Ilp32,
         }
@@ -229,14 +213,12 @@ impl<'b> Dictionary<'b> {
 
     /// The name of its parent, as its header has it: empty where there is none.
     pub fn parent_name(&self) -> Name {
-        text(|at, len, told| unsafe { raw::ctfd_parent_name(self.handle(), at, len, told) })
-            .expect("an open dictionary has a header")
+        certain(self.said(raw::ctfd_parent_name))
     }
 
     /// The name of its parent's label, as its header has it.
     pub fn parent_label(&self) -> Name {
-        text(|at, len, told| unsafe { raw::ctfd_parent_label(self.handle(), at, len, told) })
-            .expect("an open dictionary has a header")
+        certain(self.said(raw::ctfd_parent_label))
     }
 
     /// Its own types, in the order of their numbers.
@@ -252,36 +234,31 @@ impl<'b> Dictionary<'b> {
 
     /// The type of a name, as `struct point *`.
     pub fn find(&self, name: impl AsRef<[u8]>) -> Result<Type<'_>, Refusal> {
-        let (name, mut number) = (name.as_ref(), 0);
-        told(unsafe { raw::ctfd_find(self.handle(), name.as_ptr(), name.len(), &mut number) })?;
-        Ok(Type::known(self, number))
+        Ok(Type::known(self, self.named(raw::ctfd_find, name.as_ref())?))
     }
 
     /// The number of the first symbol of a name.
     pub fn symbol(&self, name: impl AsRef<[u8]>) -> Result<u32, Refusal> {
-        let (name, mut number) = (name.as_ref(), 0);
-        told(unsafe { raw::ctfd_symbol(self.handle(), name.as_ptr(), name.len(), &mut number) })?;
-        Ok(number)
+        self.named(raw::ctfd_symbol, name.as_ref())
     }
 
     /// The name of a symbol.
     pub fn symbol_name(&self, symbol: u32) -> Result<Name, Refusal> {
+        // SAFETY: as in `said`.
         text(|at, len, told| unsafe { raw::ctfd_symbol_name(self.handle(), symbol, at, len, told) })
     }
 
     /// The type of an object of the program, by the number of its symbol.
     pub fn object(&self, symbol: u32) -> Result<Option<Type<'_>>, Refusal> {
-        let mut number = 0;
-        told(unsafe { raw::ctfd_object(self.handle(), symbol, &mut number) })?;
-        Ok(Type::some(self, number))
+        Ok(Type::some(self, self.of_symbol(raw::ctfd_object, symbol)?))
     }
 
     /// What a function of the program returns and takes, by the number of its symbol.
     pub fn function(&self, symbol: u32) -> Result<Function<'_>, Refusal> {
-        let mut raw = raw::Function::default();
-        told(unsafe { raw::ctfd_function(self.handle(), symbol, &mut raw) })?;
+        let raw: raw::Function = self.of_symbol(raw::ctfd_function, symbol)?;
         let mut rows = vec![0; raw.arguments as usize];
         let (at, len, mut count) = (rows.as_mut_ptr(), rows.len(), 0);
+        // SAFETY: as in `filled`.
         told(unsafe {
             raw::ctfd_function_arguments(self.handle(), symbol, 0, at, len, &mut count)
         })?;
@@ -291,16 +268,13 @@ impl<'b> Dictionary<'b> {
 
     /// Its labels, in order.
     pub fn labels(&self) -> Labels<'_> {
-        let mut count = 0;
-        certain(unsafe { raw::ctfd_label_count(self.handle(), &mut count) });
-        Labels { of: self, next: 0, end: count as usize }
+        let end = certain(self.asked(raw::ctfd_label_count)) as usize;
+        Labels { of: self, next: 0, end }
     }
 
     /// The last type that the first label of a name covers.
     pub fn label(&self, name: impl AsRef<[u8]>) -> Result<u32, Refusal> {
-        let (name, mut last) = (name.as_ref(), 0);
-        told(unsafe { raw::ctfd_label_last(self.handle(), name.as_ptr(), name.len(), &mut last) })?;
-        Ok(last)
+        self.named(raw::ctfd_label_last, name.as_ref())
     }
 
     /// The bytes of its CTF section.
@@ -310,9 +284,10 @@ impl<'b> Dictionary<'b> {
             let from = made.len();
             made.resize(from + from.max(4096), 0);
             let (room, mut len) = (&mut made[from..], 0);
-            certain(unsafe {
+            // SAFETY: as in `filled`.
+            certain(told(unsafe {
                 raw::ctfd_bytes(self.handle(), from as u64, room.as_mut_ptr(), room.len(), &mut len)
-            });
+            }));
             if len as usize <= made.len() {
                 made.truncate(len as usize);
                 return made;
@@ -338,10 +313,8 @@ impl fmt::Debug for Dictionary<'_> {
 }
 
 /// What an open dictionary is not refused.
-fn certain(status: u32) {
-    if let Err(refused) = told(status) {
-        unreachable!("an open dictionary answers: {refused}");
-    }
+fn certain<T>(asked: Result<T, Refusal>) -> T {
+    asked.unwrap_or_else(|refused| unreachable!("an open dictionary answers: {refused}"))
 }
 
 /// What a function of the program returns and takes.
@@ -415,6 +388,7 @@ impl Labels<'_> {
     fn at(&self, index: usize) -> Result<Label, Refusal> {
         let mut raw = raw::Label::default();
         let name = text(|at, len, told| {
+            // SAFETY: as in `said`.
             let status = unsafe { raw::ctfd_label(self.of.handle(), index, at, len, &mut raw) };
             *told = raw.name_len;
             status

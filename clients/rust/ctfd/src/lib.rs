@@ -53,6 +53,7 @@
 //! ```
 
 mod apart;
+mod calls;
 mod declaration;
 mod dictionary;
 mod draft;

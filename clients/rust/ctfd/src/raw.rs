@@ -360,7 +360,8 @@ extern "C" {
     ) -> u32;
     pub fn ctfd_find(handle: *mut Handle, text: *const u8, text_len: usize, out: *mut u16) -> u32;
     pub fn ctfd_pointer(handle: *mut Handle, t: u16, out: *mut u16) -> u32;
-    pub fn ctfd_symbol(handle: *mut Handle, name: *const u8, name_len: usize, out: *mut u32) -> u32;
+    pub fn ctfd_symbol(handle: *mut Handle, name: *const u8, name_len: usize, out: *mut u32)
+        -> u32;
     pub fn ctfd_symbol_name(
         handle: *mut Handle,
         number: u32,

@@ -24,7 +24,7 @@ impl Service {
     /// A service in which no session holds anything.
     pub fn new() -> Result<Service, Refusal> {
         let mut raw = raw::Handle::NONE;
-        // SAFETY: the handle is this value's own; so it is in the calls below.
+        // SAFETY: the handle is this function's own.
         told(unsafe { raw::ctfd_begin(&mut raw) })?;
         Ok(Service { raw, room: Vec::with_capacity(4096) })
     }
@@ -35,8 +35,11 @@ impl Service {
         let (raw, mut is_asked) = (&mut self.raw, false);
         fill(&mut self.room, |at, len, told| {
             if std::mem::replace(&mut is_asked, true) {
+                // SAFETY: the handle is this value's own; `fill` gives room for as many bytes as it
+                // says.
                 return unsafe { raw::ctfd_reply(raw, at, len, told) };
             }
+            // SAFETY: as above; the line lives for the call.
             unsafe { raw::ctfd_line(raw, line.as_ptr(), line.len(), at, len, told) }
         })?;
         let reply = std::str::from_utf8(&self.room).expect("a reply is plain ASCII");
