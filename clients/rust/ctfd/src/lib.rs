@@ -63,6 +63,6 @@ pub use draft::{Draft, Named};
 pub use faults::{Fault, Refusal};
 pub use lists::{Arguments, Enumerator, Enumerators, Member, Members};
 pub use names::Name;
-pub use raw::{EnumeratorRow, MemberRow, TypeRow, VisitRow};
+pub use raw::{EnumeratorRow, LabelRow, MemberRow, SymbolRow, TypeRow, VisitRow};
 pub use service::Service;
 pub use types::{Array, Encoding, Kind, Type};
