@@ -106,7 +106,7 @@ count "compile build.c" compile build.c build
 count "the library says which build it is" \
     sh -c './build | grep -q "^proved build: rattle-kit-\|^quick build: proofs not checked$"'
 
-for name in dump answers visits lines refusals refuse libctf hostile; do
+for name in dump answers rows visits lines refusals refuse libctf hostile; do
     count "compile $name.c" compile "$tests/$name.c" $name
 done
 for name in ctfdump first; do
@@ -203,7 +203,10 @@ for name in lua zlib; do
     count "answers of $name: $(wc -l < wanted)" same wanted seen
     ./answers "$top"/examples/$name.{ctf,sym,str} lent | sort > seen
     count "answers of $name, lent" same wanted seen
+    count "rows of $name" ./rows "$top"/examples/$name.{ctf,sym,str}
 done
+count "rows of a child on its parent" ./rows child.ctf /dev/null /dev/null parent.ctf
+count "rows of what libctf wrote" ./rows "$top/examples/written.ctf" /dev/null /dev/null
 count "enough was asked" [ "$(wc -l < wanted)" -gt 1000 ]
 dumped "lua, pointers of 4 bytes" "$top/examples/lua.ctf" --model ilp32
 dumped written "$top/examples/written.ctf"

@@ -256,48 +256,6 @@ static void visit_by_rows(uint16_t t)
     }
 }
 
-/* Whether a row of a type says what is answered of each, numbers and statuses. */
-static bool is_answered(const struct ctfd_type_row *row)
-{
-    uint64_t size = 0, align = 0, length = 0, len = 0;
-    uint32_t kind = 0, root = 0;
-    uint16_t resolved = 0, reference = 0, t = row->type;
-    return ctfd_kind(&types, t, &kind) == CTFD_OK && row->kind == kind &&
-        ctfd_root(&types, t, &root) == CTFD_OK && row->root == root &&
-        ctfd_length(&types, t, &length) == CTFD_OK && row->length == length &&
-        row->size_status == ctfd_size(&types, t, &size) && row->size == size &&
-        row->align_status == ctfd_align(&types, t, &align) && row->align == align &&
-        row->resolved_status == ctfd_resolve(&types, t, &resolved) && row->resolved == resolved &&
-        row->reference_status == ctfd_reference(&types, t, &reference) &&
-        row->reference == reference &&
-        ctfd_declared_name(&types, t, room, sizeof room, &len) == CTFD_OK &&
-        stands(row->name_list, row->name_at, room, len);
-}
-
-/* All own types by rows, a few at a time, and where no more are left. */
-static void types_by_rows(void)
-{
-    struct ctfd_type_row rows[3];
-    uint64_t all = 0, count = 0, from;
-    uint32_t child = 0;
-    size_t i;
-    ctfd_count(&types, &all);
-    ctfd_child(&types, &child);
-    for (from = 0; from < all + 3; from += 2) {
-        memset(rows, 0x5a, sizeof rows);
-        if (ctfd_types(&types, from, rows, 3, &count) != CTFD_OK || count != all)
-            printf("types %llu: %llu\n", (unsigned long long)from, (unsigned long long)count);
-        for (i = 0; i < 3 && from + i < all; i++) {
-            if (rows[i].type != from + i + (child != 0 ? 32769 : 1) || !is_answered(&rows[i]))
-                printf("type %llu: another row\n", (unsigned long long)(from + i));
-        }
-        for (; i < 3; i++) {
-            if (rows[i].size != 0x5a5a5a5a5a5a5a5a || rows[i].type != 0x5a5a)
-                printf("type %llu: a row is written\n", (unsigned long long)(from + i));
-        }
-    }
-}
-
 static void texts(uint16_t t)
 {
     uint8_t memory[64];
@@ -380,7 +338,6 @@ int main(int argc, char **argv)
         visit_by_rows(type);
         texts(type);
     }
-    types_by_rows();
     symbols((uint32_t)(sym.len / 24));
     ctfd_close(&types);
     free_bytes(&ctf);

@@ -226,19 +226,50 @@ static void ask_visit(struct ctfd *d, uint16_t t, size_t len)
     free(rows);
 }
 
-/* Rows of types, in a block of just their length. */
-static void ask_types(struct ctfd *d, size_t len)
+/* Rows of arguments, of a function type and of a program's function. */
+static void ask_arguments(struct ctfd *d, uint16_t t, size_t len)
 {
-    struct ctfd_type_row *rows =
-        (struct ctfd_type_row *)calloc(len != 0 ? len : 1, sizeof *rows);
+    uint16_t *rows = (uint16_t *)calloc(len != 0 ? len : 1, sizeof *rows);
     uint64_t all = 77;
     enum ctfd_status status;
     if (rows == NULL)
         exit(2);
+    status = ctfd_arguments(d, t, some_index(), rows, len, &all);
+    count(status);
+    CHECK(status == CTFD_OK ? all <= 1023 : all == 77 && rows[0] == 0);
+    all = 77;
+    rows[0] = 0;
+    status = ctfd_function_arguments(d, below(2000), some_index(), rows, len, &all);
+    count(status);
+    CHECK(status == CTFD_OK ? all <= 1023 : all == 77 && rows[0] == 0);
+    free(rows);
+}
+
+/* Rows of types, symbols and labels, in blocks of just their length. */
+static void ask_dictionary(struct ctfd *d, size_t len)
+{
+    size_t room = len != 0 ? len : 1;
+    struct ctfd_type_row *rows = (struct ctfd_type_row *)calloc(room, sizeof *rows);
+    struct ctfd_symbol_row *symbols = (struct ctfd_symbol_row *)calloc(room, sizeof *symbols);
+    struct ctfd_label_row *labels = (struct ctfd_label_row *)calloc(room, sizeof *labels);
+    uint64_t all = 77;
+    enum ctfd_status status;
+    if (rows == NULL || symbols == NULL || labels == NULL)
+        exit(2);
     status = ctfd_types(d, some_index(), rows, len, &all);
     count(status);
     CHECK(status == CTFD_OK ? all <= 65535 : all == 77 && rows[0].type == 0);
+    all = 77;
+    status = ctfd_symbols(d, below(2000), symbols, len, &all);
+    count(status);
+    CHECK(status == CTFD_OK || (all == 77 && symbols[0].name_at == 0));
+    all = 77;
+    status = ctfd_labels(d, some_index(), labels, len, &all);
+    count(status);
+    CHECK(status == CTFD_OK || (all == 77 && labels[0].name_at == 0));
     free(rows);
+    free(symbols);
+    free(labels);
 }
 
 /* Rows in a block of just their length. */
@@ -264,7 +295,8 @@ static void ask_rows(struct ctfd *d)
     free(members);
     free(enumerators);
     ask_visit(d, t, len);
-    ask_types(d, len);
+    ask_arguments(d, t, len);
+    ask_dictionary(d, len);
 }
 
 /* Something is added to what may be a draft. */

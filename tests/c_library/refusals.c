@@ -17,6 +17,9 @@ static struct results {
     struct ctfd_enumerator_row enumerators[2];
     struct ctfd_visit_row visited[2];
     struct ctfd_type_row types[2];
+    struct ctfd_symbol_row symbols[2];
+    struct ctfd_label_row labels[2];
+    uint16_t arguments[2];
     struct ctfd_function function;
     struct ctfd_label label;
     char text[64];
@@ -64,6 +67,7 @@ static void refuse_type(struct ctfd *d, uint16_t t, enum ctfd_status status)
     REFUSED(ctfd_enum_value(d, t, "x", 1, &got.value), status);
     REFUSED(ctfd_return(d, t, &got.to), status);
     REFUSED(ctfd_argument(d, t, 0, &got.to), status);
+    REFUSED(ctfd_arguments(d, t, 0, got.arguments, 2, &got.wide), status);
     REFUSED(ctfd_resolve(d, t, &got.to), status);
     REFUSED(ctfd_size(d, t, &got.wide), status);
     REFUSED(ctfd_align(d, t, &got.wide), status);
@@ -109,6 +113,7 @@ static void refuse_all(struct ctfd *d)
     REFUSED(ctfd_parent_label(d, TEXT, &got.len), CTFD_NO_SLOT);
     REFUSED(ctfd_label_count(d, &got.wide), CTFD_NO_SLOT);
     REFUSED(ctfd_label(d, 0, TEXT, &got.label), CTFD_NO_SLOT);
+    REFUSED(ctfd_labels(d, 0, got.labels, 2, &got.wide), CTFD_NO_SLOT);
     REFUSED(ctfd_label_last(d, "lua", 3, &got.number), CTFD_NO_SLOT);
     REFUSED(ctfd_find(d, "int", 3, &got.to), CTFD_NO_SLOT);
     REFUSED(ctfd_symbol(d, "main", 4, &got.number), CTFD_NO_SLOT);
@@ -116,6 +121,8 @@ static void refuse_all(struct ctfd *d)
     REFUSED(ctfd_object(d, 0, &got.to), CTFD_NO_SLOT);
     REFUSED(ctfd_function(d, 0, &got.function), CTFD_NO_SLOT);
     REFUSED(ctfd_function_argument(d, 0, 0, &got.to), CTFD_NO_SLOT);
+    REFUSED(ctfd_function_arguments(d, 0, 0, got.arguments, 2, &got.wide), CTFD_NO_SLOT);
+    REFUSED(ctfd_symbols(d, 0, got.symbols, 2, &got.wide), CTFD_NO_SLOT);
     REFUSED(ctfd_update(d, &got.wide, &place), CTFD_NO_SLOT);
     REFUSED(ctfd_discard(d, &got.wide), CTFD_NO_SLOT);
     REFUSED(ctfd_bytes(d, 0, TEXT, &got.wide), CTFD_NO_SLOT);
@@ -150,6 +157,7 @@ static void refuse_kinds(struct ctfd *d)
     REFUSED(ctfd_member(d, i, 0, TEXT, &got.member), CTFD_WRONG_KIND);
     REFUSED(ctfd_member(d, e, 0, TEXT, &got.member), CTFD_WRONG_KIND);
     REFUSED(ctfd_argument(d, i, 0, &got.to), CTFD_WRONG_KIND);
+    REFUSED(ctfd_arguments(d, i, 0, got.arguments, 2, &got.wide), CTFD_WRONG_KIND);
     REFUSED(ctfd_return(d, f, &got.to), CTFD_WRONG_KIND);
     REFUSED(ctfd_field(d, i, "x", 1, &got.wide, &got.to), CTFD_NOT_AGGREGATE);
     REFUSED(ctfd_field(d, s, "x", 1, &got.wide, &got.to), CTFD_NO_MEMBER);

@@ -189,6 +189,9 @@ static void take_none(void)
     struct ctfd_enumerator_row enumerators[4];
     struct ctfd_visit_row visited[4];
     struct ctfd_type_row rows[4];
+    struct ctfd_symbol_row symbols[4];
+    struct ctfd_label_row labels[4];
+    uint16_t arguments[4];
     char text[64];
     calls = 0;
     for (t = 0; t <= 527; t++) {
@@ -205,6 +208,10 @@ static void take_none(void)
         (void)ctfd_enumerators(&types, (uint16_t)t, 0, enumerators, 4, &wide);
         (void)ctfd_visit(&types, (uint16_t)t, visited, 4, &wide);
         (void)ctfd_types(&types, (size_t)t, rows, 4, &wide);
+        (void)ctfd_symbols(&types, (size_t)t, symbols, 4, &wide);
+        (void)ctfd_labels(&types, (size_t)t, labels, 4, &wide);
+        (void)ctfd_arguments(&types, (uint16_t)t, 0, arguments, 4, &wide);
+        (void)ctfd_function_arguments(&types, (uint32_t)t, 0, arguments, 4, &wide);
         (void)ctfd_enum_name(&types, (uint16_t)t, 1, text, sizeof text, &wide);
         (void)ctfd_enum_value(&types, (uint16_t)t, "OP_MOVE", 7, &value);
         (void)ctfd_field(&types, (uint16_t)t, "next", 4, &wide, &to);

@@ -193,6 +193,37 @@ impl<'b> Dictionary<'b> {
         given.as_ref().map(|given| given.name(list, at))
     }
 
+    /// Fills rows with the symbols of the program, from a number on, and answers how many its table
+    /// has: also those that nothing is told of. Rows behind the last stay.
+    pub fn symbol_rows(&self, from: usize, rows: &mut [SymbolRow]) -> u64 {
+        let (at, len, mut count) = (rows.as_mut_ptr(), rows.len(), 0);
+        certain(unsafe { raw::ctfd_symbols(self.handle(), from, at, len, &mut count) });
+        count
+    }
+
+    /// Fills rows with its labels, from a number on, and answers how many it has. Rows behind the
+    /// last stay.
+    pub fn label_rows(&self, from: usize, rows: &mut [LabelRow]) -> u64 {
+        let (at, len, mut count) = (rows.as_mut_ptr(), rows.len(), 0);
+        certain(unsafe { raw::ctfd_labels(self.handle(), from, at, len, &mut count) });
+        count
+    }
+
+    /// Fills rows with the numbers of the types that a function of the program takes, by the number
+    /// of its symbol and from an argument on, and answers how many it takes. Rows behind the last
+    /// stay.
+    pub fn function_argument_rows(
+        &self,
+        symbol: u32,
+        from: usize,
+        rows: &mut [u16],
+    ) -> Result<u64, Refusal> {
+        let (at, len, mut count) = (rows.as_mut_ptr(), rows.len(), 0);
+        let handle = self.handle();
+        told(unsafe { raw::ctfd_function_arguments(handle, symbol, from, at, len, &mut count) })?;
+        Ok(count)
+    }
+
     /// Whether its low numbers of types are those of a parent.
     pub fn is_child(&self) -> bool {
         certain(self.asked(raw::ctfd_child)) != 0

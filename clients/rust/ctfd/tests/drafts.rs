@@ -1,6 +1,6 @@
 //! Dictionaries that are made, and parents that are shared.
 
-use ctfd::{Dictionary, Draft, Encoding, Fault, Kind, Model, Named};
+use ctfd::{Dictionary, Draft, Encoding, Fault, Kind, LabelRow, Model, Named};
 
 const INT: Encoding = Encoding { encoding: 1, offset: 0, bits: 32 };
 
@@ -72,6 +72,10 @@ fn all_kinds_are_added() {
     let arguments: Vec<_> = function.arguments().unwrap().collect();
     assert_eq!((arguments.len(), arguments[1]), (2, None));
     assert_eq!(draft.labels().next().unwrap().last, 2);
+    let (bytes, mut rows) = (draft.bytes(), [LabelRow::default(); 2]);
+    assert_eq!((draft.label_rows(0, &mut rows), rows[1]), (1, LabelRow::default()));
+    assert_eq!((rows[0].last, rows[0].name_list), (2, 0));
+    assert!(bytes[rows[0].name_at as usize..].starts_with(b"one\0"));
 }
 
 #[test]

@@ -1,8 +1,8 @@
 //! What is told of lua's types is what a dump of them says.
 
 use ctfd::{
-    Dictionary, EnumeratorRow, Fault, Kind, MemberRow, Model, Options, Service, Type, TypeRow,
-    VisitRow,
+    Dictionary, EnumeratorRow, Fault, Kind, MemberRow, Model, Options, Service, SymbolRow, Type,
+    TypeRow, VisitRow,
 };
 use std::fs;
 
@@ -171,6 +171,49 @@ fn rows_of_types_say_what_each_call_says() {
         assert_eq!(resolved, t.resolve().ok().map(number));
         let reference = (row.reference_status == 0).then_some(row.reference);
         assert_eq!(reference, t.reference().ok().map(number));
+    }
+}
+
+#[test]
+fn rows_of_arguments_say_what_each_call_says() {
+    let types = lua();
+    for t in types.types() {
+        let Ok(wanted) = t.arguments() else {
+            assert_eq!(t.argument_rows(0, &mut []).unwrap_err().fault, Fault::WrongKind);
+            continue;
+        };
+        let wanted: Vec<u16> = wanted.map(|to| to.map_or(0, Type::number)).collect();
+        let mut rows = vec![u16::MAX; wanted.len() + 1];
+        assert_eq!(t.argument_rows(0, &mut rows).unwrap(), wanted.len() as u64);
+        assert_eq!((rows.pop(), rows), (Some(u16::MAX), wanted));
+    }
+}
+
+#[test]
+fn rows_of_symbols_say_what_each_call_says() {
+    let (symbols, strings) = (read("lua.sym"), read("lua.str"));
+    let types = lua();
+    let mut rows = vec![SymbolRow::default(); symbols.len() / 24];
+    assert_eq!(types.symbol_rows(0, &mut rows), rows.len() as u64);
+    let number = |t: Option<Type<'_>>| t.map_or(0, Type::number);
+    for (row, symbol) in rows.iter().zip(0..) {
+        let name: &[u8] = match row.name_list {
+            1 => strings[row.name_at as usize..].split(|&byte| byte == 0).next().unwrap(),
+            _ => b"",
+        };
+        assert_eq!((row.number, name), (symbol, &*types.symbol_name(symbol).unwrap()));
+        let told = (row.type_status == 0).then_some(row.tnum);
+        if row.symbol_class != 2 {
+            assert_eq!(told, types.object(symbol).ok().map(number));
+            continue;
+        }
+        let function = types.function(symbol).ok();
+        assert_eq!(told, function.as_ref().map(|it| number(it.returns)));
+        let wanted: Vec<u16> =
+            function.iter().flat_map(|it| &it.arguments).copied().map(number).collect();
+        let mut taken = vec![0; wanted.len()];
+        let count = types.function_argument_rows(symbol, 0, &mut taken).ok();
+        assert_eq!((count, taken), (function.map(|it| it.arguments.len() as u64), wanted));
     }
 }
 
