@@ -166,17 +166,6 @@ impl<'b> Dictionary<'b> {
         certain(self.filled(raw::ctfd_types, from, rows))
     }
 
-    /// Fills rows with the symbols of its table, as [`type_rows`](Dictionary::type_rows): those of
-    /// which nothing is told too.
-    pub fn symbol_rows(&self, from: usize, rows: &mut [SymbolRow]) -> u64 {
-        certain(self.filled(raw::ctfd_symbols, from, rows))
-    }
-
-    /// Fills rows with its labels, as [`type_rows`](Dictionary::type_rows).
-    pub fn label_rows(&self, from: usize, rows: &mut [LabelRow]) -> u64 {
-        certain(self.filled(raw::ctfd_labels, from, rows))
-    }
-
     /// The name that a row says stands at a place of a list, where the row is of a type with a
     /// number, or of its members or enumerators. None where the lists are a draft's.
     ///
@@ -196,17 +185,13 @@ impl<'b> Dictionary<'b> {
     /// Fills rows with the symbols of the program, from a number on, and answers how many its table
     /// has: also those that nothing is told of. Rows behind the last stay.
     pub fn symbol_rows(&self, from: usize, rows: &mut [SymbolRow]) -> u64 {
-        let (at, len, mut count) = (rows.as_mut_ptr(), rows.len(), 0);
-        certain(unsafe { raw::ctfd_symbols(self.handle(), from, at, len, &mut count) });
-        count
+        certain(self.filled(raw::ctfd_symbols, from, rows))
     }
 
     /// Fills rows with its labels, from a number on, and answers how many it has. Rows behind the
     /// last stay.
     pub fn label_rows(&self, from: usize, rows: &mut [LabelRow]) -> u64 {
-        let (at, len, mut count) = (rows.as_mut_ptr(), rows.len(), 0);
-        certain(unsafe { raw::ctfd_labels(self.handle(), from, at, len, &mut count) });
-        count
+        certain(self.filled(raw::ctfd_labels, from, rows))
     }
 
     /// Fills rows with the numbers of the types that a function of the program takes, by the number
@@ -220,6 +205,7 @@ impl<'b> Dictionary<'b> {
     ) -> Result<u64, Refusal> {
         let (at, len, mut count) = (rows.as_mut_ptr(), rows.len(), 0);
         let handle = self.handle();
+        // SAFETY: as in `filled`.
         told(unsafe { raw::ctfd_function_arguments(handle, symbol, from, at, len, &mut count) })?;
         Ok(count)
     }
@@ -288,11 +274,7 @@ impl<'b> Dictionary<'b> {
     pub fn function(&self, symbol: u32) -> Result<Function<'_>, Refusal> {
         let raw: raw::Function = self.of_symbol(raw::ctfd_function, symbol)?;
         let mut rows = vec![0; raw.arguments as usize];
-        let (at, len, mut count) = (rows.as_mut_ptr(), rows.len(), 0);
-        // SAFETY: as in `filled`.
-        told(unsafe {
-            raw::ctfd_function_arguments(self.handle(), symbol, 0, at, len, &mut count)
-        })?;
+        self.function_argument_rows(symbol, 0, &mut rows)?;
         let arguments = rows.into_iter().map(|number| Type::some(self, number)).collect();
         Ok(Function { returns: Type::some(self, raw.ret), arguments, varargs: raw.varargs != 0 })
     }

@@ -332,20 +332,11 @@ impl<'d> Type<'d> {
         self.filled(raw::ctfd_enumerators, from, rows)
     }
 
-    /// Fills rows with the numbers of the types of a function type's arguments: a last 0 says that
-    /// more may follow.
-    pub fn argument_rows(self, from: usize, rows: &mut [u16]) -> Result<u64, Refusal> {
-        self.filled(raw::ctfd_arguments, from, rows)
-    }
-
     /// Fills rows with the numbers of a function type's arguments as they are stored, a last 0
     /// where more may follow, from a number on, and answers how many it has. Rows behind the last
     /// stay.
     pub fn argument_rows(self, from: usize, rows: &mut [u16]) -> Result<u64, Refusal> {
-        let (at, len, mut count) = (rows.as_mut_ptr(), rows.len(), 0);
-        let handle = self.of.handle();
-        told(unsafe { raw::ctfd_arguments(handle, self.number, from, at, len, &mut count) })?;
-        Ok(count)
+        self.filled(raw::ctfd_arguments, from, rows)
     }
 
     /// Fills rows with the type and all that lies in it: the members of the struct or union that
