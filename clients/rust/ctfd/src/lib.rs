@@ -64,6 +64,7 @@ mod names;
 mod raw;
 mod service;
 mod types;
+mod visits;
 
 pub use declaration::Declaration;
 pub use dictionary::{Dictionary, Function, Label, Labels, Model, Options, Types};
@@ -74,3 +75,4 @@ pub use names::Name;
 pub use raw::{EnumeratorRow, LabelRow, MemberRow, SymbolRow, TypeRow, VisitRow};
 pub use service::Service;
 pub use types::{Array, Encoding, Kind, Type};
+pub use visits::{Visited, Visits};

@@ -6,6 +6,7 @@ use crate::faults::{told, told_at, Refusal};
 use crate::lists::{Arguments, Enumerators, Member, Members};
 use crate::names::{fill, text, Name};
 use crate::raw::{self, EnumeratorRow, MemberRow, VisitRow};
+use crate::visits::Visits;
 use std::fmt;
 use std::hash::{Hash, Hasher};
 
@@ -348,6 +349,18 @@ impl<'d> Type<'d> {
         // SAFETY: as in `filled`.
         told(unsafe { raw::ctfd_visit(handle, self.number, at, len, &mut count) })?;
         Ok(count)
+    }
+
+    /// The type and all that lies in it, each member followed by what lies in that.
+    ///
+    /// ```
+    /// let types = ctfd::Dictionary::open(&std::fs::read("../../../examples/lua.ctf").unwrap()).unwrap();
+    /// let state = types.find("struct lua_State").unwrap();
+    /// let deepest = state.visit().unwrap().map(|visited| visited.depth).max();
+    /// assert!(deepest >= Some(2));
+    /// ```
+    pub fn visit(self) -> Result<Visits<'d>, Refusal> {
+        Visits::of(self)
     }
 
     /// Where the first member of a name lies, in bits, and its type.
