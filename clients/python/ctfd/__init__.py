@@ -44,7 +44,7 @@ if TYPE_CHECKING:
     from .view.declare import declaration
     from .view.listing import definition, listing
 else:
-    from .public_names import begin as _begin
+    from .client.public import begin as _begin
 
     __getattr__ = _begin(sys.modules[__name__])
 

@@ -65,6 +65,8 @@ class Slot:
         named = raw(parname), raw(parlabel)
         if over is None and named[0] or over is not None and not named[0]:
             self.refuse("create", BAD_REQUEST)
+        if over is not None and model not in (None, over.model):
+            raise fault_of("ModelDiffers", "create", {"parent": over.d, "model": model})
         if over is None:
             status = self.calls["create"](self._it, model == "ilp32", ctypes.byref(place))
         else:

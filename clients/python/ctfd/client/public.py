@@ -1,7 +1,7 @@
 """In which module each public name of the package is."""
 import sys
 
-from .client import startup
+from . import startup
 
 # Modules, and the names that are asked of them.
 _NAMES = {
