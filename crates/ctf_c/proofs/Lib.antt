@@ -2,3 +2,4 @@ pub mod Naming
 pub mod NotOpen
 pub mod FilledRows
 pub mod TypeRows
+pub mod ArgumentRows
