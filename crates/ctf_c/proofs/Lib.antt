@@ -3,3 +3,4 @@ pub mod NotOpen
 pub mod FilledRows
 pub mod TypeRows
 pub mod ArgumentRows
+pub mod ListedRows
