@@ -2,3 +2,5 @@ pub mod Naming
 pub mod NotOpen
 pub mod FilledRows
 pub mod TypeRows
+pub mod ArgumentRows
+pub mod ListedRows

@@ -6,3 +6,5 @@ pub mod Filled
 pub mod Into
 pub mod Parts
 pub mod Lying
+pub mod LabelRows
+pub mod SymbolRows

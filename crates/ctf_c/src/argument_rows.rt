@@ -1,19 +1,31 @@
 //! Exports that answer many arguments at once, of a function type or of a program's function.
-ghost use Rattle.std.specs.Prelude.{◌≡◌, ◌≤◌, length, take};
+ghost use Rattle.std.specs.Prelude.{◌≡◌, ◌<◌, ◌≤◌, Some, length, slice_get, take};
 ghost use Rattle.ctf_c.specs.Given.{asked};
 ghost use Rattle.ctf_c.specs.ItemRows.{IsArgument, arguments_answered, named_list};
 ghost use Rattle.ctf_c.specs.Rowed.{GivesRows};
 ghost use Rattle.ctf_c.specs.names.Filling.{Fills, FillsFrom};
+ghost use Rattle.ctf_check.specs.TypedView.{spelled};
+ghost use Rattle.ctf_model.specs.format.Shown.{named_arguments};
 ghost use Rattle.ctf_model.specs.opened.Open.{own_in, space_in};
 ghost use Rattle.ctf_model.specs.opened.Questions.{on_shape, shape_of};
 ghost use Rattle.ctf_model.specs.spaces.Space.{space_type};
+ghost use Rattle.ctf_model.specs.spaces.TypeNumbers.{or_no_type};
 ghost use Rattle.ctf_model.specs.symbols.SymbolQuestions.{function_of};
 
 use crate::given::{dictionary_of, status};
 use crate::handle::Handle;
+use ctf_check::Typed;
 use ctf_model::{Fault, TypeNum, placeless};
 use ctf_open::{OpenDictionary, named_count};
 use ctf_views::{Args, Variant};
+
+/// The type of an argument, from 0.
+fn argument_at(args: &Args<'_>, index: usize) -> u16
+    requires { index < length args.now }
+    ensures { slice_get args.now index ≡ Some result }
+{
+    args.get(index).unwrap().0
+}
 
 /// Fills rows with the first arguments of some, from a number on.
 fn fill_arguments(args: &Args<'_>, all: usize, from: usize, rows: &mut [u16])
@@ -23,7 +35,23 @@ fn fill_arguments(args: &Args<'_>, all: usize, from: usize, rows: &mut [u16])
     let left = all.saturating_sub(from);
     let count = left.min(rows.len());
     for i in 0..count {
-        rows[i] = args.get(from + i).unwrap().0;
+        rows[i] = argument_at(args, from + i);
+    }
+}
+
+/// Fills rows with the arguments of a type that was found, and answers how many it has.
+fn arguments_into(found: &Typed<'_>, from: usize, rows: &mut [u16]) -> Result<u64, Fault>
+    ensures { FillsFrom IsArgument
+        (on_shape arguments_answered (shape_of (or_no_type (spelled found.now))))
+        from result rows.old rows.new }
+{
+    match found.variant() {
+        Variant::Args(args) => {
+            let all = args.len();
+            fill_arguments(&args, all, from, rows);
+            Ok(all as u64)
+        }
+        _ => Err(placeless(Fault::WRONG_KIND)),
     }
 }
 
@@ -39,13 +67,18 @@ fn arguments(
         from result rows.old rows.new }
 {
     let found = dictionary.space().term(t)?;
-    match found.variant() {
-        Variant::Args(args) => {
-            fill_arguments(&args, args.len(), from, rows);
-            Ok(args.len() as u64)
-        }
-        _ => Err(placeless(Fault::WRONG_KIND)),
-    }
+    arguments_into(&found, from, rows)
+}
+
+/// Fills rows with the first arguments of a program's function, as many as it names, and answers
+/// how many these are.
+fn named_into(args: &Args<'_>, from: usize, rows: &mut [u16]) -> u64
+    ensures count { result ≡ length (named_arguments args.now) }
+    ensures filled { Fills IsArgument (named_arguments args.now) from rows.old rows.new }
+{
+    let all = named_count(args);
+    fill_arguments(args, all, from, rows);
+    all as u64
 }
 
 /// Fills rows with the arguments that a function of the program names, from a number on, and
@@ -60,9 +93,7 @@ fn function_arguments(
         from result rows.old rows.new }
 {
     let function = dictionary.function(number)?;
-    let all = named_count(&function.args);
-    fill_arguments(&function.args, all, from, rows);
-    Ok(all as u64)
+    Ok(named_into(&function.args, from, rows))
 }
 
 /// The types of a function type's arguments from a number on, as they are stored, as many as there

@@ -82,9 +82,10 @@ fn figures_of(dictionary: &OpenDictionary, t: TypeNum) -> Figures
     let mut size = 0;
     let mut align = 0;
     let mut resolved = 0;
-    let size_status = give(dictionary.size(t), &mut size);
-    let align_status = give(dictionary.align(t), &mut align);
-    let resolved_status = give_type(dictionary.resolve(t), &mut resolved);
+    let extent = dictionary.figures(t);
+    let size_status = give(extent.size.get(), &mut size);
+    let align_status = give(extent.align.get(), &mut align);
+    let resolved_status = give_type(extent.target.get(), &mut resolved);
     Figures {
         size,
         align,
@@ -143,7 +144,8 @@ fn name_place(found: &Typed<'_>) -> NamePosition
 /// An own type, from 0.
 #[inline(always)]
 fn own_type<'a>(space: &Space<'a>, index: usize) -> Typed<'a>
-    requires { index < length (space_of space.now).own.terms }
+    requires there { index < length (space_of space.now).own.terms }
+    requires short { index < 65536 }
     ensures found { or_no_type (spelled result)
         ≡ space_type (space_of space.now) (own_number (space_of space.now).own.child index) }
     ensures lists { lists_of (dictionary_in result) ≡ own_lists space.now }

@@ -9,11 +9,11 @@ use Rattle.ctf_c.proofs.type_rows.own_type.Goals as goal
 pub unwrap-requires : goal.unwrap-requires
 unwrap-requires c =
     let d = dictionary_of c.dictionary.result in
-    let below = subst (λ (x : Dictionary). c.args.index < length x.terms) (sym c.dictionary.ensures.own) c.requires in
+    let below = subst (λ (x : Dictionary). c.args.index < length x.terms) (sym c.dictionary.ensures.own) c.requires.there in
     c.typed.ensures.exact.1 (own_there d c.args.index below)
 
 pub returns-clause-found : goal.returns-clause-found
-returns-clause-found c = own_found (space_of c.args.space.now) (dictionary_of c.dictionary.result) c.args.index (spelled c.unwrap.result) c.dictionary.ensures.own c.in-Some.ensures.spells
+returns-clause-found c = own_found (space_of c.args.space.now) (dictionary_of c.dictionary.result) c.args.index (spelled c.unwrap.result) c.dictionary.ensures.own (rw c.unwrap.ensures at c.typed.ensures.spells)
 
 pub returns-clause-lists : goal.returns-clause-lists
-returns-clause-lists c = ap (λ d. lists_of d) c.in-Some.ensures.of ∙ c.dictionary.ensures.lists
+returns-clause-lists c = ap (λ d. lists_of d) (rw c.unwrap.ensures at c.typed.ensures.of) ∙ c.dictionary.ensures.lists
