@@ -1,6 +1,5 @@
-/* details.c - what records hold, read once: encodings, arrays, functions with their arguments,
- * members and enumerators. They are dropped where what is open changes, and all at once where they
- * have come to take much memory; then they are read again. */
+/* details.c - members and enumerators, read once. They are dropped where what is open changes, and
+ * all at once where they have come to take much memory; then they are read again. */
 #include "private.h"
 
 #include <stdlib.h>
@@ -149,68 +148,12 @@ static enum ctfd_status read_enumerators(ctf_file_t *fp, uint16_t t, struct ctfd
     return status;
 }
 
-static enum ctfd_status read_arguments(ctf_file_t *fp, uint16_t t, struct ctfd__details *made)
-{
-    uint16_t rows[ROWS];
-    enum ctfd_status status = CTFD_OK;
-    uint64_t count;
-    uint32_t i, from;
-    for (from = 0; status == CTFD_OK && from < made->count; from += ROWS) {
-        uint32_t more = some(made->count - from);
-        status = ctfd_arguments(&fp->types, t, from, rows, more, &count);
-        for (i = 0; status == CTFD_OK && i < more; i++) {
-            struct ctfd__item *item = &made->items[from + i];
-            item->name = NULL;
-            item->at = 0;
-            item->type = rows[i];
-        }
-    }
-    return status;
-}
-
-/* What stands in the record beside items. */
-static enum ctfd_status read_head(ctf_file_t *fp, uint16_t t, struct ctfd__details *made)
-{
-    switch (made->kind) {
-    case CTFD_INTEGER:
-    case CTFD_FLOAT:
-        return ctfd_encoding(&fp->types, t, &made->is.encoding);
-    case CTFD_ARRAY:
-        return ctfd_array(&fp->types, t, &made->is.array);
-    case CTFD_FUNCTION:
-        return ctfd_return(&fp->types, t, &made->is.returned);
-    default:
-        return CTFD_OK;
-    }
-}
-
-static enum ctfd_status read_all(ctf_file_t *fp, uint16_t t, struct ctfd__details *made)
-{
-    enum ctfd_status status = read_head(fp, t, made);
-    if (status != CTFD_OK)
-        return status;
-    if (made->kind == CTFD_ENUM)
-        return read_enumerators(fp, t, made);
-    return ctfd__has_members(made) ? read_members(fp, t, made) : read_arguments(fp, t, made);
-}
-
 /* How many items a type of a kind has. */
 static enum ctfd_status count_items(ctf_file_t *fp, uint16_t t, uint32_t kind, uint64_t *count)
 {
-    *count = 0;
-    switch (kind) {
-    case CTFD_INTEGER:
-    case CTFD_FLOAT:
-    case CTFD_ARRAY:
-        return CTFD_OK;
-    case CTFD_FUNCTION:
-    case CTFD_STRUCT:
-    case CTFD_UNION:
-    case CTFD_ENUM:
+    if (kind == CTFD_STRUCT || kind == CTFD_UNION || kind == CTFD_ENUM)
         return ctfd_length(&fp->types, t, count);
-    default:
-        return CTFD_WRONG_KIND;
-    }
+    return CTFD_WRONG_KIND;
 }
 
 /* Details of a kind with room for so many items, where the file keeps them from now on. */
@@ -248,7 +191,7 @@ struct ctfd__details *ctfd__read(ctf_file_t *fp, uint16_t t)
         (void)ctfd__fail(fp, CTFD_MEMORY);
         return NULL;
     }
-    status = read_all(fp, t, made);
+    status = kind == CTFD_ENUM ? read_enumerators(fp, t, made) : read_members(fp, t, made);
     if (status == CTFD_OK)
         return made;
     fp->pages[t / CTFD_PAGE]->details[t % CTFD_PAGE] = NULL;

@@ -34,8 +34,8 @@ struct ctfd__lists {
     bool has[3];
 };
 
-/* A member with its offset in bits, an enumerator with its value, or an argument. Its name stands in
- * the file's own lists; else it is kept once somebody has been told it, and is NULL before. */
+/* A member with its offset in bits, or an enumerator with its value. Its name stands in the file's
+ * own lists; else it is kept once somebody has been told it, and is NULL before. */
 struct ctfd__item {
     const char *name;
     uint64_t at;
@@ -45,15 +45,9 @@ struct ctfd__item {
 struct ctfd__block;
 struct ctfd__index;
 
-/* What a type's record holds: of an integer, a float, an array, a function, a struct, a union or an
- * enum, and its items. */
+/* The items of a struct, a union or an enum. */
 struct ctfd__details {
     uint32_t kind, count;
-    union {
-        struct ctfd_encoding encoding;
-        struct ctfd_array array;
-        uint16_t returned;
-    } is;
     bool was_asked; /* for an enumerator by its value or name */
     struct ctfd__index *by_value, *by_name;
     struct ctfd__item items[];
@@ -130,11 +124,6 @@ HIDDEN void ctfd__free_texts(struct ctfd__texts *texts);
 /* A hash of a text that nobody outside can foresee. */
 HIDDEN uint64_t ctfd__hash(struct ctfd__texts *texts, const char *text, size_t len);
 
-/* The type that a look-up has found by a name as it stands, or 0; longer names are not kept. */
-#define CTFD_FOUND_LONGEST 255
-HIDDEN uint16_t ctfd__found(ctf_file_t *fp, const char *name, size_t len);
-HIDDEN void ctfd__keep_found(ctf_file_t *fp, const char *name, size_t len, uint16_t t);
-
 /* A call that writes a text, and a text that such a call wrote, kept; NULL where it is refused. */
 typedef enum ctfd_status ctfd__text_f(struct ctfd *types, char *text, size_t size, uint64_t *len);
 typedef enum ctfd_status ctfd__numbered_f(struct ctfd *types, uint32_t number, char *text,
@@ -145,7 +134,7 @@ HIDDEN const char *ctfd__numbered(ctf_file_t *fp, ctfd__numbered_f *call, uint32
 /* The name in a type's record. */
 HIDDEN const char *ctfd__declared(ctf_file_t *fp, uint16_t t);
 
-/* ---- details.c: what records hold, read once */
+/* ---- details.c: lists, read once */
 
 /* Reads those of a type; NULL and the error where they can't be read, or there are none. */
 HIDDEN struct ctfd__details *ctfd__read(ctf_file_t *fp, uint16_t t);

@@ -71,27 +71,25 @@ ctf_id_t ctf_type_pointer(ctf_file_t *fp, ctf_id_t type)
 
 int ctf_type_encoding(ctf_file_t *fp, ctf_id_t type, ctf_encoding_t *encoding)
 {
-    const struct ctfd__details *details;
-    if (!ctfd__is_type(fp, type) || (details = ctfd__details(fp, (uint16_t)type)) == NULL)
+    struct ctfd_encoding out;
+    if (!ctfd__is_type(fp, type) ||
+        ctfd__done(fp, ctfd_encoding(&fp->types, (uint16_t)type, &out)) != 0)
         return (int)CTF_ERR;
-    if (details->kind != CTFD_INTEGER && details->kind != CTFD_FLOAT)
-        return (int)ctfd__fail(fp, CTFD_WRONG_KIND);
-    encoding->cte_format = details->is.encoding.encoding;
-    encoding->cte_offset = details->is.encoding.offset;
-    encoding->cte_bits = details->is.encoding.bits;
+    encoding->cte_format = out.encoding;
+    encoding->cte_offset = out.offset;
+    encoding->cte_bits = out.bits;
     return 0;
 }
 
 int ctf_array_info(ctf_file_t *fp, ctf_id_t type, ctf_arinfo_t *array)
 {
-    const struct ctfd__details *details;
-    if (!ctfd__is_type(fp, type) || (details = ctfd__details(fp, (uint16_t)type)) == NULL)
+    struct ctfd_array out;
+    if (!ctfd__is_type(fp, type) ||
+        ctfd__done(fp, ctfd_array(&fp->types, (uint16_t)type, &out)) != 0)
         return (int)CTF_ERR;
-    if (details->kind != CTFD_ARRAY)
-        return (int)ctfd__fail(fp, CTFD_WRONG_KIND);
-    array->ctr_contents = (ctf_id_t)details->is.array.contents;
-    array->ctr_index = (ctf_id_t)details->is.array.index;
-    array->ctr_nelems = details->is.array.count;
+    array->ctr_contents = (ctf_id_t)out.contents;
+    array->ctr_index = (ctf_id_t)out.index;
+    array->ctr_nelems = out.count;
     return 0;
 }
 

@@ -2,9 +2,11 @@
 #include "private.h"
 
 #include <stdlib.h>
+#include <string.h>
 
 /* How many rows are asked for first, and at most: no program has a type with so much in it. */
 #define FIRST 128
+#define SEEN 32
 #ifndef MOST
 #define MOST 4194304
 #endif
@@ -19,6 +21,7 @@ struct visit {
     uint64_t count; /* those that are filled, and one more where there are more */
     uint64_t generation; /* of what was open when they were */
     uint16_t passed[CTFD_DEEPEST + 2]; /* how many members were passed at each depth */
+    uint16_t there[SEEN]; /* types that stand for one that is there, by their last bits */
     struct ctfd_visit_row first[FIRST];
 };
 
@@ -26,6 +29,7 @@ struct visit {
 static enum ctfd_status fill(struct visit *visit)
 {
     visit->generation = visit->fp->generation;
+    memset(visit->there, 0, sizeof visit->there);
     return ctfd_visit(&visit->fp->types, visit->t, visit->rows, visit->rows_len, &visit->count);
 }
 
@@ -55,25 +59,13 @@ static const struct ctfd_visit_row *row_at(struct visit *visit, size_t i, enum c
     return *status == CTFD_OK && i < visit->count ? &visit->rows[i] : NULL;
 }
 
-/* The name of the member that a row is of, which is the next of its holder; NULL, and the error,
- * where it can't be kept. */
-static const char *name_of(struct visit *visit, const struct ctfd_visit_row *row)
+/* The name of a member, by its number in its holder; NULL, and the error, where it can't be kept. */
+static const char *keep_name(ctf_file_t *fp, uint16_t holder, size_t index)
 {
-    ctf_file_t *fp = visit->fp;
     struct ctfd_member member = { 0, 0, 0 };
-    size_t index;
-    visit->passed[row->depth + 1] = 0;
-    if (row->depth == 0 || row->name_list == CTFD_NOWHERE) {
-        visit->passed[row->depth]++;
-        return "";
-    }
-    index = visit->passed[row->depth]++;
-    if (ctfd__is_lent(fp, row->holder))
-        return (const char *)fp->lists.data[row->name_list == CTFD_IN_SECTION ? 0 : 2] +
-            row->name_at;
     do {
-        if (ctfd__done(fp, ctfd_member(&fp->types, row->holder, index, fp->room, fp->room_len,
-                               &member)) != 0)
+        if (ctfd__done(fp,
+                ctfd_member(&fp->types, holder, index, fp->room, fp->room_len, &member)) != 0)
             return NULL;
         if (member.name_len < fp->room_len)
             return ctfd__kept(fp, (size_t)member.name_len);
@@ -81,17 +73,32 @@ static const char *name_of(struct visit *visit, const struct ctfd_visit_row *row
     return NULL;
 }
 
-/* Tells a row. A type that stands for none that is there is an error, and is not told. */
-static int tell(struct visit *visit, const struct ctfd_visit_row *row, ctf_visit_f *each, void *arg)
+/* The name of the member that a row is of, which is the next of its holder. */
+static const char *name_of(struct visit *visit, const struct ctfd_visit_row *row)
+{
+    const ctf_file_t *fp = visit->fp;
+    size_t index = visit->passed[row->depth]++;
+    visit->passed[row->depth + 1] = 0;
+    if (row->name_list == CTFD_NOWHERE)
+        return "";
+    if (!ctfd__is_lent(fp, row->holder))
+        return keep_name(visit->fp, row->holder, index);
+    return (const char *)fp->lists.data[row->name_list == CTFD_IN_SECTION ? 0 : 2] + row->name_at;
+}
+
+/* Whether a type stands for one that is there; else the error. */
+static bool is_there(struct visit *visit, uint16_t t)
 {
     ctf_file_t *fp = visit->fp;
     uint16_t resolved = 0;
-    const char *name = name_of(visit, row);
-    if (name == NULL || !ctfd__is_type(fp, (ctf_id_t)row->type) ||
-        ctfd__done(fp, ctfd_resolve(&fp->types, row->type, &resolved)) != 0 ||
+    if (visit->there[t % SEEN] == t && t != 0)
+        return true;
+    if (!ctfd__is_type(fp, (ctf_id_t)t) ||
+        ctfd__done(fp, ctfd_resolve(&fp->types, t, &resolved)) != 0 ||
         !ctfd__is_type(fp, (ctf_id_t)resolved))
-        return (int)CTF_ERR;
-    return each(name, (ctf_id_t)row->type, (ulong_t)row->offset, (int)row->depth, arg);
+        return false;
+    visit->there[t % SEEN] = t;
+    return true;
 }
 
 int ctf_type_visit(ctf_file_t *fp, ctf_id_t type, ctf_visit_f *each, void *arg)
@@ -109,8 +116,13 @@ int ctf_type_visit(ctf_file_t *fp, ctf_id_t type, ctf_visit_f *each, void *arg)
     visit.rows_len = FIRST;
     visit.passed[0] = 0;
     status = fill(&visit);
-    for (i = 0; status == CTFD_OK && said == 0 && (row = row_at(&visit, i, &status)) != NULL; i++)
-        said = tell(&visit, row, each, arg);
+    for (i = 0; status == CTFD_OK && said == 0 && (row = row_at(&visit, i, &status)) != NULL; i++) {
+        const char *name = name_of(&visit, row);
+        if (name == NULL || !is_there(&visit, row->type))
+            said = (int)CTF_ERR;
+        else
+            said = each(name, (ctf_id_t)row->type, (ulong_t)row->offset, (int)row->depth, arg);
+    }
     if (visit.rows != visit.first)
         free(visit.rows);
     return status == CTFD_OK ? said : (int)ctfd__fail(fp, (int)status);

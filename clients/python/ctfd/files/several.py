@@ -83,23 +83,14 @@ def told(found: List[bytes]) -> str:
 
 
 def _described(ctf: bytes) -> str:
-    """How many types a dictionary has, and the first name of one, by the library where it is found;
-    else how long it is."""
-    from ..client import library  # these read by way of this
-    from ..client.dictionary import open_source
-    from ..client.faults import Refused
-    from ..client.inside import Inside
-    from .source import Source, inflate
+    from ..convert.from_ctf import table_of  # it reads by way of this
+    from .source import inflate
 
-    calls = library.find()
-    if calls is None:
-        return f"{len(ctf)} bytes"
-    with Inside(calls) as inside:
-        try:
-            types = open_source(inside.session(), Source(inflate(ctf)))
-        except (Refused, Unreadable):
-            return f"{len(ctf)} bytes, damaged"
-        named = sorted((t for t in types if t.name and t.kind in TELLING),
-                       key=lambda t: t.kind not in AGGREGATES)
-        first = f", {printable(named[0].spelled)}" if named else ""
-        return f"{len(types)} types{first}"
+    try:
+        table = table_of(inflate(ctf))
+    except Unreadable:
+        return f"{len(ctf)} bytes, damaged"
+    own = table.records[table.bases:]
+    named = sorted((one for one in own if one.name and one.kind in TELLING),
+                   key=lambda one: one.kind not in AGGREGATES)
+    return f"{len(own)} types" + (f", {printable(named[0].tagged)}" if named else "")
