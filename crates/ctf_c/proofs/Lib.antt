@@ -4,3 +4,4 @@ pub mod FilledRows
 pub mod TypeRows
 pub mod ArgumentRows
 pub mod ListedRows
+pub mod RowLaws

@@ -14,7 +14,8 @@ use Rattle.ctf_model.specs.opened.Open.{Open, own_in}
 pub number_told : {R : Type 0} (Tells : ℕ → R → Type 0) (n k : ℕ) (row : R) → k < n → Tells k row → IfSome (slice_get (range_with_len 0 n) k) (λ t. Tells t row)
 number_told Tells n k row lt tells =
     let many = length-range_with_len 0 n in
-    let there : slice_get (range_with_len 0 n) k ≡ Some k = slice_get-get_or (range_with_len 0 n) k 0 (omega (arith, lt, many)) ∙ ap Some (get_or-range_with_len 0 n k 0 lt) in
+    let at : 0 + k ≡ k = omega arith in
+    let there : slice_get (range_with_len 0 n) k ≡ Some k = slice_get-get_or (range_with_len 0 n) k 0 (omega (arith, lt, many)) ∙ ap Some (get_or-range_with_len 0 n k 0 lt ∙ at) in
     rw there tells
 
 -- what is told of a label is told of it in an open dictionary

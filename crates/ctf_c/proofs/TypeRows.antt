@@ -1,5 +1,5 @@
 -- Own types by their numbers, and rows that tell of them.
-use Rattle.std.proofs.Common.{◌≡◌, ℕ, ◌+◌, ◌<◌, false, eqb, List, length, map, Option, Some, None, Result, Ok, refl, sym, ap, subst, ◌∙◌, arith, ne_eqb}
+use Rattle.std.proofs.Common.{◌≡◌, ℕ, ◌+◌, ◌<◌, Bool, true, false, eqb, List, length, map, Option, Some, None, Result, Ok, refl, sym, ap, subst, ◌∙◌, arith, ne_eqb}
 use Rattle.std.specs.List.{range_with_len}
 use Rattle.std.specs.Option.{option_map}
 use Rattle.std.specs.Prelude.{IfSome, IsSome, option_and_then, slice_get}
@@ -92,3 +92,15 @@ tells d space own i found row a b e n kind root items reference size align resol
       reference = subst (λ f. Gives (referred_by f) row.reference_status 0 row.reference) is reference;
       name = (name.0, subst (λ f. name_in f ≡ Ok name.0) is name.1, subst (λ l. option_and_then (λ x. text_in x row.name_list row.name_at) l ≡ Some name.0) (sym lists) name.2);
     }
+
+-- ---- numbers
+
+-- what has a number of 16 bits stands at a place of 16 bits
+pub own_small : (child : Bool) (i n : ℕ) → n ≡ own_number child i → n < 65536 → i < 65536
+own_small true i n e lt = omega (arith, e, lt)
+own_small false i n e lt = omega (arith, e, lt)
+
+-- and is one
+pub own_some : (child : Bool) (i n : ℕ) → n ≡ own_number child i → 0 < n
+own_some true i n e = omega (arith, e)
+own_some false i n e = omega (arith, e)

@@ -1,27 +1,29 @@
 //! The export that answers many types at once, and where their names stand.
 ghost use Rattle.std.specs.Prelude.{◌≡◌, ◌<◌, ℕ, List, Ok, Some, length};
+ghost use Rattle.std.specs.Result.{result_map_both};
 ghost use Rattle.ctf_c.specs.Given.{Gives, asked, flag as flag_of, number_of_kind};
 ghost use Rattle.ctf_c.specs.Rowed.{GivesRows};
-ghost use Rattle.ctf_c.specs.TypeRows.{TellsType, own_numbers};
+ghost use Rattle.ctf_c.specs.TypeRows.{IsAsked, TellsFigures, TellsType, own_numbers};
 ghost use Rattle.ctf_c.specs.names.Filling.{Fills};
 ghost use Rattle.ctf_c.specs.names.Places.{text_in};
 ghost use Rattle.ctf_check.specs.CheckedView.{lists_of};
 ghost use Rattle.ctf_check.specs.TypedView.{dictionary_in, spelled};
 ghost use Rattle.ctf_model.specs.figures.Figures.{referred_by};
-ghost use Rattle.ctf_model.specs.opened.Open.{own_in, space_in};
-ghost use Rattle.ctf_model.specs.opened.Questions.{align_answered, answer_map, kind_answered, length_answered, on_shape, resolved_answered, root_answered, shape_of, size_answered};
-ghost use Rattle.ctf_model.specs.spaces.Space.{space_type};
+ghost use Rattle.ctf_layout.specs.Fitting.{Fits};
+ghost use Rattle.ctf_model.specs.opened.Open.{Open, own_in};
+ghost use Rattle.ctf_model.specs.opened.Questions.{answer_map, kind_answered, length_answered, on_shape, root_answered, shape_of};
+ghost use Rattle.ctf_model.specs.spaces.Space.{Space as WholeSpace, space_type};
 ghost use Rattle.ctf_model.specs.spaces.TypeNumbers.{or_no_type};
 ghost use Rattle.ctf_model.specs.spaces.TypePlaces.{own_number};
 ghost use Rattle.ctf_space.specs.SpaceView.{own_lists, space_of};
 ghost use Rattle.ctf_space.specs.TypeView.{name_in};
 
-use crate::given::{dictionary_of, flag, give, give_type, kind_number};
+use crate::given::{dictionary_of, flag, give, give_type};
 use crate::handle::Handle;
 use crate::names::{NamePosition, name_position};
 use ctf_check::Typed;
-use ctf_layout::referred;
-use ctf_model::TypeNum;
+use ctf_layout::Layout;
+use ctf_model::{Fault, Kind, TypeNum, placeless};
 use ctf_open::OpenDictionary;
 use ctf_space::Space;
 use ctf_views::Variant;
@@ -71,18 +73,13 @@ struct RecordNumbers {
 
 /// What is worked out of a type.
 #[inline(always)]
-fn figures_of(dictionary: &OpenDictionary, t: TypeNum) -> Figures
-    ensures size { Gives (size_answered (space_in dictionary.now) t.0)
-        result.size_status 0 result.size }
-    ensures align { Gives (align_answered (space_in dictionary.now) t.0)
-        result.align_status 0 result.align }
-    ensures resolved { Gives (resolved_answered (space_in dictionary.now) t.0)
-        result.resolved_status 0 result.resolved }
+fn figures_of(layout: &Layout, t: TypeNum) -> Figures
+    ensures { (s : WholeSpace) → Fits s layout.now → 0 < t.0 → TellsFigures s t.0 result }
 {
     let mut size = 0;
     let mut align = 0;
     let mut resolved = 0;
-    let extent = dictionary.figures(t);
+    let extent = layout.figures(t);
     let size_status = give(extent.size.get(), &mut size);
     let align_status = give(extent.align.get(), &mut align);
     let resolved_status = give_type(extent.target.get(), &mut resolved);
@@ -93,6 +90,28 @@ fn figures_of(dictionary: &OpenDictionary, t: TypeNum) -> Figures
         align_status,
         resolved_status,
         resolved,
+    }
+}
+
+/// The number of a kind: kinds stand in the order of their numbers.
+#[inline(always)]
+fn number_of(kind: Kind) -> u32
+    ensures { result ≡ number_of_kind kind }
+{
+    kind as u32
+}
+
+/// The type that a type points to, renames or qualifies.
+#[inline(always)]
+fn referred_to(found: &Typed<'_>) -> Result<TypeNum, Fault>
+    ensures { result_map_both (λ t. t.0) (λ f. f) result
+        ≡ referred_by (or_no_type (spelled found.now)) }
+{
+    match found.kind() {
+        Kind::KPointer | Kind::KTypedef | Kind::KVolatile | Kind::KConst | Kind::KRestrict => {
+            found.reference().ok_or(placeless(Fault::NOT_REFERENCE))
+        }
+        _ => Err(placeless(Fault::NOT_REFERENCE)),
     }
 }
 
@@ -122,10 +141,10 @@ fn numbers_of(found: &Typed<'_>) -> RecordNumbers
         result.reference_status 0 result.reference }
 {
     let mut reference = 0;
-    let reference_status = give_type(referred(found.shape()), &mut reference);
+    let reference_status = give_type(referred_to(found), &mut reference);
     RecordNumbers {
         length: item_count(found),
-        kind: kind_number(found.kind()),
+        kind: number_of(found.kind()),
         root: flag(found.root()),
         reference_status,
         reference,
@@ -155,17 +174,15 @@ fn own_type<'a>(space: &Space<'a>, index: usize) -> Typed<'a>
 
 /// What is told of an own type, from 0.
 #[inline(always)]
-fn type_row(dictionary: &OpenDictionary, space: &Space<'_>, index: usize) -> GivenTypeRow
-    requires inside { index < length (own_in dictionary.now).terms }
-    requires space { space_of space.now ≡ space_in dictionary.now }
-    requires lists { own_lists space.now ≡ dictionary.now.own.lists }
-    ensures { TellsType (Some dictionary.now) (own_number (own_in dictionary.now).child index)
-        result }
+fn type_row(space: &Space<'_>, layout: &Layout, index: usize) -> GivenTypeRow
+    requires { index < length (space_of space.now).own.terms }
+    ensures { (d : Open) → IsAsked d space.now layout.now
+        → TellsType (Some d) (own_number (own_in d).child index) result }
 {
     let t = space.own_number(index);
     let found = own_type(space, index);
     let place = name_place(&found);
-    let figures = figures_of(dictionary, t);
+    let figures = figures_of(layout, t);
     let numbers = numbers_of(&found);
     GivenTypeRow {
         size: figures.size,
@@ -192,11 +209,12 @@ fn types_into(dictionary: &OpenDictionary, from: usize, rows: &mut [GivenTypeRow
         from rows.old rows.new }
 {
     let space = dictionary.space();
+    let tables = dictionary.tables();
     let all = space.count();
     let left = all.saturating_sub(from);
     let count = left.min(rows.len());
     for i in 0..count {
-        rows[i] = type_row(dictionary, &space, from + i);
+        rows[i] = type_row(&space, &tables.layout, from + i);
     }
     all as u64
 }

@@ -1,4 +1,4 @@
-use Rattle.std.proofs.Common.{◌≡◌, ℕ, ◌≤◌, List, [], Result, Some, ap, length, subst, sym, ◌∙◌, arith}
+use Rattle.std.proofs.Common.{◌≡◌, ℕ, ◌≤◌, List, [], Result, Some, ap, length, refl, subst, sym, ◌∙◌, arith}
 use Rattle.std.specs.Prelude.{unwrap_or}
 use Rattle.ctf_c.proofs.names.SymbolRows.{symbol_inside, symbol_told, symbol_whole}
 use Rattle.ctf_c.specs.Given.{Gives}
@@ -30,4 +30,13 @@ symbol_class-class-requires c =
     symbol_whole s c.symbol_parts-parts.result.sym.now c.symbol_at-bytes.result.now c.args.number table c.requires.there c.symbol_at-bytes.ensures
 
 pub returns : goal.returns
-returns c = ?
+returns c =
+    let d = c.args.dictionary.now in
+    let table = c.symbol_parts-parts.ensures.sym ∙ ap (λ (l : Lists). unwrap_or l.sym []) c.dictionary-own.ensures.lists in
+    let place = c.symbol_position-place.result in
+    let status = c.give_type-type_status.result in
+    let tnum = c.give_type-type_status.new.out in
+    symbol_told d c.args.number c.symbol_parts-parts.result.sym.now c.symbol_at-bytes.result.now (record { name_at = place.at; name_list = place.list; number = c.args.number; symbol_class = c.symbol_class-class.result; type_status = status; tnum = tnum }) table c.requires.there c.symbol_at-bytes.ensures refl c.symbol_class-class.ensures
+      (λ is. subst (λ (r : Result ℕ Fault). Gives r status 0 tnum) (c.type_told.ensures.function is) c.give_type-type_status.ensures)
+      (λ other. subst (λ (r : Result ℕ Fault). Gives r status 0 tnum) (c.type_told.ensures.object other) c.give_type-type_status.ensures)
+      (rw c.u32_at.ensures at (c.symbol_position-place.ensures d.own.lists c.requires.ends))

@@ -13,7 +13,9 @@ pub loop-i-init : goal.loop-i-init
 loop-i-init c = unfilled (TellsSymbol (Some c.args.dictionary.now)) (symbol_numbers (own_in c.args.dictionary.now)) c.args.from c.args.rows.now
 
 pub symbol_row-requires-clause-there : goal.symbol_row-requires-clause-there
-symbol_row-requires-clause-there c = ?
+symbol_row-requires-clause-there c =
+    let all = c.symbol_count-all.ensures ∙ ap (λ (x : Dictionary). min (length x.symbols) (2 ^ 32)) c.dictionary-own.ensures.own in
+    omega (arith, c.loop-i-test.true, c.min-count.ensures, c.saturating_sub-left.ensures, all)
 
 pub symbol_row-requires-clause-ends : goal.symbol_row-requires-clause-ends
 symbol_row-requires-clause-ends c = subst (λ (o : Option (List ℕ)). EndsAt o c.names_end-end.result) (c.symbol_parts-parts.ensures.strs ∙ ap (λ (l : Lists). l.strs) c.dictionary-own.ensures.lists) c.names_end-end.ensures
