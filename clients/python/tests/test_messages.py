@@ -12,7 +12,7 @@ import unittest
 from pathlib import Path
 from typing import List, NamedTuple
 
-from .support import (EXAMPLES, PROGRAM, TOOLS, dictionary, integer, object_file,
+from .support import (COMMAND, EXAMPLES, PROGRAM, TOOLS, dictionary, integer, object_file,
                       pointer, staged)
 
 FOLDER = Path(__file__).resolve().parents[1]
@@ -64,14 +64,14 @@ FILES = [
          r"/lua: --only luaL_reg: it has no type of this name; the nearest .*luaL_Reg"),
     Case("its own input", "ctfd-convert {}/lua {}/lua", 2, r"/lua: it is an input, .*another file"),
     Case("a folder that is not there", "ctfd-convert {}/lua {}/no/out", 2, r"/no/out: it can't be"),
-    Case("no service", "ctfd-types --service {}/nowhere {}/lua", 1,
+    Case("no service", "ctfd-explore --service {}/nowhere {}/lua", 1,
          r"/nowhere, named by --service, is no program: name the built ctfd"),
     Case("no service", "ctfd-convert --service {}/no {}/lua {}/out", 2, r"is no program: name the"),
-    Case("another program", "ctfd-types --service {}/other {}/lua", 1,
+    Case("another program", "ctfd-explore --service {}/other {}/lua", 1,
          r"/other is no ctfd: it does not print a version"),
-    Case("another protocol", "ctfd-types --service {}/newer {}/lua", 1,
+    Case("another protocol", "ctfd-explore --service {}/newer {}/lua", 1,
          r"/newer is ctfd 7\.0\.1, which speaks another protocol.*: install the client of that"),
-    Case("a service that ends", "ctfd-types --service {}/ends {}/lua", 1,
+    Case("a service that ends", "ctfd-explore --service {}/ends {}/lua", 1,
          r"the service ended with status 3: .*start it again"),
     Case("--section without ELF", "ctfd-convert --section {}/lua {}/out", 2,
          r"/lua: --section needs an ELF file, and this is none: leave --section out"),
@@ -157,7 +157,12 @@ class Messages(unittest.TestCase):
         while "=" in words[0]:
             name, _, value = words.pop(0).partition("=")
             environment[name] = value
-        command = [sys.executable, str(FOLDER / words[0]), *words[1:]]
+        command = [sys.executable, str(FOLDER / words[0])]
+        if words[0] == COMMAND.name:
+            if not COMMAND.exists():
+                self.skipTest("ctfd-types is not compiled")
+            command = [str(COMMAND)]
+        command += words[1:]
         done = subprocess.run(command, capture_output=True, text=True, env=environment)
         lines = done.stderr.splitlines()
         self.assertEqual((done.returncode, len(lines)), (case.status, 1), done.stderr)

@@ -10,9 +10,10 @@ use crate::inputs::{plain_bytes, with_types, Form, Options};
 use crate::labels;
 use crate::symbols::SymbolTable;
 use ctfd::Model;
-use object::elf::{FileHeader32, FileHeader64, SHT_DYNSYM, SHT_NOBITS, SHT_STRTAB, SHT_SYMTAB};
+use object::elf::{FileHeader32, FileHeader64, SHF_COMPRESSED};
+use object::elf::{SHT_DYNSYM, SHT_NOBITS, SHT_STRTAB, SHT_SYMTAB};
 use object::read::elf::{FileHeader, SectionHeader, SectionTable};
-use object::{Endianness, Object as _, ObjectSection as _, SectionIndex};
+use object::{Endianness, Object as _, ObjectSection as _, SectionFlags, SectionIndex};
 use std::borrow::Cow;
 
 /// The sections that have a dictionary.
@@ -144,10 +145,7 @@ pub fn model_named(ctf: &[u8]) -> Option<Model> {
 pub fn why_not_parent(child: &ctfd::Dictionary<'_>, parent: &[u8]) -> Option<&'static str> {
     let sections = Sections::of(parent).ok()?;
     let of_parent = labels::of_types(&sections);
-    child
-        .is_child()
-        .then(|| labels::not_its_parent(&child.parent_label(), &of_parent))
-        .flatten()
+    child.is_child().then(|| labels::not_its_parent(&child.parent_label(), &of_parent)).flatten()
 }
 
 /// The symbol table of an ELF file, and its strings.
@@ -206,9 +204,9 @@ fn in_elf<'a, F: FileHeader<Endian = Endianness>>(
         file.section_by_name(name).is_some_and(|section| section.file_range().is_some())
     };
     let Some(name) = SECTIONS.into_iter().find(|name| has_bytes(name)) else { return Ok(None) };
-    let section = file.section_by_name(name).map(|section| section.compressed_file_range());
-    let Some(range) = section.transpose()? else { return Ok(None) };
-    if range.format != object::CompressionFormat::None {
+    let flags = file.section_by_name(name).map(|section| section.flags());
+    let packed = u64::from(SHF_COMPRESSED);
+    if matches!(flags, Some(SectionFlags::Elf { sh_flags }) if sh_flags & packed != 0) {
         return refuse(format!(
             "{}: {name} is compressed as ELF has it, which is not read: objcopy \
              --decompress-debug-sections undoes that",

@@ -300,8 +300,7 @@ impl<'d> Catalog<'d> {
     /// Without typedefs, qualifiers and arrays.
     pub fn reached(&self, number: u16) -> Reached {
         *self.record(number).reached.get_or_init(|| {
-            let mut made =
-                Reached { number: self.resolved(number), elements: 1, is_array: false };
+            let mut made = Reached { number: self.resolved(number), elements: 1, is_array: false };
             while self.kind(made.number) == Kind::Array {
                 let array = self.record(made.number);
                 made.elements = made.elements.saturating_mul(array.elements.into());
@@ -362,10 +361,8 @@ impl<'d> Catalog<'d> {
     pub fn values(&self, number: u16) -> &[Value] {
         self.record(number).values.get_or_init(|| {
             let listed = self.get(number).and_then(|of| of.enumerators().ok());
-            let value = |one: ctfd::Enumerator| Value {
-                name: one.name.into_bytes(),
-                value: one.value,
-            };
+            let value =
+                |one: ctfd::Enumerator| Value { name: one.name.into_bytes(), value: one.value };
             listed.map(|listed| listed.map(value).collect()).unwrap_or_default()
         })
     }

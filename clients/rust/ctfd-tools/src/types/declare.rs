@@ -117,13 +117,7 @@ struct Maker<'m, 'd> {
 }
 
 impl Maker<'_, '_> {
-    fn declarator(
-        &self,
-        number: u16,
-        stars: usize,
-        depth: usize,
-        budget: &mut i32,
-    ) -> Declarator {
+    fn declarator(&self, number: u16, stars: usize, depth: usize, budget: &mut i32) -> Declarator {
         let (mut left, mut right) = (String::new(), String::new());
         let mut qualifiers: Vec<&'static str> = Vec::new();
         let mut of_pointer: Vec<&'static str> = Vec::new(); // those of the pointer that comes next

@@ -91,17 +91,15 @@ fn style() -> String {
     let (line, ink) = (color("line").1, color("ink").1);
     let _ = write!(made, ":root rect.box{{stroke:{line}}}:root rect.group{{stroke:{ink}}}");
     let (page, hatch) = (color("page").1, color("hatch").1);
-    let _ =
-        write!(made, ":root #hatch rect{{fill:{page}}}:root #hatch path{{stroke:{hatch}}}");
+    let _ = write!(made, ":root #hatch rect{{fill:{page}}}:root #hatch path{{stroke:{hatch}}}");
     for sort in HATCHED {
         let _ = write!(made, ":root rect.{sort}{{fill:url(#hatch)}}");
     }
     made + "}"
 }
 
-const PAGE_ORDER: [&str; FILLS] = [
-    "page", "integer", "float", "pointer", "enum", "array", "struct", "union", "bits", "other",
-];
+const PAGE_ORDER: [&str; FILLS] =
+    ["page", "integer", "float", "pointer", "enum", "array", "struct", "union", "bits", "other"];
 
 fn hatch() -> String {
     format!(

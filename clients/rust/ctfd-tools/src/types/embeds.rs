@@ -96,9 +96,8 @@ impl<'e, 'd> Embeds<'e, 'd> {
     pub fn of(&self, targets: &BTreeSet<u16>, is_pointer: bool) -> Vec<Embedded<'d>> {
         let reaching = Reaching { catalog: self.catalog(), targets, is_pointer };
         let mut known = HashMap::new();
-        let mut leads = |number: &u16| {
-            reaching.reaches(*number, &mut known) || self.is_walked_through(*number)
-        };
+        let mut leads =
+            |number: &u16| reaching.reaches(*number, &mut known) || self.is_walked_through(*number);
         let leading: HashSet<u16> =
             self.member_types.iter().copied().filter(|number| leads(number)).collect();
         let mut found = Vec::new();

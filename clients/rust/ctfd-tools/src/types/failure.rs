@@ -19,7 +19,6 @@ pub enum Failure {
 pub type Outcome<T> = Result<T, Failure>;
 
 impl Failure {
-
     /// A refusal by the library, of some file.
     pub fn of_library(what: impl Display, refusal: ctfd::Refusal) -> Failure {
         Failure::Refused(told(what, refusal))

@@ -61,9 +61,10 @@ impl Order {
     /// Sorts figures.
     pub fn sort(self, listed: &mut [Figures]) {
         match self {
-            Order::Size => listed
-                .sort_by(|one, other| key_of_size(one).cmp(&key_of_size(other))),
-            Order::Holes => listed.sort_by(|one, other| key_of_holes(one).cmp(&key_of_holes(other))),
+            Order::Size => listed.sort_by(|one, other| key_of_size(one).cmp(&key_of_size(other))),
+            Order::Holes => {
+                listed.sort_by(|one, other| key_of_holes(one).cmp(&key_of_holes(other)))
+            }
             Order::Name => listed.sort_by(|one, other| one.label.cmp(&other.label)),
         }
     }

@@ -55,7 +55,12 @@ pub fn offset(written: &str) -> Outcome<u128> {
 }
 
 /// Tells what a struct or union has at an offset: each member, the innermost last.
-pub fn at(whole: &Whole<'_, '_>, name: &[u8], written: &str, output: &mut dyn Write) -> Outcome<()> {
+pub fn at(
+    whole: &Whole<'_, '_>,
+    name: &[u8],
+    written: &str,
+    output: &mut dyn Write,
+) -> Outcome<()> {
     let names = whole.names;
     let bit = offset(written)?;
     let mut bound = Bound::new(whole);
@@ -64,7 +69,9 @@ pub fn at(whole: &Whole<'_, '_>, name: &[u8], written: &str, output: &mut dyn Wr
         let size = names.catalog.size(number).unwrap_or(0);
         if bit >= 8 * u128::from(size) {
             let written = printable(written.as_bytes()).into_owned();
-            return Err(Failure::Refused(format!("{label} has {size} bytes, and none at {written}")));
+            return Err(Failure::Refused(format!(
+                "{label} has {size} bytes, and none at {written}"
+            )));
         }
         let found = members_at(names.catalog, number, bit, written.contains(':'));
         for here in &found {

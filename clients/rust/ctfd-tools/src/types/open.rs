@@ -16,7 +16,8 @@ use std::path::Path;
 
 /// How many lines tell what was lost where a file is converted.
 const FEW: usize = 3;
-const ALONE: &str = "--parent, --symbols and --strings go with a dictionary, and this file's types \
+const ALONE: &str =
+    "--parent, --symbols and --strings go with a dictionary, and this file's types \
                      are converted first: leave them out, or make the dictionary by ctfd-convert \
                      (--parent makes a child)";
 

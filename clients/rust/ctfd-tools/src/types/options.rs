@@ -153,9 +153,8 @@ fn many(matches: &ArgMatches, name: &str) -> Vec<OsString> {
 }
 
 fn question(matches: &ArgMatches) -> Question {
-    let name = |option: &str| {
-        matches.get_one::<OsString>(option).map(|word| word.as_bytes().to_vec())
-    };
+    let name =
+        |option: &str| matches.get_one::<OsString>(option).map(|word| word.as_bytes().to_vec());
     let flag = |option: &str| matches.get_flag(option);
     let of_name: [(&str, fn(Vec<u8>) -> Question); 6] = [
         ("contains", Question::Contains),
@@ -193,8 +192,7 @@ fn question(matches: &ArgMatches) -> Question {
 /// The files and the names: where no word is a file, the first is one that is not there. So is the
 /// first where it is no name of C.
 fn told_apart(words: Vec<OsString>) -> (Vec<PathBuf>, Vec<Vec<u8>>) {
-    let is_file =
-        |word: &OsString| !is_pattern(word.as_bytes()) && Path::new(word).exists();
+    let is_file = |word: &OsString| !is_pattern(word.as_bytes()) && Path::new(word).exists();
     let are_files: Vec<bool> = words.iter().map(is_file).collect();
     let has_file = are_files.contains(&true);
     let (mut files, mut names) = (Vec::new(), Vec::new());
@@ -235,11 +233,7 @@ fn number(written: &str) -> Result<u64, String> {
 
 /// An option with a value.
 fn value(name: &'static str, shown: &'static str, help: &'static str) -> Arg {
-    Arg::new(name)
-        .long(name)
-        .value_name(shown)
-        .value_parser(value_parser!(OsString))
-        .help(help)
+    Arg::new(name).long(name).value_name(shown).value_parser(value_parser!(OsString)).help(help)
 }
 
 fn file(name: &'static str, help: &'static str) -> Arg {

@@ -9,16 +9,14 @@ use super::lookup::{self, Found};
 use super::names::Names;
 use super::open::{handed, shown, with_catalog, Given, Opened, Parents};
 use super::options::{Question, Words};
-use super::text::{is_pattern, printable, TAGS};
+use super::text::{is_pattern, printable, without_tag, TAGS};
 use super::whole::Whole;
-use super::{
-    declare, header, json, members, picture, records, reorganize, symbols, treemap, warn,
-};
+use super::{declare, header, json, members, picture, records, reorganize, symbols, treemap, warn};
 use ctfd_read::image::Image;
 use ctfd_read::nearest::suggestion;
 use ctfd_read::opening::{Handed, Origin};
 use std::borrow::Cow;
-use std::collections::HashSet;
+use std::collections::{BTreeSet, HashSet};
 use std::io::Write;
 use std::os::unix::ffi::OsStrExt as _;
 use std::path::Path;
@@ -215,13 +213,18 @@ impl<'a, 'd> Answer<'a, 'd> {
         Ok(())
     }
 
-    /// The names that begin with a text, a line each.
+    /// The names that begin with a text, a line each, tags without their word too.
     fn completions(&self, text: &[u8], output: &mut dyn Write) -> Outcome<()> {
-        let mut known = HashSet::new();
+        let is_plain = |name: &[u8]| name.iter().all(|byte| matches!(byte, b' '..=b'~'));
+        let mut listed = BTreeSet::new();
         for name in lookup::names(self.catalog()) {
-            if name.starts_with(text) && name.is_ascii() && known.insert(name.clone()) {
-                writeln!(output, "{}", printable(&name))?;
-            }
+            let (_, bare) = without_tag(&name);
+            let both = [&name[..], bare];
+            let wanted = both.into_iter().filter(|name| name.starts_with(text) && is_plain(name));
+            listed.extend(wanted.map(|name| name.to_vec()));
+        }
+        for name in listed {
+            writeln!(output, "{}", printable(&name))?;
         }
         Ok(())
     }

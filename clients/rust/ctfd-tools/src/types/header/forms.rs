@@ -155,9 +155,9 @@ impl<'f, 'd> Forms<'f, 'd> {
         }
         let plain = Attributes { is_union: record.kind == Kind::Union, ..Attributes::default() };
         let align = self.lay(&natural, plain).shape.align.min(lowest_bit(size));
-        let candidates = std::iter::once((false, None)).chain(attributes(size)).map(
-            |(is_packed, aligned)| (&natural, Attributes { is_packed, aligned, ..plain }),
-        );
+        let candidates = std::iter::once((false, None))
+            .chain(attributes(size))
+            .map(|(is_packed, aligned)| (&natural, Attributes { is_packed, aligned, ..plain }));
         for (members, attributes) in candidates {
             if let Some(form) = self.fitting(size, members, attributes) {
                 return form;

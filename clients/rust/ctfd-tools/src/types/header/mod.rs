@@ -508,7 +508,6 @@ fn member_name<'d>(
 
 /// How a declaration begins whose struct or union stands in it.
 fn opening(declarator: &Declarator, word: &str, before: &str) -> String {
-    let qualifiers: String =
-        declarator.qualifiers.iter().map(|word| format!("{word} ")).collect();
+    let qualifiers: String = declarator.qualifiers.iter().map(|word| format!("{word} ")).collect();
     format!("{before}{qualifiers}{word} {{")
 }
