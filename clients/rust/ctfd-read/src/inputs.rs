@@ -5,7 +5,7 @@ use crate::bytes::Names;
 use crate::ctf::{self, Sections};
 use crate::dictionary::keep_described;
 use crate::dwarf::sections;
-use crate::dwarf::types::Collector;
+use crate::dwarf::types::collect;
 use crate::dwarf::units::Debug;
 use crate::elf;
 use crate::error::{refuse, Error, Result};
@@ -343,10 +343,7 @@ fn with_dwarf(image: &Image, options: &Options, run: &mut Use<'_>) -> Result<()>
     let sections =
         sections::Sections::load(debug, &options.folders).map_err(|error| error.of(&debug_path))?;
     let units = Debug::new(&sections).map_err(|error| error.of(&debug_path))?;
-    let mut collector = Collector::default();
-    collector
-        .read(&units, &symbols.listed, !file.is_64())
-        .map_err(|error| error.of(&debug_path))?;
+    let collector = collect(&[(units, debug_path)], &symbols.listed, !file.is_64())?;
     let is_linked = file.kind() != ObjectKind::Relocatable;
     let (mut table, roots) =
         collector.finish(&symbols, is_linked, !file.is_64()).map_err(|error| error.of(&path))?;
@@ -407,11 +404,6 @@ fn with_archive(image: &Image, data: &[u8], options: &Options, run: &mut Use<'_>
         }
     }
     let is_ilp32 = model == Some(Model::Ilp32);
-    let mut collector = Collector::default();
-    for (member, sections) in &with_debug {
-        let read = || collector.read(&Debug::new(sections)?, &[], is_ilp32);
-        read_named(read, member.path())?;
-    }
     if with_debug.is_empty() {
         let is_lto = |member: &Image| member.elf().is_ok_and(|file| elf::is_lto(&file));
         let advice = match members.iter().any(is_lto) {
@@ -423,15 +415,17 @@ fn with_archive(image: &Image, data: &[u8], options: &Options, run: &mut Use<'_>
             path.display()
         ));
     }
+    let mut files = Vec::new();
+    for (member, sections) in &with_debug {
+        let name = member.path().display().to_string();
+        files.push((Debug::new(sections).map_err(|error| error.of(&name))?, name));
+    }
+    let collector = collect(&files, &[], is_ilp32)?;
     let symbols = Symbols::default();
     let (table, roots) =
         collector.finish(&symbols, false, is_ilp32).map_err(|error| error.of(path.display()))?;
     let note = String::new();
     run(ProgramTypes { table, roots, bases: 0, form: Form::Dwarf, symbols, note })
-}
-
-fn read_named(mut read: impl FnMut() -> Result<()>, path: &Path) -> Result<()> {
-    read().map_err(|error| error.of(path.display()))
 }
 
 /// The object files of an archive; those of a thin one are files beside it.

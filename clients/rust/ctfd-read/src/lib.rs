@@ -25,6 +25,7 @@ mod merge;
 mod nearest;
 mod section;
 mod select;
+mod slots;
 mod sound;
 pub mod symbols;
 pub mod table;
