@@ -469,7 +469,10 @@ impl<'d, 'a> Reader<'d, 'a> {
                     Some(size) if size != 0 => size,
                     _ => self.size_of(member)?,
                 };
-                Ok(begins + 8 * size - left - i128::from(width))
+                Ok(match self.debug.endian {
+                    RunTimeEndian::Big => begins + left,
+                    RunTimeEndian::Little => begins + 8 * size - left - i128::from(width),
+                })
             }
             _ => Ok(begins),
         }
