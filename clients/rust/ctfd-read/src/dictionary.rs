@@ -61,7 +61,7 @@ pub fn select<'a>(found: ProgramTypes<'a>, names: &[String]) -> Result<(ProgramT
     match form {
         Form::Dwarf | Form::Gnu => merge(&mut table, 0),
         Form::Btf => name_once(&mut table, 0),
-        Form::Ctf => {}
+        Form::Ctf | Form::OtherCtf => {}
     }
     if table.is_empty() {
         return refuse("nothing is to be written: the file tells no type of C with a name");

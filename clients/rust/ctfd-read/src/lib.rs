@@ -26,6 +26,7 @@ pub mod nearest;
 pub mod opening;
 mod section;
 mod select;
+mod slots;
 mod sound;
 pub mod symbols;
 pub mod table;

@@ -177,7 +177,7 @@ fn options() -> Command {
 /// The options that say what is read.
 fn of_reading() -> [Arg; 7] {
     [
-        word("from", "ctf|btf|dwarf|gnu").help("the form to read"),
+        word("from", "ctf|other-ctf|btf|dwarf|gnu").help("the form to read"),
         Arg::new("dictionary")
             .long("dictionary")
             .value_name("N")

@@ -1,12 +1,13 @@
 //! The types of C in a program's debug information, as a table.
 
 use crate::descriptions::{Description, Descriptions, Statement, SymbolFilter};
+use crate::dwarf::tags::SingleTags;
 use crate::dwarf::units::{scopes, Debug, Entry, Scope, Unit};
 use crate::error::{refuse, Result};
 use crate::join::{Joiner, NumberHasher, Piece};
 use crate::symbols::{Symbol, Symbols};
 use crate::table::{Encoding, Enumerator, Kind, Member, Parts, Record, Table};
-use gimli::{constants as dw, DwLang, DwTag, LittleEndian, Reader as _, UnitOffset};
+use gimli::{constants as dw, DwLang, DwTag, Reader as _, RunTimeEndian, UnitOffset};
 use rayon::prelude::*;
 use std::borrow::Cow;
 use std::collections::{BTreeMap, HashMap, HashSet};
@@ -15,8 +16,12 @@ use std::hash::BuildHasherDefault;
 /// A declaration, an abstract function and a copy of it are three; damage may lead round.
 const LONGEST_CHAIN: usize = 16;
 const LONGEST_TYPE: usize = 512;
-/// How many units are read before they are joined.
-const AT_ONCE: usize = 64;
+/// How many units one thread reads and joins before they are joined with those of others.
+const GROUP: usize = 16;
+/// How many such groups are read at a time.
+const GROUPS: usize = 16;
+/// How often all is read: again where a tag turned out to have several definitions.
+const MOST_ROUNDS: usize = 3;
 
 const SIGNED: u8 = 1;
 const CHARACTER: u8 = 2;
@@ -32,7 +37,7 @@ struct UnitTypes<'a> {
 }
 
 enum Outcome<'a> {
-    OfC(Piece<'a>, UnitTypes<'a>),
+    OfC(UnitTypes<'a>),
     Foreign(DwLang),
     Nothing,
 }
@@ -48,18 +53,56 @@ pub struct Collector<'a> {
     foreign: BTreeMap<String, usize>,
 }
 
+/// What some units told, joined.
+struct Group<'a> {
+    piece: Piece<'a>,
+    conflicts: HashSet<u64>,
+    unit_types: UnitTypes<'a>,
+    units: usize,
+    foreign: Vec<DwLang>,
+}
+
+/// Reads all units of some files, each with the name that a refusal has in front.
+pub fn collect<'a>(
+    files: &[(Debug<'a>, String)],
+    wanted: &[Symbol<'a>],
+    is_ilp32: bool,
+) -> Result<Collector<'a>> {
+    let mut tags = SingleTags::of(files.iter().map(|(debug, _)| debug));
+    for left in (0..MOST_ROUNDS).rev() {
+        let mut collector = Collector::default();
+        for (debug, name) in files {
+            collector.read(debug, wanted, is_ilp32, &tags).map_err(|error| error.of(name))?;
+        }
+        let conflicts = std::mem::take(collector.joiner.conflicts());
+        match left {
+            _ if conflicts.is_empty() => return Ok(collector),
+            1 => tags.clear(),
+            _ => tags.remove(conflicts),
+        }
+    }
+    refuse("its types can't be told apart")
+}
+
 impl<'a> Collector<'a> {
     /// Reads all units of a program: many at a time, joined one after the other in their order.
-    pub fn read(&mut self, debug: &Debug<'a>, wanted: &[Symbol<'a>], is_ilp32: bool) -> Result<()> {
+    fn read(
+        &mut self,
+        debug: &Debug<'a>,
+        wanted: &[Symbol<'a>],
+        is_ilp32: bool,
+        tags: &SingleTags,
+    ) -> Result<()> {
         let filter = SymbolFilter::new(wanted);
         let imports = imports(debug)?;
         let read = |number: usize| read_unit(debug, number, &filter, &imports, is_ilp32);
         let numbers: Vec<usize> = (0..debug.units()).collect();
-        let mut ready: Vec<Result<Outcome>> = Vec::new();
-        for some in numbers.chunks(AT_ONCE).chain([&[][..]]) {
+        let groups: Vec<&[usize]> = numbers.chunks(GROUP).collect();
+        let mut ready: Vec<Result<Group>> = Vec::new();
+        for some in groups.chunks(GROUPS).chain([&[][..]]) {
             let before = std::mem::take(&mut ready);
             let (next, joined) = rayon::join(
-                || some.par_iter().map(|&number| read(number)).collect(),
+                || some.par_iter().map(|numbers| Group::read(numbers, &read, tags)).collect(),
                 || before.into_iter().try_for_each(|one| one.map(|one| self.take(one))),
             );
             joined?;
@@ -68,26 +111,17 @@ impl<'a> Collector<'a> {
         Ok(())
     }
 
-    fn take(&mut self, outcome: Outcome<'a>) {
-        match outcome {
-            Outcome::Nothing => {}
-            Outcome::Foreign(language) => {
-                *self.foreign.entry(language_name(language)).or_default() += 1;
-            }
-            Outcome::OfC(piece, unit_types) => {
-                self.units += 1;
-                let to = self.joiner.join(piece);
-                self.roots.extend(unit_types.roots.iter().map(|&n| to[n as usize]));
-                self.losses.extend(unit_types.losses);
-                for mut told in unit_types.told {
-                    told.said.of = to[told.said.of as usize];
-                    if let Some(function) = &mut told.said.function {
-                        function.renumber(|n| to[n as usize]);
-                    }
-                    self.symbols.tell(told);
-                }
-            }
+    fn take(&mut self, group: Group<'a>) {
+        for language in group.foreign {
+            *self.foreign.entry(language_name(language)).or_default() += 1;
         }
+        self.units += group.units;
+        self.joiner.conflicts().extend(group.conflicts);
+        let to = self.joiner.join(group.piece);
+        let UnitTypes { roots, told, losses, .. } = group.unit_types.renumbered(&to);
+        self.roots.extend(roots);
+        self.losses.extend(losses);
+        told.into_iter().for_each(|told| self.symbols.tell(told));
     }
 
     /// The table, with what is told of symbols, and the types that are wanted for themselves.
@@ -108,13 +142,15 @@ impl<'a> Collector<'a> {
                 "its debug information is of {listed}: types of C alone are read"
             ));
         }
-        let mut table = self.joiner.table;
+        let (mut table, to) = self.joiner.into_table();
+        let place = |n: u32| to[n as usize];
         for one in &wanted.listed {
             let said = self.symbols.description_of(one, is_linked);
             if one.is_function {
-                table.functions.push(said.and_then(|said| said.function.clone()));
+                let function = said.and_then(|said| said.function.as_ref());
+                table.functions.push(function.map(|record| record.renumbered(place)));
             } else {
-                table.objects.push(said.map_or(0, |said| said.of));
+                table.objects.push(said.map_or(0, |said| place(said.of)));
             }
         }
         table.is_ilp32 = is_ilp32;
@@ -122,7 +158,56 @@ impl<'a> Collector<'a> {
         table.losses.extend(listed.iter().map(|one| {
             format!("{one} of the program: types of C alone are read; what it tells is left out")
         }));
-        Ok((table, self.roots))
+        Ok((table, self.roots.into_iter().map(place).collect()))
+    }
+}
+
+impl<'a> Group<'a> {
+    /// Reads some units and joins them, in the thread that reads them: what is left of each is freed
+    /// where it was made.
+    fn read(
+        numbers: &[usize],
+        read: impl Fn(usize) -> Result<Outcome<'a>>,
+        tags: &SingleTags,
+    ) -> Result<Group<'a>> {
+        let mut joiner = Joiner::default();
+        let mut all = UnitTypes::default();
+        let (mut units, mut foreign) = (0, Vec::new());
+        for &number in numbers {
+            match read(number)? {
+                Outcome::Nothing => {}
+                Outcome::Foreign(language) => foreign.push(language),
+                Outcome::OfC(mut unit_types) => {
+                    units += 1;
+                    let records = std::mem::take(&mut unit_types.records);
+                    let to = joiner.join(Piece::new(records, tags));
+                    all.append(unit_types.renumbered(&to));
+                }
+            }
+        }
+        let (piece, to, conflicts) = joiner.into_piece(tags);
+        Ok(Group { piece, conflicts, unit_types: all.renumbered(&to), units, foreign })
+    }
+}
+
+impl<'a> UnitTypes<'a> {
+    /// The same with other numbers for what it names, without its records.
+    fn renumbered(mut self, to: &[u32]) -> UnitTypes<'a> {
+        self.roots.iter_mut().for_each(|n| *n = to[*n as usize]);
+        for told in &mut self.told {
+            told.said.of = to[told.said.of as usize];
+            if let Some(function) = &mut told.said.function {
+                function.renumber(|n| to[n as usize]);
+            }
+        }
+        self
+    }
+
+    /// Takes in what another tells, but for its records.
+    fn append(&mut self, mut other: UnitTypes<'a>) {
+        self.roots.append(&mut other.roots);
+        self.told.append(&mut other.told);
+        self.losses.append(&mut other.losses);
     }
 }
 
@@ -149,8 +234,7 @@ fn read_unit<'a>(
     for &key in imports.get(&debug.start(number)).into_iter().flatten() {
         reader.unit(debug.unit_of(key)?)?;
     }
-    let mut unit_types = reader.unit_types;
-    Ok(Outcome::OfC(Piece::new(std::mem::take(&mut unit_types.records)), unit_types))
+    Ok(Outcome::OfC(reader.unit_types))
 }
 
 /// For each unit those that dwz made of what several have in common, and that it imports first.
@@ -385,7 +469,10 @@ impl<'d, 'a> Reader<'d, 'a> {
                     Some(size) if size != 0 => size,
                     _ => self.size_of(member)?,
                 };
-                Ok(begins + 8 * size - left - i128::from(width))
+                Ok(match self.debug.endian {
+                    RunTimeEndian::Big => begins + left,
+                    RunTimeEndian::Little => begins + 8 * size - left - i128::from(width),
+                })
             }
             _ => Ok(begins),
         }
@@ -547,7 +634,7 @@ impl<'d, 'a> Reader<'d, 'a> {
     /// The address of an object.
     fn place(&self, entry: &Entry<'d, 'a>) -> Option<u64> {
         let said = entry.block(dw::DW_AT_location)?;
-        let mut rest = gimli::EndianSlice::new(said.get(1..)?, LittleEndian);
+        let mut rest = gimli::EndianSlice::new(said.get(1..)?, self.debug.endian);
         match dw::DwOp(said[0]) {
             dw::DW_OP_addr => rest.read_address(entry.unit.inner.encoding().address_size).ok(),
             dw::DW_OP_addrx | dw::DW_OP_GNU_addr_index => {
@@ -696,7 +783,7 @@ fn location(member: &Entry<'_, '_>) -> Result<i128> {
     };
     match said.split_first() {
         Some((&op, rest)) if dw::DwOp(op) == dw::DW_OP_plus_uconst => {
-            let mut rest = gimli::EndianSlice::new(rest, LittleEndian);
+            let mut rest = gimli::EndianSlice::new(rest, RunTimeEndian::Little);
             Ok(rest.read_uleb128()?.into())
         }
         _ => Ok(0),

@@ -6,13 +6,13 @@
 use crate::dwarf::sections::{borrow_all, dwo_id, Sections, Skeleton};
 use crate::error::{refuse, Result};
 use gimli::{constants as dw, DwAt, DwForm, DwTag, UnitType};
-use gimli::{Abbreviation, AttributeValue, EndianSlice, LittleEndian, UnitHeader, UnitOffset};
+use gimli::{Abbreviation, AttributeValue, EndianSlice, RunTimeEndian, UnitHeader, UnitOffset};
 use smallvec::SmallVec;
 use std::borrow::Cow;
 use std::collections::{HashMap, HashSet};
 use std::sync::OnceLock;
 
-pub type Slice<'a> = EndianSlice<'a, LittleEndian>;
+pub type Slice<'a> = EndianSlice<'a, RunTimeEndian>;
 pub type Attribute<'a> = gimli::Attribute<Slice<'a>>;
 
 /// From this bit on a key has the number of a file.
@@ -59,6 +59,8 @@ impl Unit<'_> {
 pub struct Debug<'a> {
     files: Vec<gimli::Dwarf<Slice<'a>>>,
     has_common: bool,
+    /// The byte order of all of them.
+    pub endian: RunTimeEndian,
     slots: Vec<Slot<'a>>,
     order: Vec<usize>,
     signatures: HashMap<u64, u64>,
@@ -66,16 +68,16 @@ pub struct Debug<'a> {
 
 impl<'a> Debug<'a> {
     pub fn new(sections: &'a Sections<'a>) -> Result<Debug<'a>> {
-        let main = borrow_all(&sections.main);
+        let endian = sections.endian;
+        let main = borrow_all(&sections.main, endian);
         let common = match &sections.common {
-            Some(common) => borrow_all(common),
-            None => {
-                gimli::Dwarf::load(|_| Ok::<_, gimli::Error>(EndianSlice::new(&[], LittleEndian)))?
-            }
+            Some(common) => borrow_all(common, endian),
+            None => gimli::Dwarf::load(|_| Ok::<_, gimli::Error>(EndianSlice::new(&[], endian)))?,
         };
         let mut debug = Debug {
             files: vec![main, common],
             has_common: sections.common.is_some(),
+            endian,
             slots: Vec::new(),
             order: Vec::new(),
             signatures: HashMap::new(),
@@ -183,6 +185,16 @@ impl<'a> Debug<'a> {
 
     fn dwarf(&self, file: u64) -> &gimli::Dwarf<Slice<'a>> {
         &self.files[file as usize]
+    }
+
+    /// How many units all files have.
+    pub fn slot_count(&self) -> usize {
+        self.slots.len()
+    }
+
+    /// The unit of a place among those of all files, opened for who asks alone.
+    pub fn open_place(&self, place: usize) -> Result<Unit<'a>> {
+        self.open_slot(&self.slots[place])
     }
 
     /// The unit of a number, opened for who asks alone.
@@ -361,9 +373,22 @@ pub struct Entry<'d, 'a> {
 
 impl<'d, 'a> Entry<'d, 'a> {
     pub fn read(unit: &'d Unit<'a>, offset: UnitOffset) -> Result<Entry<'d, 'a>> {
+        Entry::read_kept(unit, offset, is_kept)
+    }
+
+    /// The same with the line of its declaration too.
+    pub fn read_with_line(unit: &'d Unit<'a>, offset: UnitOffset) -> Result<Entry<'d, 'a>> {
+        Entry::read_kept(unit, offset, |name| is_kept(name) || name == dw::DW_AT_decl_line)
+    }
+
+    fn read_kept(
+        unit: &'d Unit<'a>,
+        offset: UnitOffset,
+        is_kept: impl Fn(DwAt) -> bool,
+    ) -> Result<Entry<'d, 'a>> {
         let mut raw = unit.inner.entries_raw(Some(offset))?;
         match raw.read_abbreviation()? {
-            Some(shape) => Entry::read_on(unit, offset, shape, &mut raw),
+            Some(shape) => Entry::read_on(unit, offset, shape, &mut raw, is_kept),
             None => refuse("a reference to no entry: damage"),
         }
     }
@@ -379,6 +404,7 @@ impl<'d, 'a> Entry<'d, 'a> {
         offset: UnitOffset,
         shape: &Abbreviation,
         raw: &mut gimli::EntriesRaw<'_, '_, Slice<'a>>,
+        is_kept: impl Fn(DwAt) -> bool,
     ) -> Result<Entry<'d, 'a>> {
         let mut said = SmallVec::new();
         let mut specs = shape.attributes();
@@ -444,7 +470,7 @@ impl<'d, 'a> Entry<'d, 'a> {
                 None if depth == 0 => break,
                 None => depth -= 1,
                 Some(shape) if depth == 0 => {
-                    let child = Entry::read_on(self.unit, offset, shape, &mut raw)?;
+                    let child = Entry::read_on(self.unit, offset, shape, &mut raw, is_kept)?;
                     depth += usize::from(child.has_children);
                     made.push(child);
                 }
