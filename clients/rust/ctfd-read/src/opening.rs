@@ -177,7 +177,7 @@ pub fn dictionary_of<'a>(image: &'a Image, number: Option<usize>) -> Result<Opti
         };
     }
     let data = image.all().map_err(|error| error.of(image.path().display()))?;
-    if !data.starts_with(&ctf::BEGINS) {
+    if !ctf::Layout::of(data).is_some_and(ctf::Layout::is_native) {
         return Ok(None);
     }
     let ctf = match number.is_none() && ctf::each(data).len() == 1 {
@@ -214,7 +214,7 @@ fn in_elf<'a, F: FileHeader<Endian = Endianness>>(
         ));
     }
     let data = elf::section_bytes(image, name)?;
-    if !data.starts_with(&ctf::BEGINS) {
+    if !ctf::Layout::of(data).is_some_and(ctf::Layout::is_native) {
         return Ok(None);
     }
     let place = format!("{}, {name}", image.path().display());
