@@ -58,7 +58,7 @@ def build(work: Path, archive: str, ctf: Path, is_gnu: bool) -> dict[str, list[s
     theirs = compiled(work, "calls", "c_library_libctf.c", headers, archive)
     commands = {"ctfd.h": [str(ours), str(ctf)], "ctfd_libctf.h": [str(theirs), str(ctf)]}
     if is_gnu:
-        with ctfd.Client() as client:
+        with ctfd.connect() as client:
             written, refused = gnu_dictionary.written(client, ctf.read_bytes())
         if refused:
             print(f"GNU libctf refuses {refused} types of {ctf}", file=sys.stderr)

@@ -27,7 +27,7 @@ def main() -> int:
     for module in (choose, conversion):
         setattr(module, "MOST_TYPES", int(count))
     convert.main(["--lossy", program, out])
-    with ctfd.Client() as client:
+    with ctfd.connect() as client:
         types = client.session().open(Path(out).read_bytes())["types"]
     print(f"{types} types, {Path(out).stat().st_size / 1e6:.3f} MB")
     return int(types != int(count))

@@ -4,7 +4,9 @@
 usage: scripts/package.py deb|dist|release [--into FOLDER] [--program PROGRAM] [--archive ARCHIVE]
 
 `deb` makes a package for Debian, by dpkg-deb alone. `dist` makes a tarball with an install script
-(tarball.sh), and a wheel of the Python package by itself. Both have the program, the library for C,
+(tarball.sh), a wheel of the Python package by itself, and, where cargo is, a tarball of the sources
+in Rust with all crates that they stand on, which builds where no registry is reached. The first two
+have the program, the library for C,
 headers, manual pages, units, the Python package and its commands. `release` makes all of these,
 of the build that the kit made with its proofs (`make prove`) and of no other. Times in them are that of the
 commit, or that of SOURCE_DATE_EPOCH. Needs dpkg-deb for `deb`, git, and what builds a wheel
@@ -27,6 +29,7 @@ from pathlib import Path
 from typing import Iterator
 
 import built
+import rust
 import tree
 from tree import TOP, Lacking, Made, Places
 from version import version
@@ -147,7 +150,34 @@ def dist(made: Made, into: Path, seconds: int) -> list[Path]:
         write(stage / "install.sh", (SCRIPTS / "tarball.sh").read_bytes(), 0o755)
         at_one_time(stage, seconds)
         tarball.write_bytes(packed(archived(stage, seconds)))
-    return [tarball, tree.wheel(into)]
+    return [tarball, tree.wheel(into), *rust_sources(into, seconds)]
+
+
+def rust_sources(into: Path, seconds: int) -> list[Path]:
+    """Makes the tarball of the sources in Rust; nothing where there is no cargo, or no crates."""
+    name = f"ctfd-rust-{version()}"
+    with tempfile.TemporaryDirectory() as folder:
+        stage = Path(folder, name)
+        for line in listed("clients/rust", "scripts/rust.py", "examples/lua.ctf", "VERSION"):
+            place = stage / line
+            place.parent.mkdir(parents=True, exist_ok=True)
+            shutil.copy2(TOP / line, place)
+        try:
+            rust.vendor(stage / "clients" / "rust" / "vendor")
+        except rust.NotBuilt as why:
+            print(f"without the sources in Rust: {why}", file=sys.stderr)
+            return []
+        at_one_time(stage, seconds)
+        tarball = into / f"{name}.tar.gz"
+        tarball.write_bytes(packed(archived(stage, seconds)))
+    return [tarball]
+
+
+def listed(*words: str) -> list[str]:
+    """The files that git knows below some folders."""
+    told = subprocess.run(["git", "ls-files", "-z", *words], cwd=TOP, check=True,
+                          capture_output=True, text=True).stdout
+    return [line for line in told.split("\0") if line]
 
 
 def archived(stage: Path, seconds: int) -> bytes:

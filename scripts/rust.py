@@ -6,8 +6,9 @@ usage: scripts/rust.py [--quiet | --packages] [CARGO-WORD..]
 `--packages` prints the names of Debian's packages with the crates. Without words it builds clients/rust/target/release/ctfd-tools, and beside it a link for each command
 that it is. With words it runs cargo with these: `scripts/rust.py test`.
 
-The crates that these stand on are taken from Debian's packages (librust-*-dev) where they are
-installed, else from the folder clients/rust/vendor that a release has, else from crates.io. Needs
+The crates that these stand on are taken from the folder clients/rust/vendor that the tarball of the
+sources has, else from Debian's packages (librust-*-dev) where they are installed, else from
+crates.io. Needs
 cargo and rustc 1.82 or later; without them, or without the crates, nothing is built, and a line says
 so.
 """
@@ -39,10 +40,10 @@ class NotBuilt(Exception):
 
 def sources() -> list[str]:
     """The words for cargo that say where crates come from."""
-    if list(DEBIAN.glob("gimli-*")):
-        return [*_replaced("debian", DEBIAN), "--offline"]
-    vendor = WORKSPACE / "vendor"
-    return [*_replaced("vendored", vendor), "--offline"] if vendor.is_dir() else []
+    carried = WORKSPACE / "vendor"
+    if carried.is_dir():
+        return [*_replaced("vendored", carried), "--offline"]
+    return [*_replaced("debian", DEBIAN), "--offline"] if list(DEBIAN.glob("gimli-*")) else []
 
 
 def _replaced(name: str, folder: Path) -> list[str]:
@@ -70,6 +71,14 @@ def run(words: Sequence[str], archive: Optional[Path] = None) -> int:
         environment.setdefault("CTFD_ARCHIVE", str(archive or ARCHIVE))
     command = [cargo(), words[0], *sources(), *words[1:]]
     return subprocess.run(command, cwd=WORKSPACE, env=environment, check=False).returncode
+
+
+def vendor(into: Path) -> None:
+    """Puts the crates that these stand on into a folder. Raises NotBuilt."""
+    words = ["vendor", "--quiet", "--respect-source-config", *sources(), "--versioned-dirs"]
+    if subprocess.run([cargo(), *words, str(into)], cwd=WORKSPACE, check=False,
+                      stdout=subprocess.DEVNULL).returncode != 0:
+        raise NotBuilt("cargo vendor has failed")
 
 
 def folder() -> Path:

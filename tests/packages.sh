@@ -90,7 +90,14 @@ done
 for file in "$work"/first/*; do
     count "the same bytes: ${file##*/}" cmp "$file" "$work/second/${file##*/}"
 done
-count "three packages" says 3 sh -c "ls '$work/first' | wc -l"
+packages=3
+if command -v cargo > /dev/null && cargo --version > /dev/null 2>&1; then
+    packages=4
+    tar -xzf "$work/first/ctfd-rust-$version.tar.gz" -C "$work"
+    count "the crates of the sources in Rust" sh -c "CARGO_HOME='$work/cargo' \
+        '$work/ctfd-rust-$version/scripts/rust.py' metadata --format-version 1 > /dev/null"
+fi
+count "all packages" says $packages sh -c "ls '$work/first' | wc -l"
 
 # A copy is no build that is known to be proved.
 cp "$program" "$work/copy"

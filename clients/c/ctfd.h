@@ -244,14 +244,14 @@ enum ctfd_status ctfd_label(struct ctfd *handle, size_t index, char *name, size_
 enum ctfd_status ctfd_label_last(struct ctfd *handle, const char *name, size_t name_len,
     uint32_t *out);
 
-/* Labels by the row; the name as of a member's row, in the dictionary's own lists. Fills rows from
- * number `from` on, as ctfd_members. */
+/* A label by the row. Its name stands in the dictionary's own lists. */
 struct ctfd_label_row {
-    uint64_t name_at;
-    uint32_t name_list;
-    uint32_t last;
+    uint64_t name_at; /* How many bytes stand in front of its name. */
+    uint32_t name_list; /* The number of the list that its name stands in: `enum ctfd_list`. */
+    uint32_t last; /* The last type that it covers. */
 };
 
+/* Fills rows with the labels from number `from` on, as ctfd_members. */
 enum ctfd_status ctfd_labels(struct ctfd *handle, size_t from, struct ctfd_label_row *rows,
     size_t rows_len, uint64_t *count);
 
@@ -333,17 +333,19 @@ enum ctfd_list {
     CTFD_NOWHERE = 2
 };
 
+/* A member of a struct or union by the row. */
 struct ctfd_member_row {
-    uint64_t offset;
-    uint64_t name_at;
-    uint32_t name_list;
-    uint16_t type;
+    uint64_t offset; /* Where it begins, in bits. */
+    uint64_t name_at; /* How many bytes stand in front of its name. */
+    uint32_t name_list; /* The number of the list that its name stands in: `enum ctfd_list`. */
+    uint16_t type; /* The number of its type. */
 };
 
+/* An enumerator by the row. */
 struct ctfd_enumerator_row {
-    uint64_t name_at;
-    uint32_t name_list;
-    int32_t value;
+    uint64_t name_at; /* How many bytes stand in front of its name. */
+    uint32_t name_list; /* The number of the list that its name stands in: `enum ctfd_list`. */
+    int32_t value; /* Its value. */
 };
 
 /* Fills rows with the members of a struct or union, or the enumerators of an enum, from number
@@ -354,25 +356,24 @@ enum ctfd_status ctfd_members(struct ctfd *handle, uint16_t t, size_t from,
 enum ctfd_status ctfd_enumerators(struct ctfd *handle, uint16_t t, size_t from,
     struct ctfd_enumerator_row *rows, size_t rows_len, uint64_t *count);
 
-/* Types by the row: the number of one, its kind, whether look-ups by name see it, and how long its
- * list is; its size and alignment, the type that it stands for, and the type that it refers to. Of
- * these four each has the status that its own call answers, as ctfd_size: where that is a refusal,
- * the number is 0. The name is that of its record, as of ctfd_declared_name. */
+/* A type of the dictionary's own by the row. What its size, its alignment, what it stands for and
+ * what it refers to are, is told with the status that the call for that alone answers, as ctfd_size:
+ * where that is a refusal, the number is 0. */
 struct ctfd_type_row {
-    uint64_t size;
-    uint64_t align;
-    uint64_t length;
-    uint64_t name_at;
-    uint32_t name_list;
-    uint32_t kind;
-    uint32_t root;
-    uint32_t size_status;
-    uint32_t align_status;
-    uint32_t resolved_status;
-    uint32_t reference_status;
-    uint16_t type;
-    uint16_t resolved;
-    uint16_t reference;
+    uint64_t size; /* Its size in bytes. */
+    uint64_t align; /* Its alignment in bytes. */
+    uint64_t length; /* How many members, enumerators or arguments it has. */
+    uint64_t name_at; /* How many bytes stand in front of the name in its record. */
+    uint32_t name_list; /* The number of the list that the name stands in: `enum ctfd_list`. */
+    uint32_t kind; /* The number of its kind: `enum ctfd_kind`. */
+    uint32_t root; /* 1 where look-ups by name see it, else 0. */
+    uint32_t size_status; /* The status of ctfd_size. */
+    uint32_t align_status; /* The status of ctfd_align. */
+    uint32_t resolved_status; /* The status of ctfd_resolve. */
+    uint32_t reference_status; /* The status of ctfd_reference. */
+    uint16_t type; /* Its number. */
+    uint16_t resolved; /* The number of the type that it stands for. */
+    uint16_t reference; /* The number of the type that it points to, renames or qualifies. */
 };
 
 /* Fills rows with the dictionary's own types, from number `from` on, counted from 0, and as far as
@@ -386,12 +387,12 @@ enum ctfd_status ctfd_types(struct ctfd *handle, size_t from, struct ctfd_type_r
  * bits. The lists of its name are those of the dictionary that has the holder. The outermost type
  * comes first, without a name, at depth 0 and as its own holder. */
 struct ctfd_visit_row {
-    uint64_t offset;
-    uint64_t name_at;
-    uint32_t name_list;
-    uint32_t depth;
-    uint16_t type;
-    uint16_t holder;
+    uint64_t offset; /* Where it begins, in bits from the beginning of the outermost. */
+    uint64_t name_at; /* How many bytes stand in front of its name. */
+    uint32_t name_list; /* The number of the list that its name stands in: `enum ctfd_list`. */
+    uint32_t depth; /* How many structs and unions it lies in. */
+    uint16_t type; /* The number of its type. */
+    uint16_t holder; /* The number of the struct or union that it is a member of. */
 };
 
 /* Fills rows with a type and all that lies in it, as far as they reach: the members of the struct
@@ -494,17 +495,16 @@ enum ctfd_symbol_class {
     CTFD_FUNCTION_SYMBOL = 2
 };
 
-/* Symbols by the row: the number of one, what it stands for, and a type: what a function returns,
- * with the status of ctfd_function, and else the type of an object, with that of ctfd_object. Where
- * that is a refusal, the type is 0. The name as of a member's row, in the dictionary's own lists:
- * `name_list` is 1 or 2. */
+/* A symbol by the row: a type is what a function returns, with the status of ctfd_function, and else
+ * that of an object, with the status of ctfd_object. Where that is a refusal, the type is 0. Its name
+ * stands in the dictionary's own lists. */
 struct ctfd_symbol_row {
-    uint64_t name_at;
-    uint32_t name_list;
-    uint32_t number;
-    uint32_t symbol_class;
-    uint32_t type_status;
-    uint16_t type;
+    uint64_t name_at; /* How many bytes stand in front of its name. */
+    uint32_t name_list; /* The number of the list that its name stands in: 1, or 2 for none. */
+    uint32_t number; /* Its number. */
+    uint32_t symbol_class; /* What it stands for: `enum ctfd_symbol_class`. */
+    uint32_t type_status; /* The status of its type. */
+    uint16_t type; /* The number of its type. */
 };
 
 /* Fills rows with all symbols of the table from number `from` on and as far as both reach, also

@@ -36,7 +36,7 @@ def load(debugger: lldb.SBDebugger, words: str, result: lldb.SBCommandReturnObje
         return
     try:
         refuse_object_file(path)
-        with ctfd.Client() as client:
+        with ctfd.connect() as client:
             made = WRITER.written(client, Wanted(path))
             names = aliases.of_dictionary(ctfd.open_file(client.session(), path)).told()
     except ctfd.Error as error:

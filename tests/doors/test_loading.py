@@ -44,7 +44,7 @@ except ctfd.Error: pass  # there is no pycparser
 OF_DRGN = f"""import sys
 sys.path.insert(0, {str(PACKAGE)!r})
 import ctfd, ctfd.drgn, drgn
-program, client = drgn.Program(drgn.host_platform), ctfd.Client()
+program, client = drgn.Program(drgn.host_platform), ctfd.connect()
 types = ctfd.open_file(client.session(), {str(LUA)!r})
 program.add_type_finder(ctfd.drgn.type_finder(program, types))
 print("size:", drgn.sizeof(program.type({ASKED!r})))

@@ -109,8 +109,8 @@ static bool same_pointers(struct walk *walk, struct pair pair)
 static bool alike(struct walk *walk, struct pair pair)
 {
     uint32_t left = 0, right = 0;
-    if (ctfd__done(walk->lfp, ctfd__kind(walk->lfp, pair.left, &left)) != 0 ||
-        ctfd__done(walk->rfp, ctfd__kind(walk->rfp, pair.right, &right)) != 0 || left != right ||
+    if (ctfd__done(walk->lfp, ctfd_kind(&walk->lfp->types, pair.left, &left)) != 0 ||
+        ctfd__done(walk->rfp, ctfd_kind(&walk->rfp->types, pair.right, &right)) != 0 || left != right ||
         !same_names(walk, pair))
         return false;
     switch (left) {
@@ -135,8 +135,8 @@ static bool met(struct walk *walk, struct pair pair)
     uint16_t left = 0, right = 0;
     if (ctf_type_cmp(walk->lfp, pair.left, walk->rfp, pair.right) == 0)
         return true;
-    if ((pair.left != 0 && ctfd__done(walk->lfp, ctfd__resolve(walk->lfp, pair.left, &left))) ||
-        (pair.right != 0 && ctfd__done(walk->rfp, ctfd__resolve(walk->rfp, pair.right, &right))))
+    if ((pair.left != 0 && ctfd__done(walk->lfp, ctfd_resolve(&walk->lfp->types, pair.left, &left))) ||
+        (pair.right != 0 && ctfd__done(walk->rfp, ctfd_resolve(&walk->rfp->types, pair.right, &right))))
         return false;
     pair.left = left;
     pair.right = right;

@@ -1,6 +1,5 @@
-/* details.c - what records hold, read once: encodings, arrays, functions with their arguments,
- * members and enumerators. They are dropped where what is open changes, and all at once where they
- * have come to take much memory; then they are read again. */
+/* details.c - members and enumerators, read once. They are dropped where what is open changes, and
+ * all at once where they have come to take much memory; then they are read again. */
 #include "private.h"
 
 #include <stdlib.h>
@@ -63,6 +62,26 @@ void ctfd__forget_details(ctf_file_t *fp)
     }
     free_blocks(fp);
     fp->details_bytes = 0;
+}
+
+void ctfd__forget(ctf_file_t *fp)
+{
+    size_t i;
+    fp->generation++;
+    ctfd__forget_details(fp);
+    for (i = 0; i < sizeof fp->pages / sizeof fp->pages[0]; i++) {
+        free(fp->pages[i]);
+        fp->pages[i] = NULL;
+    }
+}
+
+/* The page of a type, or NULL: then nothing is kept. */
+static struct ctfd__page *page_of(ctf_file_t *fp, uint16_t t)
+{
+    struct ctfd__page *page = fp->pages[t / CTFD_PAGE];
+    if (page == NULL)
+        page = fp->pages[t / CTFD_PAGE] = (struct ctfd__page *)calloc(1, sizeof *page);
+    return page;
 }
 
 /* How many rows are read by one call. */
@@ -129,62 +148,12 @@ static enum ctfd_status read_enumerators(ctf_file_t *fp, uint16_t t, struct ctfd
     return status;
 }
 
-static enum ctfd_status read_arguments(ctf_file_t *fp, uint16_t t, struct ctfd__details *made)
-{
-    enum ctfd_status status = CTFD_OK;
-    uint32_t i;
-    for (i = 0; status == CTFD_OK && i < made->count; i++) {
-        struct ctfd__item *item = &made->items[i];
-        item->name = NULL;
-        item->at = 0;
-        status = ctfd_argument(&fp->types, t, i, &item->type);
-    }
-    return status;
-}
-
-/* What stands in the record beside items. */
-static enum ctfd_status read_head(ctf_file_t *fp, uint16_t t, struct ctfd__details *made)
-{
-    switch (made->kind) {
-    case CTFD_INTEGER:
-    case CTFD_FLOAT:
-        return ctfd_encoding(&fp->types, t, &made->is.encoding);
-    case CTFD_ARRAY:
-        return ctfd_array(&fp->types, t, &made->is.array);
-    case CTFD_FUNCTION:
-        return ctfd_return(&fp->types, t, &made->is.returned);
-    default:
-        return CTFD_OK;
-    }
-}
-
-static enum ctfd_status read_all(ctf_file_t *fp, uint16_t t, struct ctfd__details *made)
-{
-    enum ctfd_status status = read_head(fp, t, made);
-    if (status != CTFD_OK)
-        return status;
-    if (made->kind == CTFD_ENUM)
-        return read_enumerators(fp, t, made);
-    return ctfd__has_members(made) ? read_members(fp, t, made) : read_arguments(fp, t, made);
-}
-
 /* How many items a type of a kind has. */
 static enum ctfd_status count_items(ctf_file_t *fp, uint16_t t, uint32_t kind, uint64_t *count)
 {
-    *count = 0;
-    switch (kind) {
-    case CTFD_INTEGER:
-    case CTFD_FLOAT:
-    case CTFD_ARRAY:
-        return CTFD_OK;
-    case CTFD_FUNCTION:
-    case CTFD_STRUCT:
-    case CTFD_UNION:
-    case CTFD_ENUM:
+    if (kind == CTFD_STRUCT || kind == CTFD_UNION || kind == CTFD_ENUM)
         return ctfd_length(&fp->types, t, count);
-    default:
-        return CTFD_WRONG_KIND;
-    }
+    return CTFD_WRONG_KIND;
 }
 
 /* Details of a kind with room for so many items, where the file keeps them from now on. */
@@ -192,7 +161,7 @@ static struct ctfd__details *placed(ctf_file_t *fp, uint16_t t, uint32_t kind, s
 {
     static const struct ctfd__details none;
     size_t size = sizeof(struct ctfd__details) + count * sizeof(struct ctfd__item);
-    struct ctfd__page *page = ctfd__page(fp, t);
+    struct ctfd__page *page = page_of(fp, t);
     struct ctfd__details *made;
     if (fp->details_bytes + size > MOST_BYTES)
         ctfd__forget_details(fp);
@@ -212,7 +181,7 @@ struct ctfd__details *ctfd__read(ctf_file_t *fp, uint16_t t)
     uint32_t kind = 0;
     uint64_t count = 0;
     struct ctfd__details *made;
-    enum ctfd_status status = ctfd__kind(fp, t, &kind);
+    enum ctfd_status status = ctfd_kind(&fp->types, t, &kind);
     if (status == CTFD_OK)
         status = count_items(fp, t, kind, &count);
     if (ctfd__done(fp, status) != 0)
@@ -222,7 +191,7 @@ struct ctfd__details *ctfd__read(ctf_file_t *fp, uint16_t t)
         (void)ctfd__fail(fp, CTFD_MEMORY);
         return NULL;
     }
-    status = read_all(fp, t, made);
+    status = kind == CTFD_ENUM ? read_enumerators(fp, t, made) : read_members(fp, t, made);
     if (status == CTFD_OK)
         return made;
     fp->pages[t / CTFD_PAGE]->details[t % CTFD_PAGE] = NULL;

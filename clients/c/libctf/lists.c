@@ -1,4 +1,4 @@
-/* lists.c - members and enumerators, and all that a type holds. */
+/* lists.c - members and enumerators. */
 #include "private.h"
 
 #include <string.h>
@@ -76,46 +76,6 @@ int ctf_member_iter(ctf_file_t *fp, ctf_id_t type, ctf_member_f *each, void *arg
             return said;
     }
     return left ? (int)CTF_ERR : 0;
-}
-
-/* Where a visit stands: a member's name, type and place. */
-struct visited {
-    const char *name;
-    ctf_id_t type;
-    ulong_t offset;
-    int depth;
-};
-
-static int visit(ctf_file_t *fp, struct visited at, ctf_visit_f *each, void *arg)
-{
-    const struct ctfd__item *item;
-    struct walk walk;
-    uint16_t resolved = 0;
-    uint32_t i, kind = 0;
-    bool left;
-    int said;
-    if (!ctfd__is_type(fp, at.type) ||
-        ctfd__done(fp, ctfd__resolve(fp, (uint16_t)at.type, &resolved)) != 0 ||
-        ctfd__done(fp, ctfd__kind(fp, resolved, &kind)) != 0)
-        return (int)CTF_ERR;
-    said = each(at.name, at.type, at.offset, at.depth, arg);
-    if (said != 0 || (kind != CTFD_STRUCT && kind != CTFD_UNION))
-        return said;
-    walk = walk_of(fp, resolved, false);
-    for (i = 0; (item = item_at(&walk, i, &left)) != NULL; i++) {
-        struct visited in = { item->name, (ctf_id_t)item->type, at.offset + (ulong_t)item->at,
-            at.depth + 1 };
-        said = visit(fp, in, each, arg);
-        if (said != 0)
-            return said;
-    }
-    return left ? (int)CTF_ERR : 0;
-}
-
-int ctf_type_visit(ctf_file_t *fp, ctf_id_t type, ctf_visit_f *each, void *arg)
-{
-    struct visited at = { "", type, 0, 0 };
-    return visit(fp, at, each, arg);
 }
 
 /* The value of an enumerator. */

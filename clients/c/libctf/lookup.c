@@ -60,13 +60,8 @@ static size_t plain(const char *name, char *made)
 ctf_id_t ctf_lookup_by_name(ctf_file_t *fp, const char *name)
 {
     size_t len = strlen(name), plain_len;
-    uint16_t t = ctfd__found(fp, name, len);
-    enum ctfd_status status;
-    if (t != 0)
-        return (ctf_id_t)t;
-    status = ctfd_find(&fp->types, name, len, &t);
-    if (status == CTFD_OK)
-        ctfd__keep_found(fp, name, len, t);
+    uint16_t t = 0;
+    enum ctfd_status status = ctfd_find(&fp->types, name, len, &t);
     if (status == CTFD_NOT_FOUND || status == CTFD_BAD_SYNTAX) {
         /* A star in front of a word gains a blank at most where it lost none. */
         if (!ctfd__make_room(fp, 2 * (uint64_t)len))

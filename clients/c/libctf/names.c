@@ -11,8 +11,6 @@ struct ctfd__text {
     struct ctfd__text *next;
     uint64_t hash;
     size_t len;
-    uint64_t found_in; /* the generation of what is open in which look-ups found `type` by it */
-    uint16_t type;
     char text[];
 };
 
@@ -156,7 +154,6 @@ static struct ctfd__text *kept_in(struct ctfd__texts *texts, const char *text, s
     made->text[len] = '\0';
     made->len = len;
     made->hash = hash;
-    made->found_in = 0;
     made->next = *head;
     *head = made;
     texts->count++;
@@ -170,26 +167,6 @@ const char *ctfd__kept(ctf_file_t *fp, size_t len)
         return text->text;
     (void)ctfd__fail(fp, CTFD_MEMORY);
     return NULL;
-}
-
-/* ---- names that look-ups have found */
-
-uint16_t ctfd__found(ctf_file_t *fp, const char *name, size_t len)
-{
-    const struct ctfd__text *text;
-    if (len > CTFD_FOUND_LONGEST || fp->texts.heads_len == 0)
-        return 0;
-    text = text_in(&fp->texts, ctfd__hash(&fp->texts, name, len), name, len);
-    return text != NULL && text->found_in == fp->generation ? text->type : 0;
-}
-
-void ctfd__keep_found(ctf_file_t *fp, const char *name, size_t len, uint16_t t)
-{
-    struct ctfd__text *text = len > CTFD_FOUND_LONGEST ? NULL : kept_in(&fp->texts, name, len);
-    if (text == NULL)
-        return;
-    text->type = t;
-    text->found_in = fp->generation;
 }
 
 void ctfd__free_texts(struct ctfd__texts *texts)

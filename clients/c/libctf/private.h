@@ -34,8 +34,8 @@ struct ctfd__lists {
     bool has[3];
 };
 
-/* A member with its offset in bits, an enumerator with its value, or an argument. Its name stands in
- * the file's own lists; else it is kept once somebody has been told it, and is NULL before. */
+/* A member with its offset in bits, or an enumerator with its value. Its name stands in the file's
+ * own lists; else it is kept once somebody has been told it, and is NULL before. */
 struct ctfd__item {
     const char *name;
     uint64_t at;
@@ -45,15 +45,9 @@ struct ctfd__item {
 struct ctfd__block;
 struct ctfd__index;
 
-/* What a type's record holds: of an integer, a float, an array, a function, a struct, a union or an
- * enum, and its items. */
+/* The items of a struct, a union or an enum. */
 struct ctfd__details {
     uint32_t kind, count;
-    union {
-        struct ctfd_encoding encoding;
-        struct ctfd_array array;
-        uint16_t returned;
-    } is;
     bool was_asked; /* for an enumerator by its value or name */
     struct ctfd__index *by_value, *by_name;
     struct ctfd__item items[];
@@ -62,16 +56,9 @@ struct ctfd__details {
 /* How many types a page has: few, so that one that is asked of a few types stays small. */
 #define CTFD_PAGE 64
 
-/* What was found of some types; each answer is kept as it was given, or is not there yet. */
+/* What was read of some types; NULL of the others. */
 struct ctfd__page {
     struct ctfd__details *details[CTFD_PAGE];
-    uint16_t resolved[CTFD_PAGE];
-    uint16_t references[CTFD_PAGE];
-    uint16_t pointers[CTFD_PAGE]; /* 0 where there is none */
-    uint16_t aligns[CTFD_PAGE];
-    uint32_t sizes[CTFD_PAGE];
-    uint8_t kinds[CTFD_PAGE];
-    uint8_t known[CTFD_PAGE];
 };
 
 struct ctf_file {
@@ -137,11 +124,6 @@ HIDDEN void ctfd__free_texts(struct ctfd__texts *texts);
 /* A hash of a text that nobody outside can foresee. */
 HIDDEN uint64_t ctfd__hash(struct ctfd__texts *texts, const char *text, size_t len);
 
-/* The type that a look-up has found by a name as it stands, or 0; longer names are not kept. */
-#define CTFD_FOUND_LONGEST 255
-HIDDEN uint16_t ctfd__found(ctf_file_t *fp, const char *name, size_t len);
-HIDDEN void ctfd__keep_found(ctf_file_t *fp, const char *name, size_t len, uint16_t t);
-
 /* A call that writes a text, and a text that such a call wrote, kept; NULL where it is refused. */
 typedef enum ctfd_status ctfd__text_f(struct ctfd *types, char *text, size_t size, uint64_t *len);
 typedef enum ctfd_status ctfd__numbered_f(struct ctfd *types, uint32_t number, char *text,
@@ -152,22 +134,7 @@ HIDDEN const char *ctfd__numbered(ctf_file_t *fp, ctfd__numbered_f *call, uint32
 /* The name in a type's record. */
 HIDDEN const char *ctfd__declared(ctf_file_t *fp, uint16_t t);
 
-/* ---- known.c: answers that are asked again and again */
-
-/* The page of a type, or NULL: then nothing is kept. */
-HIDDEN struct ctfd__page *ctfd__page(ctf_file_t *fp, uint16_t t);
-
-/* Drops all of them, since what is open becomes another. */
-HIDDEN void ctfd__forget(ctf_file_t *fp);
-HIDDEN enum ctfd_status ctfd__kind(ctf_file_t *fp, uint16_t t, uint32_t *kind);
-HIDDEN enum ctfd_status ctfd__root(ctf_file_t *fp, uint16_t t, uint32_t *root);
-HIDDEN enum ctfd_status ctfd__resolve(ctf_file_t *fp, uint16_t t, uint16_t *to);
-HIDDEN enum ctfd_status ctfd__reference(ctf_file_t *fp, uint16_t t, uint16_t *to);
-HIDDEN enum ctfd_status ctfd__size(ctf_file_t *fp, uint16_t t, uint64_t *bytes);
-HIDDEN enum ctfd_status ctfd__align(ctf_file_t *fp, uint16_t t, uint64_t *bytes);
-HIDDEN enum ctfd_status ctfd__pointer(ctf_file_t *fp, uint16_t t, uint16_t *to);
-
-/* ---- details.c: what records hold, read once */
+/* ---- details.c: lists, read once */
 
 /* Reads those of a type; NULL and the error where they can't be read, or there are none. */
 HIDDEN struct ctfd__details *ctfd__read(ctf_file_t *fp, uint16_t t);
@@ -180,8 +147,9 @@ static inline struct ctfd__details *ctfd__details(ctf_file_t *fp, uint16_t t)
     return known != NULL ? known : ctfd__read(fp, t);
 }
 
-/* Drops all of them. */
+/* Drops all of them; and all that was read, since what is open becomes another. */
 HIDDEN void ctfd__forget_details(ctf_file_t *fp);
+HIDDEN void ctfd__forget(ctf_file_t *fp);
 
 /* Whether the names of a type are told where they stand in the file's lists, which its caller keeps
  * until it is closed: those of a parent's types and of drafts are copied. */

@@ -64,7 +64,7 @@ struct declaration {
 static uint32_t kind_of(ctf_file_t *fp, uint16_t t)
 {
     uint32_t kind = CTFD_UNKNOWN;
-    return t != 0 && ctfd__kind(fp, t, &kind) == CTFD_OK ? kind : CTFD_UNKNOWN;
+    return t != 0 && ctfd_kind(&fp->types, t, &kind) == CTFD_OK ? kind : CTFD_UNKNOWN;
 }
 
 static const char *qualifier_of(uint32_t kind)
@@ -86,7 +86,7 @@ static bool inner_of(ctf_file_t *fp, uint16_t t, uint32_t kind, uint16_t *to)
 {
     struct ctfd_array array;
     if (kind == CTFD_POINTER || qualifier_of(kind) != NULL)
-        return ctfd__reference(fp, t, to) == CTFD_OK;
+        return ctfd_reference(&fp->types, t, to) == CTFD_OK;
     if (kind == CTFD_FUNCTION)
         return ctfd_return(&fp->types, t, to) == CTFD_OK;
     if (kind != CTFD_ARRAY || ctfd_array(&fp->types, t, &array) != CTFD_OK)
@@ -287,7 +287,7 @@ static ssize_t spell(ctf_file_t *fp, ctf_id_t type, char *text, size_t size,
     uint32_t kind = CTFD_UNKNOWN;
     ssize_t len = (ssize_t)CTF_ERR;
     if (!ctfd__is_type(fp, type) ||
-        ctfd__done(fp, ctfd__kind(fp, (uint16_t)type, &kind)) != 0)
+        ctfd__done(fp, ctfd_kind(&fp->types, (uint16_t)type, &kind)) != 0)
         return (ssize_t)CTF_ERR;
     memset(&made, 0, sizeof made);
     made.is_named = *name != '\0';

@@ -3,6 +3,9 @@
 
 #include <string.h>
 
+/* How many arguments are read by one call. */
+#define ROWS 32
+
 static bool is_symbol(ctf_file_t *fp, ulong_t symbol)
 {
     if (symbol <= 0xffffffffUL)
@@ -11,44 +14,52 @@ static bool is_symbol(ctf_file_t *fp, ulong_t symbol)
     return false;
 }
 
-/* The details of a function type; NULL, and the error, of another. */
-static const struct ctfd__details *function_of(ctf_file_t *fp, ctf_id_t type)
+/* How many arguments a function type has, and whether the last of them says that more may follow:
+ * that is then not counted. */
+static enum ctfd_status count_arguments(ctf_file_t *fp, uint16_t t, uint64_t *count, bool *more)
 {
-    const struct ctfd__details *details;
-    if (!ctfd__is_type(fp, type) || (details = ctfd__details(fp, (uint16_t)type)) == NULL)
-        return NULL;
-    if (details->kind == CTFD_FUNCTION)
-        return details;
-    (void)ctfd__fail(fp, CTFD_WRONG_KIND);
-    return NULL;
-}
-
-/* A last argument 0 says that more may follow. */
-static bool takes_more(const struct ctfd__details *details)
-{
-    return details->count != 0 && details->items[details->count - 1].type == 0;
+    uint16_t rows[ROWS];
+    enum ctfd_status status = ctfd_arguments(&fp->types, t, 0, rows, ROWS, count);
+    *more = false;
+    if (status != CTFD_OK || *count == 0)
+        return status;
+    if (*count > ROWS)
+        status = ctfd_argument(&fp->types, t, (size_t)*count - 1, rows);
+    *more = rows[*count > ROWS ? 0 : *count - 1] == 0;
+    *count -= *more;
+    return status;
 }
 
 int ctf_func_info_by_id(ctf_file_t *fp, ctf_id_t type, ctf_funcinfo_t *info)
 {
-    const struct ctfd__details *details = function_of(fp, type);
-    if (details == NULL)
+    uint64_t count = 0;
+    uint16_t returned = 0;
+    bool more;
+    if (!ctfd__is_type(fp, type) ||
+        ctfd__done(fp, count_arguments(fp, (uint16_t)type, &count, &more)) != 0 ||
+        ctfd__done(fp, ctfd_return(&fp->types, (uint16_t)type, &returned)) != 0)
         return (int)CTF_ERR;
-    info->ctc_return = (ctf_id_t)details->is.returned;
-    info->ctc_flags = takes_more(details) ? CTF_FUNC_VARARG : 0;
-    info->ctc_argc = details->count - info->ctc_flags;
+    info->ctc_return = (ctf_id_t)returned;
+    info->ctc_flags = more ? CTF_FUNC_VARARG : 0;
+    info->ctc_argc = (uint_t)count;
     return 0;
 }
 
 int ctf_func_args_by_id(ctf_file_t *fp, ctf_id_t type, uint_t argc, ctf_id_t *argv)
 {
-    const struct ctfd__details *details = function_of(fp, type);
-    uint_t i, count;
-    if (details == NULL)
+    uint16_t rows[ROWS];
+    uint64_t count = 0, all;
+    uint_t i, from;
+    bool more;
+    if (!ctfd__is_type(fp, type) ||
+        ctfd__done(fp, count_arguments(fp, (uint16_t)type, &count, &more)) != 0)
         return (int)CTF_ERR;
-    count = details->count - takes_more(details);
-    for (i = 0; i < argc && i < count; i++)
-        argv[i] = (ctf_id_t)details->items[i].type;
+    for (from = 0; from < argc && from < count; from += ROWS) {
+        if (ctfd__done(fp, ctfd_arguments(&fp->types, (uint16_t)type, from, rows, ROWS, &all)) != 0)
+            return (int)CTF_ERR;
+        for (i = 0; i < ROWS && from + i < argc && from + i < count; i++)
+            argv[from + i] = (ctf_id_t)rows[i];
+    }
     return 0;
 }
 
@@ -66,16 +77,20 @@ int ctf_func_info(ctf_file_t *fp, ulong_t symbol, ctf_funcinfo_t *info)
 
 int ctf_func_args(ctf_file_t *fp, ulong_t symbol, uint_t argc, ctf_id_t *argv)
 {
-    ctf_funcinfo_t info;
-    uint_t i;
-    if (ctf_func_info(fp, symbol, &info) != 0)
+    uint16_t rows[ROWS];
+    uint64_t count = 0;
+    uint_t i, from = 0;
+    if (!is_symbol(fp, symbol))
         return (int)CTF_ERR;
-    for (i = 0; i < argc && i < info.ctc_argc; i++) {
-        uint16_t to = 0;
-        if (ctfd__done(fp, ctfd_function_argument(&fp->types, (uint32_t)symbol, i, &to)) != 0)
+    do {
+        uint_t more = argc - from < ROWS ? argc - from : ROWS;
+        if (ctfd__done(fp, ctfd_function_arguments(&fp->types, (uint32_t)symbol, from, rows, more,
+                               &count)) != 0)
             return (int)CTF_ERR;
-        argv[i] = (ctf_id_t)to;
-    }
+        for (i = 0; i < more && from + i < count; i++)
+            argv[from + i] = (ctf_id_t)rows[i];
+        from += more;
+    } while (from < argc && from < count);
     return 0;
 }
 

@@ -6,7 +6,7 @@ int ctf_type_kind(ctf_file_t *fp, ctf_id_t type)
     uint32_t kind = 0;
     if (!ctfd__is_type(fp, type))
         return (int)CTF_ERR;
-    if (ctfd__done(fp, ctfd__kind(fp, (uint16_t)type, &kind)) != 0)
+    if (ctfd__done(fp, ctfd_kind(&fp->types, (uint16_t)type, &kind)) != 0)
         return (int)CTF_ERR;
     return (int)kind;
 }
@@ -25,7 +25,7 @@ ssize_t ctf_type_size(ctf_file_t *fp, ctf_id_t type)
     enum ctfd_status status;
     if (!ctfd__is_type(fp, type))
         return (ssize_t)CTF_ERR;
-    status = ctfd__size(fp, (uint16_t)type, &bytes);
+    status = ctfd_size(&fp->types, (uint16_t)type, &bytes);
     return as_bytes(fp, status, bytes);
 }
 
@@ -35,7 +35,7 @@ ssize_t ctf_type_align(ctf_file_t *fp, ctf_id_t type)
     enum ctfd_status status;
     if (!ctfd__is_type(fp, type))
         return (ssize_t)CTF_ERR;
-    status = ctfd__align(fp, (uint16_t)type, &bytes);
+    status = ctfd_align(&fp->types, (uint16_t)type, &bytes);
     return as_bytes(fp, status, bytes);
 }
 
@@ -44,7 +44,7 @@ ctf_id_t ctf_type_resolve(ctf_file_t *fp, ctf_id_t type)
     uint16_t to = 0;
     if (!ctfd__is_type(fp, type))
         return CTF_ERR;
-    if (ctfd__done(fp, ctfd__resolve(fp, (uint16_t)type, &to)) != 0)
+    if (ctfd__done(fp, ctfd_resolve(&fp->types, (uint16_t)type, &to)) != 0)
         return CTF_ERR;
     return (ctf_id_t)to;
 }
@@ -54,7 +54,7 @@ ctf_id_t ctf_type_reference(ctf_file_t *fp, ctf_id_t type)
     uint16_t to = 0;
     if (!ctfd__is_type(fp, type))
         return CTF_ERR;
-    if (ctfd__done(fp, ctfd__reference(fp, (uint16_t)type, &to)) != 0)
+    if (ctfd__done(fp, ctfd_reference(&fp->types, (uint16_t)type, &to)) != 0)
         return CTF_ERR;
     return (ctf_id_t)to;
 }
@@ -64,34 +64,32 @@ ctf_id_t ctf_type_pointer(ctf_file_t *fp, ctf_id_t type)
     uint16_t to = 0;
     if (!ctfd__is_type(fp, type))
         return CTF_ERR;
-    if (ctfd__done(fp, ctfd__pointer(fp, (uint16_t)type, &to)) != 0)
+    if (ctfd__done(fp, ctfd_pointer(&fp->types, (uint16_t)type, &to)) != 0)
         return CTF_ERR;
     return (ctf_id_t)to;
 }
 
 int ctf_type_encoding(ctf_file_t *fp, ctf_id_t type, ctf_encoding_t *encoding)
 {
-    const struct ctfd__details *details;
-    if (!ctfd__is_type(fp, type) || (details = ctfd__details(fp, (uint16_t)type)) == NULL)
+    struct ctfd_encoding out;
+    if (!ctfd__is_type(fp, type) ||
+        ctfd__done(fp, ctfd_encoding(&fp->types, (uint16_t)type, &out)) != 0)
         return (int)CTF_ERR;
-    if (details->kind != CTFD_INTEGER && details->kind != CTFD_FLOAT)
-        return (int)ctfd__fail(fp, CTFD_WRONG_KIND);
-    encoding->cte_format = details->is.encoding.encoding;
-    encoding->cte_offset = details->is.encoding.offset;
-    encoding->cte_bits = details->is.encoding.bits;
+    encoding->cte_format = out.encoding;
+    encoding->cte_offset = out.offset;
+    encoding->cte_bits = out.bits;
     return 0;
 }
 
 int ctf_array_info(ctf_file_t *fp, ctf_id_t type, ctf_arinfo_t *array)
 {
-    const struct ctfd__details *details;
-    if (!ctfd__is_type(fp, type) || (details = ctfd__details(fp, (uint16_t)type)) == NULL)
+    struct ctfd_array out;
+    if (!ctfd__is_type(fp, type) ||
+        ctfd__done(fp, ctfd_array(&fp->types, (uint16_t)type, &out)) != 0)
         return (int)CTF_ERR;
-    if (details->kind != CTFD_ARRAY)
-        return (int)ctfd__fail(fp, CTFD_WRONG_KIND);
-    array->ctr_contents = (ctf_id_t)details->is.array.contents;
-    array->ctr_index = (ctf_id_t)details->is.array.index;
-    array->ctr_nelems = details->is.array.count;
+    array->ctr_contents = (ctf_id_t)out.contents;
+    array->ctr_index = (ctf_id_t)out.index;
+    array->ctr_nelems = out.count;
     return 0;
 }
 
@@ -121,7 +119,7 @@ int ctf_type_iter(ctf_file_t *fp, boolean_t hidden, ctf_type_f *each, void *arg)
     for (i = 1; i <= count; i++) {
         uint16_t t = (uint16_t)(child != 0 ? i + 32768 : i);
         int said;
-        if (ctfd__done(fp, ctfd__root(fp, t, &root)) != 0)
+        if (ctfd__done(fp, ctfd_root(&fp->types, t, &root)) != 0)
             return (int)CTF_ERR;
         if (root == 0 && hidden == B_FALSE)
             continue;

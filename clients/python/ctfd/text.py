@@ -38,7 +38,12 @@ def name(text: str) -> str:
     """The name in a reply as a `str`, none of its bytes lost."""
     if "\\" not in text:
         return text
-    return unescape(text).decode("utf-8", "surrogateescape")
+    return decoded(unescape(text))
+
+
+def decoded(data: bytes) -> str:
+    """The bytes of a name as a `str`, none of them lost."""
+    return data.decode("utf-8", "surrogateescape")
 
 
 def raw(name: Name) -> bytes:

@@ -35,12 +35,16 @@ def has_library(name: str) -> bool:
 
 
 class WithService(unittest.TestCase):
-    """A test case with a client and a session of its own."""
+    """A test case with a service and a session of its own: the library where that is named, but for
+    cases on lines."""
+
+    is_of_lines = False
 
     def setUp(self) -> None:
         if not PROGRAM:
             self.skipTest("CTFD names no built service")
-        self.client = ctfd.Client(None if LIBRARY else PROGRAM)
+        is_inside = LIBRARY and not self.is_of_lines
+        self.client = ctfd.connect() if is_inside else ctfd.Client(PROGRAM)
         self.addCleanup(self.client.close)
         self.session = self.client.session()
 

@@ -25,6 +25,8 @@ def interrupt(*_: object) -> None:
 
 
 class Pipelines(WithService):
+    is_of_lines = True
+
     def test_many_long_answers_in_one_round(self) -> None:
         slot = self.opened((EXAMPLES / "lua.ctf").read_bytes())
         t = slot.find("struct lua_State").number
@@ -86,6 +88,8 @@ class Pipelines(WithService):
 
 
 class Faults(WithService):
+    is_of_lines = True
+
     def test_a_fault_names_word_and_fields_and_what_to_do(self) -> None:
         slot = self.opened(dictionary([integer(1)], b"\0int\0"))
         with self.assertRaises(ctfd.Refused) as caught:

@@ -17,7 +17,7 @@ from ..client.drafts import stated
 from ..client.faults import Error
 from ..client.model import Model
 from ..client.types import Encoding, Enumerator
-from ..client.wire import Session
+from ..client.session import Session
 from ..convert.held import held
 from ..layout.records import Part, Record, Table
 from . import abi

@@ -7,18 +7,15 @@ from ..files import identity, source
 from ..files.source import Source
 from .. import text
 from . import aliases
-from .faults import BadSymbols, NoMemory, NoSuchType, NotFound, Refused, Unreadable
-from .gather import Gathering
+from .faults import BadSymbols, NoSuchType, NotFound, Refused, Unreadable
 from .model import Model, POINTER_SIZES
 from .nearest import offered
 from ..text import Name
 from .types import PointerTo, QUALIFIERS, Signature, Type
-from .wire import Answer, Outcome, Session
+from .session import Answer, Session
+from .told import Told
 
 OWN_OF_CHILD = 0x8000
-LONG_REPLY = 56
-PAGE = 8
-LISTS = {"members": "members", "enumerators": "enumerators"}
 
 # What C allows to be written, and what compilers call it in a dictionary.
 WORDS = {
@@ -97,7 +94,7 @@ class Dictionary:
         self.handed_in = handed_in
         self.parent: Optional[Dictionary] = None
         self.ends: Optional[Callable[[], object]] = None
-        self._answers: Dict[Tuple[str, int], Outcome] = {}
+        self._told: Optional[Told] = None
         self._copies: Dict[int, bool] = {}
         info = session.ask("info", d=slot)
         self.is_child: bool = info["child"]
@@ -115,7 +112,7 @@ class Dictionary:
                 raise Unreadable(why)
         self.session.ask("import", d=self.slot, parent=parent.slot)
         self.parent = parent
-        self._answers.clear()
+        self._told = None
 
     @property
     def types_label(self) -> Optional[str]:
@@ -195,71 +192,38 @@ class Dictionary:
     def _is_parents(self, number: int) -> bool:
         return self.parent is not None and 0 < number <= self.parent.own
 
-    # Questions, and what is known of their answers.
+    # Questions.
 
-    def _home(self, t: int) -> Dictionary:
+    @property
+    def told(self) -> Told:
+        """What is told of its types by their numbers."""
+        if self._told is None:
+            self._told = self.session.told(self)
+        return self._told
+
+    def home(self, t: int) -> Dictionary:
+        """The dictionary, this or its parent, whose type a number is."""
         return self.parent if self.parent is not None and 0 < t < OWN_OF_CHILD else self
 
-    def known(self, op: str, t: int) -> Optional[Answer]:
-        """What was answered already; None where nothing or a refusal was."""
-        outcome = self._home(t)._answers.get((op, t))
-        return None if isinstance(outcome, Refused) else outcome
-
     def fetch(self, questions: Iterable[Tuple[str, int]]) -> None:
-        """Asks those of (word, type) that are not known yet, in one round."""
-        asked = dict.fromkeys(questions)
-        if self.parent is None:
-            new = [(self, one) for one in asked if one not in self._answers]
-        else:
-            new = [(home, one) for home, one in ((self._home(one[1]), one) for one in asked)
-                   if one not in home._answers]
-        if not new:
-            return
-        outcomes = self.session.ask_all([(op, {"d": home.slot, "t": t}) for home, (op, t) in new])
-        for (home, one), outcome in zip(new, outcomes):
-            if isinstance(outcome, Refused):
-                if outcome.code == LONG_REPLY and one[0] in LISTS:
-                    outcome = home._by_pages(*one)
-                if isinstance(outcome, NoMemory):  # that may be answered another time
-                    continue
-            home._answers[one] = outcome
+        """Asks words of types in one round, where a question takes one."""
+        self.told.fetch(questions)
 
     def answer(self, op: str, t: int) -> Answer:
-        """What a word answers of a type, asked once; raises its refusal."""
-        home = self._home(t)
-        if (op, t) not in home._answers:
-            self.fetch([(op, t)])
-        outcome = home._answers.get((op, t))
-        if outcome is None:
-            said: Answer = self.session.ask(op, d=home.slot, t=t)
-            return said
-        if isinstance(outcome, Refused):
-            raise outcome.with_traceback(None)
-        return outcome
-
-    def _by_pages(self, op: str, t: int) -> Outcome:
-        """A list that is too long for one reply."""
-        items: List[Any] = []
-        total = 1
-        while len(items) < total:
-            asked = {"d": self.slot, "t": t, "from": len(items), "count": PAGE}
-            page = self.session.ask_all([(op, asked)])[0]
-            if isinstance(page, Refused):
-                return page
-            items += page[LISTS[op]]
-            total = page["total"]
-        return {LISTS[op]: items, "total": total}
+        """What a word answers of a type; raises its refusal."""
+        said: Answer = self.home(t).told.answer(op, t)
+        return said
 
     def gather(self, numbers: Iterable[int], named: Iterable[int] = ()) -> None:
         """Asks in few rounds for all that declarations and layouts of these types need, and that
         declarations alone of the `named` ones need."""
-        Gathering(self).run(numbers, named)
+        self.told.gather(numbers, named)
 
     # Types, by number and by name.
 
     def type(self, t: int) -> Type:
         """The type of a number; 0 is void."""
-        return Type(self._home(t), t)
+        return Type(self.home(t), t)
 
     def types(self) -> List[Type]:
         """The dictionary's own types, in order."""
@@ -361,8 +325,11 @@ class Dictionary:
 
     def signature(self, said: Answer) -> Signature:
         """What `args` or `function` answered, with types."""
-        arguments = [self.type(t) for t in said["args"]]
-        return Signature(self.type(said["return"]), arguments, said["varargs"])
+        return self.signed(said["return"], said["args"], said["varargs"])
+
+    def signed(self, returns: int, taken: List[int], varargs: bool) -> Signature:
+        """A signature by the numbers of its types."""
+        return Signature(self.type(returns), [self.type(t) for t in taken], varargs)
 
     def labels(self) -> List[Tuple[str, int]]:
         """The labels, each with the number of the last type that it covers."""

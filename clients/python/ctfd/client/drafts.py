@@ -8,7 +8,7 @@ from ..layout.records import AGGREGATES, Record, Table
 from .dictionary import Dictionary
 from .faults import Error, Refused
 from ..text import escape
-from .wire import Session
+from .session import Session
 
 FIRST = (*AGGREGATES, "enum", "forward", "integer", "float", "unknown")
 

@@ -5,11 +5,12 @@ from typing import Optional
 
 from .dictionary import Dictionary
 from .model import Model
-from .wire import Client, connected
+from .connecting import connect
+from .session import Service
 
 
 def open_path(path: str, model: Optional[Model] = None, base: Optional[str] = None,
-              parent: Optional[str] = None, client: Optional[Client] = None,
+              parent: Optional[str] = None, client: Optional[Service] = None,
               is_kept: bool = True) -> Dictionary:
     """The types of a program, library, object file or dictionary, converted where it needs that.
 
@@ -27,7 +28,7 @@ def open_path(path: str, model: Optional[Model] = None, base: Optional[str] = No
 
     asked = Asked(model, None, base, cache=user_cache if is_kept else None,
                   warn=logging.getLogger(__name__).warning)
-    mine = client or connected(None)
+    mine = client or connect()
     try:
         types = Opener(mine.session(), asked).open(path, parent)
     except BaseException:

@@ -6,8 +6,8 @@ from typing import TYPE_CHECKING, Iterable, List, Optional, Set, Tuple
 from .types import QUALIFIERS
 
 if TYPE_CHECKING:
-    from .dictionary import Dictionary
-    from .wire import Answer
+    from .session import Answer
+    from .told import Told
 
 DETAIL = {
     "struct": "members", "union": "members", "enum": "enumerators", "function": "args",
@@ -26,8 +26,8 @@ class Gathering:
     (behind a pointer, in arguments) no more than it takes to spell them.
     """
 
-    def __init__(self, dictionary: Dictionary) -> None:
-        self.dictionary = dictionary
+    def __init__(self, told: Told) -> None:
+        self.told = told
         self.held: Set[int] = set()
         self.named: Set[int] = set()
 
@@ -46,7 +46,7 @@ class Gathering:
             named = [t for t in dict.fromkeys(named) if t and t not in self.held | self.named]
             self.named.update(named)
             records = [("record", t) for t in held + named]
-            self.dictionary.fetch(records + [("size", t) for t in held] + details)
+            self.told.fetch(records + [("size", t) for t in held] + details)
             told = held + named + [t for _, t in details]
             details = self._details(held + named)
             held, named = self._next(told)
@@ -88,4 +88,4 @@ class Gathering:
         return [], []
 
     def _known(self, op: str, t: int) -> Optional[Answer]:
-        return self.dictionary.known(op, t)
+        return self.told.known(op, t)

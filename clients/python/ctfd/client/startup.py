@@ -33,6 +33,11 @@ class AbsoluteFolders:
         sys.path[:] = self.before
 
 
+def has_current_folder() -> bool:
+    """Whether modules may come from a folder that is not named from the root on."""
+    return not all(map(os.path.isabs, sys.path))
+
+
 def is_command() -> bool:
     """Whether a command of this package is what Python runs."""
     path = getattr(sys.modules.get("__main__"), "__file__", None) or ""

@@ -9,6 +9,7 @@ from .nearest import offered
 
 if TYPE_CHECKING:
     from .dictionary import Dictionary
+    from .told import Told
 
 QUALIFIERS = ("const", "volatile", "restrict")
 
@@ -53,6 +54,8 @@ class Type:
     of a type at once, `gather` it first: then all below is answered without another round.
     """
 
+    __slots__ = ("dictionary", "number", "__weakref__")
+
     def __init__(self, dictionary: Dictionary, number: int) -> None:
         self.dictionary = dictionary
         self.number = number
@@ -70,8 +73,9 @@ class Type:
     def _identity(self) -> Tuple[Any, ...]:
         return id(self.dictionary), self.number
 
-    def _ask(self, op: str) -> Any:
-        return self.dictionary.answer(op, self.number)
+    def _told(self, op: str) -> Told:
+        """Who tells of it what a word asks."""
+        return self.dictionary.told
 
     def gather(self) -> Type:
         """Asks in few rounds for all that a declaration and a layout of it need."""
@@ -81,12 +85,12 @@ class Type:
     @property
     def kind(self) -> str:
         """`void`, or the service's word: integer, struct, typedef, .."""
-        return str(self._ask("record")["kind"]) if self.number else "void"
+        return self.dictionary.told.kind(self.number) if self.number else "void"
 
     @property
     def name(self) -> str:
         """Its own name, "" where it has none."""
-        return text.name(self._ask("record")["name"]) if self.number else ""
+        return self.dictionary.told.name(self.number) if self.number else ""
 
     @property
     def raw_name(self) -> bytes:
@@ -96,18 +100,18 @@ class Type:
     @property
     def spelled(self) -> str:
         """As C spells it in a cast, the arguments of functions left out."""
-        return text.name(self._ask("name")["name"]) if self.number else "void"
+        return self.dictionary.told.spelled(self.number) if self.number else "void"
 
     @property
     def is_root(self) -> bool:
         """Whether look-ups by name see it."""
-        return bool(self.number) and self._ask("record")["root"]
+        return bool(self.number) and self.dictionary.told.is_root(self.number)
 
     @property
     def size(self) -> Optional[int]:
         """Bytes of a value, or None where it has none, as a forward."""
         try:
-            return self._ask("size")["size"] if self.number else None
+            return self.dictionary.told.size(self.number) if self.number else None
         except Incomplete:
             return None
 
@@ -143,49 +147,49 @@ class Type:
     def align(self) -> Optional[int]:
         """The alignment in bytes that the format tells (that of a struct's first member)."""
         try:
-            return self._ask("align")["align"] if self.number else None
+            return self.dictionary.told.align(self.number) if self.number else None
         except Incomplete:
             return None
 
     @property
     def reference(self) -> Type:
         """What a pointer points to, a typedef renames, a qualifier qualifies."""
-        return self.dictionary.type(self._ask("record")["type"])
+        return self.dictionary.type(self._told("reference").reference(self.number))
 
     @property
     def tag(self) -> str:
         """What a forward declares: struct, union or enum."""
-        return str(self._ask("record")["tag"])
+        return self._told("tag").tag(self.number)
 
     @property
     def members(self) -> List[Member]:
-        return [Member(text.name(m["name"]), self.dictionary.type(m["type"]), m["offset"])
-                for m in self._ask("members")["members"]]
+        type_of = self.dictionary.type
+        return [Member(name, type_of(t), offset)
+                for name, t, offset in self._told("members").members(self.number)]
 
     @property
     def enumerators(self) -> List[Enumerator]:
-        return [Enumerator(text.name(e["name"]), e["value"])
-                for e in self._ask("enumerators")["enumerators"]]
+        return [Enumerator(name, value)
+                for name, value in self._told("enumerators").enumerators(self.number)]
 
     @property
     def signature(self) -> Signature:
         """What a function takes and returns."""
-        return self.dictionary.signature(self._ask("args"))
+        return self.dictionary.signed(*self._told("args").arguments(self.number))
 
     @property
     def contents(self) -> Type:
         """The type of an array's elements."""
-        return self.dictionary.type(self._ask("array")["contents"])
+        return self.dictionary.type(self._told("array").array(self.number)[0])
 
     @property
     def count(self) -> int:
         """How many elements an array has."""
-        return int(self._ask("array")["count"])
+        return self._told("array").array(self.number)[2]
 
     @property
     def encoding(self) -> Encoding:
-        said = self._ask("encoding")
-        return Encoding(said["encoding"], said["offset"], said["bits"])
+        return Encoding(*self._told("encoding").encoding(self.number))
 
     @property
     def stripped(self) -> Type:
@@ -258,7 +262,7 @@ class PointerTo(Type):
     def align(self) -> int:
         return self.dictionary.pointer_size
 
-    def _ask(self, op: str) -> Any:
+    def _told(self, op: str) -> Told:
         fault = {"code": 30, "name": "WrongKind", "place": 0}  # as the service says of a pointer
         raise Refused(fault, op, {"type": self.spelled})
 

@@ -10,25 +10,20 @@ import binascii
 import collections
 import json
 import os
-from types import TracebackType
-from typing import (TYPE_CHECKING, Any, Deque, Dict, Iterable, List, Literal, NoReturn, Optional,
-                    Sequence, Tuple, Type, Union, overload)
+from typing import TYPE_CHECKING, Deque, Iterable, List, NoReturn, Optional, Sequence
 
-from .. import text
-from . import library, service
+from . import service
+from .asked import Asked
 from .faults import Error, Gone, Refused, refused
-from .library import Inside, Library
 from .model import Model
+from .session import Answer, Outcome, Request, Service, Session
+from .told import Told
 from ..files import bounded
-from ..text import Name
 
 if TYPE_CHECKING:
     from .. import replies
     from .channel import Channel
-
-Answer = Dict[str, Any]
-Request = Tuple[str, Dict[str, Any]]
-Outcome = Union[Answer, Refused]
+    from .dictionary import Dictionary
 
 PIECE = 262_144
 READ = 262_144
@@ -45,9 +40,8 @@ class Owed:
         self.reply: Optional[Answer] = None
 
 
-class Client:
-    """One service. Where none is named it is libctfd.so in this process, if that is found
-    (library.py tells where); else the program is looked for, and started.
+class Client(Service):
+    """One service. Where none is named the program is looked for, and started.
 
     With `socket` it is one that others use too: the path of a socket where ctfd-front listens, in
     which each session is a connection. Where neither is named, CTFD_SOCKET in the environment may
@@ -66,9 +60,6 @@ class Client:
         if program is None and socket is None and arguments == SERVE:
             socket = service.socket()
         self._socket, self._room = socket, service.room() if room is None else room
-        self._library: Optional[Library] = None
-        if program is None and socket is None and arguments == SERVE:
-            self._library = in_process()
         self._channel = self._opened([program or "", *arguments])
         self._requests, self._replies = self._channel.requests, self._channel.replies
         self._others: List[Client] = []
@@ -87,20 +78,11 @@ class Client:
 
     def _opened(self, command: List[str]) -> Channel:
         """The way to the service; what starts processes is imported where one is started."""
-        if self._library is not None:
-            return Inside(self._library)
         from .channel import Pipes, Socket
 
         if self._socket is None:
             return Pipes([service.to_start(command[0]), *command[1:]])
         return Socket(self._socket, self.patience, self._room)
-
-    def __enter__(self) -> Client:
-        return self
-
-    def __exit__(self, kind: Optional[Type[BaseException]], error: Optional[BaseException],
-                 trace: Optional[TracebackType]) -> None:
-        self.close()
 
     @property
     def pid(self) -> Optional[int]:
@@ -120,7 +102,7 @@ class Client:
             return self._others[-1].session()
         self._has_session = True
         self._last_session += 1
-        return Session(self, self._last_session)
+        return LineSession(self, self._last_session)
 
     def replies(self, session: int, requests: Iterable[Request]) -> List[Answer]:
         """The whole reply to each request, in order: all are written while replies are read."""
@@ -129,12 +111,6 @@ class Client:
         if self._gone:
             raise Gone(self._gone)
         lines = [request_line(session, op, fields) for op, fields in requests]
-        if self._library is not None:
-            self.requests += len(lines)
-            self.rounds += 1
-            answers = self._library.answers(lines)
-            bounded.charge(sum(map(len, answers)))
-            return _all_decoded(answers)
         mine = [Owed() for _ in lines]
         written = b"".join(lines)
         self._torn = True
@@ -239,91 +215,14 @@ class Client:
         raise Gone(why)
 
 
-class Session:
-    """A session of the service: what it opens and stages is its own."""
+class LineSession(Session):
+    """A session that is asked by lines."""
 
-    def __init__(self, client: Client, number: int) -> None:
-        self.client = client
-        self.number = number
+    client: Client
 
     def ask_all(self, requests: Sequence[Request]) -> List[Outcome]:
-        """What many requests are answered, in one round; a refusal stands in its place."""
         replies = self.client.replies(self.number, requests)
         return [_outcome(reply, op, fields) for (op, fields), reply in zip(requests, replies)]
-
-    @overload
-    def ask(self, op: Literal["open", "take"], **fields: Any) -> replies.Opened: ...
-
-    @overload
-    def ask(self, op: Literal["create"], **fields: Any) -> replies.Made: ...
-
-    @overload
-    def ask(self, op: Literal["kind"], **fields: Any) -> replies.Kind: ...
-
-    @overload
-    def ask(self, op: Literal["record"], **fields: Any) -> replies.Record: ...
-
-    @overload
-    def ask(self, op: Literal["members"], **fields: Any) -> replies.Members: ...
-
-    @overload
-    def ask(self, op: Literal["enumerators"], **fields: Any) -> replies.Enumerators: ...
-
-    @overload
-    def ask(self, op: Literal["args", "function"], **fields: Any) -> replies.Arguments: ...
-
-    @overload
-    def ask(self, op: Literal["array"], **fields: Any) -> replies.Array: ...
-
-    @overload
-    def ask(self, op: Literal["encoding"], **fields: Any) -> replies.Encoded: ...
-
-    @overload
-    def ask(self, op: Literal["size"], **fields: Any) -> replies.Size: ...
-
-    @overload
-    def ask(self, op: Literal["align"], **fields: Any) -> replies.Align: ...
-
-    @overload
-    def ask(self, op: Literal["name"], **fields: Any) -> replies.Name: ...
-
-    @overload
-    def ask(self, op: Literal["path"], **fields: Any) -> replies.Path: ...
-
-    @overload
-    def ask(self, op: Literal["show"], **fields: Any) -> replies.Shown: ...
-
-    @overload
-    def ask(self, op: Literal["symbol"], **fields: Any) -> replies.Symbol: ...
-
-    @overload
-    def ask(self, op: Literal["labels"], **fields: Any) -> replies.Labels: ...
-
-    @overload
-    def ask(self, op: Literal["label"], **fields: Any) -> replies.Last: ...
-
-    @overload
-    def ask(self, op: Literal["info"], **fields: Any) -> replies.Info: ...
-
-    @overload
-    def ask(self, op: Literal["model"], **fields: Any) -> replies.ModelOf: ...
-
-    @overload
-    def ask(self, op: Literal["bytes"], **fields: Any) -> replies.Bytes: ...
-
-    @overload
-    def ask(self, op: Literal["reference", "resolve", "pointer", "find", "object"],
-            **fields: Any) -> replies.Number: ...
-
-    @overload
-    def ask(self, op: str, **fields: Any) -> Any: ...
-
-    def ask(self, op: str, **fields: Any) -> Any:
-        """What one request is answered; raises its refusal."""
-        outcome = self.ask_all([(op, fields)])[0]
-        if isinstance(outcome, Refused):
-            raise outcome
-        return outcome
 
     def open(self, ctf: bytes, sym: Optional[bytes] = None, strings: Optional[bytes] = None,
              model: Optional[Model] = None) -> replies.Opened:
@@ -335,7 +234,7 @@ class Session:
         requests: List[Request] = [("clear", {})]
         for section, data in (("ctf", ctf), ("sym", sym), ("str", strings)):
             requests += _parts(section, data)
-        outcomes = self.ask_all([*requests, ("open", _given(model=model))])
+        outcomes = self.ask_all([*requests, ("open", {} if model is None else {"model": model})])
         opened = outcomes[-1]
         fault = next((o for o in outcomes if isinstance(o, Refused)), None)
         if isinstance(opened, Refused) or fault:
@@ -345,29 +244,8 @@ class Session:
             raise fault or Error("open was refused")
         return {"d": opened["d"], "types": opened["types"]}
 
-    def create(self, parent: Optional[int] = None, parname: Name = "", parlabel: Name = "",
-               model: Optional[Model] = None) -> replies.Made:
-        """Makes a slot of a new draft: `d`.
-
-        A draft over the dictionary of a slot `parent` needs a `parname`. Without a model it is
-        of its parent's, and without a parent of "lp64".
-        """
-        named = {"parname": text.escape(parname), "parlabel": text.escape(parlabel)}
-        return self.ask("create", **named, **_given(parent=parent, model=model))
-
-
-def in_process() -> Optional[Library]:
-    """The library in place of a program: where CTFD_LIBRARY names it, or where CTFD names no
-    program and it is found."""
-    if library.named() is None and service.named() is not None:
-        return None
-    return library.find()
-
-
-def connected(program: Optional[str]) -> Client:
-    """The client of a command: of the program that is named, else of the socket that CTFD_SOCKET
-    names, else of the library or the program that is found. Raises Error."""
-    return Client() if program is None else Client(service.find(program))
+    def told(self, types: Dictionary) -> Told:
+        return Asked(types)
 
 
 def request_line(session: int, op: str, fields: Answer) -> bytes:
@@ -380,17 +258,6 @@ def request_line(session: int, op: str, fields: Answer) -> bytes:
             session, fields["section"].encode("ascii"), binascii.hexlify(fields["bytes"]))
     request = {"s": session, "op": op, **fields}
     return json.dumps(request, separators=(",", ":")).encode("ascii") + b"\n"
-
-
-def _all_decoded(lines: List[bytes]) -> List[Answer]:
-    """Many replies: the decoder begins once for them all."""
-    told: List[Answer] = _DECODED((b"[" + b",".join(lines) + b"]").decode("utf-8"))
-    return told
-
-
-def _given(**fields: Any) -> Answer:
-    """The fields that are not None: in a request null is not the same as absent."""
-    return {name: value for name, value in fields.items() if value is not None}
 
 
 def _outcome(reply: Answer, op: str, fields: Answer) -> Outcome:

@@ -15,7 +15,7 @@ from ..client import trust
 from ..client.faults import BadSymbols, Error, Refused
 from ..replies import Opened
 from ..text import printable
-from ..client.wire import Client, Session
+from ..client.session import Service, Session
 from ..files import elf, source
 from ..files.elf import Elf
 from ..files.mapped import contents
@@ -34,7 +34,7 @@ def parent_name(path: str) -> str:
     return os.path.splitext(os.path.basename(path))[0] or "parent"
 
 
-def judge(client: Client, path: str, made: Made, output: str) -> None:
+def judge(client: Service, path: str, made: Made, output: str) -> None:
     """Has the service open what was made, over its parent. Raises Error where it is refused."""
     session = client.session()
     try:

@@ -16,7 +16,7 @@ from ..client.dictionary import open_source
 from ..client.faults import Error, Unreadable
 from ..client.model import Model, POINTER_SIZES
 from ..text import printable
-from ..client.wire import Session
+from ..client.session import Session
 from ..convert import from_ctf, outputs
 from ..convert.sound import judge
 from ..files import elf, identity, source

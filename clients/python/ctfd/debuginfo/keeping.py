@@ -7,7 +7,7 @@ from typing import Callable, Optional
 
 from ..client.faults import Error, Unreadable
 from ..text import printable
-from ..client.wire import Client
+from ..client.session import Service
 from ..files.elf import Elf, MAGIC
 from ..files.mapped import contents
 from ..files.source import SECTIONS
@@ -24,7 +24,7 @@ class Writer:
         self.say = say
         self._folder: Optional[tempfile.TemporaryDirectory[str]] = None
 
-    def written(self, client: Client, wanted: Wanted) -> Path:
+    def written(self, client: Service, wanted: Wanted) -> Path:
         """The debug file of a program. What is to be known of a new one is said. Raises Error."""
         read = [contents(path) for path in (wanted.path, wanted.symbols, wanted.parent) if path]
         name = cache.key(Image(read[0], wanted.path).build_id, read)

@@ -12,7 +12,7 @@ from typing import Callable, Deque, Dict, Iterable, Iterator, List, NamedTuple, 
 
 from ..client.faults import Refused
 from ..text import printable
-from ..client.wire import Answer, Outcome, Request
+from ..client.session import Answer, Outcome, Request
 from ..files.exports import Exported, Exports
 from ..layout.whole import Whole
 from .changes import Change, Reach, Said, Side, tell_cut

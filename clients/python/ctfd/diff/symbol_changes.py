@@ -7,7 +7,7 @@ from typing import Dict, Iterator, List, Tuple
 from ..client.dictionary import Dictionary
 from ..client.faults import Refused
 from ..text import printable
-from ..client.wire import Answer, Request
+from ..client.session import Answer, Request
 from ..files import bounded, elf
 from ..files.elf import Symbol
 from ..files.source import Source

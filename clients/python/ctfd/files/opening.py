@@ -7,7 +7,7 @@ from typing import TYPE_CHECKING, Dict, Iterable, Iterator, Optional, Set
 from ..client.dictionary import Dictionary, open_file, open_found, open_source
 from ..client.faults import BadSymbols, Error, Refused, Unreadable
 from ..client.gather import LISTS
-from ..client.wire import Session
+from ..client.session import Session
 from . import anyfile, source
 from .anyfile import Asked, Read
 

@@ -12,7 +12,7 @@ from .. import text
 from ..client.dictionary import Dictionary
 from ..client.gather import DETAIL, LISTS
 from ..client.types import Encoding, Enumerator, Member, QUALIFIERS, Type
-from ..client.wire import Answer
+from ..client.session import Answer
 from . import stored
 from .places import Layout, Span, laid
 from .records import AGGREGATES, Part, Record
@@ -115,7 +115,8 @@ class Catalog:
 
     def _record(self, number: int, said: Answer, lists: Set[str]) -> Record:
         kind = said["kind"]
-        record = Record(kind, text.name(said["name"]), said.get("size", 0), said.get("type", 0),
+        size = 0 if kind == "array" else said.get("size", 0)  # which need not be an array's
+        record = Record(kind, text.name(said["name"]), size, said.get("type", 0),
                         tag=said.get("tag", ""), root=said["root"])
         word = DETAIL.get(kind)
         if word not in lists:

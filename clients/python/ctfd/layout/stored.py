@@ -92,7 +92,7 @@ def _number(types: bytes, at: int, length: int, field: int, names: Names
 def _array(types: bytes, at: int, length: int, field: int, names: Names
            ) -> Tuple[Dict[str, Any], int]:
     contents, index, count = _ARRAY.unpack_from(types, at)
-    return {"size": field, "type": contents, "indexed_by": index, "elements": count}, _ARRAY.size
+    return {"type": contents, "indexed_by": index, "elements": count}, _ARRAY.size
 
 
 def _enum(types: bytes, at: int, length: int, field: int, names: Names

@@ -11,7 +11,7 @@ import sys
 from typing import Optional, Sequence, Union
 
 from ..client.faults import Error, NotFound
-from ..client.wire import Session
+from ..client.session import Session
 from ..tools import running
 from ..values import expressions, formats, linked, spelling
 from ..values.operands import BadExpression, Code, Located, Operand, Steps, Untold

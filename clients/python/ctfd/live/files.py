@@ -5,7 +5,7 @@ from typing import Callable, List, Optional
 
 from ..client.dictionary import Dictionary, open_source
 from ..client.faults import Error, Unreadable
-from ..client.wire import Session
+from ..client.session import Session
 from ..debuginfo.image import Image
 from ..files import elf, identity, source
 from ..files.elf import MAGIC

@@ -56,7 +56,7 @@ def knows(expression: str) -> bool:
     return True
 
 
-def give(client: ctfd.Client, path: str, parent: Optional[str] = None) -> str:
+def give(client: ctfd.Service, path: str, parent: Optional[str] = None) -> str:
     """Gives gdb the types of a file that it has read; a line on what it has of them, "" where it
     has no such file, or the file has no CTF. Raises Error."""
     one = objfile_of(path)

@@ -28,15 +28,15 @@ class State:
     """The service, started with the first file, and the files in the order of look-ups."""
 
     def __init__(self) -> None:
-        self.service: Optional[Tuple[ctfd.Client, ctfd.Session]] = None
+        self.service: Optional[Tuple[ctfd.Service, ctfd.Session]] = None
         self.loaded: List[Loaded] = []
         self.follows = False
         self.is_hinted = False
 
-    def client(self) -> ctfd.Client:
+    def client(self) -> ctfd.Service:
         """The service, which is started where it does not run."""
         if self.service is None:
-            client = ctfd.Client()
+            client = ctfd.connect()
             self.service = client, client.session()
         return self.service[0]
 

@@ -13,7 +13,7 @@ import sys
 from typing import List, Optional, Sequence
 
 from ..client.faults import Error
-from ..client.wire import connected
+from ..client.connecting import connected
 from ..convert import outputs
 from ..convert.conversion import made_of
 from ..convert.inputs import Input, Options, read

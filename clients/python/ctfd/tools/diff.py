@@ -17,7 +17,7 @@ from typing import Callable, Iterator, List, Optional, Sequence
 from ..client.faults import Error
 from ..client.gather import ALL_LISTS
 from ..client.model import POINTER_SIZES
-from ..client.wire import Session
+from ..client.session import Session
 from ..diff import changes, symbol_changes
 from ..diff.changes import Change
 from ..diff.guard import Exporting, Guard

@@ -13,7 +13,7 @@ from typing import Optional, Sequence
 from ..client.faults import Error
 from ..client.gather import ALL_LISTS
 from ..client.model import POINTER_SIZES
-from ..client.wire import Session
+from ..client.session import Session
 from ..files import anyfile
 from ..files.opening import Opener
 from ..view.page import page

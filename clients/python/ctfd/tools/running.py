@@ -10,7 +10,8 @@ import sys
 from typing import Callable, Iterator, Optional
 
 from ..client.faults import Error
-from ..client.wire import Session, connected
+from ..client.connecting import connected
+from ..client.session import Session
 from ..files import bounded
 from ..version import VERSION
 from . import ending

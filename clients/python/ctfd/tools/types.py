@@ -18,7 +18,7 @@ from ..client.gather import ALL_LISTS, LISTS
 from ..client.nearest import offered
 from ..text import printable
 from ..client.types import Signature, Type
-from ..client.wire import Session
+from ..client.session import Session
 from ..files import anyfile, source
 from ..files.opening import Opener, told_of
 from ..files.source import Source

@@ -7,7 +7,7 @@ from typing import Callable, Dict, List, Optional
 from ..client.dictionary import Dictionary, open_source
 from ..client.faults import Error, NotFound, Unreadable
 from ..client.model import Model
-from ..client.wire import Session
+from ..client.session import Session
 from ..files import elf, source
 from ..files.elf import Elf, Symbol
 from ..files.source import Source

@@ -11,7 +11,7 @@ from typing import Callable, Dict, List, NamedTuple, Optional, Tuple, TypeVar
 
 from ..client.faults import Error, Refused
 from ..client.types import PointerTo, Type
-from ..client.wire import Request
+from ..client.session import Request
 from .parse import Characters, Leaf, Lost, Parts, Unclear, Value, is_character, parse
 
 WHOLE = 400_000

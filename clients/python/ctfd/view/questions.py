@@ -6,7 +6,7 @@ from typing import Any, Iterable, Iterator, List, NamedTuple, Sequence, Set, Tup
 from ..client.faults import Error, Refused
 from ..text import printable
 from ..client.types import Signature
-from ..client.wire import Request
+from ..client.session import Request
 from ..files import elf
 from ..files.source import Source
 from ..layout.catalog import Catalog, RENAMES

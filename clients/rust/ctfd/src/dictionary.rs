@@ -1,13 +1,16 @@
 //! Dictionaries that are open.
 
-use crate::apart::{apart, overlap};
 use crate::faults::{told, told_at, Refusal};
+use crate::given::Given;
 use crate::names::{text, Name};
 use crate::raw::{self, LabelRow, SymbolRow, TypeRow};
 use crate::types::Type;
 use std::cell::UnsafeCell;
 use std::fmt;
-use std::marker::PhantomData;
+use std::iter::FusedIterator;
+
+/// The number of a child's first type.
+const FIRST_OF_CHILD: u16 = 32_769;
 
 /// How many bytes a pointer of the program has.
 #[derive(Clone, Copy, Debug, Default, PartialEq, Eq, Hash)]
@@ -34,11 +37,17 @@ pub struct Options<'a> {
 /// opened by [`open_lent`](Dictionary::open_lent), borrows that for `'b`.
 pub struct Dictionary<'b> {
     raw: UnsafeCell<raw::Handle>,
-    // A child and its parent share counts that are for one thread.
-    here: PhantomData<*mut ()>,
-    // A child also keeps what its parent borrows, so both have one lifetime.
-    bytes: PhantomData<&'b [u8]>,
+    // The lists that the library reads as long as the handle is open, or none of a draft.
+    given: Option<Given<'b>>,
+    // Those of the parent that it imported.
+    parents: Option<Given<'b>>,
 }
+
+// SAFETY: what is open behind a handle may be asked on any thread, one call at a time. Counts that
+// are for one thread are shared by a child and its parent alone, and no two dictionaries of this
+// crate share one: `import` and `Draft::child` open the parent's lists anew for the child. The type
+// is not `Sync`, since a call borrows what is open to itself.
+unsafe impl Send for Dictionary<'_> {}
 
 impl Dictionary<'static> {
     /// Opens the CTF section of a program: without symbols, and of the data model LP64.
@@ -48,29 +57,7 @@ impl Dictionary<'static> {
 
     /// Opens the CTF section of a program with what stands beside it.
     pub fn open_with(ctf: &[u8], options: Options<'_>) -> Result<Dictionary<'static>, Refusal> {
-        let symbols = apart(options.symbols.unwrap_or_default(), &[ctf]);
-        let strings = apart(options.strings.unwrap_or_default(), &[ctf, &symbols]);
-        let made = Dictionary::none();
-        let mut place = 0;
-        // SAFETY: the handle is this function's own and begins empty. The slices live for the call,
-        // which copies them, and share no byte; a slice's pointer is never null.
-        let status = unsafe {
-            raw::ctfd_open(
-                made.handle(),
-                ctf.as_ptr(),
-                ctf.len(),
-                symbols.as_ptr(),
-                symbols.len(),
-                strings.as_ptr(),
-                strings.len(),
-                options.symbols.is_some(),
-                options.strings.is_some(),
-                options.model == Model::Ilp32,
-                &mut place,
-            )
-        };
-        told_at(status, place)?;
-        Ok(made)
+        Dictionary::over(Given::copied(ctf, options))
     }
 }
 
@@ -93,89 +80,118 @@ impl<'b> Dictionary<'b> {
     /// types.count();
     /// ```
     pub fn open_lent(ctf: &'b [u8], options: Options<'b>) -> Result<Dictionary<'b>, Refusal> {
-        let symbols = options.symbols.unwrap_or_default();
-        let strings = options.strings.unwrap_or_default();
-        if overlap(symbols, ctf) || overlap(strings, ctf) || overlap(strings, symbols) {
-            return Dictionary::open_with(ctf, options);
-        }
-        let made = Dictionary::none();
+        Dictionary::over(Given::lent(ctf, options))
+    }
+
+    /// Opens lists, which stay where they are as long as the dictionary is open.
+    fn over(given: Given<'b>) -> Result<Dictionary<'b>, Refusal> {
+        let mut made = Dictionary::none();
+        let (ctf, symbols, strings) = (given.ctf(), given.symbols(), given.strings());
+        let (symbols_at, strings_at) = (symbols.unwrap_or_default(), strings.unwrap_or_default());
         let mut place = 0;
-        // SAFETY: the handle is this function's own and begins empty. The slices share no byte, and
-        // live for `'b`; whatever keeps them after the call has that lifetime.
+        // SAFETY: the handle is this function's own and begins empty. The lists share no byte, and
+        // the dictionary keeps them from here on, or their lender does for `'b`; a slice's pointer
+        // is never null.
         let status = unsafe {
             raw::ctfd_open_lent(
                 made.handle(),
                 ctf.as_ptr(),
                 ctf.len(),
-                symbols.as_ptr(),
-                symbols.len(),
-                strings.as_ptr(),
-                strings.len(),
-                options.symbols.is_some(),
-                options.strings.is_some(),
-                options.model == Model::Ilp32,
+                symbols_at.as_ptr(),
+                symbols_at.len(),
+                strings_at.as_ptr(),
+                strings_at.len(),
+                symbols.is_some(),
+                strings.is_some(),
+                given.model() == Model::Ilp32,
                 &mut place,
             )
         };
         told_at(status, place)?;
+        made.given = Some(given);
         Ok(made)
     }
 
     /// A handle with nothing open, for a function that opens.
     pub(crate) fn none() -> Dictionary<'b> {
-        Dictionary {
-            raw: UnsafeCell::new(raw::Handle::NONE),
-            here: PhantomData,
-            bytes: PhantomData,
+        Dictionary { raw: UnsafeCell::new(raw::Handle::NONE), given: None, parents: None }
+    }
+
+    /// The same dictionary, opened once more, without a parent: it shares nothing with this one but
+    /// the lists.
+    pub(crate) fn again(&self) -> Result<Dictionary<'b>, Refusal> {
+        match &self.given {
+            Some(given) => Dictionary::over(given.clone()),
+            None => {
+                let options = Options { model: self.model(), ..Options::default() };
+                Dictionary::over(Given::copied(&self.bytes(), options))
+            }
         }
+    }
+
+    /// Keeps the lists of a parent that the handle was given, as long as it is open.
+    pub(crate) fn keep(&mut self, parent: Dictionary<'b>) {
+        self.parents = parent.given.clone();
     }
 
     /// The handle, for one call.
     ///
     /// A call borrows what is open for as long as it runs, to itself, so none may begin while
-    /// another runs. None does: this type is neither `Send` nor `Sync`, and no call calls back.
+    /// another runs. None does: this type is not `Sync`, and no call calls back.
     pub(crate) fn handle(&self) -> *mut raw::Handle {
         self.raw.get()
     }
 
-    /// Imports a parent, in place of an earlier one. They share it.
+    /// Imports a parent, as it is now, in place of an earlier one. The lists of both are shared;
+    /// the parent is opened once more for this dictionary, which takes as long as
+    /// [`open_lent`](Dictionary::open_lent).
     pub fn import(&mut self, parent: &Dictionary<'b>) -> Result<(), Refusal> {
-        let mut place = 0;
-        // SAFETY: `self` is borrowed alone, so the handles are two.
-        let status = unsafe { raw::ctfd_import(self.handle(), parent.handle(), &mut place) };
-        told_at(status, place)
+        let (own, mut place) = (parent.again()?, 0);
+        // SAFETY: the handles are two, and each is borrowed by nobody else. What is imported reads
+        // lists that are kept from here on.
+        let status = unsafe { raw::ctfd_import(self.handle(), own.handle(), &mut place) };
+        told_at(status, place)?;
+        self.keep(own);
+        Ok(())
     }
 
     /// How many types it has of its own.
     pub fn count(&self) -> usize {
-        let mut count = 0;
-        // SAFETY: as `handle` says; so are all calls below.
-        certain(unsafe { raw::ctfd_count(self.handle(), &mut count) });
-        count as usize
+        certain(self.asked(raw::ctfd_count)) as usize
     }
 
     /// Fills rows with its own types, from a number on, and answers how many it has. They count
     /// from 0 here. Rows behind the last stay.
     pub fn type_rows(&self, from: usize, rows: &mut [TypeRow]) -> u64 {
-        let (at, len, mut count) = (rows.as_mut_ptr(), rows.len(), 0);
-        certain(unsafe { raw::ctfd_types(self.handle(), from, at, len, &mut count) });
-        count
+        certain(self.filled(raw::ctfd_types, from, rows))
+    }
+
+    /// The name that a row says stands at a place of a list, where the row is of a type with a
+    /// number, or of its members or enumerators. None where the lists are a draft's.
+    ///
+    /// ```
+    /// let types = ctfd::Dictionary::open(&std::fs::read("../../../examples/lua.ctf").unwrap()).unwrap();
+    /// let mut rows = [ctfd::TypeRow::default()];
+    /// types.type_rows(0, &mut rows);
+    /// let name = types.name_at(rows[0].tnum, rows[0].name_list, rows[0].name_at);
+    /// assert_eq!(name, Some(&types.get(1).unwrap().declared_name().unwrap()[..]));
+    /// ```
+    pub fn name_at(&self, number: u16, list: u32, at: u64) -> Option<&[u8]> {
+        let is_parents = number < FIRST_OF_CHILD && self.is_child();
+        let given = if is_parents { &self.parents } else { &self.given };
+        given.as_ref().map(|given| given.name(list, at))
     }
 
     /// Fills rows with the symbols of the program, from a number on, and answers how many its table
     /// has: also those that nothing is told of. Rows behind the last stay.
     pub fn symbol_rows(&self, from: usize, rows: &mut [SymbolRow]) -> u64 {
-        let (at, len, mut count) = (rows.as_mut_ptr(), rows.len(), 0);
-        certain(unsafe { raw::ctfd_symbols(self.handle(), from, at, len, &mut count) });
-        count
+        certain(self.filled(raw::ctfd_symbols, from, rows))
     }
 
     /// Fills rows with its labels, from a number on, and answers how many it has. Rows behind the
     /// last stay.
     pub fn label_rows(&self, from: usize, rows: &mut [LabelRow]) -> u64 {
-        let (at, len, mut count) = (rows.as_mut_ptr(), rows.len(), 0);
-        certain(unsafe { raw::ctfd_labels(self.handle(), from, at, len, &mut count) });
-        count
+        certain(self.filled(raw::ctfd_labels, from, rows))
     }
 
     /// Fills rows with the numbers of the types that a function of the program takes, by the number
@@ -189,30 +205,24 @@ impl<'b> Dictionary<'b> {
     ) -> Result<u64, Refusal> {
         let (at, len, mut count) = (rows.as_mut_ptr(), rows.len(), 0);
         let handle = self.handle();
+        // SAFETY: as in `filled`.
         told(unsafe { raw::ctfd_function_arguments(handle, symbol, from, at, len, &mut count) })?;
         Ok(count)
     }
 
     /// Whether its low numbers of types are those of a parent.
     pub fn is_child(&self) -> bool {
-        let mut child = 0;
-        certain(unsafe { raw::ctfd_child(self.handle(), &mut child) });
-        child != 0
+        certain(self.asked(raw::ctfd_child)) != 0
     }
 
     /// How many types its parent has, where it imported one.
     pub fn parent_count(&self) -> Option<usize> {
-        let mut count = 0;
-        told(unsafe { raw::ctfd_parent_count(self.handle(), &mut count) })
-            .ok()
-            .map(|()| count as usize)
+        self.asked(raw::ctfd_parent_count).ok().map(|count| count as usize)
     }
 
     /// Its data model.
     pub fn model(&self) -> Model {
-        let mut model = 0;
-        certain(unsafe { raw::ctfd_model(self.handle(), &mut model) });
-        match model {
+        match certain(self.asked(raw::ctfd_model)) {
             0 => Model::Lp64,
             _ => Model::Ilp32,
         }
@@ -220,19 +230,17 @@ impl<'b> Dictionary<'b> {
 
     /// The name of its parent, as its header has it: empty where there is none.
     pub fn parent_name(&self) -> Name {
-        text(|at, len, told| unsafe { raw::ctfd_parent_name(self.handle(), at, len, told) })
-            .expect("an open dictionary has a header")
+        certain(self.said(raw::ctfd_parent_name))
     }
 
     /// The name of its parent's label, as its header has it.
     pub fn parent_label(&self) -> Name {
-        text(|at, len, told| unsafe { raw::ctfd_parent_label(self.handle(), at, len, told) })
-            .expect("an open dictionary has a header")
+        certain(self.said(raw::ctfd_parent_label))
     }
 
     /// Its own types, in the order of their numbers.
     pub fn types(&self) -> Types<'_> {
-        let first = if self.is_child() { 32_769 } else { 1 };
+        let first = if self.is_child() { u32::from(FIRST_OF_CHILD) } else { 1 };
         Types { of: self, next: first, end: first + self.count() as u32 }
     }
 
@@ -243,57 +251,43 @@ impl<'b> Dictionary<'b> {
 
     /// The type of a name, as `struct point *`.
     pub fn find(&self, name: impl AsRef<[u8]>) -> Result<Type<'_>, Refusal> {
-        let (name, mut number) = (name.as_ref(), 0);
-        told(unsafe { raw::ctfd_find(self.handle(), name.as_ptr(), name.len(), &mut number) })?;
-        Ok(Type::known(self, number))
+        Ok(Type::known(self, self.named(raw::ctfd_find, name.as_ref())?))
     }
 
     /// The number of the first symbol of a name.
     pub fn symbol(&self, name: impl AsRef<[u8]>) -> Result<u32, Refusal> {
-        let (name, mut number) = (name.as_ref(), 0);
-        told(unsafe { raw::ctfd_symbol(self.handle(), name.as_ptr(), name.len(), &mut number) })?;
-        Ok(number)
+        self.named(raw::ctfd_symbol, name.as_ref())
     }
 
     /// The name of a symbol.
     pub fn symbol_name(&self, symbol: u32) -> Result<Name, Refusal> {
+        // SAFETY: as in `said`.
         text(|at, len, told| unsafe { raw::ctfd_symbol_name(self.handle(), symbol, at, len, told) })
     }
 
     /// The type of an object of the program, by the number of its symbol.
     pub fn object(&self, symbol: u32) -> Result<Option<Type<'_>>, Refusal> {
-        let mut number = 0;
-        told(unsafe { raw::ctfd_object(self.handle(), symbol, &mut number) })?;
-        Ok(Type::some(self, number))
+        Ok(Type::some(self, self.of_symbol(raw::ctfd_object, symbol)?))
     }
 
     /// What a function of the program returns and takes, by the number of its symbol.
     pub fn function(&self, symbol: u32) -> Result<Function<'_>, Refusal> {
-        let mut raw = raw::Function::default();
-        told(unsafe { raw::ctfd_function(self.handle(), symbol, &mut raw) })?;
-        let mut arguments = Vec::with_capacity(raw.arguments as usize);
-        for index in 0..raw.arguments as usize {
-            let mut number = 0;
-            told(unsafe {
-                raw::ctfd_function_argument(self.handle(), symbol, index, &mut number)
-            })?;
-            arguments.push(Type::some(self, number));
-        }
+        let raw: raw::Function = self.of_symbol(raw::ctfd_function, symbol)?;
+        let mut rows = vec![0; raw.arguments as usize];
+        self.function_argument_rows(symbol, 0, &mut rows)?;
+        let arguments = rows.into_iter().map(|number| Type::some(self, number)).collect();
         Ok(Function { returns: Type::some(self, raw.ret), arguments, varargs: raw.varargs != 0 })
     }
 
     /// Its labels, in order.
     pub fn labels(&self) -> Labels<'_> {
-        let mut count = 0;
-        certain(unsafe { raw::ctfd_label_count(self.handle(), &mut count) });
-        Labels { of: self, next: 0, end: count as usize }
+        let end = certain(self.asked(raw::ctfd_label_count)) as usize;
+        Labels { of: self, next: 0, end }
     }
 
     /// The last type that the first label of a name covers.
     pub fn label(&self, name: impl AsRef<[u8]>) -> Result<u32, Refusal> {
-        let (name, mut last) = (name.as_ref(), 0);
-        told(unsafe { raw::ctfd_label_last(self.handle(), name.as_ptr(), name.len(), &mut last) })?;
-        Ok(last)
+        self.named(raw::ctfd_label_last, name.as_ref())
     }
 
     /// The bytes of its CTF section.
@@ -303,9 +297,10 @@ impl<'b> Dictionary<'b> {
             let from = made.len();
             made.resize(from + from.max(4096), 0);
             let (room, mut len) = (&mut made[from..], 0);
-            certain(unsafe {
+            // SAFETY: as in `filled`.
+            certain(told(unsafe {
                 raw::ctfd_bytes(self.handle(), from as u64, room.as_mut_ptr(), room.len(), &mut len)
-            });
+            }));
             if len as usize <= made.len() {
                 made.truncate(len as usize);
                 return made;
@@ -331,10 +326,8 @@ impl fmt::Debug for Dictionary<'_> {
 }
 
 /// What an open dictionary is not refused.
-fn certain(status: u32) {
-    if let Err(refused) = told(status) {
-        unreachable!("an open dictionary answers: {refused}");
-    }
+fn certain<T>(asked: Result<T, Refusal>) -> T {
+    asked.unwrap_or_else(|refused| unreachable!("an open dictionary answers: {refused}"))
 }
 
 /// What a function of the program returns and takes.
@@ -385,6 +378,8 @@ impl DoubleEndedIterator for Types<'_> {
 
 impl ExactSizeIterator for Types<'_> {}
 
+impl FusedIterator for Types<'_> {}
+
 /// A label: the types up to `last` were there when it was made.
 #[derive(Clone, Debug, PartialEq, Eq)]
 pub struct Label {
@@ -406,6 +401,7 @@ impl Labels<'_> {
     fn at(&self, index: usize) -> Result<Label, Refusal> {
         let mut raw = raw::Label::default();
         let name = text(|at, len, told| {
+            // SAFETY: as in `said`.
             let status = unsafe { raw::ctfd_label(self.of.handle(), index, at, len, &mut raw) };
             *told = raw.name_len;
             status
@@ -430,4 +426,16 @@ impl Iterator for Labels<'_> {
     }
 }
 
+impl DoubleEndedIterator for Labels<'_> {
+    fn next_back(&mut self) -> Option<Label> {
+        if self.next == self.end {
+            return None;
+        }
+        self.end -= 1;
+        self.at(self.end).ok()
+    }
+}
+
 impl ExactSizeIterator for Labels<'_> {}
+
+impl FusedIterator for Labels<'_> {}

@@ -65,6 +65,7 @@ macro_rules! adds_a_reference {
         $(#[$what])*
         pub fn $name<'a>(&mut self, named: impl Into<Named<'a>>, to: u16) -> Result<u16, Refusal> {
             let Named { name, root } = named.into();
+            // SAFETY: as `added` says; the name lives for the call.
             self.added(|handle, t| unsafe {
                 raw::$call(handle, name.as_ptr(), name.len(), root, to, t)
             })
@@ -81,6 +82,7 @@ macro_rules! adds_with_a_size {
             size: u64,
         ) -> Result<u16, Refusal> {
             let Named { name, root } = named.into();
+            // SAFETY: as `added` says; the name lives for the call.
             self.added(|handle, t| unsafe {
                 raw::$call(handle, name.as_ptr(), name.len(), root, size, t)
             })
@@ -98,6 +100,7 @@ macro_rules! adds_with_an_encoding {
             size: u64,
         ) -> Result<u16, Refusal> {
             let (Named { name, root }, is) = (named.into(), encoding);
+            // SAFETY: as `added` says; the name lives for the call.
             self.added(|handle, t| unsafe {
                 let (at, len) = (name.as_ptr(), name.len());
                 raw::$call(handle, at, len, root, is.encoding, is.offset, is.bits, size, t)
@@ -110,7 +113,7 @@ impl<'b> Draft<'b> {
     /// An empty draft.
     pub fn new(model: Model) -> Result<Draft<'b>, Refusal> {
         let (made, mut place) = (Dictionary::none(), 0);
-        // SAFETY: as `Dictionary::handle` says; so are all calls below.
+        // SAFETY: the handle is this value's own, as `Dictionary::handle` says.
         let status = unsafe { raw::ctfd_create(made.handle(), model == Model::Ilp32, &mut place) };
         told_at(status, place)?;
         Ok(Draft(made))
@@ -119,12 +122,14 @@ impl<'b> Draft<'b> {
     /// An empty draft over a parent, which is fixed for good, with the names that its header will
     /// have for that and for its label.
     pub fn child(parent: &Dictionary<'b>, name: &str, label: &str) -> Result<Draft<'b>, Refusal> {
-        let (made, mut place) = (Dictionary::none(), 0);
+        let (mut made, own, mut place) = (Dictionary::none(), parent.again()?, 0);
         let label = apart(label.as_bytes(), &[name.as_bytes()]);
+        // SAFETY: the handles are two, and borrowed by nobody else. The texts live for the call and
+        // share no byte. The parent's lists are kept from here on.
         let status = unsafe {
             raw::ctfd_create_child(
                 made.handle(),
-                parent.handle(),
+                own.handle(),
                 name.as_ptr(),
                 name.len(),
                 label.as_ptr(),
@@ -133,10 +138,12 @@ impl<'b> Draft<'b> {
             )
         };
         told_at(status, place)?;
+        made.keep(own);
         Ok(Draft(made))
     }
 
-    /// The number of a type that is added.
+    /// The number of a type that is added by a call of ctfd.h, which takes the handle that is this
+    /// value's own, as [`Dictionary::handle`] says, and a place for the number.
     fn added(
         &mut self,
         add: impl FnOnce(*mut raw::Handle, *mut u16) -> u32,
@@ -206,6 +213,7 @@ impl<'b> Draft<'b> {
         count: u32,
     ) -> Result<u16, Refusal> {
         let Named { name, root } = named.into();
+        // SAFETY: as `added` says; what is lent lives for the call.
         self.added(|handle, t| unsafe {
             let (at, len) = (name.as_ptr(), name.len());
             raw::ctfd_add_array(handle, at, len, root, contents, index, count, t)
@@ -220,6 +228,7 @@ impl<'b> Draft<'b> {
         arguments: &[u16],
     ) -> Result<u16, Refusal> {
         let Named { name, root } = named.into();
+        // SAFETY: as `added` says; what is lent lives for the call.
         self.added(|handle, t| unsafe {
             let (at, len) = (name.as_ptr(), name.len());
             let (args, args_len) = (arguments.as_ptr(), arguments.len());
@@ -230,6 +239,7 @@ impl<'b> Draft<'b> {
     /// Adds the declaration of a struct, a union or an enum.
     pub fn forward<'a>(&mut self, named: impl Into<Named<'a>>, tag: Kind) -> Result<u16, Refusal> {
         let Named { name, root } = named.into();
+        // SAFETY: as `added` says; what is lent lives for the call.
         self.added(|handle, t| unsafe {
             raw::ctfd_add_forward(handle, name.as_ptr(), name.len(), root, tag as u32, t)
         })
@@ -238,6 +248,7 @@ impl<'b> Draft<'b> {
     /// Adds a type of which nothing is known.
     pub fn unknown<'a>(&mut self, named: impl Into<Named<'a>>) -> Result<u16, Refusal> {
         let Named { name, root } = named.into();
+        // SAFETY: as `added` says; what is lent lives for the call.
         self.added(|handle, t| unsafe {
             raw::ctfd_add_unknown(handle, name.as_ptr(), name.len(), root, t)
         })
@@ -253,6 +264,7 @@ impl<'b> Draft<'b> {
         offset: Option<u64>,
     ) -> Result<u64, Refusal> {
         let mut at = 0;
+        // SAFETY: as `added` says; the name lives for the call.
         told(unsafe {
             raw::ctfd_add_member(
                 self.0.handle(),
@@ -271,17 +283,20 @@ impl<'b> Draft<'b> {
     /// Adds an enumerator to a pending enum.
     pub fn enumerator(&mut self, of: u16, name: &str, value: i32) -> Result<(), Refusal> {
         let (at, len) = (name.as_ptr(), name.len());
+        // SAFETY: as `added` says; the name lives for the call.
         told(unsafe { raw::ctfd_add_enumerator(self.0.handle(), of, at, len, value) })
     }
 
     /// Adds a label that covers the types up to `last`.
     pub fn label(&mut self, name: &str, last: u32) -> Result<(), Refusal> {
+        // SAFETY: as `added` says; the name lives for the call.
         told(unsafe { raw::ctfd_add_label(self.0.handle(), name.as_ptr(), name.len(), last) })
     }
 
     /// Makes all that is pending part of the dictionary. Where it is refused it stays pending.
     pub fn update(&mut self) -> Result<(), Refusal> {
         let (mut types, mut place) = (0, 0);
+        // SAFETY: as `added` says.
         let status = unsafe { raw::ctfd_update(self.0.handle(), &mut types, &mut place) };
         told_at(status, place)
     }
@@ -289,6 +304,7 @@ impl<'b> Draft<'b> {
     /// Drops what is pending.
     pub fn discard(&mut self) -> Result<(), Refusal> {
         let mut types = 0;
+        // SAFETY: as `added` says.
         told(unsafe { raw::ctfd_discard(self.0.handle(), &mut types) })
     }
 

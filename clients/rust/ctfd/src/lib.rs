@@ -39,23 +39,32 @@
 //! println!("{found}");
 //! ```
 //!
-//! Dictionaries, and all that shares them, stay on the thread that opened them:
+//! A dictionary may go to another thread, and is asked by one at a time:
+//!
+//! ```
+//! let types = ctfd::Dictionary::open(&std::fs::read("../../../examples/lua.ctf").unwrap()).unwrap();
+//! let count = std::thread::spawn(move || types.count()).join().unwrap();
+//! assert_eq!(count, 526);
+//! ```
 //!
 //! ```compile_fail,E0277
 //! let types = ctfd::Dictionary::open(&[]).unwrap();
-//! std::thread::spawn(move || types.count());
+//! std::thread::scope(|scope| scope.spawn(|| types.count()).join());
 //! ```
 
 mod apart;
+mod calls;
 mod declaration;
 mod dictionary;
 mod draft;
 mod faults;
+mod given;
 mod lists;
 mod names;
 mod raw;
 mod service;
 mod types;
+mod visits;
 
 pub use declaration::Declaration;
 pub use dictionary::{Dictionary, Function, Label, Labels, Model, Options, Types};
@@ -66,3 +75,4 @@ pub use names::Name;
 pub use raw::{EnumeratorRow, LabelRow, MemberRow, SymbolRow, TypeRow, VisitRow};
 pub use service::Service;
 pub use types::{Array, Encoding, Kind, Type};
+pub use visits::{Visited, Visits};

@@ -1,11 +1,12 @@
 //! Members, enumerators and arguments.
 
 use crate::declaration::Declaration;
-use crate::faults::{told, Fault, Refusal};
-use crate::names::{text, Name};
-use crate::raw;
+use crate::faults::{Fault, Refusal};
+use crate::names::Name;
+use crate::raw::{EnumeratorRow, MemberRow};
 use crate::types::{Kind, Type};
 use std::fmt;
+use std::iter::FusedIterator;
 
 /// A member of a struct or union. Shown, it is its declaration: `struct point *next`, or
 /// `unsigned int flags:3` of a bit-field.
@@ -44,23 +45,29 @@ pub struct Enumerator {
     pub value: i32,
 }
 
-/// Which items of a list are left.
+/// How many rows are read by one call.
+const AT_ONCE: usize = 16;
+
+/// The items of a list that are left, and some of its rows.
 #[derive(Clone, Debug)]
-struct Left<'d> {
+struct Left<'d, R> {
     of: Type<'d>,
     next: usize,
     end: usize,
+    rows: [R; AT_ONCE],
+    // The number of the first of these rows, where they were read.
+    from: Option<usize>,
 }
 
-impl<'d> Left<'d> {
+impl<'d, R: Row> Left<'d, R> {
     /// All items of a type that is of one of these kinds.
-    fn all(of: Type<'d>, kinds: &[Kind]) -> Result<Left<'d>, Refusal> {
+    fn all(of: Type<'d>, kinds: &[Kind]) -> Result<Left<'d, R>, Refusal> {
         let end = of.length()?;
         if !kinds.contains(&of.kind()) {
             let fault = Fault::WrongKind;
             return Err(Refusal { fault, place: 0 });
         }
-        Ok(Left { of, next: 0, end })
+        Ok(Left { of, next: 0, end, rows: [R::default(); AT_ONCE], from: None })
     }
 
     fn take(&mut self) -> Option<usize> {
@@ -82,6 +89,40 @@ impl<'d> Left<'d> {
     fn len(&self) -> usize {
         self.end - self.next
     }
+
+    /// The row of a number, read with those around it.
+    fn row(&mut self, index: usize) -> R {
+        let from = index - index % AT_ONCE;
+        if self.from != Some(from) {
+            counted(R::read(self.of, from, &mut self.rows));
+            self.from = Some(from);
+        }
+        self.rows[index % AT_ONCE]
+    }
+}
+
+/// Rows of a list of a type.
+trait Row: Copy + Default {
+    /// Fills rows from a number on.
+    fn read(of: Type<'_>, from: usize, rows: &mut [Self]) -> Result<u64, Refusal>;
+}
+
+impl Row for MemberRow {
+    fn read(of: Type<'_>, from: usize, rows: &mut [MemberRow]) -> Result<u64, Refusal> {
+        of.member_rows(from, rows)
+    }
+}
+
+impl Row for EnumeratorRow {
+    fn read(of: Type<'_>, from: usize, rows: &mut [EnumeratorRow]) -> Result<u64, Refusal> {
+        of.enumerator_rows(from, rows)
+    }
+}
+
+impl Row for u16 {
+    fn read(of: Type<'_>, from: usize, rows: &mut [u16]) -> Result<u64, Refusal> {
+        of.argument_rows(from, rows)
+    }
 }
 
 /// Says what an item that was counted must be.
@@ -90,10 +131,10 @@ fn counted<T>(item: Result<T, Refusal>) -> T {
 }
 
 macro_rules! list {
-    ($(#[$what:meta])* $name:ident, $item:ty, $kinds:expr) => {
+    ($(#[$what:meta])* $name:ident, $item:ty, $row:ty, $kinds:expr) => {
         $(#[$what])*
         #[derive(Clone, Debug)]
-        pub struct $name<'d>(Left<'d>);
+        pub struct $name<'d>(Left<'d, $row>);
 
         impl<'d> $name<'d> {
             pub(crate) fn of(t: Type<'d>) -> Result<Self, Refusal> {
@@ -105,7 +146,7 @@ macro_rules! list {
             type Item = $item;
 
             fn next(&mut self) -> Option<$item> {
-                self.0.take().map(|index| counted(self.at(index)))
+                self.0.take().map(|index| self.at(index))
             }
 
             fn size_hint(&self) -> (usize, Option<usize>) {
@@ -115,11 +156,13 @@ macro_rules! list {
 
         impl<'d> DoubleEndedIterator for $name<'d> {
             fn next_back(&mut self) -> Option<$item> {
-                self.0.take_back().map(|index| counted(self.at(index)))
+                self.0.take_back().map(|index| self.at(index))
             }
         }
 
         impl ExactSizeIterator for $name<'_> {}
+
+        impl FusedIterator for $name<'_> {}
     };
 }
 
@@ -127,6 +170,7 @@ list!(
     /// The members of a struct or union: [`Type::members`].
     Members,
     Member<'d>,
+    MemberRow,
     [Kind::Struct, Kind::Union]
 );
 
@@ -134,6 +178,7 @@ list!(
     /// The enumerators of an enum: [`Type::enumerators`].
     Enumerators,
     Enumerator,
+    EnumeratorRow,
     [Kind::Enum]
 );
 
@@ -141,35 +186,39 @@ list!(
     /// The arguments of a function type: [`Type::arguments`].
     Arguments,
     Option<Type<'d>>,
+    u16,
     [Kind::Function]
 );
 
 impl<'d> Members<'d> {
-    fn at(&self, index: usize) -> Result<Member<'d>, Refusal> {
-        let mut room = Vec::new();
-        let lent = self.0.of.member_in(index, &mut room)?;
-        let (offset, kind) = (lent.offset, lent.kind);
-        Ok(Member { name: Name(room), offset, kind })
+    fn at(&mut self, index: usize) -> Member<'d> {
+        let (row, of) = (self.0.row(index), self.0.of);
+        let name = name_of(of, row.name_list, row.name_at).unwrap_or_else(|| {
+            let mut room = Vec::new();
+            counted(of.member_in(index, &mut room));
+            Name(room)
+        });
+        Member { name, offset: row.offset, kind: Type::some(of.dictionary(), row.tnum) }
     }
 }
 
 impl Enumerators<'_> {
-    fn at(&self, index: usize) -> Result<Enumerator, Refusal> {
-        let (handle, number) = (self.0.of.dictionary().handle(), self.0.of.number());
-        let mut value = 0;
-        // SAFETY: as `Dictionary::handle` says; so is the call below.
-        let name = text(|at, len, told| unsafe {
-            raw::ctfd_enumerator(handle, number, index, at, len, &mut value, told)
-        })?;
-        Ok(Enumerator { name, value })
+    fn at(&mut self, index: usize) -> Enumerator {
+        let (row, of) = (self.0.row(index), self.0.of);
+        let name = name_of(of, row.name_list, row.name_at);
+        let name = name.unwrap_or_else(|| counted(of.enumerator_name_at(index)));
+        Enumerator { name, value: row.value }
     }
 }
 
 impl<'d> Arguments<'d> {
-    fn at(&self, index: usize) -> Result<Option<Type<'d>>, Refusal> {
-        let (of, number) = (self.0.of.dictionary(), self.0.of.number());
-        let mut to = 0;
-        told(unsafe { raw::ctfd_argument(of.handle(), number, index, &mut to) })?;
-        Ok(Type::some(of, to))
+    fn at(&mut self, index: usize) -> Option<Type<'d>> {
+        Type::some(self.0.of.dictionary(), self.0.row(index))
     }
+}
+
+/// The name that a row of a list of a type says, unless its lists are a draft's.
+fn name_of(of: Type<'_>, list: u32, at: u64) -> Option<Name> {
+    let name = of.dictionary().name_at(of.number(), list, at)?;
+    Some(Name(name.to_vec()))
 }

@@ -65,6 +65,10 @@ pub(crate) fn show(bytes: &[u8], to: &mut fmt::Formatter<'_>) -> fmt::Result {
     Ok(())
 }
 
+/// How many bytes a text is given room for at first: most names are shorter, and a room that grew
+/// for one long text is not cleared for each one after it.
+const FIRST: usize = 256;
+
 /// Fills a room with a text, which is asked for again where the room was too small. What is asked
 /// writes as much as fits, and tells the whole length.
 pub(crate) fn fill(
@@ -72,7 +76,7 @@ pub(crate) fn fill(
     mut ask: impl FnMut(*mut u8, usize, &mut u64) -> u32,
 ) -> Result<(), Refusal> {
     let mut len = 0;
-    room.resize(room.capacity().max(64), 0);
+    room.resize(FIRST, 0);
     loop {
         told(ask(room.as_mut_ptr(), room.len(), &mut len))?;
         let whole = len as usize <= room.len();

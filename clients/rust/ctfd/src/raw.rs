@@ -1,4 +1,5 @@
-//! The calls of libctfd.a, as clients/c/ctfd.h declares them.
+//! The calls of libctfd.a, as clients/c/ctfd.h declares them. scripts/raw.py writes this file.
+#![allow(dead_code)] // it has all of them
 
 use std::os::raw::c_void;
 
@@ -12,6 +13,25 @@ pub struct Handle {
 impl Handle {
     /// What each handle begins as.
     pub const NONE: Handle = Handle { full: false, at: std::ptr::null_mut() };
+}
+
+#[repr(C)]
+#[derive(Default)]
+pub struct Label {
+    pub name_len: u64,
+    pub last: u32,
+}
+
+/// A label by the row. Its name stands in the dictionary's own lists.
+#[repr(C)]
+#[derive(Clone, Copy, Debug, Default, PartialEq, Eq)]
+pub struct LabelRow {
+    /// How many bytes stand in front of its name.
+    pub name_at: u64,
+    /// The number of the list that its name stands in: `enum ctfd_list`.
+    pub name_list: u32,
+    /// The last type that it covers.
+    pub last: u32,
 }
 
 #[repr(C)]
@@ -38,9 +58,7 @@ pub struct Member {
     pub tnum: u16,
 }
 
-/// A member, and where its name stands: so many bytes behind the beginning of a list, and a zero byte
-/// behind it. List 0 is the CTF section, 1 the strings of the symbol table; 2 is no list, of an empty
-/// name. In a child, types below 32769 are the parent's, and so are their lists.
+/// A member of a struct or union by the row.
 #[repr(C)]
 #[derive(Clone, Copy, Debug, Default, PartialEq, Eq)]
 pub struct MemberRow {
@@ -48,26 +66,27 @@ pub struct MemberRow {
     pub offset: u64,
     /// How many bytes stand in front of its name.
     pub name_at: u64,
-    /// The number of the list that its name stands in.
+    /// The number of the list that its name stands in: `enum ctfd_list`.
     pub name_list: u32,
     /// The number of its type.
     pub tnum: u16,
 }
 
-/// An enumerator, and where its name stands, as of a [`MemberRow`].
+/// An enumerator by the row.
 #[repr(C)]
 #[derive(Clone, Copy, Debug, Default, PartialEq, Eq)]
 pub struct EnumeratorRow {
     /// How many bytes stand in front of its name.
     pub name_at: u64,
-    /// The number of the list that its name stands in.
+    /// The number of the list that its name stands in: `enum ctfd_list`.
     pub name_list: u32,
     /// Its value.
     pub value: i32,
 }
 
-/// A type of the dictionary's own, and where the name of its record stands, as of a [`MemberRow`].
-/// Where the call that asks for a number alone is refused, that is 0, with the refusal's status.
+/// A type of the dictionary's own by the row. What its size, its alignment, what it stands for and
+/// what it refers to are, is told with the status that the call for that alone answers, as
+/// ctfd_size: where that is a refusal, the number is 0.
 #[repr(C)]
 #[derive(Clone, Copy, Debug, Default, PartialEq, Eq)]
 pub struct TypeRow {
@@ -77,85 +96,49 @@ pub struct TypeRow {
     pub align: u64,
     /// How many members, enumerators or arguments it has.
     pub length: u64,
-    /// How many bytes stand in front of its name.
+    /// How many bytes stand in front of the name in its record.
     pub name_at: u64,
-    /// The number of the list that its name stands in.
+    /// The number of the list that the name stands in: `enum ctfd_list`.
     pub name_list: u32,
-    /// The number of its kind.
+    /// The number of its kind: `enum ctfd_kind`.
     pub kind: u32,
     /// 1 where look-ups by name see it, else 0.
     pub root: u32,
-    /// The status of its size.
+    /// The status of ctfd_size.
     pub size_status: u32,
-    /// The status of its alignment.
+    /// The status of ctfd_align.
     pub align_status: u32,
-    /// The status of what it stands for.
+    /// The status of ctfd_resolve.
     pub resolved_status: u32,
-    /// The status of what it refers to.
+    /// The status of ctfd_reference.
     pub reference_status: u32,
     /// Its number.
     pub tnum: u16,
-    /// The number of the type that it stands for, along typedefs and qualifiers.
+    /// The number of the type that it stands for.
     pub resolved: u16,
     /// The number of the type that it points to, renames or qualifies.
     pub reference: u16,
 }
 
-/// A type in a visit: that of a member of a struct or union, and where its name stands, as of a
-/// [`MemberRow`], in the dictionary that has the struct or union.
+/// A type in a visit: `type` is that of a member of the struct or union `holder`, which lies in
+/// `depth` others and begins `offset` bits behind the beginning of the outermost: UINT64_MAX past
+/// 64 bits. The lists of its name are those of the dictionary that has the holder. The outermost
+/// type comes first, without a name, at depth 0 and as its own holder.
 #[repr(C)]
 #[derive(Clone, Copy, Debug, Default, PartialEq, Eq)]
 pub struct VisitRow {
-    /// Where it begins, in bits from the beginning of the outermost type: `u64::MAX` past 64 bits.
+    /// Where it begins, in bits from the beginning of the outermost.
     pub offset: u64,
     /// How many bytes stand in front of its name.
     pub name_at: u64,
-    /// The number of the list that its name stands in.
+    /// The number of the list that its name stands in: `enum ctfd_list`.
     pub name_list: u32,
-    /// How many types it lies in.
+    /// How many structs and unions it lies in.
     pub depth: u32,
     /// The number of its type.
     pub tnum: u16,
-    /// The number of the struct or union whose member it is; the outermost type is its own.
+    /// The number of the struct or union that it is a member of.
     pub holder: u16,
-}
-
-#[repr(C)]
-#[derive(Default)]
-pub struct Label {
-    pub name_len: u64,
-    pub last: u32,
-}
-
-/// A label, and where its name stands, as of a [`MemberRow`].
-#[repr(C)]
-#[derive(Clone, Copy, Debug, Default, PartialEq, Eq)]
-pub struct LabelRow {
-    /// How many bytes stand in front of its name.
-    pub name_at: u64,
-    /// The number of the list that its name stands in.
-    pub name_list: u32,
-    /// The number of the last type that it covers.
-    pub last: u32,
-}
-
-/// A symbol of the program, and where its name stands, as of a [`MemberRow`]. Where the call that
-/// asks for its type alone is refused, that is 0, with the refusal's status.
-#[repr(C)]
-#[derive(Clone, Copy, Debug, Default, PartialEq, Eq)]
-pub struct SymbolRow {
-    /// How many bytes stand in front of its name.
-    pub name_at: u64,
-    /// The number of the list that its name stands in.
-    pub name_list: u32,
-    /// Its number.
-    pub number: u32,
-    /// 1 where it stands for an object, 2 for a function, 0 for anything else.
-    pub symbol_class: u32,
-    /// The status of its type.
-    pub type_status: u32,
-    /// The number of an object's type, or of what a function returns.
-    pub tnum: u16,
 }
 
 #[repr(C)]
@@ -164,6 +147,26 @@ pub struct Function {
     pub arguments: u64,
     pub varargs: u32,
     pub ret: u16,
+}
+
+/// A symbol by the row: a type is what a function returns, with the status of ctfd_function, and
+/// else that of an object, with the status of ctfd_object. Where that is a refusal, the type is 0.
+/// Its name stands in the dictionary's own lists.
+#[repr(C)]
+#[derive(Clone, Copy, Debug, Default, PartialEq, Eq)]
+pub struct SymbolRow {
+    /// How many bytes stand in front of its name.
+    pub name_at: u64,
+    /// The number of the list that its name stands in: 1, or 2 for none.
+    pub name_list: u32,
+    /// Its number.
+    pub number: u32,
+    /// What it stands for: `enum ctfd_symbol_class`.
+    pub symbol_class: u32,
+    /// The status of its type.
+    pub type_status: u32,
+    /// The number of its type.
+    pub tnum: u16,
 }
 
 extern "C" {

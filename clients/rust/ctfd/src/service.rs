@@ -4,7 +4,6 @@ use crate::faults::{told, Refusal};
 use crate::names::fill;
 use crate::raw;
 use std::fmt;
-use std::marker::PhantomData;
 
 /// A service that answers lines of JSON as `ctfd serve` does, all its sessions in this process.
 ///
@@ -16,16 +15,18 @@ use std::marker::PhantomData;
 pub struct Service {
     raw: raw::Handle,
     room: Vec<u8>,
-    here: PhantomData<*mut ()>,
 }
+
+// SAFETY: a service may be asked on any thread, one call at a time; it shares nothing with others.
+unsafe impl Send for Service {}
 
 impl Service {
     /// A service in which no session holds anything.
     pub fn new() -> Result<Service, Refusal> {
         let mut raw = raw::Handle::NONE;
-        // SAFETY: the handle is this value's own; so it is in the calls below.
+        // SAFETY: the handle is this function's own.
         told(unsafe { raw::ctfd_begin(&mut raw) })?;
-        Ok(Service { raw, room: Vec::with_capacity(4096), here: PhantomData })
+        Ok(Service { raw, room: Vec::with_capacity(4096) })
     }
 
     /// Answers a line; neither that nor the reply has a newline at its end. What is refused is told
@@ -34,8 +35,11 @@ impl Service {
         let (raw, mut is_asked) = (&mut self.raw, false);
         fill(&mut self.room, |at, len, told| {
             if std::mem::replace(&mut is_asked, true) {
+                // SAFETY: the handle is this value's own; `fill` gives room for as many bytes as it
+                // says.
                 return unsafe { raw::ctfd_reply(raw, at, len, told) };
             }
+            // SAFETY: as above; the line lives for the call.
             unsafe { raw::ctfd_line(raw, line.as_ptr(), line.len(), at, len, told) }
         })?;
         let reply = std::str::from_utf8(&self.room).expect("a reply is plain ASCII");

@@ -6,7 +6,9 @@ use crate::faults::{told, told_at, Refusal};
 use crate::lists::{Arguments, Enumerators, Member, Members};
 use crate::names::{fill, text, Name};
 use crate::raw::{self, EnumeratorRow, MemberRow, VisitRow};
+use crate::visits::Visits;
 use std::fmt;
+use std::hash::{Hash, Hasher};
 
 /// The kinds of types, by their numbers in sys/ctf.h.
 #[derive(Clone, Copy, Debug, PartialEq, Eq, Hash)]
@@ -104,6 +106,13 @@ impl PartialEq for Type<'_> {
 
 impl Eq for Type<'_> {}
 
+impl Hash for Type<'_> {
+    fn hash<H: Hasher>(&self, to: &mut H) {
+        (self.of as *const Dictionary<'_>).hash(to);
+        self.number.hash(to);
+    }
+}
+
 impl fmt::Debug for Type<'_> {
     fn fmt(&self, to: &mut fmt::Formatter<'_>) -> fmt::Result {
         write!(to, "{} ({self})", self.number)
@@ -133,10 +142,9 @@ impl<'d> Type<'d> {
 
     /// The type of a number that a caller has.
     pub(crate) fn get(of: &'d Dictionary<'d>, number: u16) -> Result<Type<'d>, Refusal> {
-        let mut kind = 0;
-        // SAFETY: as `Dictionary::handle` says; so are all calls below.
-        told(unsafe { raw::ctfd_kind(of.handle(), number, &mut kind) })?;
-        Ok(Type { of, number })
+        let found = Type { of, number };
+        found.asked(raw::ctfd_kind)?;
+        Ok(found)
     }
 
     pub(crate) fn dictionary(self) -> &'d Dictionary<'d> {
@@ -150,25 +158,17 @@ impl<'d> Type<'d> {
 
     /// Its kind. A type of a parent that is not imported is of an unknown kind.
     pub fn kind(self) -> Kind {
-        let mut kind = 0;
-        match told(unsafe { raw::ctfd_kind(self.of.handle(), self.number, &mut kind) }) {
-            Ok(()) => Kind::of(kind),
-            Err(_) => Kind::Unknown,
-        }
+        self.asked(raw::ctfd_kind).map_or(Kind::Unknown, Kind::of)
     }
 
     /// Its name as C spells it: `struct point *`.
     pub fn name(self) -> Result<Name, Refusal> {
-        text(|at, len, told| unsafe {
-            raw::ctfd_name(self.of.handle(), self.number, at, len, told)
-        })
+        self.said(raw::ctfd_name)
     }
 
     /// The name in its record, without `struct`, `union` or `enum` in front: empty for none.
     pub fn declared_name(self) -> Result<Name, Refusal> {
-        text(|at, len, told| unsafe {
-            raw::ctfd_declared_name(self.of.handle(), self.number, at, len, told)
-        })
+        self.said(raw::ctfd_declared_name)
     }
 
     /// How C declares something of this type: shown, it is `struct point *next`.
@@ -199,64 +199,47 @@ impl<'d> Type<'d> {
 
     /// Whether it is visible to look-ups by name.
     pub fn is_root(self) -> Result<bool, Refusal> {
-        let mut root = 0;
-        told(unsafe { raw::ctfd_root(self.of.handle(), self.number, &mut root) })?;
-        Ok(root != 0)
+        Ok(self.asked(raw::ctfd_root)? != 0)
     }
 
     /// Its size in bytes.
     pub fn size(self) -> Result<u64, Refusal> {
-        let mut bytes = 0;
-        told(unsafe { raw::ctfd_size(self.of.handle(), self.number, &mut bytes) })?;
-        Ok(bytes)
+        self.asked(raw::ctfd_size)
     }
 
     /// Its alignment in bytes.
     pub fn align(self) -> Result<u64, Refusal> {
-        let mut bytes = 0;
-        told(unsafe { raw::ctfd_align(self.of.handle(), self.number, &mut bytes) })?;
-        Ok(bytes)
+        self.asked(raw::ctfd_align)
     }
 
     /// The type that it stands for, along typedefs and qualifiers.
     pub fn resolve(self) -> Result<Option<Type<'d>>, Refusal> {
-        let mut to = 0;
-        told(unsafe { raw::ctfd_resolve(self.of.handle(), self.number, &mut to) })?;
-        Ok(Type::some(self.of, to))
+        Ok(Type::some(self.of, self.asked(raw::ctfd_resolve)?))
     }
 
     /// What it points to, renames or qualifies.
     pub fn reference(self) -> Result<Option<Type<'d>>, Refusal> {
-        let mut to = 0;
-        told(unsafe { raw::ctfd_reference(self.of.handle(), self.number, &mut to) })?;
-        Ok(Type::some(self.of, to))
+        Ok(Type::some(self.of, self.asked(raw::ctfd_reference)?))
     }
 
     /// The least pointer to it.
     pub fn pointer(self) -> Result<Type<'d>, Refusal> {
-        let mut to = 0;
-        told(unsafe { raw::ctfd_pointer(self.of.handle(), self.number, &mut to) })?;
-        Ok(Type::known(self.of, to))
+        Ok(Type::known(self.of, self.asked(raw::ctfd_pointer)?))
     }
 
     /// What a function type returns.
     pub fn returns(self) -> Result<Option<Type<'d>>, Refusal> {
-        let mut to = 0;
-        told(unsafe { raw::ctfd_return(self.of.handle(), self.number, &mut to) })?;
-        Ok(Type::some(self.of, to))
+        Ok(Type::some(self.of, self.asked(raw::ctfd_return)?))
     }
 
     /// What a forward declares: a struct, a union or an enum.
     pub fn tag(self) -> Result<Kind, Refusal> {
-        let mut tag = 0;
-        told(unsafe { raw::ctfd_tag(self.of.handle(), self.number, &mut tag) })?;
-        Ok(Kind::of(tag))
+        self.asked(raw::ctfd_tag).map(Kind::of)
     }
 
     /// How the value of an integer or a float is encoded.
     pub fn encoding(self) -> Result<Encoding, Refusal> {
-        let mut raw = raw::Encoding::default();
-        told(unsafe { raw::ctfd_encoding(self.of.handle(), self.number, &mut raw) })?;
+        let raw: raw::Encoding = self.asked(raw::ctfd_encoding)?;
         Ok(Encoding {
             encoding: raw.encoding as u8,
             offset: raw.offset as u8,
@@ -266,8 +249,7 @@ impl<'d> Type<'d> {
 
     /// The parts of an array.
     pub fn array(self) -> Result<Array<'d>, Refusal> {
-        let mut raw = raw::Array::default();
-        told(unsafe { raw::ctfd_array(self.of.handle(), self.number, &mut raw) })?;
+        let raw: raw::Array = self.asked(raw::ctfd_array)?;
         Ok(Array {
             contents: Type::some(self.of, raw.contents),
             index: Type::some(self.of, raw.index),
@@ -277,9 +259,7 @@ impl<'d> Type<'d> {
 
     /// How many members, enumerators or arguments it has.
     pub fn length(self) -> Result<usize, Refusal> {
-        let mut length = 0;
-        told(unsafe { raw::ctfd_length(self.of.handle(), self.number, &mut length) })?;
-        Ok(length as usize)
+        Ok(self.asked(raw::ctfd_length)? as usize)
     }
 
     /// The members of a struct or union, in order.
@@ -307,6 +287,7 @@ impl<'d> Type<'d> {
         let mut raw = raw::Member::default();
         fill(room, |at, len, told| {
             let handle = self.of.handle();
+            // SAFETY: as in `asked`; `fill` gives room for as many bytes as it says.
             let status = unsafe { raw::ctfd_member(handle, self.number, index, at, len, &mut raw) };
             *told = raw.name_len;
             status
@@ -314,9 +295,19 @@ impl<'d> Type<'d> {
         Ok(Member { name: room, offset: raw.offset, kind: Type::some(self.of, raw.tnum) })
     }
 
+    /// The name of an enumerator by its number.
+    pub(crate) fn enumerator_name_at(self, index: usize) -> Result<Name, Refusal> {
+        let (handle, number, mut value) = (self.of.handle(), self.number, 0);
+        // SAFETY: as in `asked`; `text` gives room for as many bytes as it says.
+        text(|at, len, told| unsafe {
+            raw::ctfd_enumerator(handle, number, index, at, len, &mut value, told)
+        })
+    }
+
     /// The name of the first enumerator that has a value.
     pub fn enumerator_name(self, value: i32) -> Result<Name, Refusal> {
         let (handle, number) = (self.of.handle(), self.number);
+        // SAFETY: as in `asked`; `text` gives room for as many bytes as it says.
         text(|at, len, told| unsafe { raw::ctfd_enum_name(handle, number, value, at, len, told) })
     }
 
@@ -324,6 +315,7 @@ impl<'d> Type<'d> {
     pub fn enumerator_value(self, name: impl AsRef<[u8]>) -> Result<i32, Refusal> {
         let (name, mut value) = (name.as_ref(), 0);
         let handle = self.of.handle();
+        // SAFETY: as in `asked`; the name lives for the call.
         told(unsafe {
             raw::ctfd_enum_value(handle, self.number, name.as_ptr(), name.len(), &mut value)
         })?;
@@ -333,28 +325,19 @@ impl<'d> Type<'d> {
     /// Fills rows with the members of a struct or union, from a number on, and answers how many it
     /// has. Rows behind the last stay.
     pub fn member_rows(self, from: usize, rows: &mut [MemberRow]) -> Result<u64, Refusal> {
-        let (at, len, mut count) = (rows.as_mut_ptr(), rows.len(), 0);
-        let handle = self.of.handle();
-        told(unsafe { raw::ctfd_members(handle, self.number, from, at, len, &mut count) })?;
-        Ok(count)
+        self.filled(raw::ctfd_members, from, rows)
     }
 
     /// The same of the enumerators of an enum.
     pub fn enumerator_rows(self, from: usize, rows: &mut [EnumeratorRow]) -> Result<u64, Refusal> {
-        let (at, len, mut count) = (rows.as_mut_ptr(), rows.len(), 0);
-        let handle = self.of.handle();
-        told(unsafe { raw::ctfd_enumerators(handle, self.number, from, at, len, &mut count) })?;
-        Ok(count)
+        self.filled(raw::ctfd_enumerators, from, rows)
     }
 
     /// Fills rows with the numbers of a function type's arguments as they are stored, a last 0
     /// where more may follow, from a number on, and answers how many it has. Rows behind the last
     /// stay.
     pub fn argument_rows(self, from: usize, rows: &mut [u16]) -> Result<u64, Refusal> {
-        let (at, len, mut count) = (rows.as_mut_ptr(), rows.len(), 0);
-        let handle = self.of.handle();
-        told(unsafe { raw::ctfd_arguments(handle, self.number, from, at, len, &mut count) })?;
-        Ok(count)
+        self.filled(raw::ctfd_arguments, from, rows)
     }
 
     /// Fills rows with the type and all that lies in it: the members of the struct or union that
@@ -363,14 +346,28 @@ impl<'d> Type<'d> {
     pub fn visit_rows(self, rows: &mut [VisitRow]) -> Result<u64, Refusal> {
         let (at, len, mut count) = (rows.as_mut_ptr(), rows.len(), 0);
         let handle = self.of.handle();
+        // SAFETY: as in `filled`.
         told(unsafe { raw::ctfd_visit(handle, self.number, at, len, &mut count) })?;
         Ok(count)
+    }
+
+    /// The type and all that lies in it, each member followed by what lies in that.
+    ///
+    /// ```
+    /// let types = ctfd::Dictionary::open(&std::fs::read("../../../examples/lua.ctf").unwrap()).unwrap();
+    /// let state = types.find("struct lua_State").unwrap();
+    /// let deepest = state.visit().unwrap().map(|visited| visited.depth).max();
+    /// assert!(deepest >= Some(2));
+    /// ```
+    pub fn visit(self) -> Result<Visits<'d>, Refusal> {
+        Visits::of(self)
     }
 
     /// Where the first member of a name lies, in bits, and its type.
     pub fn field(self, name: impl AsRef<[u8]>) -> Result<(u64, Option<Type<'d>>), Refusal> {
         let (name, mut offset, mut to) = (name.as_ref(), 0, 0);
         let handle = self.of.handle();
+        // SAFETY: as in `asked`; the name lives for the call.
         told(unsafe {
             raw::ctfd_field(handle, self.number, name.as_ptr(), name.len(), &mut offset, &mut to)
         })?;
@@ -384,6 +381,7 @@ impl<'d> Type<'d> {
         let steps: Vec<u8> =
             names.iter().flat_map(|name| name.iter().chain(&[0])).copied().collect();
         let handle = self.of.handle();
+        // SAFETY: as in `asked`; the steps live for the call, and each ends in a zero byte.
         let status = unsafe {
             raw::ctfd_path(
                 handle,
@@ -401,6 +399,8 @@ impl<'d> Type<'d> {
 
     /// What a value holds that begins at a bit of some memory, as a debugger shows it.
     pub fn show(self, memory: &[u8], offset: u64) -> Result<Name, Refusal> {
+        // SAFETY: as in `asked`; the memory lives for the call, and the room, which `text` made, is
+        // another.
         text(|at, len, told| unsafe {
             let handle = self.of.handle();
             let memory_at = memory.as_ptr();

@@ -247,6 +247,14 @@ fn a_visit_fills_rows_with_all_that_lies_in_a_type() {
         lying_in(t, 0, 0, &mut wanted);
         let mut rows = vec![VisitRow::default(); wanted.len()];
         assert_eq!(t.visit_rows(&mut rows), Ok(wanted.len() as u64));
+        let visited = t.visit().unwrap().map(|in_it| VisitRow {
+            offset: in_it.offset.unwrap_or(u64::MAX),
+            depth: in_it.depth,
+            tnum: in_it.of_type.map_or(0, Type::number),
+            holder: in_it.holder.number(),
+            ..VisitRow::default()
+        });
+        assert!(visited.eq(wanted.iter().map(|one| VisitRow { name_list: 0, ..*one })));
         let shown = rows.iter().zip(&wanted).map(|(row, one)| VisitRow {
             name_at: one.name_at,
             name_list: one.name_list,

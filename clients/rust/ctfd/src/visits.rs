@@ -1,0 +1,101 @@
+//! All that lies in a type.
+
+use crate::faults::Refusal;
+use crate::names::Name;
+use crate::raw::VisitRow;
+use crate::types::Type;
+use std::fmt;
+use std::iter::FusedIterator;
+
+/// How many rows are asked for first; then twice as many, each time that there are more.
+const FIRST: usize = 64;
+
+/// A type in a visit, with where it lies.
+#[derive(Clone, PartialEq, Eq)]
+pub struct Visited<'d> {
+    /// The name of the member, empty of the outermost type.
+    pub name: Name,
+    /// The member's type; none where that is no type.
+    pub of_type: Option<Type<'d>>,
+    /// The struct or union that it is a member of; the outermost type is its own.
+    pub holder: Type<'d>,
+    /// Where it begins, in bits from the beginning of the outermost; none past 64 bits.
+    pub offset: Option<u64>,
+    /// How many structs and unions it lies in.
+    pub depth: u32,
+}
+
+impl fmt::Debug for Visited<'_> {
+    fn fmt(&self, to: &mut fmt::Formatter<'_>) -> fmt::Result {
+        write!(to, "{} {:?} at {:?}, {} deep", self.name, self.of_type, self.offset, self.depth)
+    }
+}
+
+/// A type and all that lies in it, each member followed by what lies in that: [`Type::visit`].
+#[derive(Clone, Debug)]
+pub struct Visits<'d> {
+    of: Type<'d>,
+    rows: Vec<VisitRow>,
+    // How many rows there are, and one more than were asked for where there are more.
+    count: u64,
+    next: usize,
+    // How many members were passed at each depth.
+    passed: Vec<usize>,
+}
+
+impl<'d> Visits<'d> {
+    pub(crate) fn of(of: Type<'d>) -> Result<Visits<'d>, Refusal> {
+        let mut rows = vec![VisitRow::default(); FIRST];
+        let count = of.visit_rows(&mut rows)?;
+        Ok(Visits { of, rows, count, next: 0, passed: Vec::new() })
+    }
+
+    /// The row of the next type, if any is left.
+    fn row(&mut self) -> Option<VisitRow> {
+        if self.next == self.rows.len() && self.count > self.rows.len() as u64 {
+            self.rows.resize(2 * self.rows.len(), VisitRow::default());
+            self.count = self.of.visit_rows(&mut self.rows).ok()?;
+        }
+        let row = (self.next as u64) < self.count;
+        row.then(|| self.rows[self.next])
+    }
+
+    /// The name of the member that a row is of, which is the next of its holder.
+    fn name(&mut self, row: &VisitRow, holder: Type<'d>) -> Name {
+        let depth = row.depth as usize;
+        self.passed.truncate(depth + 1);
+        self.passed.resize(depth + 1, 0);
+        let index = self.passed[depth];
+        self.passed[depth] += 1;
+        if depth == 0 {
+            return Name::default();
+        }
+        if let Some(name) = holder.dictionary().name_at(row.holder, row.name_list, row.name_at) {
+            return Name(name.to_vec());
+        }
+        let mut room = Vec::new();
+        match holder.member_in(index, &mut room) {
+            Ok(_) => Name(room),
+            Err(refused) => unreachable!("a member that is visited is there: {refused}"),
+        }
+    }
+}
+
+impl<'d> Iterator for Visits<'d> {
+    type Item = Visited<'d>;
+
+    fn next(&mut self) -> Option<Visited<'d>> {
+        let row = self.row()?;
+        self.next += 1;
+        let holder = Type::known(self.of.dictionary(), row.holder);
+        Some(Visited {
+            name: self.name(&row, holder),
+            of_type: Type::some(self.of.dictionary(), row.tnum),
+            holder,
+            offset: (row.offset != u64::MAX).then_some(row.offset),
+            depth: row.depth,
+        })
+    }
+}
+
+impl FusedIterator for Visits<'_> {}
