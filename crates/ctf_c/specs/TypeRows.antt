@@ -1,5 +1,5 @@
 -- Rows of types. The words are ours; what a row says of a type is what the single calls answer.
-use Rattle.std.specs.Prelude.{◌≡◌, ℕ, List, length, map, Option, Some, None, Result, Ok, Err, option_and_then}
+use Rattle.std.specs.Prelude.{◌≡◌, ℕ, List, length, map, Option, Some, Ok, option_and_then}
 use Rattle.std.specs.List.{range_with_len}
 use Rattle.ctf_c.specs.Given.{Gives, asked, flag, number_of_kind}
 use Rattle.ctf_c.specs.Rowed.{lists_with}

@@ -65,13 +65,19 @@ struct RecordNumbers {
 fn put_figures(layout: &Layout, t: TypeNum, row: &mut GivenTypeRow)
     ensures { (s : WholeSpace) → Fits s layout.now → 0 < t.0 → TellsFigures s t.0 row.new }
 {
+    let mut size = 0;
+    let mut align = 0;
+    let mut resolved = 0;
     let extent = layout.figures(t);
-    row.size = 0;
-    row.align = 0;
-    row.resolved = 0;
-    row.size_status = give(extent.size.get(), &mut row.size);
-    row.align_status = give(extent.align.get(), &mut row.align);
-    row.resolved_status = give_type(extent.target.get(), &mut row.resolved);
+    let size_status = give(extent.size.get(), &mut size);
+    let align_status = give(extent.align.get(), &mut align);
+    let resolved_status = give_type(extent.target.get(), &mut resolved);
+    row.size = size;
+    row.align = align;
+    row.size_status = size_status;
+    row.align_status = align_status;
+    row.resolved_status = resolved_status;
+    row.resolved = resolved;
 }
 
 /// The number of a kind: kinds stand in the order of their numbers.

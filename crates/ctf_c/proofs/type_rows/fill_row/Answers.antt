@@ -1,4 +1,4 @@
-use Rattle.std.proofs.Common.{◌<◌, ◌∙◌, arith}
+use Rattle.std.proofs.Common.{◌∙◌, arith}
 use Rattle.ctf_check.specs.CheckedView.{lists_of}
 use Rattle.ctf_check.specs.TypedView.{dictionary_in, spelled}
 use Rattle.ctf_model.specs.opened.Open.{space_in}

@@ -1,4 +1,4 @@
-use Rattle.std.proofs.Common.{◌≡◌, ◌+◌, ◌-◌, ◌<◌, Some, ap, length, sym, ◌∙◌, arith}
+use Rattle.std.proofs.Common.{◌+◌, ◌-◌, ◌<◌, Some, ap, length, sym, ◌∙◌, arith}
 use Rattle.ctf_c.proofs.TypeRows.{as_many, told_there}
 use Rattle.ctf_c.proofs.names.Filled.{all_filled, filled, unfilled}
 use Rattle.ctf_c.specs.TypeRows.{TellsType, own_numbers}
