@@ -1,10 +1,10 @@
 -- Items that are told of by their numbers, and those of an open dictionary.
-use Rattle.std.proofs.Common.{◌≡◌, ℕ, ◌+◌, ◌^◌, ◌<◌, List, length, min, Option, Some, refl, sym, ap, subst, ◌∙◌, arith}
+use Rattle.std.proofs.Common.{◌≡◌, ℕ, ◌+◌, ◌<◌, Some, ap, subst, ◌∙◌, arith}
 use Rattle.std.specs.List.{range_with_len}
 use Rattle.std.specs.Prelude.{IfSome, slice_get}
 use Rattle.std.proofs.lemmas.List.FromFn.{get_or-range_with_len, length-range_with_len}
 use Rattle.std.proofs.lemmas.Option.{slice_get-get_or}
-use Rattle.ctf_c.specs.ItemRows.{TellsLabel, own_lists_of, symbol_numbers}
+use Rattle.ctf_c.specs.ItemRows.{TellsLabel, own_lists_of}
 use Rattle.ctf_c.specs.declared.label_rows.GivenLabelRow.{GivenLabelRow}
 use Rattle.ctf_model.specs.format.Dictionary.{Dictionary}
 use Rattle.ctf_model.specs.format.Lists.{Lists}

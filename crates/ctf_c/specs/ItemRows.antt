@@ -1,6 +1,6 @@
 -- Rows of symbols, labels and arguments. The words are ours; what a row says is what the single
 -- calls answer.
-use Rattle.std.specs.Prelude.{◌≡◌, ℕ, ◌^◌, ◌==◌, min, List, length, Option, Some, None, Result, Ok, Err, option_map, option_and_then, slice_get, if◌then◌else◌}
+use Rattle.std.specs.Prelude.{◌≡◌, ℕ, ◌^◌, ◌==◌, min, List, length, Option, Some, Result, Ok, option_map, option_and_then, slice_get, if◌then◌else◌}
 use Rattle.std.specs.List.{range_with_len}
 use Rattle.ctf_c.specs.Given.{Gives, asked}
 use Rattle.ctf_c.specs.names.Places.{text_in}
@@ -15,7 +15,6 @@ use Rattle.ctf_model.specs.opened.Open.{Open, own_in}
 use Rattle.ctf_model.specs.opened.Questions.{answer_map}
 use Rattle.ctf_model.specs.symbols.Entries.{Signature}
 use Rattle.ctf_model.specs.symbols.SymbolQuestions.{function_of, name_of_symbol, object_of, or_refused}
-use Rattle.ctf_model.specs.symbols.Symbols.{Symbol}
 
 -- the dictionary's own lists
 abbrev pub own_lists_of : Option Open → Option Lists

@@ -1,5 +1,5 @@
 -- Rows of types. The words are ours; what a row says of a type is what the single calls answer.
-use Rattle.std.specs.Prelude.{◌≡◌, ℕ, List, length, map, Option, Some, None, Result, Ok, Err, option_and_then}
+use Rattle.std.specs.Prelude.{◌≡◌, ℕ, List, length, map, Option, Some, Ok, option_and_then}
 use Rattle.std.specs.List.{range_with_len}
 use Rattle.ctf_c.specs.Given.{Gives, asked, flag, number_of_kind}
 use Rattle.ctf_c.specs.Rowed.{lists_with}
@@ -9,7 +9,6 @@ use Rattle.ctf_model.specs.figures.Figures.{reference as reference_of}
 use Rattle.ctf_model.specs.format.Dictionary.{Dictionary}
 use Rattle.ctf_model.specs.opened.Open.{Open, space_in}
 use Rattle.ctf_model.specs.opened.Questions.{align_answered, answer_map, kind_answered, length_answered, on_shape, resolved_answered, root_answered, shape_of, size_answered}
-use Rattle.ctf_c.specs.declared.type_rows.Figures.{Figures}
 use Rattle.ctf_layout.specs.Fitting.{Fits}
 use Rattle.ctf_layout.specs.declared.layout.Layout.{Layout}
 use Rattle.ctf_model.specs.spaces.Space.{Space, space_type}
@@ -44,11 +43,11 @@ pub record TellsType (s : Option Open) (t : ℕ) (row : GivenTypeRow) : Type 0 w
       × (option_and_then (λ lists. text_in lists row.name_list row.name_at) (lists_with s t)
       ≡ Some said)
 
--- what is worked out of a type: a number of each, or 0 with the status of its refusal
-pub record TellsFigures (s : Space) (t : ℕ) (f : Figures) : Type 0 where
-  pub size : Gives (size_answered s t) f.size_status 0 f.size
-  pub align : Gives (align_answered s t) f.align_status 0 f.align
-  pub resolved : Gives (resolved_answered s t) f.resolved_status 0 f.resolved
+-- a row tells what is worked out of a type: a number of each, or 0 with the status of its refusal
+pub record TellsFigures (s : Space) (t : ℕ) (row : GivenTypeRow) : Type 0 where
+  pub size : Gives (size_answered s t) row.size_status 0 row.size
+  pub align : Gives (align_answered s t) row.align_status 0 row.align
+  pub resolved : Gives (resolved_answered s t) row.resolved_status 0 row.resolved
 
 -- the space and the layout are those of what is open
 pub record IsAsked (d : Open) (lent : LentSpace) (layout : Layout) : Type 0 where

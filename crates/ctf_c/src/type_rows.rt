@@ -50,17 +50,6 @@ pub struct GivenTypeRow {
     pub reference: u16,
 }
 
-/// What is worked out of a type: a number, or 0 with the status of its refusal.
-#[derive(Clone, Copy)]
-struct Figures {
-    size: u64,
-    align: u64,
-    size_status: u32,
-    align_status: u32,
-    resolved_status: u32,
-    resolved: u16,
-}
-
 /// What the record of a type says.
 #[derive(Clone, Copy)]
 struct RecordNumbers {
@@ -71,10 +60,10 @@ struct RecordNumbers {
     reference: u16,
 }
 
-/// What is worked out of a type.
+/// Fills a row with what is worked out of a type.
 #[inline(always)]
-fn figures_of(layout: &Layout, t: TypeNum) -> Figures
-    ensures { (s : WholeSpace) → Fits s layout.now → 0 < t.0 → TellsFigures s t.0 result }
+fn put_figures(layout: &Layout, t: TypeNum, row: &mut GivenTypeRow)
+    ensures { (s : WholeSpace) → Fits s layout.now → 0 < t.0 → TellsFigures s t.0 row.new }
 {
     let mut size = 0;
     let mut align = 0;
@@ -83,14 +72,12 @@ fn figures_of(layout: &Layout, t: TypeNum) -> Figures
     let size_status = give(extent.size.get(), &mut size);
     let align_status = give(extent.align.get(), &mut align);
     let resolved_status = give_type(extent.target.get(), &mut resolved);
-    Figures {
-        size,
-        align,
-        size_status,
-        align_status,
-        resolved_status,
-        resolved,
-    }
+    row.size = size;
+    row.align = align;
+    row.size_status = size_status;
+    row.align_status = align_status;
+    row.resolved_status = resolved_status;
+    row.resolved = resolved;
 }
 
 /// The number of a kind: kinds stand in the order of their numbers.
@@ -172,34 +159,34 @@ fn own_type<'a>(space: &Space<'a>, index: usize) -> Typed<'a>
     space.dictionary().typed(index + 1).unwrap()
 }
 
-/// What is told of an own type, from 0.
+/// Fills a row with what is told of an own type, from 0.
 #[inline(always)]
-fn type_row(space: &Space<'_>, layout: &Layout, index: usize) -> GivenTypeRow
+fn fill_row(space: &Space<'_>, layout: &Layout, index: usize, row: &mut GivenTypeRow)
     requires { index < length (space_of space.now).own.terms }
     ensures { (d : Open) → IsAsked d space.now layout.now
-        → TellsType (Some d) (own_number (own_in d).child index) result }
+        → TellsType (Some d) (own_number (own_in d).child index) row.new }
 {
     let t = space.own_number(index);
+    put_figures(layout, t, row);
     let found = own_type(space, index);
     let place = name_place(&found);
-    let figures = figures_of(layout, t);
     let numbers = numbers_of(&found);
-    GivenTypeRow {
-        size: figures.size,
-        align: figures.align,
+    *row = GivenTypeRow {
+        size: row.size,
+        align: row.align,
         length: numbers.length,
         name_at: place.at,
         name_list: place.list,
         kind: numbers.kind,
         root: numbers.root,
-        size_status: figures.size_status,
-        align_status: figures.align_status,
-        resolved_status: figures.resolved_status,
+        size_status: row.size_status,
+        align_status: row.align_status,
+        resolved_status: row.resolved_status,
         reference_status: numbers.reference_status,
         tnum: t.0,
-        resolved: figures.resolved,
+        resolved: row.resolved,
         reference: numbers.reference,
-    }
+    };
 }
 
 /// Fills rows with the own types from a number on, counted from 0, and answers how many there are.
@@ -214,7 +201,7 @@ fn types_into(dictionary: &OpenDictionary, from: usize, rows: &mut [GivenTypeRow
     let left = all.saturating_sub(from);
     let count = left.min(rows.len());
     for i in 0..count {
-        rows[i] = type_row(&space, &tables.layout, from + i);
+        fill_row(&space, &tables.layout, from + i, &mut rows[i]);
     }
     all as u64
 }

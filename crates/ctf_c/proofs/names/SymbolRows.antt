@@ -1,5 +1,5 @@
 -- A symbol stands in 24 bytes.
-use Rattle.std.proofs.Common.{◌≡◌, ℕ, zero, suc, ◌+◌, ◌*◌, ◌/◌, ◌%◌, ◌<◌, ◌≤◌, List, [], ◌∷◌, length, drop, Option, Some, Ok, refl, sym, ap, subst, ◌∙◌, arith}
+use Rattle.std.proofs.Common.{◌≡◌, ℕ, zero, suc, ◌+◌, ◌*◌, ◌/◌, ◌%◌, ◌<◌, ◌≤◌, List, [], length, drop, Option, Some, Ok, refl, sym, ap, ◌∙◌, arith}
 use Rattle.std.specs.Prelude.{slice_get, slice_index, unwrap_or}
 use Rattle.std.proofs.lemmas.List.{drop-drop, length-drop}
 use Rattle.ctf_c.specs.Given.{Gives}
@@ -11,7 +11,7 @@ use Rattle.ctf_model.specs.format.Dictionary.{said_by}
 use Rattle.ctf_model.specs.format.Lists.{Lists}
 use Rattle.ctf_model.specs.opened.Open.{Open, own_in}
 use Rattle.ctf_model.specs.symbols.SymbolQuestions.{function_of, object_of}
-use Rattle.ctf_model.specs.symbols.Symbols.{Symbol, symbol_name, symbol_of, symbols, symbols_in, symbols_of}
+use Rattle.ctf_model.specs.symbols.Symbols.{symbol_name, symbol_of, symbols, symbols_in}
 
 symbol_numbered : (strs : Option (List ℕ)) (n k : ℕ) (b : List ℕ) → k < n → slice_get (symbols_in strs n b) k ≡ Some (symbol_of strs (drop (24 * k) b))
 unfolding symbols_in

@@ -1,4 +1,4 @@
-use Rattle.std.proofs.Common.{◌≡◌, List, Ok, Some, ap, length, refl, subst, sym, take, ◌∙◌, ℕ, arith}
+use Rattle.std.proofs.Common.{◌≡◌, List, Ok, ap, subst, take, ℕ, arith}
 use Rattle.std.proofs.lemmas.List.{take_all}
 use Rattle.ctf_check.specs.TypedView.{spelled}
 use Rattle.ctf_model.specs.format.Shown.{arguments_in}

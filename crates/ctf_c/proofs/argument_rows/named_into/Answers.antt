@@ -1,5 +1,4 @@
-use Rattle.std.proofs.Common.{List, ap, length, subst, sym, take, ◌∙◌, ℕ, arith}
-use Rattle.ctf_model.specs.format.Shown.{named_arguments}
+use Rattle.std.proofs.Common.{List, ap, subst, take, ◌∙◌, ℕ, arith}
 use Rattle.ctf_c.proofs.ArgumentRows.{named_fewer, named_first}
 use Rattle.ctf_c.specs.ItemRows.{IsArgument}
 use Rattle.ctf_c.specs.names.Filling.{Fills}

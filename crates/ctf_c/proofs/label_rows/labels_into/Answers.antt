@@ -1,4 +1,4 @@
-use Rattle.std.proofs.Common.{◌≡◌, ℕ, ◌+◌, ◌-◌, ◌<◌, Some, ap, length, sym, ◌∙◌, arith}
+use Rattle.std.proofs.Common.{◌+◌, ◌-◌, ◌<◌, Some, ap, length, ◌∙◌, arith}
 use Rattle.ctf_check.specs.CheckedView.{dictionary_of, lists_of}
 use Rattle.ctf_c.proofs.ListedRows.{label_of_own}
 use Rattle.ctf_c.proofs.names.Filled.{all_filled, filled, unfilled}

@@ -1,4 +1,4 @@
-use Rattle.std.proofs.Common.{◌^◌, ℕ, ap, min, ◌∙◌}
+use Rattle.std.proofs.Common.{ℕ, ap, min, ◌∙◌}
 use Rattle.ctf_check.specs.CheckedView.{lists_of}
 use Rattle.ctf_c.proofs.names.SymbolRows.{symbols_counted}
 use Rattle.ctf_c.proofs.symbol_rows.symbol_count.Goals as goal

@@ -1,12 +1,9 @@
-use Rattle.std.proofs.Common.{◌≡◌, ℕ, ◌≤◌, List, [], Result, Some, ap, length, refl, subst, sym, ◌∙◌, arith}
+use Rattle.std.proofs.Common.{ℕ, [], Result, ap, refl, subst, ◌∙◌, arith}
 use Rattle.std.specs.Prelude.{unwrap_or}
 use Rattle.ctf_c.proofs.names.SymbolRows.{symbol_inside, symbol_told, symbol_whole}
 use Rattle.ctf_c.specs.Given.{Gives}
-use Rattle.ctf_check.specs.CheckedView.{lists_of}
 use Rattle.ctf_model.specs.declared.faults.Fault.{Fault}
 use Rattle.ctf_model.specs.format.Lists.{Lists}
-use Rattle.ctf_model.specs.symbols.Symbols.{symbol_name}
-use Rattle.ctf_c.specs.names.Places.{text_in}
 use Rattle.ctf_c.proofs.symbol_rows.symbol_row.Goals as goal
 
 pub symbol_at-bytes-requires : goal.symbol_at-bytes-requires
@@ -37,6 +34,6 @@ returns c =
     let status = c.give_type-type_status.result in
     let tnum = c.give_type-type_status.new.out in
     symbol_told d c.args.number c.symbol_parts-parts.result.sym.now c.symbol_at-bytes.result.now (record { name_at = place.at; name_list = place.list; number = c.args.number; symbol_class = c.symbol_class-class.result; type_status = status; tnum = tnum }) table c.requires.there c.symbol_at-bytes.ensures refl c.symbol_class-class.ensures
-      (λ is. subst (λ (r : Result ℕ Fault). Gives r status 0 tnum) (c.type_told.ensures.function is) c.give_type-type_status.ensures)
-      (λ other. subst (λ (r : Result ℕ Fault). Gives r status 0 tnum) (c.type_told.ensures.object other) c.give_type-type_status.ensures)
-      (rw c.u32_at.ensures at (c.symbol_position-place.ensures d.own.lists c.requires.ends))
+    (λ is. subst (λ (r : Result ℕ Fault). Gives r status 0 tnum) (c.type_told.ensures.function is) c.give_type-type_status.ensures)
+    (λ other. subst (λ (r : Result ℕ Fault). Gives r status 0 tnum) (c.type_told.ensures.object other) c.give_type-type_status.ensures)
+    (rw c.u32_at.ensures at (c.symbol_position-place.ensures d.own.lists c.requires.ends))

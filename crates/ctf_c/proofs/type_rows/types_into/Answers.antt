@@ -1,4 +1,4 @@
-use Rattle.std.proofs.Common.{◌≡◌, ◌+◌, ◌-◌, ◌<◌, Some, ap, length, sym, ◌∙◌, arith}
+use Rattle.std.proofs.Common.{◌+◌, ◌-◌, ◌<◌, Some, ap, length, sym, ◌∙◌, arith}
 use Rattle.ctf_c.proofs.TypeRows.{as_many, told_there}
 use Rattle.ctf_c.proofs.names.Filled.{all_filled, filled, unfilled}
 use Rattle.ctf_c.specs.TypeRows.{TellsType, own_numbers}
@@ -16,7 +16,7 @@ loop-i-preserved c =
     let all = c.count-all.ensures ∙ ap (λ (s : spaces.Space). length s.own.terms) c.space-space.ensures.space in
     let many = as_many d in
     let inside : c.args.from + c.loop-i.i < length d.terms = omega (arith, c.loop-i-test.true, c.min-count.ensures, c.saturating_sub-left.ensures, all) in
-    filled Tells (own_numbers d) c.args.from c.args.rows.now c.loop-i.rows c.loop-i.i c.type_row.result c.loop-i.invariant (omega (arith, c.loop-i-test.true, c.loop-i.auto.rows, c.min-count.ensures)) (omega (arith, inside, many)) (told_there Tells d (c.args.from + c.loop-i.i) c.type_row.result inside (c.type_row.ensures c.args.dictionary.now (record { space = c.space-space.ensures.space; lists = c.space-space.ensures.lists; fits = c.tables-tables.ensures.layout })))
+    filled Tells (own_numbers d) c.args.from c.args.rows.now c.loop-i.rows c.loop-i.i c.fill_row.new.row c.loop-i.invariant (omega (arith, c.loop-i-test.true, c.loop-i.auto.rows, c.min-count.ensures)) (omega (arith, inside, many)) (told_there Tells d (c.args.from + c.loop-i.i) c.fill_row.new.row inside (c.fill_row.ensures c.args.dictionary.now (record { space = c.space-space.ensures.space; lists = c.space-space.ensures.lists; fits = c.tables-tables.ensures.layout })))
 
 pub returns-clause-count : goal.returns-clause-count
 returns-clause-count c =
