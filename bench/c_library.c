@@ -2,8 +2,8 @@
  *
  * usage: c_library CTF QUESTION ROUNDS
  *
- * A round asks it of each type, member or name that it is for: of members, of enumerators and of
- * all that lies in a struct by the row. Prints how many calls a round has, or rows, how many
+ * A round asks it of each type, member or name that it is for: of all types, of members, of
+ * enumerators and of all that lies in a struct by the row. Prints how many calls a round has, or rows, how many
  * nanoseconds all rounds took, and how many bytes the dictionary has.
  */
 #include "c_library.h"
@@ -128,6 +128,17 @@ static size_t ask_enumerators(void)
         calls += count;
     }
     return calls;
+}
+
+static size_t ask_types(void)
+{
+    static struct ctfd_type_row rows[ROWS];
+    uint64_t from, count = 1;
+    for (from = 0; from < count; from += ROWS) {
+        ctfd_types(&types, from, rows, ROWS, &count);
+        sum += rows[0].size;
+    }
+    return (size_t)count;
 }
 
 /* A struct with all that lies in it, in one call where the room suffices. */
@@ -264,7 +275,7 @@ static size_t round_of(const char *question)
     if (strcmp(question, "visit") == 0)
         return ask_visit();
     if (strcmp(question, "types") == 0)
-        return 0;
+        return ask_types();
     if (strcmp(question, "reference") == 0) {
         uint16_t to = 0;
         for (i = 0; i < referring.len; i++) {

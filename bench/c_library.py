@@ -9,10 +9,10 @@ GNU libctf for itself (gnu_dictionary.py), so both are asked of the same.
 
 Each question is asked of all that it is for, again and again for some 0.2 s of processor time, five
 times, and the least counts; instructions are what callgrind counts more for more rounds. So what is
-kept of a first round helps the others, in each library. Through ctfd.h members, enumerators and
-visits are asked by the row. With --first only instructions are counted, those of the first round
-of a file that was just opened. Prints a table in Markdown for each dictionary. With --profile it
-prints where callgrind says that a question's instructions go, by the calls of libctf.
+kept of a first round helps the others, in each library. Through ctfd.h all types, members,
+enumerators and visits are asked by the row. With --first only instructions are counted, those of
+the first round of a file that was just opened. Prints a table in Markdown for each dictionary. With
+--profile it prints where callgrind says that a question's instructions go, by the calls of libctf.
 
 Needs cc, valgrind, the Debian package binutils-dev, and the Python client.
 """

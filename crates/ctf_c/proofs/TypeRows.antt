@@ -94,12 +94,7 @@ tells d space own i found row a b e n kind root items reference size align resol
 
 -- ---- numbers
 
--- what has a number of 16 bits stands at a place of 16 bits
-pub own_small : (child : Bool) (i n : ℕ) → n ≡ own_number child i → n < 65536 → i < 65536
-own_small true i n e lt = omega (arith, e, lt)
-own_small false i n e lt = omega (arith, e, lt)
-
--- and is one
+-- the number of an own type is one
 pub own_some : (child : Bool) (i n : ℕ) → n ≡ own_number child i → 0 < n
 own_some true i n e = omega (arith, e)
 own_some false i n e = omega (arith, e)

@@ -14,7 +14,7 @@ ghost use Rattle.ctf_model.specs.opened.Open.{Open, own_in};
 ghost use Rattle.ctf_model.specs.opened.Questions.{answer_map, kind_answered, length_answered, on_shape, root_answered, shape_of};
 ghost use Rattle.ctf_model.specs.spaces.Space.{Space as WholeSpace, space_type};
 ghost use Rattle.ctf_model.specs.spaces.TypeNumbers.{or_no_type};
-ghost use Rattle.ctf_model.specs.spaces.TypePlaces.{own_number};
+ghost use Rattle.ctf_model.specs.spaces.TypePlaces.{own_number as number_of_own};
 ghost use Rattle.ctf_space.specs.SpaceView.{own_lists, space_of};
 ghost use Rattle.ctf_space.specs.TypeView.{name_in};
 
@@ -107,10 +107,13 @@ fn referred_to(found: &Typed<'_>) -> Result<TypeNum, Fault>
 fn item_count(found: &Typed<'_>) -> u64
     ensures { on_shape length_answered (shape_of (or_no_type (spelled found.now))) ≡ Ok result }
 {
-    match found.variant() {
-        Variant::Members(members) => members.len() as u64,
-        Variant::Enumerators(enumerators) => enumerators.len() as u64,
-        Variant::Args(args) => args.len() as u64,
+    match found.kind() {
+        Kind::KFunction | Kind::KStruct | Kind::KUnion | Kind::KEnum => match found.variant() {
+            Variant::Members(members) => members.len() as u64,
+            Variant::Enumerators(enumerators) => enumerators.len() as u64,
+            Variant::Args(args) => args.len() as u64,
+            _ => 0,
+        },
         _ => 0,
     }
 }
@@ -153,20 +156,34 @@ fn own_type<'a>(space: &Space<'a>, index: usize) -> Typed<'a>
     requires there { index < length (space_of space.now).own.terms }
     requires short { index < 65536 }
     ensures found { or_no_type (spelled result)
-        ≡ space_type (space_of space.now) (own_number (space_of space.now).own.child index) }
+        ≡ space_type (space_of space.now) (number_of_own (space_of space.now).own.child index) }
     ensures lists { lists_of (dictionary_in result) ≡ own_lists space.now }
 {
     space.dictionary().typed(index + 1).unwrap()
 }
 
-/// Fills a row with what is told of an own type, from 0.
+/// The number of an own type, from 0.
 #[inline(always)]
-fn fill_row(space: &Space<'_>, layout: &Layout, index: usize, row: &mut GivenTypeRow)
-    requires { index < length (space_of space.now).own.terms }
-    ensures { (d : Open) → IsAsked d space.now layout.now
-        → TellsType (Some d) (own_number (own_in d).child index) row.new }
+fn own_number(child: bool, index: usize) -> TypeNum
+    requires { index < 32767 }
+    ensures { result.0 ≡ number_of_own child index }
 {
-    let t = space.own_number(index);
+    if child {
+        TypeNum((index + 0x8001) as u16)
+    } else {
+        TypeNum((index + 1) as u16)
+    }
+}
+
+/// Fills a row with what is told of an own type, from 0, of a child or of another dictionary.
+#[inline(always)]
+fn fill_row(space: &Space<'_>, layout: &Layout, child: bool, index: usize, row: &mut GivenTypeRow)
+    requires there { index < length (space_of space.now).own.terms }
+    requires child { child ≡ (space_of space.now).own.child }
+    ensures { (d : Open) → IsAsked d space.now layout.now
+        → TellsType (Some d) (number_of_own (own_in d).child index) row.new }
+{
+    let t = own_number(child, index);
     put_figures(layout, t, row);
     let found = own_type(space, index);
     let place = name_place(&found);
@@ -197,11 +214,12 @@ fn types_into(dictionary: &OpenDictionary, from: usize, rows: &mut [GivenTypeRow
 {
     let space = dictionary.space();
     let tables = dictionary.tables();
+    let child = space.child();
     let all = space.count();
     let left = all.saturating_sub(from);
     let count = left.min(rows.len());
     for i in 0..count {
-        fill_row(&space, &tables.layout, from + i, &mut rows[i]);
+        fill_row(&space, &tables.layout, child, from + i, &mut rows[i]);
     }
     all as u64
 }
