@@ -254,9 +254,11 @@ fn word(name: &'static str, listed: &'static str, help: &'static str) -> Arg {
 pub fn options() -> Command {
     let questions = questions();
     let group = ArgGroup::new("question").args(questions.iter().map(Arg::get_id));
+    let columns = std::env::var("COLUMNS").ok().and_then(|columns| columns.parse().ok());
     Command::new(NAME)
         .version(env!("CARGO_PKG_VERSION"))
         .about(ABOUT)
+        .term_width(columns.filter(|&columns| columns >= 40).unwrap_or(100))
         .max_term_width(100)
         .infer_long_args(true)
         .arg(

@@ -14,6 +14,8 @@ use std::io::Write;
 
 /// What i386 aligns numbers to within structs.
 const WORD: u64 = 4;
+/// The power of two that a source aligns by at most, over what a type needs.
+const MOST_ALIGNED: u32 = 12;
 const NONE_SMALLER: &str = "/* no struct has an order of its members that is smaller */";
 
 /// Tells the structs that are named in a better order; of all, those alone that have one.
@@ -76,8 +78,10 @@ fn order_of(whole: &Whole<'_, '_>, number: u16) -> Result<String, String> {
     let record = catalog.record(number);
     let head = if record.name.is_empty() { "struct".to_owned() } else { base(catalog, number) };
     let members = listing::members(catalog, &runs.concat());
-    let saved = was - size;
-    Ok(format!("{head} {{\n{members}}}; /* {label}: {size} bytes, was {was}: saves {saved} */\n"))
+    let (saved, hints) = (was - size, order.hints(&layout.places));
+    Ok(format!(
+        "{head} {{\n{members}}}; /* {label}: {size} bytes, was {was}: saves {saved} */\n{hints}"
+    ))
 }
 
 /// Members that stay together: one, or bit-fields that follow each other.
@@ -116,6 +120,25 @@ impl Order<'_, '_, '_> {
         } else {
             found
         }
+    }
+
+    /// A line for each member that stands farther on than its type needs: the source may align it.
+    fn hints(&self, places: &[Place<'_>]) -> String {
+        let hint = |place: &Place<'_>| {
+            let end = place.start - place.gap;
+            let is_at = |align: &u128| end.div_ceil(8 * align) * 8 * align == place.start;
+            let own = u128::from(self.alignment(place.part.of));
+            let is_plain = place.width.is_none() && place.gap != 0 && !is_at(&own);
+            let mut powers = (0..=MOST_ALIGNED).map(|power| own << power);
+            let aligned = is_plain.then(|| powers.find(is_at)).flatten()?;
+            Some(format!(
+                "/* {} stands at {} behind a hole that its type does not need: does the source align \
+                 it to {aligned}? */\n",
+                printable(place.part.name),
+                place.start / 8
+            ))
+        };
+        places.iter().filter_map(hint).collect()
     }
 
     /// The bytes of a struct of runs in this order.

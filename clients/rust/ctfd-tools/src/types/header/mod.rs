@@ -4,28 +4,23 @@
 
 mod abi;
 mod forms;
+mod naming;
+mod order;
 
-use super::catalog::{is_qualifier, Catalog, Part, Record, Value};
+use super::catalog::{Catalog, Part, Record, Value};
 use super::declare::{declarator_by, Declarator};
 use super::failure::Outcome;
 use super::text::printable;
 use super::whole::Whole;
 use ctfd::Kind;
 use forms::{Forms, Said};
+use naming::{comment, identifier};
 use std::cell::RefCell;
 use std::collections::{HashMap, HashSet};
 use std::io::Write;
 
 const MOST_IN_PLACE: usize = 512;
 const DEEPEST: usize = 16;
-const KEYWORDS: &str = "\
-    auto break case char const continue default do double else enum extern float for goto if inline \
-    int long register restrict return short signed sizeof static struct switch typedef union \
-    unsigned void volatile while asm typeof _Alignas _Alignof _Atomic _Bool _Complex _Generic \
-    _Imaginary _Noreturn _Static_assert _Thread_local __auto_type __builtin_va_list __int128 \
-    __float128 _Float128 _Float64 _Float32 _Float64x _Float32x _Float16 __bf16 __fp16 __float80 \
-    __ibm128 _Decimal32 _Decimal64 _Decimal128 __func__ linux unix i386";
-
 /// Writes the declarations of all own types, or of the named ones, with what these need.
 pub fn write(whole: &Whole<'_, '_>, patterns: &[Vec<u8>], output: &mut dyn Write) -> Outcome<()> {
     let own = whole.names.catalog.own();
@@ -50,25 +45,6 @@ pub fn write(whole: &Whole<'_, '_>, patterns: &[Vec<u8>], output: &mut dyn Write
     Ok(())
 }
 
-/// A name that a compiler takes for one.
-fn identifier(name: &[u8]) -> Option<&str> {
-    let is_letter = |byte: u8| byte == b'_' || byte.is_ascii_alphabetic();
-    let is_plain = name.first().copied().is_some_and(is_letter)
-        && name.iter().all(|&byte| is_letter(byte) || byte.is_ascii_digit());
-    let name = std::str::from_utf8(name).ok().filter(|_| is_plain)?;
-    (!KEYWORDS.split(' ').any(|word| word == name)).then_some(name)
-}
-
-fn comment(said: &str) -> String {
-    format!("/* {} */", said.replace("*/", "* /").replace("/*", "/ *"))
-}
-
-/// A type that is still to be put in order, or of which all that it needs was.
-enum Step {
-    Enter(u16),
-    Leave(u16),
-}
-
 /// Types in an order that a compiler takes, and the names that they have there.
 ///
 /// A type has its own name where C allows it and no other has it, else one that begins `ctfd_`.
@@ -85,16 +61,6 @@ struct Header<'h, 'd> {
     /// Those without a name that need one.
     tagged: HashSet<u16>,
     order: Vec<u16>,
-}
-
-/// What a declaration needs.
-#[derive(Default)]
-struct Needs {
-    /// What stands before it, in full.
-    before: Vec<u16>,
-    /// The structs that it names, and those of them without a name.
-    pointed: Vec<u16>,
-    tagged: Vec<u16>,
 }
 
 impl<'h, 'd> Header<'h, 'd> {
@@ -117,134 +83,6 @@ impl<'h, 'd> Header<'h, 'd> {
 
     fn record(&self, number: u16) -> &'h Record<'d> {
         self.catalog.record(number)
-    }
-
-    /// How C calls a struct, union, enum, typedef or number.
-    fn name(&self, number: u16) -> String {
-        if let Some(known) = self.names.borrow().get(&number) {
-            return known.clone();
-        }
-        let made = self.new_name(number);
-        self.names.borrow_mut().insert(number, made.clone());
-        made
-    }
-
-    fn new_name(&self, number: u16) -> String {
-        let record = self.record(number);
-        if matches!(record.kind, Kind::Integer | Kind::Float) {
-            if record.name == b"void" && self.catalog.size(number).unwrap_or(0) == 0 {
-                return "void".to_owned();
-            }
-            let alike = self.forms.alike(record, number);
-            if let Some(alike) = alike.filter(|alike| alike.name.as_bytes() == record.name) {
-                return alike.name.replace("complex", "_Complex");
-            }
-        }
-        match record.word() {
-            "" => self.free(&self.ordinary, number),
-            word => format!("{word} {}", self.free(&self.tags, number)),
-        }
-    }
-
-    /// The type's own name if it is free; a forward and what it declares have the same.
-    fn free(&self, taken: &RefCell<HashMap<String, u16>>, number: u16) -> String {
-        let record = self.record(number);
-        let name = match identifier(&record.name) {
-            Some(name) => name.to_owned(),
-            None => format!("ctfd_{number}"),
-        };
-        let mut taken = taken.borrow_mut();
-        let other = *taken.entry(name.clone()).or_insert(number);
-        if other != number && !self.is_same(record, self.record(other)) {
-            return format!("{name}__{number}");
-        }
-        if self.record(other).kind == Kind::Forward && record.kind != Kind::Forward {
-            taken.insert(name.clone(), number); // one definition has the forward's name, no second
-        }
-        name
-    }
-
-    fn is_same(&self, one: &Record<'_>, other: &Record<'_>) -> bool {
-        if one.kind == Kind::Forward || other.kind == Kind::Forward {
-            return one.tag == other.tag;
-        }
-        one.kind == Kind::Typedef && other.kind == Kind::Typedef && one.of == other.of
-    }
-
-    /// What a type needs in full stands before it: by depth first, without recursion, since chains
-    /// may be long.
-    fn put_in_order(&mut self, wanted: &[u16]) {
-        let mut seen = HashSet::new();
-        let mut todo: Vec<Step> = wanted.iter().rev().map(|&number| Step::Enter(number)).collect();
-        let mut pointed = HashSet::new();
-        while let Some(step) = todo.pop() {
-            let number = match step {
-                Step::Leave(number) => {
-                    self.order.push(number);
-                    continue;
-                }
-                Step::Enter(number) if seen.insert(number) => number,
-                Step::Enter(_) => continue,
-            };
-            todo.push(Step::Leave(number));
-            let needs = self.needs(number);
-            self.pointed.extend(needs.pointed.into_iter().filter(|&one| pointed.insert(one)));
-            self.tagged.extend(needs.tagged);
-            let before = needs.before.into_iter().rev().filter(|one| !seen.contains(one));
-            todo.extend(before.map(Step::Enter));
-        }
-    }
-
-    /// Names that its declaration has, and structs that it holds; pointers need none in full.
-    fn needs(&self, number: u16) -> Needs {
-        let mut needs = Needs::default();
-        let record = self.record(number);
-        match record.kind {
-            Kind::Struct | Kind::Union => {
-                let members = self.catalog.members(number).iter();
-                members.for_each(|part| self.add_named_in(part.of, false, &mut needs));
-            }
-            Kind::Enum | Kind::Integer | Kind::Float | Kind::Forward => {}
-            Kind::Function => self.add_named_in(number, false, &mut needs),
-            kind => self.add_named_in(record.of, kind == Kind::Typedef, &mut needs),
-        }
-        needs
-    }
-
-    /// What a declaration names; the struct that it holds by value first, if it is needed.
-    fn add_named_in(&self, number: u16, is_renamed: bool, needs: &mut Needs) {
-        let reached = self.catalog.reached(number);
-        let end = self.record(reached.number);
-        let is_whole = !is_renamed || reached.is_array || end.name.is_empty();
-        if end.is_aggregate() && is_whole {
-            needs.before.push(reached.number);
-        }
-        let mut todo = vec![number];
-        let mut seen = HashSet::new(); // a function may take a pointer to itself
-        while let Some(number) = todo.pop() {
-            if !seen.insert(number) {
-                continue;
-            }
-            let record = self.record(number);
-            match record.kind {
-                Kind::Pointer | Kind::Array => todo.push(record.of),
-                Kind::Function => {
-                    todo.push(record.of);
-                    todo.extend(&self.catalog.signature(number).arguments);
-                }
-                kind if is_qualifier(kind) => todo.push(record.of),
-                Kind::Typedef | Kind::Enum | Kind::Integer | Kind::Float => {
-                    needs.before.push(number);
-                }
-                Kind::Struct | Kind::Union | Kind::Forward => {
-                    needs.pointed.push(number);
-                    if number != reached.number && record.name.is_empty() {
-                        needs.tagged.push(number);
-                    }
-                }
-                _ => {}
-            }
-        }
     }
 
     fn add_forwards(&self, text: &mut String) {

@@ -3,6 +3,8 @@
 //! Boxes stand where the members lie, to the bit; what lies unused is hatched. Structs and unions
 //! within are outlined, the members of a union stand one below the other.
 
+mod block;
+
 use super::catalog::Catalog;
 use super::declare::declaration;
 use super::drawing::{self, Extent, Label, Rectangle};
@@ -11,6 +13,7 @@ use super::layout::{Layout, Place};
 use super::names::Names;
 use super::text::printable;
 use super::whole::Whole;
+use block::Block;
 use ctfd::Kind;
 use std::cell::RefCell;
 use std::collections::{HashMap, HashSet};
@@ -26,67 +29,6 @@ const MOST_ROWS: usize = 400;
 const MOST_LANES: u64 = 12;
 const DEEPEST: usize = 16;
 const MOST_BOXES: usize = 20_000;
-
-/// What is drawn: `start` and `bits` in bits, `top` and `high` as parts of a row's height.
-#[derive(Clone, Debug)]
-struct Block {
-    /// That of the type, or group, hole, padding.
-    sort: &'static str,
-    name: String,
-    of: String,
-    start: u128,
-    bits: u128,
-    top: f64,
-    high: f64,
-    /// What a group's name has of `high`.
-    strip: f64,
-}
-
-impl Block {
-    fn end(&self) -> u128 {
-        self.start + self.bits
-    }
-
-    fn is_unused(&self) -> bool {
-        matches!(self.sort, "hole" | "padding")
-    }
-
-    /// The name without those of what it stands in.
-    fn label(&self) -> &str {
-        self.name.rsplit('.').next().unwrap_or_default()
-    }
-
-    /// The name in full where there is room for it.
-    fn named(&self, wide: f64) -> &str {
-        match drawing::cut(&self.name, wide) == self.name {
-            true => &self.name,
-            false => self.label(),
-        }
-    }
-
-    /// All of it in words.
-    fn told(&self) -> String {
-        let (byte, bit) = (self.start / 8, self.start % 8);
-        let at = match bit != 0 || self.bits % 8 != 0 {
-            true => format!("{byte}:{bit}"),
-            false => byte.to_string(),
-        };
-        let size = amount(self.bits);
-        match self.of.is_empty() {
-            true => format!("{} of {size}, at {at}", self.name),
-            false => format!("{}: {}, at {at}, {size}", self.name, self.of),
-        }
-    }
-}
-
-/// So many bits, or bytes where these are whole.
-fn amount(bits: u128) -> String {
-    let (count, unit) = if bits % 8 == 0 { (bits / 8, "byte") } else { (bits, "bit") };
-    match count {
-        1 => format!("1 {unit}"),
-        _ => format!("{count} {unit}s"),
-    }
-}
 
 /// A row of a picture: where it begins, how many lanes high it is, and what is in it; or how many
 /// rows of one member are left out.
