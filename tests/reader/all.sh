@@ -5,3 +5,4 @@ set -e
 cd "$(dirname "$0")/../.."
 tests/reader/compare.py "$@"
 tests/reader/orders.py
+tests/reader/independent.py

@@ -4,6 +4,7 @@
 //! compared here is only the size and the line of each definition: `join` compares them in full, and
 //! names the tags that turn out to have several.
 
+use crate::dwarf::names::{Language, Prefixes};
 use crate::dwarf::units::{scopes, Debug, Entry, Unit};
 use crate::join::NumberHasher;
 use crate::table::{Kind, Record};
@@ -96,7 +97,12 @@ fn add_one(made: &mut Definitions, key: u64, definition: Definition) {
 
 /// The definitions in a unit and its functions.
 fn add<'a>(debug: &Debug<'a>, unit: &Unit<'a>, made: &mut Definitions) -> crate::error::Result<()> {
-    for (offset, tag) in scopes(unit)?.into_iter().flat_map(|scope| scope.entries) {
+    let Some(language) = Language::of_unit(unit)? else { return Ok(()) };
+    let prefixes = match language {
+        Language::C => Prefixes::default(),
+        Language::Scoped => Prefixes::of(debug, unit)?,
+    };
+    for (offset, tag) in scopes(unit, language)?.into_iter().flat_map(|scope| scope.entries) {
         let kind = match tag {
             dw::DW_TAG_structure_type | dw::DW_TAG_class_type => Kind::Struct,
             dw::DW_TAG_union_type => Kind::Union,
@@ -107,7 +113,7 @@ fn add<'a>(debug: &Debug<'a>, unit: &Unit<'a>, made: &mut Definitions) -> crate:
         if entry.has(dw::DW_AT_declaration) || entry.has(dw::DW_AT_signature) {
             continue;
         }
-        let name = debug.name(&entry)?;
+        let name = prefixes.full_name(debug, &entry)?;
         if !name.is_empty() {
             let said = |name| entry.constant(name).unwrap_or(0);
             let definition = (said(dw::DW_AT_byte_size), said(dw::DW_AT_decl_line));

@@ -1,6 +1,7 @@
 //! The types of C in a program's debug information, as a table.
 
 use crate::descriptions::{Description, Descriptions, Statement, SymbolFilter};
+use crate::dwarf::names::{Language, Prefixes};
 use crate::dwarf::tags::SingleTags;
 use crate::dwarf::units::{scopes, Debug, Entry, Scope, Unit};
 use crate::error::{refuse, Result};
@@ -12,6 +13,7 @@ use rayon::prelude::*;
 use std::borrow::Cow;
 use std::collections::{BTreeMap, HashMap, HashSet};
 use std::hash::BuildHasherDefault;
+use std::rc::Rc;
 
 /// A declaration, an abstract function and a copy of it are three; damage may lead round.
 const LONGEST_CHAIN: usize = 16;
@@ -139,7 +141,7 @@ impl<'a> Collector<'a> {
         if self.units == 0 && !listed.is_empty() {
             let listed = listed.join(" and ");
             return refuse(format!(
-                "its debug information is of {listed}: types of C alone are read"
+                "its debug information is of {listed}: types of C, C++ and Rust are read"
             ));
         }
         let (mut table, to) = self.joiner.into_table();
@@ -156,7 +158,9 @@ impl<'a> Collector<'a> {
         table.is_ilp32 = is_ilp32;
         table.losses = self.losses;
         table.losses.extend(listed.iter().map(|one| {
-            format!("{one} of the program: types of C alone are read; what it tells is left out")
+            format!(
+                "{one} of the program: types of C, C++ and Rust are read; what it tells is left out"
+            )
         }));
         Ok((table, self.roots.into_iter().map(place).collect()))
     }
@@ -226,7 +230,9 @@ fn read_unit<'a>(
     }
     match top.constant(dw::DW_AT_language).map(|said| DwLang(said as u16)) {
         Some(dw::DW_LANG_Mips_Assembler | DwLang(0x31)) => return Ok(Outcome::Nothing),
-        Some(language) if !is_of_c(language) => return Ok(Outcome::Foreign(language)),
+        Some(language) if Language::of(language).is_none() => {
+            return Ok(Outcome::Foreign(language));
+        }
         _ => {}
     }
     let mut reader = Reader::new(debug, filter, is_ilp32);
@@ -285,26 +291,9 @@ fn imported_units<'a>(debug: &Debug<'a>, unit: &Unit<'a>) -> Result<Vec<u64>> {
     Ok(made)
 }
 
-fn is_of_c(language: DwLang) -> bool {
-    const C17: DwLang = DwLang(0x2c);
-    const C23: DwLang = DwLang(0x3e);
-    matches!(
-        language,
-        dw::DW_LANG_C89
-            | dw::DW_LANG_C
-            | dw::DW_LANG_C99
-            | dw::DW_LANG_UPC
-            | dw::DW_LANG_C11
-            | C17
-            | C23
-    )
-}
-
 /// How a language is called.
 fn language_name(language: DwLang) -> String {
     let name = match language.0 {
-        0x04 | 0x1a | 0x21 | 0x2b => "C++",
-        0x1c => "Rust",
         0x16 => "Go",
         0x13 => "D",
         0x03 | 0x0d | 0x2e | 0x2f => "Ada",
@@ -322,14 +311,16 @@ fn language_name(language: DwLang) -> String {
 }
 
 /// Reads one unit, with those that it imports. An entry has a number from when it is first named.
-struct Reader<'d, 'a> {
-    debug: &'d Debug<'a>,
+pub(super) struct Reader<'d, 'a> {
+    pub(super) debug: &'d Debug<'a>,
     asked: &'d SymbolFilter<'d>,
     is_ilp32: bool,
     unit_types: UnitTypes<'a>,
     numbers: HashMap<u64, u32, BuildHasherDefault<NumberHasher>>,
     todo: Vec<(&'d Unit<'a>, UnitOffset, u32)>,
     index: u32,
+    /// For each unit that types were read from what their names have in front; None in C.
+    prefixes: HashMap<u64, Option<Rc<Prefixes>>>,
 }
 
 impl<'d, 'a> Reader<'d, 'a> {
@@ -342,12 +333,15 @@ impl<'d, 'a> Reader<'d, 'a> {
             numbers: HashMap::default(),
             todo: Vec::new(),
             index: 0,
+            prefixes: HashMap::new(),
         }
     }
 
     /// The types, functions and objects in a unit and in its functions.
     fn unit(&mut self, unit: &'d Unit<'a>) -> Result<()> {
-        let scopes = scopes(unit)?;
+        let is_scoped = self.prefixes(unit)?.is_some();
+        let language = if is_scoped { Language::Scoped } else { Language::C };
+        let scopes = scopes(unit, language)?;
         for &(offset, tag) in scopes.iter().flat_map(|scope| &scope.entries) {
             match tag {
                 dw::DW_TAG_variable => self.variable(Entry::read(unit, offset)?)?,
@@ -392,7 +386,7 @@ impl<'d, 'a> Reader<'d, 'a> {
     }
 
     /// The number of the type that an entry names; 0 where it names none.
-    fn of(&mut self, entry: &Entry<'d, 'a>) -> Result<u32> {
+    pub(super) fn of(&mut self, entry: &Entry<'d, 'a>) -> Result<u32> {
         let Some(key) = self.debug.key(entry, dw::DW_AT_type)? else { return Ok(0) };
         if let Some(&known) = self.numbers.get(&key) {
             return Ok(known);
@@ -406,9 +400,14 @@ impl<'d, 'a> Reader<'d, 'a> {
             entry = target;
         }
         let kind = kind(entry.tag);
-        let name = self.debug.name(&entry)?;
+        let prefixes = self.prefixes(entry.unit)?;
+        let name = match &prefixes {
+            Some(prefixes) => prefixes.full_name(self.debug, &entry)?,
+            None => self.debug.name(&entry)?,
+        };
         let mut made = Record::new(kind, name);
         match kind {
+            _ if prefixes.is_some() && self.scoped(&entry, &mut made)? => {}
             Kind::Struct | Kind::Union | Kind::Enum if entry.has(dw::DW_AT_declaration) => {
                 made.kind = Kind::Forward;
             }
@@ -438,16 +437,23 @@ impl<'d, 'a> Reader<'d, 'a> {
     fn members(&mut self, entry: &Entry<'d, 'a>) -> Result<Box<[Member<'a>]>> {
         let mut made = Vec::new();
         for one in entry.children()? {
-            if one.tag != dw::DW_TAG_member || one.has(dw::DW_AT_external) {
-                continue;
+            if one.tag == dw::DW_TAG_member && !one.has(dw::DW_AT_external) {
+                made.push(self.member(entry, &one)?);
             }
-            let name = self.debug.name(&one)?;
-            let width = one.constant(dw::DW_AT_bit_size).map(natural).transpose()?;
-            let of = self.of(&one)?;
-            let offset = natural(self.offset(entry, &one, width)?)?;
-            made.push(Member { name, of, offset, width });
         }
         Ok(made.into())
+    }
+
+    pub(super) fn member(
+        &mut self,
+        whole: &Entry<'d, 'a>,
+        entry: &Entry<'d, 'a>,
+    ) -> Result<Member<'a>> {
+        let name = self.debug.name(entry)?;
+        let width = entry.constant(dw::DW_AT_bit_size).map(natural).transpose()?;
+        let of = self.of(entry)?;
+        let offset = natural(self.offset(whole, entry, width)?)?;
+        Ok(Member { name, of, offset, width })
     }
 
     /// Where a member begins, in bits.
@@ -603,7 +609,7 @@ impl<'d, 'a> Reader<'d, 'a> {
         ));
     }
 
-    fn lost(&mut self, line: &str) {
+    pub(super) fn lost(&mut self, line: &str) {
         self.unit_types.losses.push(line.to_owned());
     }
 
@@ -621,7 +627,7 @@ impl<'d, 'a> Reader<'d, 'a> {
         if place.is_none() && !is_external {
             return Ok(());
         }
-        let name = self.name_in(&chain)?;
+        let name = self.symbol_name(&chain)?;
         if self.asked.has(&name, place) {
             let of = type_source(&chain).map_or(Ok(0), |one| self.of(one))?;
             let said = Description { of, function: None, is_whole };
@@ -653,7 +659,7 @@ impl<'d, 'a> Reader<'d, 'a> {
         if place.is_none() && !is_external {
             return Ok(());
         }
-        let name = self.name_in(&chain)?;
+        let name = self.symbol_name(&chain)?;
         if !self.asked.has(&name, place) {
             return Ok(());
         }
@@ -700,12 +706,27 @@ impl<'d, 'a> Reader<'d, 'a> {
         refuse("its debug information is damaged: its entries lead round")
     }
 
-    /// The name of the first entry that has one.
-    fn name_in(&self, chain: &[Entry<'d, 'a>]) -> Result<Cow<'a, [u8]>> {
-        match chain.iter().find(|one| one.has(dw::DW_AT_name)) {
-            Some(one) => self.debug.name(one),
-            None => Ok(Cow::Borrowed(b"")),
+    /// The name of the first entry that has one; that of its symbol, where an entry has such too.
+    fn symbol_name(&self, chain: &[Entry<'d, 'a>]) -> Result<Cow<'a, [u8]>> {
+        for name in [dw::DW_AT_linkage_name, dw::DW_AT_name] {
+            if let Some(one) = chain.iter().find(|one| one.has(name)) {
+                return self.debug.text(one, name);
+            }
         }
+        Ok(Cow::Borrowed(b""))
+    }
+
+    /// What names of types in a unit have in front; None in C.
+    fn prefixes(&mut self, unit: &Unit<'a>) -> Result<Option<Rc<Prefixes>>> {
+        if let Some(known) = self.prefixes.get(&unit.start) {
+            return Ok(known.clone());
+        }
+        let made = match Language::of_unit(unit)? {
+            Some(Language::Scoped) => Some(Rc::new(Prefixes::of(self.debug, unit)?)),
+            _ => None,
+        };
+        self.prefixes.insert(unit.start, made.clone());
+        Ok(made)
     }
 }
 
@@ -728,7 +749,7 @@ fn kind(tag: DwTag) -> Kind {
         dw::DW_TAG_pointer_type | dw::DW_TAG_reference_type | dw::DW_TAG_rvalue_reference_type => {
             Kind::Pointer
         }
-        dw::DW_TAG_typedef => Kind::Typedef,
+        dw::DW_TAG_typedef | dw::DW_TAG_template_alias => Kind::Typedef,
         dw::DW_TAG_const_type => Kind::Const,
         dw::DW_TAG_volatile_type => Kind::Volatile,
         dw::DW_TAG_restrict_type => Kind::Restrict,
@@ -741,14 +762,14 @@ fn kind(tag: DwTag) -> Kind {
 }
 
 /// A number that no damage made negative or too large.
-fn natural(value: i128) -> Result<u64> {
+pub(super) fn natural(value: i128) -> Result<u64> {
     match u64::try_from(value) {
         Ok(value) if value < 1 << 63 => Ok(value),
         _ => refuse("a type has a place or a size that no type of C has: damage"),
     }
 }
 
-fn size(entry: &Entry<'_, '_>) -> Result<Option<u64>> {
+pub(super) fn size(entry: &Entry<'_, '_>) -> Result<Option<u64>> {
     entry.constant(dw::DW_AT_byte_size).map(natural).transpose()
 }
 
@@ -777,7 +798,7 @@ fn base(entry: &Entry<'_, '_>, made: &mut Record<'_>) -> Result<()> {
 }
 
 /// The byte at which a member begins; older DWARF has an expression for it.
-fn location(member: &Entry<'_, '_>) -> Result<i128> {
+pub(super) fn location(member: &Entry<'_, '_>) -> Result<i128> {
     let Some(said) = member.block(dw::DW_AT_data_member_location) else {
         return Ok(member.constant(dw::DW_AT_data_member_location).unwrap_or(0));
     };

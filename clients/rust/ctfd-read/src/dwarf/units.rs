@@ -3,6 +3,7 @@
 //! Each entry of all files has a number of its own, its key: which file and which section it is in,
 //! and its place there.
 
+use crate::dwarf::names::{self, Language};
 use crate::dwarf::sections::{borrow_all, dwo_id, Sections, Skeleton};
 use crate::error::{refuse, Result};
 use gimli::{constants as dw, DwAt, DwForm, DwTag, UnitType};
@@ -345,6 +346,8 @@ const KEPT: u128 = {
         dw::DW_AT_language,
         dw::DW_AT_import,
         dw::DW_AT_dwo_name,
+        dw::DW_AT_linkage_name,
+        dw::DW_AT_virtuality,
     ];
     let (mut bits, mut at) = (0, 0);
     while at < listed.len() {
@@ -489,11 +492,15 @@ impl<'d, 'a> Entry<'d, 'a> {
 pub struct Scope {
     pub offset: UnitOffset,
     pub entries: Vec<(UnitOffset, DwTag)>,
+    /// Whether it is a class, whose functions and objects are told elsewhere.
+    is_class: bool,
 }
 
 /// What stands in the unit itself, its functions and the blocks of these, in order of their
-/// beginnings: types that are looked up by name, objects, functions, arguments.
-pub fn scopes(unit: &Unit<'_>) -> Result<Vec<Scope>> {
+/// beginnings: types that are looked up by name, objects, functions, arguments. In C++ and Rust
+/// namespaces and classes have such too.
+pub fn scopes(unit: &Unit<'_>, language: Language) -> Result<Vec<Scope>> {
+    let is_scoped = language == Language::Scoped;
     let mut made: Vec<Scope> = Vec::new();
     let mut outer: Vec<Option<usize>> = Vec::new();
     let mut inner: Option<usize> = None; // None within what is no scope
@@ -507,11 +514,13 @@ pub fn scopes(unit: &Unit<'_>) -> Result<Vec<Scope>> {
             inner = outer.pop().flatten();
             continue;
         };
-        if let Some(scope) = inner.filter(|_| is_listed(shape)) {
+        if let Some(scope) = inner.filter(|&scope| is_listed(shape, made[scope].is_class)) {
             made[scope].entries.push((offset, shape.tag()));
         }
         let sibling = behind(shape, &mut raw)?;
-        let is_scope = matches!(shape.tag(), dw::DW_TAG_subprogram | dw::DW_TAG_lexical_block);
+        let is_class = shape.tag() != dw::DW_TAG_namespace && names::is_scope(shape.tag());
+        let is_scope = matches!(shape.tag(), dw::DW_TAG_subprogram | dw::DW_TAG_lexical_block)
+            || is_scoped && names::is_scope(shape.tag());
         if !shape.has_children() {
             if outer.is_empty() {
                 break;
@@ -519,7 +528,7 @@ pub fn scopes(unit: &Unit<'_>) -> Result<Vec<Scope>> {
         } else if is_scope || outer.is_empty() {
             outer.push(inner);
             inner = Some(made.len());
-            made.push(Scope { offset, entries: Vec::new() });
+            made.push(Scope { offset, entries: Vec::new(), is_class });
         } else if let Some(behind) = sibling {
             if behind < raw.next_offset() {
                 return refuse("its entries lead round: damage");
@@ -555,17 +564,19 @@ fn behind(
 
 /// Whether entries of a shape can be wanted: of variables those that may be objects, of enums those
 /// that name something.
-fn is_listed(shape: &Abbreviation) -> bool {
+fn is_listed(shape: &Abbreviation, is_in_class: bool) -> bool {
     let form =
         |name: DwAt| shape.attributes().iter().find(|one| one.name() == name).map(|one| one.form());
     let has = |name: DwAt| form(name).is_some();
     match shape.tag() {
-        dw::DW_TAG_structure_type
-        | dw::DW_TAG_class_type
-        | dw::DW_TAG_union_type
-        | dw::DW_TAG_typedef
-        | dw::DW_TAG_base_type => has(dw::DW_AT_name),
+        dw::DW_TAG_structure_type | dw::DW_TAG_class_type | dw::DW_TAG_union_type => {
+            has(dw::DW_AT_name) || has(dw::DW_AT_specification)
+        }
+        dw::DW_TAG_typedef | dw::DW_TAG_template_alias | dw::DW_TAG_base_type => {
+            has(dw::DW_AT_name)
+        }
         dw::DW_TAG_enumeration_type => shape.has_children() || has(dw::DW_AT_name),
+        _ if is_in_class => false,
         dw::DW_TAG_variable => {
             has(dw::DW_AT_external)
                 || has(dw::DW_AT_specification)
