@@ -3,8 +3,8 @@
 
 usage: scripts/rust.py [--quiet] [CARGO-WORD..]
 
-Without words it builds clients/rust/target/release/ctfd-tools, and beside it a link for each command
-that it is. With words it runs cargo with these: `scripts/rust.py test`.
+Without words it builds clients/rust/target/release/ctfd-tools, and beside it a link for each
+command that it is. With words it runs cargo with these: `scripts/rust.py test`.
 
 The crates that these stand on are taken from Debian's packages (librust-*-dev) where they are
 installed, else from the folder clients/rust/vendor that a release has, else from crates.io. Needs
