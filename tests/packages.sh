@@ -142,7 +142,8 @@ count "the wheel by pip" python3 -m pip install --quiet --no-index --no-deps \
 count "the wheel's version" says "$version" env PYTHONPATH="$work/packages" \
     python3 -c 'import importlib.metadata as it; print(it.version("ctfd"))'
 count "the package by the wheel" sh -c "PYTHONPATH='$work/packages' CTFD='$program' \
-    python3 -m ctfd '$work/own.ctf' 'struct point' | grep -q 'members: 4'"
+    python3 -c \"import ctfd; print(len(ctfd.open('$work/own.ctf')['struct point'].members))\" |
+        grep -qx 4"
 
 if command -v systemd-analyze > /dev/null; then
     mkdir "$work/units"
