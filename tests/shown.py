@@ -5,11 +5,11 @@ usage: tests/shown.py PROGRAM
 
 Run is each block that begins with `$ `, in a copy of the repository in which PROGRAM is the one
 that was built, and the library the one that tests/archive.py knows; each block begins at its top,
-and files in /tmp/recipe stand in a folder of this run. The program and the commands, compiled ones too,
-are on the path, and `python3` is the Python that runs this. A line that ends in a backslash goes on in the
-next, and one that ends in `<< 'WORD'` up to the line WORD. What a command prints, on both outputs,
-has to be what stands below it up to the next `$ `; a line `...` there stands for any number of
-lines. Where nothing stands below a command, it has to end with status 0. Lines that begin with
+and files in /tmp/recipe stand in a folder of this run. The program and the commands, compiled ones
+too, are on the path, and `python3` is the Python that runs this. A line that ends in a backslash
+goes on in the next, and one that ends in `<< 'WORD'` up to the line WORD. What a command prints, on
+both outputs, has to be what stands below it up to the next `$ `; a line `...` there stands for any
+number of lines. Where nothing stands below a command, it has to end with status 0. Lines that begin with
 `(gdb) ` are given to the gdb above them, and what it prints for all of them is compared. In a block
 that runs gdb, numbers in hexadecimal and how many types and symbols there are hang on the compiler,
 and are not compared.

@@ -2,8 +2,8 @@
 
 A door is a program that people run. Which one stands behind a name is for the environment to say:
 CTFD is the service, CTFD_TOOLS the folder of the commands, CTFD_ARCHIVE the library for C. So the
-same cases judge whatever is built behind them. A command that is not in that folder is the compiled
-one.
+same cases judge whatever is built behind them. A command that is not in that folder is the one in
+Python, or the compiled one.
 """
 from __future__ import annotations
 
@@ -56,8 +56,8 @@ class Outcome(NamedTuple):
 
 def tool(name: str) -> str:
     """The command `ctfd-NAME`."""
-    own = TOOLS / f"ctfd-{name}"
-    return str(own if own.exists() else COMPILED / own.name)
+    places = [folder / f"ctfd-{name}" for folder in (TOOLS, CLIENTS / "python", COMPILED)]
+    return str(next((place for place in places if place.exists()), places[-1]))
 
 
 def clean(environment: Optional[Mapping[str, str]] = None) -> dict[str, str]:

@@ -29,7 +29,8 @@ extern char unknown[]; char *at(void) { return unknown; } char unknown[3];
 
 
 TAGGED = re.compile(r"^(struct|union|enum) (\w+) \{$", re.M)
-RENAMED = re.compile(r"^typedef (?!struct \{ char ctfd_bytes).*?\b(\w+)(?:\)\(.*\))?(?:\[\d+\])*;$", re.M)
+RENAMED = re.compile(r"^typedef (?!struct \{ char ctfd_bytes).*?\b(\w+)(?:\)\(.*\))?(?:\[\d+\])*;$",
+                     re.M)
 NUMBERED = re.compile(r"(?:ctfd_|.*__)(\d+)\Z")
 
 
@@ -50,7 +51,8 @@ def asserted(whole: Whole, code: str) -> Iterator[str]:
     """What gcc is to find true: each size, and each offset that C can ask for."""
     declared = [(word, name, f"{word} {name}") for word, name in TAGGED.findall(code)]
     known = [whole.catalog[n].name for n in whole.catalog.own if whole.catalog[n].kind == "typedef"]
-    declared += [("typedef", name, name) for name in RENAMED.findall(code) if known.count(name) == 1]
+    declared += [("typedef", name, name) for name in RENAMED.findall(code)
+                 if known.count(name) == 1]
     for word, name, called in declared:
         number = number_of(whole, word, name)
         size = whole.catalog.size(number)

@@ -14,8 +14,11 @@ const BIGGEST: u128 = 8 * 16;
 /// Bits: what i386 aligns numbers to within structs.
 const EASED: u128 = 32;
 
+/// Bytes that no type of a program has: what is longer counts as so long.
+const LONGEST: u128 = u128::MAX >> 16;
+
 /// The size and alignment of a type; `is_number` says that the machine handles it as an integer or a
-/// double, and `is_integer` as the first, and `is_by_user` that an attribute says its alignment.
+/// double, and `is_by_user` that an attribute says its alignment.
 #[derive(Clone, Copy, Debug, PartialEq, Eq)]
 pub struct Shape {
     /// Its bytes.
@@ -41,7 +44,7 @@ impl Shape {
 
     /// An array, which is aligned and placed as its elements are.
     pub fn times(self, count: u128) -> Shape {
-        Shape { size: self.size.saturating_mul(count), ..self }
+        Shape { size: self.size.saturating_mul(count).min(LONGEST), ..self }
     }
 }
 
