@@ -89,6 +89,8 @@ def parts(program: str) -> list[Part]:
         # The compiled commands, over the library.
         Part("compiled", ["scripts/rust.py", "--quiet"], after=of_library),
         Part("reader", ["tests/reader/all.sh", program], after=("archive", "compiled")),
+        Part("many_types", ["tests/reader/many_types.py", program],
+             after=("archive", "compiled")),
         Part("c_library", ["tests/c_library.sh", program], after=of_library),
         Part("packages", ["tests/packages.sh", program], after=("archive", "compiled")),
         Part("install", ["tests/install.sh", program], after=("archive", "compiled")),

@@ -6,3 +6,4 @@ cd "$(dirname "$0")/../.."
 tests/reader/compare.py "$@"
 tests/reader/orders.py
 tests/reader/independent.py
+tests/reader/mutants.py

@@ -34,6 +34,8 @@ SCOPED = re.compile(r"DW_LANG_(C_plus_plus|Rust)")
 READ = re.compile(r"DW_LANG_(C_plus_plus\w*|Rust|C\d*|C\d\d)$")
 MOST_MEMBERS = 1023
 TYPEDEF, QUALIFIERS = 10, (11, 12, 13)
+CHILD = 0x8000
+ARCHIVE = b"!<arch>\n"
 LISTED = 10
 # Types of Rust that have one value or none, which debug information has as integers of no bytes.
 NO_STRUCTS = (b"()", b"!")
@@ -134,33 +136,52 @@ def shape_of(entry: Entry) -> Optional[Shape]:
     return CLASSES[entry.tag], entry.name, number(entry.said.get("byte_size")), tuple(members)
 
 
-def width(found: list[Type], of: int) -> Optional[int]:
+def width(parents: list[Type], own: list[Type], of: int) -> Optional[int]:
     """The bits of an integer behind typedefs and qualifiers."""
     while of:
-        kind, said = found[of - 1].said[0], found[of - 1].said[4]  # type: ignore[index]
+        one = own[of - CHILD - 1] if parents and of > CHILD else (parents or own)[of - 1]
+        kind, said = one.said[0], one.said[4]  # type: ignore[index]
         if kind == INTEGER:
             return struct.unpack("<H", said[1][:2])[0]
         if kind != TYPEDEF and kind not in QUALIFIERS:
             break
-        of = found[of - 1].named[0]
+        of = one.named[0]
     return None
 
 
 def told(ctf: bytes) -> dict[tuple[int, str], list[Shape]]:
     """The structs and unions of a dictionary, by name."""
-    found = list(types(ctf))
     made: dict[tuple[int, str], list[Shape]] = {}
-    for one in found:
-        kind, _, _, name, said = one.said  # type: ignore[misc]
-        if kind not in (STRUCT, UNION) or not name or name in NO_STRUCTS:
-            continue
-        members = []
-        for (member, place), of in zip(said[1], one.named):
-            offset = place[0] << 32 | place[1] if len(place) > 1 else place[0]
-            members.append((member.decode("utf-8", "surrogateescape"), offset, width(found, of)))
-        key = (kind, name.decode("utf-8", "surrogateescape"))
-        made.setdefault(key, []).append((*key, said[0], tuple(members)))
+    parents: list[Type] = []
+    for part in parts(ctf):
+        own = list(types(part))
+        for one in own:
+            kind, _, _, name, said = one.said  # type: ignore[misc]
+            if kind not in (STRUCT, UNION) or not name or name in NO_STRUCTS:
+                continue
+            members = []
+            for (member, place), of in zip(said[1], one.named):
+                offset = place[0] << 32 | place[1] if len(place) > 1 else place[0]
+                bits = width(parents, own, of)
+                members.append((member.decode("utf-8", "surrogateescape"), offset, bits))
+            if len(members) > 1 and not any(one[0] for one in members):
+                continue  # its members are too many, and stand in unnamed ones
+            key = (kind, name.decode("utf-8", "surrogateescape"))
+            made.setdefault(key, []).append((*key, said[0], tuple(members)))
+        parents = parents or own
     return made
+
+
+def parts(ctf: bytes) -> Iterator[bytes]:
+    """A dictionary, or the parent and the children in an archive."""
+    at = len(ARCHIVE)
+    if not ctf.startswith(ARCHIVE):
+        yield ctf
+    while ctf.startswith(ARCHIVE) and at < len(ctf):
+        length = int(ctf[at + 48:at + 58])
+        at += 60
+        yield ctf[at:at + length]
+        at += length + length % 2
 
 
 def is_told(defined: Shape, shape: Shape) -> bool:

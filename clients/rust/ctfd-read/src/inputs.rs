@@ -393,6 +393,12 @@ fn note(image: &Image, symbols: &Symbols<'_>, debug: &Image) -> Result<String> {
 /// that a dictionary could go by.
 fn with_archive(image: &Image, data: &[u8], options: &Options, run: &mut Use<'_>) -> Result<()> {
     let path = image.path();
+    if crate::archive::has_dictionaries(data) {
+        return refuse(format!(
+            "{}: it has several dictionaries, which ctfd-convert wrote of a program: name the program",
+            path.display()
+        ));
+    }
     judge_number(Form::Dwarf, options).map_err(|error| error.of(path.display()))?;
     let members = members(path, data).map_err(|error| error.of(path.display()))?;
     let mut model = options.model;

@@ -6,8 +6,10 @@
 //! [`dictionary`] makes a dictionary of it, alone or over a parent, whose bytes `section` writes
 //! and the library of this project, which is proved, opens before anybody gets them.
 
+mod archive;
 mod btf;
 mod bytes;
+pub mod collection;
 mod ctf;
 mod descriptions;
 pub mod dictionary;
@@ -24,9 +26,11 @@ mod limits;
 mod merge;
 pub mod nearest;
 pub mod opening;
+pub mod parts;
 mod section;
 mod select;
 mod slots;
 mod sound;
+mod spread;
 pub mod symbols;
 pub mod table;
