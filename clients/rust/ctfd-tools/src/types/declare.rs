@@ -152,13 +152,13 @@ impl Maker<'_, '_> {
                 kind if is_qualifier(kind) => {
                     let word = word_of(kind);
                     number = record.of;
-                    if self.catalog.kind(self.element(number)) == Kind::Pointer {
-                        if !of_pointer.contains(&word) {
+                    let is_of_pointer = self.catalog.kind(self.element(number)) == Kind::Pointer;
+                    let listed = if is_of_pointer { &mut of_pointer } else { &mut qualifiers };
+                    if !listed.contains(&word) {
+                        listed.push(word);
+                        if is_of_pointer {
                             left.insert_str(0, &format!("{word} "));
                         }
-                        of_pointer.push(word);
-                    } else if !qualifiers.contains(&word) {
-                        qualifiers.push(word);
                     }
                 }
                 _ => break,

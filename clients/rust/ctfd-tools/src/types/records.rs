@@ -31,15 +31,9 @@ pub fn records(
     is_hexadecimal: bool,
     output: &mut dyn Write,
 ) -> Outcome<()> {
-    let shown = printable(wanted.name);
     let start = wanted.offset.map(offset).transpose()?.unwrap_or(0) / 8;
     let start = u64::try_from(start).unwrap_or(u64::MAX);
-    let catalog = whole.names.catalog;
-    let of = whole.names.meant(wanted.name)?.into_iter().next().and_then(|n| catalog.get(n));
-    let size = of.and_then(|of| catalog.size(of.number())).unwrap_or(0);
-    let (Some(of), Ok(size @ 1..)) = (of, usize::try_from(size)) else {
-        return Err(Failure::Refused(format!("{shown} has no size: no records are of it")));
-    };
+    let (of, size) = type_wanted(whole, wanted.name)?;
     let count = wanted.count.map(count_of).transpose()?;
     let mut file = Pieces::open(wanted.file, start)?;
     if let Some(count) = count {
@@ -47,26 +41,21 @@ pub fn records(
     }
     let most = count.map_or(u64::MAX, |count| count.saturating_mul(size as u64));
     let at_once = (PIECE / size).max(1).saturating_mul(size);
-    let (mut at, mut read) = (start, 0);
+    let mut read = 0;
     while read < most {
         let length = at_once.min(usize::try_from(most - read).unwrap_or(usize::MAX));
         let piece = file.next(length)?;
-        for value in piece.chunks_exact(size) {
-            let text = match of.show(value, 0) {
-                Ok(text) => text.to_string(),
-                Err(refusal) => format!("({})", refusal.fault),
-            };
-            let place = match is_hexadecimal {
-                true => format!("{at:#x}"),
-                false => at.to_string(),
-            };
-            writeln!(output, "{place:>8}  {text}")?;
-            at += size as u64;
+        for (place, value) in piece.chunks_exact(size).enumerate() {
+            let at = start + read + (place * size) as u64;
+            let place = if is_hexadecimal { format!("{at:#x}") } else { at.to_string() };
+            match of.show(value, 0) {
+                Ok(text) => writeln!(output, "{place:>8}  {text}")?,
+                Err(refusal) => writeln!(output, "{place:>8}  ({})", refusal.fault)?,
+            }
         }
         read += piece.len() as u64;
-        let rest = piece.len() % size;
-        if rest != 0 {
-            let path = wanted.file.display();
+        if piece.len() % size != 0 {
+            let (path, rest) = (wanted.file.display(), piece.len() % size);
             whole.cut(format!("{path}: {rest} bytes behind the last record of {size}"));
         }
         if piece.len() < length {
@@ -74,6 +63,20 @@ pub fn records(
         }
     }
     Ok(())
+}
+
+/// The type of a name, and its bytes.
+fn type_wanted<'d>(whole: &Whole<'_, 'd>, name: &[u8]) -> Outcome<(ctfd::Type<'d>, usize)> {
+    let catalog = whole.names.catalog;
+    let number = whole.names.meant(name)?.into_iter().next().unwrap_or(0);
+    let size = catalog.size(number).and_then(|size| usize::try_from(size).ok());
+    match (catalog.get(number), size) {
+        (Some(of), Some(size @ 1..)) => Ok((of, size)),
+        _ => {
+            let shown = printable(name);
+            Err(Failure::Refused(format!("{shown} has no size: no records are of it")))
+        }
+    }
 }
 
 fn count_of(written: &str) -> Outcome<u64> {
