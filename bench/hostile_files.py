@@ -17,6 +17,8 @@ sys.path.insert(0, str(TOP / "tests"))
 from doors import writers as w  # noqa: E402
 
 TOOLS = Path(os.environ.get("CTFD_TOOLS", TOP / "clients/python"))
+# Where the commands are that are compiled alone.
+COMPILED = Path(os.environ.get("CARGO_TARGET_DIR") or TOP / "clients/rust/target") / "release"
 MOST_SECONDS = 5
 BASE_OF_INT = w.abbreviation(3, 0x24, False, [(0x0B, 0x0B), (0x3E, 0x0B), (0x03, 0x08)])
 UNIT_OF_C = w.abbreviation(1, 0x11, True, [(0x13, 0x0B)])
@@ -114,6 +116,12 @@ HOLDERS = ("types", "--no-cache", "{}", "--contains", "int", "--recursive")
 USERS = ("types", "--no-cache", "{}", "--uses", "int", "--recursive")
 
 
+def tool(name):
+    """The command `ctfd-NAME`."""
+    own = TOOLS / f"ctfd-{name}"
+    return own if own.exists() else COMPILED / own.name
+
+
 @dataclass(frozen=True)
 class FileCase:
     """A file of a size, and the command that reads it: a name behind `ctfd-`, and its words."""
@@ -129,7 +137,7 @@ class FileCase:
             path = os.path.join(folder, "file")
             Path(path).write_bytes(self.make(size))
             words = [word.replace("{}", path) for word in self.command[1:]]
-            done = subprocess.Popen([TOOLS / f"ctfd-{self.command[0]}", *words],
+            done = subprocess.Popen([tool(self.command[0]), *words],
                                     env={**os.environ, "CTFD": program, "CTFD_LIBRARY": ""},
                                     stdout=subprocess.DEVNULL, stderr=subprocess.DEVNULL,
                                     preexec_fn=_bounded)

@@ -3,14 +3,14 @@
 
 usage: scripts/rust.py [--quiet | --packages] [CARGO-WORD..]
 
-`--packages` prints the names of Debian's packages with the crates. Without words it builds clients/rust/target/release/ctfd-tools, and beside it a link for each command
-that it is. With words it runs cargo with these: `scripts/rust.py test`.
+`--packages` prints the names of Debian's packages with the crates. Without words it builds
+clients/rust/target/release/ctfd-tools, and beside it a link for each command that it is. With words
+it runs cargo with these: `scripts/rust.py test`.
 
 The crates that these stand on are taken from the folder clients/rust/vendor that the tarball of the
 sources has, else from Debian's packages (librust-*-dev) where they are installed, else from
-crates.io. Needs
-cargo and rustc 1.82 or later; without them, or without the crates, nothing is built, and a line says
-so.
+crates.io. Needs cargo and rustc 1.82 or later; without them, or without the crates, nothing is
+built, and a line says so.
 """
 from __future__ import annotations
 
@@ -26,7 +26,7 @@ TOP = Path(__file__).resolve().parents[1]
 WORKSPACE = TOP / "clients" / "rust"
 ARCHIVE = TOP / "crates" / "ctf_c" / "out" / "libctfd.a"
 PROGRAM = "ctfd-tools"
-COMMANDS = ("ctfd-convert",)
+COMMANDS = ("ctfd-convert", "ctfd-types")
 DEBIAN = Path("/usr/share/cargo/registry")
 # The packages of Debian with what the crates name, which bring what these name themselves.
 PACKAGES = tuple(f"librust-{name}-dev" for name in ("ahash-0.7", "clap", "flate2", "gimli",

@@ -6,8 +6,8 @@ usage: scripts/tree.py --prefix PREFIX [--root FOLDER] [--program PROGRAM] [--ar
 
 That is the program, the libraries for C with their headers and a file for pkg-config, the manual
 pages, the units for systemd, the Python package and its commands. A command that is compiled, as
-scripts/rust.py does where cargo is, goes there in place of the one in Python. FOLDER of --root, if
-it is given, goes in front of all, as DESTDIR does.
+scripts/rust.py does where cargo is, goes there in place of the one in Python, if there is one.
+FOLDER of --root, if it is given, goes in front of all, as DESTDIR does.
 
 pip installs the package. It and setuptools and wheel are those of the Python that PYTHON in the
 environment names, else of `python3` or Debian's, whichever has them. The package goes where that
@@ -35,6 +35,8 @@ from version import TOP, differing, version
 CLIENT = TOP / "clients" / "python"
 COMPLETIONS = TOP / "clients" / "completions"
 COMMANDS = sorted(path.name for path in CLIENT.glob("ctfd-*"))
+# Those that are compiled alone.
+COMPILED = sorted(set(rust.COMMANDS) - set(COMMANDS))
 HEADERS = ("ctfd.h", "ctfd_libctf.h")
 DEBIANS = "/usr/bin/python3"
 # What builds and installs a package, by Debian's packages.
@@ -136,7 +138,7 @@ class Places:
         for name in COMMANDS:
             yield self.prefix / "bin" / name, CLIENT / name, 0o755
         completions = self.prefix / "share/bash-completion/completions"
-        for name in (*COMMANDS, "ctfd"):
+        for name in (*COMMANDS, *COMPILED, "ctfd"):
             yield completions / name, COMPLETIONS / "ctfd.bash", 0o644
         yield self.prefix / "share/zsh/site-functions/_ctfd", COMPLETIONS / "_ctfd", 0o644
 
@@ -295,7 +297,8 @@ def remove_package(places: Places) -> None:
 def remove(places: Places) -> None:
     """Takes every file away, and the package's own folders."""
     remove_package(places)
-    for path in (places.prefix / "bin" / "ctfd", places.libraries / "libctfd.a", *shared(places),
+    binaries = (places.prefix / "bin" / name for name in ("ctfd", *COMPILED))
+    for path in (*binaries, places.libraries / "libctfd.a", *shared(places),
                  *(path for path, _, _ in places.texts())):
         places.real(path).unlink(missing_ok=True)
 

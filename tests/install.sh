@@ -87,14 +87,20 @@ used() {
     for command in "$top"/clients/python/ctfd-*; do
         count "${command##*/}" "$below/bin/${command##*/}" --help
     done
-    [ ! -f "$compiled" ] || count "the compiled command" cmp "$compiled" "$below/bin/ctfd-convert"
+    if [ -f "$compiled" ]; then
+        for command in ctfd-convert ctfd-types; do
+            count "$command, compiled" cmp "$compiled" "$below/bin/$command"
+        done
+    fi
     count "a conversion" env -u CTFD PATH="/usr/bin:/bin" "$below/bin/ctfd-convert" "$lua" \
         "$work/converted"
     # It finds the program beside it, under each Python that is here.
     for python in python3 /usr/bin/python3; do
-        count "a type by ctfd-types" env -u CTFD PATH="/usr/bin:/bin" "$(command -v $python)" \
-            "$below/bin/ctfd-types" "$lua" "struct luaL_Reg"
+        count "a page by ctfd-explore" env -u CTFD PATH="/usr/bin:/bin" "$(command -v $python)" \
+            "$below/bin/ctfd-explore" "$lua" -o "$work/page.html"
     done
+    [ ! -f "$compiled" ] || count "a type by ctfd-types" env -i "$below/bin/ctfd-types" "$lua" \
+        "struct luaL_Reg"
     count "a unit" grep -q "^ExecStart=.*/bin/ctfd serve" "$below/lib/systemd/system/ctfd@.service"
     count "a page of the manual" test -s "$below/share/man/man3/ctfd.3"
     if command -v cargo > /dev/null && cargo --version > /dev/null 2>&1; then
@@ -127,9 +133,9 @@ count "install" made install PREFIX="$work/prefix"
 )
 read -r checks wrong < "$work/counts"
 cd /
-ln -s "$work/prefix/bin/ctfd-types" "$work/linked"
+ln -s "$work/prefix/bin/ctfd-diff" "$work/linked"
 count "a command by a link" env -u CTFD PATH="/usr/bin:/bin" \
-    "$work/linked" "$top/examples/lua.ctf" "struct luaL_Reg"
+    "$work/linked" "$top/examples/lua.ctf" "$top/examples/lua.ctf"
 ln -s "$work/prefix/bin/ctfd-convert" "$work/to_ctf"
 count "ctfd-convert by a link" env -u CTFD PATH="/usr/bin:/bin" \
     "$work/to_ctf" "$top/examples/lua.ctf" "$work/converted"

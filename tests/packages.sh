@@ -63,10 +63,13 @@ used() {
     local below=$1 libraries=$2
     count "ctfd-convert in $below" env PATH=/usr/bin:/bin "$below/bin/ctfd-convert" \
         "$work/own" "$work/own.ctf"
-    [ ! -f "$compiled" ] || count "compiled, in $below" cmp "$compiled" "$below/bin/ctfd-convert"
-    env PATH=/usr/bin:/bin "$below/bin/ctfd-types" "$work/own.ctf" "struct point" > "$work/types" \
-        2>&1 || true
-    count "ctfd-types in $below" grep -q 'size: 32, cachelines: 1, members: 4' "$work/types"
+    if [ -f "$compiled" ]; then
+        for command in ctfd-convert ctfd-types; do
+            count "$command, compiled, in $below" cmp "$compiled" "$below/bin/$command"
+        done
+        env -i "$below/bin/ctfd-types" "$work/own.ctf" "struct point" > "$work/types" 2>&1 || true
+        count "ctfd-types in $below" grep -q 'size: 32, cachelines: 1, members: 4' "$work/types"
+    fi
     count "the program in $below" says "ctfd $version" first "$below/bin/ctfd" --version
     count "the header in $below" cc -I"$below/include" "$work/header.c" -o "$work/header" \
         "$libraries/libctfd.a"
@@ -145,8 +148,9 @@ count "the wheel by pip" python3 -m pip install --quiet --no-index --no-deps \
     --target "$work/packages" "$work/first/ctfd-$version-py3-none-any.whl"
 count "the wheel's version" says "$version" env PYTHONPATH="$work/packages" \
     python3 -c 'import importlib.metadata as it; print(it.version("ctfd"))'
-count "the package by the wheel" sh -c "PYTHONPATH='$work/packages' CTFD='$program' \
-    python3 -m ctfd '$work/own.ctf' 'struct point' | grep -q 'members: 4'"
+count "the package by the wheel" says 32 env PYTHONPATH="$work/packages" CTFD="$program" \
+    python3 -c 'import sys, ctfd; print(ctfd.open(sys.argv[1])["struct point"].sizeof)' \
+    "$work/own.ctf"
 
 if command -v systemd-analyze > /dev/null; then
     mkdir "$work/units"

@@ -71,7 +71,8 @@ def parts(program: str) -> list[Part]:
     of_library = ("archive",)
     return [
         Part("growths", ["tests/growths.sh", program]),
-        Part("shown", [python, "tests/shown.py", program], after=of_library),
+        Part("shown", [python, "tests/shown.py", program],
+             after=("archive", "compiled")),
         Part("lending", ["tests/lending.sh"], after=of_library),
         Part("client", [python, "-m", "unittest", "discover", "-v", "-s", "tests", "-t", "."],
              CLIENT, over, ("compiled",)),
@@ -87,7 +88,9 @@ def parts(program: str) -> list[Part]:
         Part("convert", ["tests/convert.sh", program]),
         # The compiled commands, over the library.
         Part("compiled", ["scripts/rust.py", "--quiet"], after=of_library),
-        Part("reader", ["tests/reader/compare.py", program], after=("archive", "compiled")),
+        Part("reader", ["tests/reader/all.sh", program], after=("archive", "compiled")),
+        Part("many_types", ["tests/reader/many_types.py", program],
+             after=("archive", "compiled")),
         Part("c_library", ["tests/c_library.sh", program], after=of_library),
         Part("packages", ["tests/packages.sh", program], after=("archive", "compiled")),
         Part("install", ["tests/install.sh", program], after=("archive", "compiled")),
@@ -103,7 +106,7 @@ def parts(program: str) -> list[Part]:
                          "tests/by_hand", "-t", "tests"], words=over),
         # What people run, as black boxes, with the hostile files that tests/doors makes.
         Part("doors", [python, "-m", "unittest", "discover", "-s", "tests/doors", "-t", "tests"],
-             words=over, after=of_library),
+             words=over, after=("archive", "compiled")),
         Part("ilp32", ["tests/ilp32.sh", program]),
         Part("house", ["tests/house.py"]),
         Part("links", ["tests/links.py"]),

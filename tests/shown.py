@@ -5,11 +5,11 @@ usage: tests/shown.py PROGRAM
 
 Run is each block that begins with `$ `, in a copy of the repository in which PROGRAM is the one
 that was built, and the library the one that tests/archive.py knows; each block begins at its top,
-and files in /tmp/recipe stand in a folder of this run. The program and the client's commands are on
-the path, and `python3` is the Python that runs this. A line that ends in a backslash goes on in the
-next, and one that ends in `<< 'WORD'` up to the line WORD. What a command prints, on both outputs,
-has to be what stands below it up to the next `$ `; a line `...` there stands for any number of
-lines. Where nothing stands below a command, it has to end with status 0. Lines that begin with
+and files in /tmp/recipe stand in a folder of this run. The program and the commands, compiled ones
+too, are on the path, and `python3` is the Python that runs this. A line that ends in a backslash
+goes on in the next, and one that ends in `<< 'WORD'` up to the line WORD. What a command prints, on
+both outputs, has to be what stands below it up to the next `$ `; a line `...` there stands for any
+number of lines. Where nothing stands below a command, it has to end with status 0. Lines that begin with
 `(gdb) ` are given to the gdb above them, and what it prints for all of them is compared. In a block
 that runs gdb, numbers in hexadecimal and how many types and symbols there are hang on the compiler,
 and are not compared.
@@ -44,11 +44,16 @@ from pathlib import Path
 from typing import Iterator
 
 TOP = Path(__file__).resolve().parents[1]
+sys.path.insert(0, str(TOP / "scripts"))
+
+import rust  # noqa: E402
+
 PAGES = ("README.md", "docs/COOKBOOK.md", "docs/C.md", "docs/DUMP.md", "docs/SERVING.md")
 COPIED = ("README.md", "Makefile", "HANDLES", "crates.txt", "crates", "clients", "docs", "examples",
           "tests")
 RECIPE = "/tmp/recipe"
 ARCHIVE = "crates/ctf_c/out/libctfd.a"
+COMPILED = "clients/rust/target/release"
 TOOLS = ("cc", "gcc", "gdb", "objcopy", "llvm-objcopy", "jq", "man", "rt")
 # What of the client takes which package of Python.
 LIBRARIES = {"build.declare": "pycparser"}
@@ -139,6 +144,8 @@ def lacking(text: str) -> str:
     for word, library in LIBRARIES.items():
         if word in text and not importlib.util.find_spec(library):
             return f"skipped: {sys.executable} has no package {library}"
+    if "ctfd-types" in text and not (rust.folder() / "ctfd-types").exists():
+        return "skipped: ctfd-types is not compiled"
     if ARCHIVE in text and not Path(archive()).exists():
         return archive()
     if "-m32" in text and subprocess.run(["gcc", "-m32", "-c", "-x", "c", "/dev/null", "-o",
@@ -185,7 +192,7 @@ class Page:
         self.page, self.top, self.recipe = page, top, recipe
         self.compared = self.wrong = 0
         self.lacks: dict[str, str] = {}  # by heading, how a block below it was told to be left out
-        path = f"{top}/crates/ctfd/out:{top}/clients/python:{os.environ['PATH']}"
+        path = f"{top}/crates/ctfd/out:{top}/clients/python:{top}/{COMPILED}:{os.environ['PATH']}"
         self.environment = {**os.environ, "LC_ALL": "C", "PATH": path,
                             "CTFD": f"{top}/crates/ctfd/out/ctfd"}
 
@@ -330,7 +337,7 @@ def copied(program: str, top: Path) -> None:
     for name in COPIED:
         if (TOP / name).is_dir():
             shutil.copytree(TOP / name, top / name, symlinks=True,
-                            ignore=shutil.ignore_patterns("out", "__pycache__"))
+                            ignore=shutil.ignore_patterns("out", "target", "__pycache__"))
         elif (TOP / name).exists():
             shutil.copy(TOP / name, top / name)
     out = top / "crates" / "ctfd" / "out"
@@ -339,6 +346,10 @@ def copied(program: str, top: Path) -> None:
     if Path(archive()).exists():
         (top / ARCHIVE).parent.mkdir()
         (top / ARCHIVE).symlink_to(archive())
+    (top / COMPILED).mkdir(parents=True)
+    for command in rust.COMMANDS:
+        if (rust.folder() / command).exists() and command not in os.listdir(top / "clients/python"):
+            (top / COMPILED / command).symlink_to(rust.folder() / command)
     python = out / "python3"  # no link: where it stands tells a Python its packages
     python.write_text(f'#!/bin/sh\nexec "{sys.executable}" "$@"\n')
     python.chmod(0o755)

@@ -1,8 +1,16 @@
-# Completion for bash of the commands: their options, values of those that have a few, and files.
+# Completion for bash of the commands: their options, values of those that have a few, files, and for
+# ctfd-types the names of the types of a file that stands in front.
 _ctfd()
 {
-    local word=${COMP_WORDS[COMP_CWORD]} before=${COMP_WORDS[COMP_CWORD - 1]} options
+    local word=${COMP_WORDS[COMP_CWORD]} before=${COMP_WORDS[COMP_CWORD - 1]} options file
     COMPREPLY=()
+    if [[ ${1##*/} == ctfd-types && -n $word && $word != [-./]* ]]; then
+        for file in "${COMP_WORDS[@]:1:COMP_CWORD - 1}"; do
+            [[ -f $file ]] || continue
+            mapfile -t COMPREPLY < <("$1" --complete "$word" "$file" 2> /dev/null | grep -v ' ')
+            [[ ${#COMPREPLY[@]} == 0 ]] || return
+        done
+    fi
     if [[ $word == -* ]]; then
         options=$("$1" --help 2> /dev/null | grep -oE -e '--[a-z][a-z-]*' | sort -u)
     elif [[ $before == --* ]]; then

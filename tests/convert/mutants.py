@@ -37,8 +37,10 @@ sys.path.insert(0, str(HERE.parents[1] / "clients/python"))
 
 from ctfd.client.faults import Unreadable  # noqa: E402
 from ctfd.files import elf  # noqa: E402
-from ctfd.tools import convert, types  # noqa: E402
+from ctfd.tools import convert  # noqa: E402
 
+TYPES = Path(os.environ.get("CARGO_TARGET_DIR") or HERE.parents[1] / "clients/rust/target",
+             "release/ctfd-types")
 SECONDS, BYTES = 20, 1 << 30
 MOST_SHOWN = 20
 CODE = """
@@ -170,7 +172,7 @@ class Worker:
             status, told = run(convert.main, ["--service", self.service, str(mutant), out])
             wrong = _judged(status, told)
             if not wrong and path.suffix in ("", ".ctf"):
-                wrong = _judged_types(*run(types.main, ["--service", self.service, str(mutant)]))
+                wrong = _judged_types(mutant) if TYPES.exists() else ""
             return Outcome(seed, wrong and f"{path.name}: {wrong}", status)
         except BaseException as error:  # an exception that a user would see
             return Outcome(seed, f"{path.name}: {type(error).__name__} {error}", -1)
@@ -193,9 +195,11 @@ def _judged(status: int, told: str) -> str:
     return f"status 1 without a line: {told}" if status == 1 and not lines else ""
 
 
-def _judged_types(status: int, told: str) -> str:
-    """What is wrong with how ctfd-types went."""
-    if "memory ran out" in told or "Traceback" in told or status not in (0, 1):
+def _judged_types(path: Path) -> str:
+    """What is wrong with how ctfd-types goes on a file."""
+    done = subprocess.run([TYPES, path], capture_output=True, timeout=SECONDS, check=False)
+    status, told = done.returncode, done.stderr.decode("utf-8", "replace")
+    if "memory ran out" in told or "panicked" in told or status not in (0, 1):
         return f"ctfd-types: status {status}: {told}"
     return f"ctfd-types: status 1: {told}" if status == 1 and not told else ""
 

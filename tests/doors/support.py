@@ -2,7 +2,8 @@
 
 A door is a program that people run. Which one stands behind a name is for the environment to say:
 CTFD is the service, CTFD_TOOLS the folder of the commands, CTFD_ARCHIVE the library for C. So the
-same cases judge whatever is built behind them.
+same cases judge whatever is built behind them. A command that is not in that folder is the one in
+Python, or the compiled one.
 """
 from __future__ import annotations
 
@@ -23,6 +24,7 @@ EXAMPLES = TOP / "examples"
 CLIENTS = TOP / "clients"
 SERVICE = os.environ.get("CTFD", str(TOP / "crates/ctfd/out/ctfd"))
 TOOLS = Path(os.environ.get("CTFD_TOOLS", CLIENTS / "python"))
+COMPILED = Path(os.environ.get("CARGO_TARGET_DIR") or CLIENTS / "rust/target") / "release"
 ARCHIVE = Path(os.environ.get("CTFD_ARCHIVE", TOP / "crates/ctf_c/out/libctfd.a"))
 LIBRARY = ARCHIVE.with_name("libctfd.so")
 COMMANDS = ("convert", "debuginfo", "diff", "explore", "front", "show", "types")
@@ -54,7 +56,8 @@ class Outcome(NamedTuple):
 
 def tool(name: str) -> str:
     """The command `ctfd-NAME`."""
-    return str(TOOLS / f"ctfd-{name}")
+    places = [folder / f"ctfd-{name}" for folder in (TOOLS, CLIENTS / "python", COMPILED)]
+    return str(next((place for place in places if place.exists()), places[-1]))
 
 
 def clean(environment: Optional[Mapping[str, str]] = None) -> dict[str, str]:
@@ -124,6 +127,9 @@ class Case(unittest.TestCase):
     def setUp(self) -> None:
         if not os.access(SERVICE, os.X_OK):
             self.skipTest("the service is not built: `make`, or CTFD names it")
+        missing = [name for name in COMMANDS if not os.access(tool(name), os.X_OK)]
+        if missing:
+            self.skipTest(f"not compiled: {', '.join(missing)}; scripts/rust.py does that")
         kept = tempfile.TemporaryDirectory()
         self.addCleanup(kept.cleanup)
         self.folder = Path(kept.name)

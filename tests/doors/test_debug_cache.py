@@ -8,7 +8,7 @@ import unittest
 from pathlib import Path
 from typing import List
 
-from .support import CLIENTS, SERVICE, TOOLS, Case, Outcome, run
+from .support import CLIENTS, SERVICE, TOOLS, Case, Outcome, run, tool
 
 CODE = """
 struct point { long x, y, z; } first = { 1, 2, 3 };
@@ -90,7 +90,7 @@ class Kept(Case):
             self.skipTest("no file system can be mounted here")
         self.addCleanup(lambda: subprocess.run(["umount", str(self.cache)], check=True))
         (self.cache / "fills").write_bytes(bytes(4096))
-        done = run(TOOLS / "ctfd-types", self.folder / "whole.exe", "struct point", seconds=30,
+        done = run(tool("types"), self.folder / "whole.exe", "struct point", seconds=30,
                    environment={"XDG_CACHE_HOME": str(self.cache.parent)})
         self.assertIn("size: 24", done.output, done.text)
         self.assertEqual([path.name for path in self.cache.iterdir()], ["fills"])

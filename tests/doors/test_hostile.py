@@ -63,7 +63,8 @@ class Hostile(Case):
         self.assert_refused(done, says="more work than|names of .symtab are damaged")
 
     def test_labels(self) -> None:
-        self.assert_refused(self.asked(made.unended_labels, 200_000), says="more work than|damaged")
+        self.assert_refused(self.asked(made.unended_labels, 200_000),
+                            says="more work than|damaged|BadName")
         self.asked(made.ended_labels, 200_000)
 
     def test_structs_of_two_of_the_one_before(self) -> None:

@@ -15,7 +15,8 @@ import unittest
 from pathlib import Path
 from typing import Dict, List, Mapping, Optional, Tuple
 
-from .support import CLIENTS, COMMANDS, EXAMPLES, LIBRARY, SERVICE, TOOLS, Case, Outcome, Word, run
+from .support import (CLIENTS, COMMANDS, COMPILED, EXAMPLES, LIBRARY, SERVICE, TOOLS, Case, Outcome,
+                      Word, run, tool)
 
 PACKAGE = CLIENTS / "python"
 AROUND = (".", "..", "../..", "../lib", "../bin", "../../lib", "../../bin")
@@ -32,6 +33,7 @@ RELATIVE = ":.:..:../bin:"
 LUA = EXAMPLES / "lua.ctf"
 ASKED = "struct luaL_Reg"
 ANSWER = "size: 16"
+PAGE = "luaL_Reg"
 CODE = f"""import sys
 sys.path.insert(0, {str(PACKAGE)!r})
 import ctfd
@@ -211,12 +213,12 @@ class Folder(Hostile):
         """Each by its whole path, by a relative one, and from the PATH."""
         program = self.compiled(POINT, "-g", name="whole.exe")
         self.around(*LATER)
-        whole = {"PATH": f"{TOOLS}:{RELATIVE}{os.environ['PATH']}"}
+        whole = {"PATH": f"{TOOLS}:{COMPILED}:{RELATIVE}{os.environ['PATH']}"}
         for name in COMMANDS:
             words, answer = self.asked(name, program)
             for kind in LOOKS_FOR:
-                paths: List[Word] = [TOOLS / f"ctfd-{name}", f"ctfd-{name}",
-                                     os.path.relpath(TOOLS / f"ctfd-{name}", self.cwd)]
+                paths: List[Word] = [tool(name), f"ctfd-{name}",
+                                     os.path.relpath(tool(name), self.cwd)]
                 for path in paths:
                     done = self.door(path, *words, looks_for=kind, environment=whole)
                     self.assert_unmarked(done, (name, kind, path), answer)
@@ -261,7 +263,7 @@ class Others(Hostile):
         self.program(self.open / "ctfd")
 
     def asked(self, kind: str, path: str) -> Outcome:
-        return self.door(self.clone / "clients/python/ctfd-types", LUA, ASKED, looks_for=kind,
+        return self.door(self.clone / "clients/python/ctfd-explore", LUA, looks_for=kind,
                          environment={"PATH": path})
 
     def test_a_folder_that_all_may_write_to(self) -> None:
@@ -270,9 +272,9 @@ class Others(Hostile):
             for folder in (self.out, self.built, self.open):
                 folder.chmod(mode)
             if mode == 0o777:
-                self.assert_unmarked(self.asked("the library", whole), oct(mode), ANSWER)
+                self.assert_unmarked(self.asked("the library", whole), oct(mode), PAGE)
                 done = self.asked("the program", f"{self.open}:{whole}")
-                self.assert_unmarked(done, oct(mode), ANSWER)
+                self.assert_unmarked(done, oct(mode), PAGE)
             elif is_mine:
                 self.asked("the library", whole)
                 self.assertEqual(self.marks.read_text(), "a library\n", oct(mode))
@@ -282,9 +284,9 @@ class Others(Hostile):
         whole = f"{Path(SERVICE).parent}:{os.environ['PATH']}"
         (self.out / "libctfd.so").chmod(0o666)
         (self.open / "ctfd").chmod(0o777)
-        self.assert_unmarked(self.asked("the library", whole), "the library", ANSWER)
+        self.assert_unmarked(self.asked("the library", whole), "the library", PAGE)
         done = self.asked("the program", f"{self.open}:{whole}")
-        self.assert_unmarked(done, "the program", ANSWER)
+        self.assert_unmarked(done, "the program", PAGE)
 
     def test_a_folder_of_another(self) -> None:
         if os.geteuid():
@@ -292,9 +294,9 @@ class Others(Hostile):
         whole = f"{Path(SERVICE).parent}:{os.environ['PATH']}"
         for folder in (self.out, self.open):
             os.chown(folder, 65533, 65533)
-        self.assert_unmarked(self.asked("the library", whole), "the library", ANSWER)
+        self.assert_unmarked(self.asked("the library", whole), "the library", PAGE)
         done = self.asked("the program", f"{self.open}:{whole}")
-        self.assert_unmarked(done, "the program", ANSWER)
+        self.assert_unmarked(done, "the program", PAGE)
 
     def test_a_link_of_another(self) -> None:
         """A folder that all may write to leads to one that its owner alone may."""
@@ -304,16 +306,16 @@ class Others(Hostile):
         (link / "bin").symlink_to(self.open)
         link.chmod(0o777)
         done = self.asked("the program", f"{link / 'bin'}:{whole}")
-        self.assert_unmarked(done, "the program", ANSWER)
+        self.assert_unmarked(done, "the program", PAGE)
 
     def test_what_is_above_a_clone(self) -> None:
         """A package that is in no clone takes nothing from the folders above it."""
         made = self.folder / "shared/mine"
         shutil.copytree(self.clone / "clients/python", made / "tools")
         shutil.copytree(self.clone / "crates", self.folder / "shared/crates")
-        done = self.door(made / "tools/ctfd-types", LUA, ASKED,
+        done = self.door(made / "tools/ctfd-explore", LUA,
                          environment={"PATH": f"{Path(SERVICE).parent}:{os.environ['PATH']}"})
-        self.assert_unmarked(done, "the library", ANSWER)
+        self.assert_unmarked(done, "the library", PAGE)
 
 
 if __name__ == "__main__":

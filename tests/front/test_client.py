@@ -35,20 +35,19 @@ class OverSocket(WithFront):
     def test_tools_print_the_same(self) -> None:
         front = self.front().started()
         page = os.path.join(self.folder, "page.html")
-        for words in (["ctfd-types", FILE], ["ctfd-types", FILE, "struct lua_State"],
-                      ["ctfd-types", "--sizes", FILE], ["ctfd-types", FILE, "no_such"],
-                      ["ctfd-types", "--c", FILE, "struct luaL_Reg"], ["ctfd-types", "/dev/null"],
-                      ["ctfd-diff", OLDER, FILE], ["ctfd-explore", FILE, "-o", "-"]):
+        for words in (["ctfd-diff", OLDER, FILE], ["ctfd-diff", "--all", OLDER, FILE],
+                      ["ctfd-diff", "--all", "--json", OLDER, FILE, "-C", "no_such"],
+                      ["ctfd-explore", FILE, "-o", "-"], ["ctfd-explore", "/dev/null"]):
             self.assertEqual(run(words, CTFD_SOCKET=front.path), run(words), words)
         self.assertFalse(os.path.exists(page))
         self.assertNotIn("lines 0", front.tell())
 
     def test_program_that_is_named_comes_first(self) -> None:
-        words = ["ctfd-types", "--service", PROGRAM, FILE, "luaL_Reg"]
+        words = ["ctfd-explore", "--service", PROGRAM, FILE]
         self.assertEqual(run(words, CTFD_SOCKET="/nowhere"), run(words))
 
     def test_nobody_listens(self) -> None:
-        status, _, said = run(["ctfd-types", FILE], CTFD_SOCKET=f"{self.folder}/none")
+        status, _, said = run(["ctfd-explore", FILE], CTFD_SOCKET=f"{self.folder}/none")
         self.assertNotEqual(status, 0)
         self.assertIn("start ctfd-front there", said)
         self.assertEqual(len(said.splitlines()), 1)

@@ -68,7 +68,7 @@ class Command(unittest.TestCase):
     def test_a_model_that_is_none(self) -> None:
         done = run("--model", "lp32", LUA)
         self.assertEqual((done.returncode, done.stdout), (2, ""))
-        self.assertIn("argument --model", done.stderr)
+        self.assertIn("--model", done.stderr)
 
     def test_a_child(self) -> None:
         with tempfile.TemporaryDirectory() as folder:
@@ -111,7 +111,6 @@ class Command(unittest.TestCase):
         self.assertIn("nothing: no type, and no symbol with a type", self.refused(LUA, "nothing"))
         self.assertIn("neither an ELF file nor a CTF section", self.refused(__file__))
         self.assertIn("No such file", self.refused("/nowhere"))
-        self.assertIn("is no program", run(LUA, program="/nowhere").stderr)
         with tempfile.NamedTemporaryFile() as file:
             file.write(Path(LUA).read_bytes()[:9000])
             file.flush()

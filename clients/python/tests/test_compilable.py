@@ -1,4 +1,5 @@
 """`--c`: gcc takes the declarations, and its `sizeof` and `offsetof` are the dictionary's."""
+import re
 import shutil
 import struct
 import subprocess
@@ -8,10 +9,9 @@ from typing import Iterator
 
 from ctfd.layout.records import AGGREGATES
 from ctfd.layout.whole import Whole
-from ctfd.view.compilable import Compilable, is_identifier
 
 from .support import (CONST, EXAMPLES, STRUCT, WithService, array, dictionary, integer, member,
-                      pointer, record, staged)
+                      pointer, record, run, staged)
 from .tools import CONVERTS, WHY_NOT, converted, whole_of, written
 
 
@@ -28,30 +28,49 @@ extern char unknown[]; char *at(void) { return unknown; } char unknown[3];
 """
 
 
-def asserted(whole: Whole, made: Compilable) -> Iterator[str]:
+TAGGED = re.compile(r"^(struct|union|enum) (\w+) \{$", re.M)
+RENAMED = re.compile(r"^typedef (?!struct \{ char ctfd_bytes).*?\b(\w+)(?:\)\(.*\))?(?:\[\d+\])*;$",
+                     re.M)
+NUMBERED = re.compile(r"(?:ctfd_|.*__)(\d+)\Z")
+
+
+def is_identifier(name: str) -> bool:
+    return re.fullmatch(r"[A-Za-z_]\w*", name, re.A) is not None and name not in ("for", "int")
+
+
+def number_of(whole: Whole, word: str, name: str) -> int:
+    """The number of the type that is declared so."""
+    catalog = whole.catalog
+    told = NUMBERED.match(name)
+    if told and int(told[1]) in catalog.own and catalog[int(told[1])].kind == word:
+        return int(told[1])
+    return next(n for n in catalog.own if catalog[n].kind == word and catalog[n].name == name)
+
+
+def asserted(whole: Whole, code: str) -> Iterator[str]:
     """What gcc is to find true: each size, and each offset that C can ask for."""
-    for number in whole.catalog.own:
-        name, kind = made.spelled(number), whole.catalog[number].kind
-        if name is None or kind not in (*AGGREGATES, "enum", "typedef"):
-            continue
+    declared = [(word, name, f"{word} {name}") for word, name in TAGGED.findall(code)]
+    known = [whole.catalog[n].name for n in whole.catalog.own if whole.catalog[n].kind == "typedef"]
+    declared += [("typedef", name, name) for name in RENAMED.findall(code)
+                 if known.count(name) == 1]
+    for word, name, called in declared:
+        number = number_of(whole, word, name)
         size = whole.catalog.size(number)
         if size and whole.catalog.span(number)[2] is None:
-            yield f"_Static_assert(sizeof({name}) == {size}, \"{name}\");"
-        if kind in AGGREGATES and not made.form(number).is_bytes:
+            yield f"_Static_assert(sizeof({called}) == {size}, \"{called}\");"
+        if word in AGGREGATES and f"{called} {{\n\t/* C can not" not in code:
             for place in whole.catalog.layout(number).places:
                 if is_identifier(place.member.name) and place.width is None:
-                    yield (f"_Static_assert(__builtin_offsetof({name}, {place.member.name})"
-                           f" == {place.start // 8}, \"{name}.{place.member.name}\");")
+                    yield (f"_Static_assert(__builtin_offsetof({called}, {place.member.name})"
+                           f" == {place.start // 8}, \"{called}.{place.member.name}\");")
 
 
 @unittest.skipUnless(shutil.which("gcc"), "no gcc here")
 class Gcc(WithService):
     def judged(self, path: str) -> "tuple[str, int]":
         """The declarations, and how many things were asserted of them."""
-        whole = whole_of(self, path)
-        made = Compilable(whole, whole.catalog.own)
-        code = "\n".join(made.lines()) + "\n"
-        facts = list(asserted(whole, made))
+        code = run("--c", path).stdout
+        facts = list(asserted(whole_of(self, path), code))
         done = subprocess.run(["gcc", "-x", "c", "-fsyntax-only", "-Wno-attributes", "-"],
                               input=code + "\n".join(facts) + "\n", capture_output=True,
                               text=True)

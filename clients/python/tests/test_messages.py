@@ -12,7 +12,7 @@ import unittest
 from pathlib import Path
 from typing import List, NamedTuple
 
-from .support import (EXAMPLES, PROGRAM, TOOLS, dictionary, integer, object_file,
+from .support import (COMMAND, EXAMPLES, PROGRAM, TOOLS, dictionary, integer, object_file,
                       pointer, staged)
 
 FOLDER = Path(__file__).resolve().parents[1]
@@ -35,10 +35,10 @@ FILES = [
     Case("no ELF file", "ctfd-types {}/text", 1,
          r"/text: neither an ELF file nor a CTF section: it begins with 706c6169"),
     Case("no ELF file", "ctfd-convert {}/text {}/out", 2, r"/text: neither an ELF file nor a CTF"),
-    Case("big-endian CTF", "ctfd-types {}/big", 1, r"/big: CTF of a big-endian machine.* take"),
-    Case("big-endian ELF", "ctfd-types {}/bigelf", 1, r"/bigelf: a big-endian ELF file.* take"),
+    Case("big-endian CTF", "ctfd-types {}/big", 1, r"/big: .*the file tells no type of C"),
+    Case("big-endian ELF", "ctfd-types {}/bigelf", 1, r"/bigelf: it has no debug information"),
     Case("big-endian ELF", "ctfd-convert {}/bigelf {}/out", 2, r"/bigelf: a big-endian ELF file"),
-    Case("version 3", "ctfd-types {}/three", 1, r"/three: CTF version 3, .*; ctfd-convert makes"),
+    Case("version 3", "ctfd-types {}/three", 1, r"/three: .*the file tells no type of C"),
     Case("version 3", "ctfd-convert {}/three {}/out", 2, r"/three: CTF version 3"),
     Case("GNU's CTF", "ctfd-types {}/gnu", 1, r"/gnu: its GNU CTF is damaged"),
     Case("damaged GNU CTF", "ctfd-convert {}/gnu {}/out", 2, r"/gnu: its GNU CTF is damaged"),
@@ -64,14 +64,14 @@ FILES = [
          r"/lua: --only luaL_reg: it has no type of this name; the nearest .*luaL_Reg"),
     Case("its own input", "ctfd-convert {}/lua {}/lua", 2, r"/lua: it is an input, .*another file"),
     Case("a folder that is not there", "ctfd-convert {}/lua {}/no/out", 2, r"/no/out: it can't be"),
-    Case("no service", "ctfd-types --service {}/nowhere {}/lua", 1,
+    Case("no service", "ctfd-explore --service {}/nowhere {}/lua", 1,
          r"/nowhere, named by --service, is no program: name the built ctfd"),
     Case("no service", "ctfd-convert --service {}/no {}/lua {}/out", 2, r"is no program: name the"),
-    Case("another program", "ctfd-types --service {}/other {}/lua", 1,
+    Case("another program", "ctfd-explore --service {}/other {}/lua", 1,
          r"/other is no ctfd: it does not print a version"),
-    Case("another protocol", "ctfd-types --service {}/newer {}/lua", 1,
+    Case("another protocol", "ctfd-explore --service {}/newer {}/lua", 1,
          r"/newer is ctfd 7\.0\.1, which speaks another protocol.*: install the client of that"),
-    Case("a service that ends", "ctfd-types --service {}/ends {}/lua", 1,
+    Case("a service that ends", "ctfd-explore --service {}/ends {}/lua", 1,
          r"the service ended with status 3: .*start it again"),
     Case("--section without ELF", "ctfd-convert --section {}/lua {}/out", 2,
          r"/lua: --section needs an ELF file, and this is none: leave --section out"),
@@ -157,7 +157,12 @@ class Messages(unittest.TestCase):
         while "=" in words[0]:
             name, _, value = words.pop(0).partition("=")
             environment[name] = value
-        command = [sys.executable, str(FOLDER / words[0]), *words[1:]]
+        command = [sys.executable, str(FOLDER / words[0])]
+        if words[0] == COMMAND.name:
+            if not COMMAND.exists():
+                self.skipTest("ctfd-types is not compiled")
+            command = [str(COMMAND)]
+        command += words[1:]
         done = subprocess.run(command, capture_output=True, text=True, env=environment)
         lines = done.stderr.splitlines()
         self.assertEqual((done.returncode, len(lines)), (case.status, 1), done.stderr)

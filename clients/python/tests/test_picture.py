@@ -5,13 +5,13 @@ import xml.etree.ElementTree as ET
 from typing import Dict, List, NamedTuple
 
 from ctfd.layout.places import Layout
-from ctfd.view import picture, treemap
 
 from .support import EXAMPLES, WithService, run, staged
 from .tools import whole_of, written
 
 LUA = str(EXAMPLES / "lua.ctf")
 SVG = "{http://www.w3.org/2000/svg}"
+WIDTH, MARGIN = 896, 64
 
 
 class Drawn(NamedTuple):
@@ -41,10 +41,10 @@ def drawn(made: str) -> List[Drawn]:
 class Pictures(WithService):
     def judged(self, boxes: List[Drawn], layout: Layout, row_bits: int) -> None:
         """That boxes are in proportion, and have what the members of the layout have."""
-        scale = picture.WIDTH / row_bits
+        scale = WIDTH / row_bits
         total: Dict[str, int] = {}
         for box in boxes:
-            self.assertAlmostEqual(box.x, picture.MARGIN + box.start % row_bits * scale, 2)
+            self.assertAlmostEqual(box.x, MARGIN + box.start % row_bits * scale, 2)
             self.assertAlmostEqual(box.wide, box.bits * scale, 2)
             if box.sort not in ("hole", "padding"):
                 total[box.name] = total.get(box.name, 0) + box.bits
@@ -59,13 +59,13 @@ class Pictures(WithService):
         for name in ("struct lua_Debug", "struct CallInfo", "struct TString", "struct luaL_Reg"):
             (number,) = whole.names.meant(name)
             layout = whole.catalog.layout(number)
-            boxes = drawn(picture.svg(whole, name, 64))
+            boxes = drawn(run("--svg", name, LUA).stdout)
             self.judged(boxes, layout, 8 * min(64, -(-layout.size // 8) * 8))
             holes = sum(box.bits for box in boxes if box.sort == "hole" and "." not in box.name)
             self.assertEqual(holes, 8 * sum(layout.holes), name)
 
     def test_nothing_overlaps_but_groups(self) -> None:
-        boxes = [b for b in drawn(picture.svg(whole_of(self, LUA), "struct lua_State", 64))
+        boxes = [b for b in drawn(run("--svg", "struct lua_State", LUA).stdout)
                  if b.sort != "group"]
         for place, one in enumerate(boxes):
             for other in boxes[place + 1:]:
@@ -75,20 +75,21 @@ class Pictures(WithService):
                 self.assertTrue(apart, (one, other))
 
     def test_bit_fields_to_the_bit(self) -> None:
-        whole = whole_of(self, written(self, staged("bits.jsonl")[0]))
-        boxes = drawn(picture.svg(whole, "struct flags", 64))
+        path = written(self, staged("bits.jsonl")[0])
+        whole = whole_of(self, path)
+        boxes = drawn(run("--svg", "struct flags", path).stdout)
         told = [(b.name, b.start, b.bits, b.sort) for b in boxes]
         self.assertEqual(told, [("ready", 0, 1, "bits"), ("mode", 1, 3, "bits"),
                                 ("padding", 4, 28, "padding")])
         self.judged(boxes, whole.catalog.layout(whole.names.meant("struct flags").pop()), 64)
 
     def test_lines_of_one_member_are_left_out(self) -> None:
-        made = picture.svg(whole_of(self, LUA), "struct LoadF", 64)
+        made = run("--svg", "struct LoadF", LUA).stdout
         self.assertIn("cache lines more of buff", made)
         self.assertLess(len(made), 20_000)
 
     def test_areas_are_bytes(self) -> None:
-        boxes = drawn(treemap.svg(whole_of(self, LUA), []))
+        boxes = drawn(run("--svg-sizes", LUA).stdout)
         each = [box.wide * box.high / box.bits for box in boxes]
         self.assertLess(max(each) / min(each), 1.02)
         self.assertGreater(len(boxes), 90)

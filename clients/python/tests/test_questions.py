@@ -7,11 +7,8 @@ import unittest
 from pathlib import Path
 from typing import List
 
-from ctfd.files import source
-from ctfd.layout import repeated
-
-from .support import EXAMPLES, PROGRAM, dictionary, integer, record
-from .tools import CONVERTS, WHY_NOT, compiled, converted, within
+from .support import EXAMPLES, PROGRAM, dictionary, integer, record, run
+from .tools import CONVERTS, WHY_NOT, compiled, converted
 
 LUA = str(EXAMPLES / "lua.ctf")
 CODE = """
@@ -40,12 +37,12 @@ class Questions(unittest.TestCase):
         cls.file = compiled(cls.folder, "code", CODE)
 
     def told(self, *words: str) -> List[str]:
-        done = within("ctfd-types", "--no-cache", self.file, *words)
+        done = run(self.file, *words)
         self.assertEqual((done.returncode, done.stderr), (0, ""))
         return done.stdout.splitlines()
 
     def refused(self, *words: str) -> str:
-        done = within("ctfd-types", "--no-cache", self.file, *words)
+        done = run(self.file, *words)
         self.assertEqual((done.returncode, done.stdout, done.stderr.count("\n")), (1, "", 1))
         return done.stderr
 
@@ -111,7 +108,7 @@ class Questions(unittest.TestCase):
         self.assertIn("records of 4 are asked for",
                       self.refused("--show", "struct inner", str(raw), "4", "3"))
         raw.write_bytes(bytes(6))
-        done = within("ctfd-types", self.file, "--show", "struct inner", str(raw))
+        done = run(self.file, "--show", "struct inner", str(raw))
         self.assertIn("2 bytes behind the last record of 4", done.stderr)
 
     def test_a_star_behind_a_blank_is_a_pointers(self) -> None:
@@ -121,9 +118,9 @@ class Questions(unittest.TestCase):
 @unittest.skipUnless(PROGRAM, "CTFD names no built service")
 class Numbers(unittest.TestCase):
     def test_a_type_of_a_number(self) -> None:
-        done = within("ctfd-types", LUA, "--number", "218", "--plain")
+        done = run(LUA, "--number", "218", "--plain")
         self.assertTrue(done.stdout.startswith("struct luaL_Reg {"))
-        done = within("ctfd-types", LUA, "--number", "527")
+        done = run(LUA, "--number", "527")
         self.assertEqual((done.returncode, done.stderr),
                          (1, "ctfd-types: no type has the number 527: they go from 1 to 526\n"))
 
@@ -133,7 +130,7 @@ class Numbers(unittest.TestCase):
         with tempfile.TemporaryDirectory() as folder:
             made = converted(folder, "bits", code)
             for words in ((), ("--all",)):
-                done = within("ctfd-types", made, "word", *words)
+                done = run(made, "word", *words)
                 self.assertEqual((done.stdout, done.stderr), ("typedef unsigned int word;\n", ""))
 
     def test_types_of_one_name_are_told(self) -> None:
@@ -141,21 +138,10 @@ class Numbers(unittest.TestCase):
         with tempfile.NamedTemporaryFile() as file:
             file.write(two)
             file.flush()
-            done = within("ctfd-types", file.name, "int")
+            done = run(file.name, "int")
             self.assertEqual(done.stdout, "int;\n")
             self.assertIn("2 types are called int, and this is the first", done.stderr)
-            self.assertEqual(within("ctfd-types", file.name, "--number", "2").stdout, "int;\n")
-
-
-class Repeated(unittest.TestCase):
-    def test_those_of_lua_are_those_of_its_records(self) -> None:
-        ctf = source.read(LUA).ctf
-        self.assertEqual(repeated.of_name(ctf, "struct *"), [])
-        self.assertEqual(repeated.of_name(ctf, "nothing"), [])
-        two = dictionary([integer(1), record(6, 0, 4, 1), integer(1, 16, 2), record(9, 0, 6, 1)],
-                         b"\0int\0")
-        self.assertEqual(repeated.of_name(two, "int"), [1, 3])
-        self.assertEqual(repeated.of_name(two, "struct int"), [2, 4])
+            self.assertEqual(run(file.name, "--number", "2").stdout, "int;\n")
 
 
 if __name__ == "__main__":

@@ -11,8 +11,6 @@ import ctfd
 from ctfd.layout.embeds import Embeds
 from ctfd.layout.records import AGGREGATES
 from ctfd.layout.whole import Whole
-from ctfd.view import reports
-from ctfd.view.compilable import Compilable
 
 from .support import COMMAND, EXAMPLES, PROGRAM, TOOLS, WithService, object_file, run, staged
 from .test_listing import OTHERS
@@ -94,23 +92,17 @@ class BesidePahole(WithService):
 @unittest.skipUnless(shutil.which("gcc"), "no gcc here")
 class Saved(WithService):
     def test_an_order_by_alignment_has_the_size_that_is_told(self) -> None:
-        whole = whole_of(self, LUA)
-        made = Compilable(whole, whole.catalog.own)
-        lines, saved = list(made.lines()), 0
-        for number in whole.catalog.aggregates():
-            figures = whole.sizes.figures(number)
-            places = whole.catalog.layout(number).places
-            if made.spelled(number) and figures.holes and all(p.width is None for p in places):
-                order = sorted(places, key=lambda p: (-whole.sizes.alignment(p.member.type.number),
-                                                      p.bits == 0))
-                name = made.spelled(number)
-                lines.append(f"struct order_{number} {{")
-                lines += [f"__typeof__((({name} *) 0)->{p.member.name}) {p.member.name};"
-                          for p in order]
-                size = figures.size - figures.saved
-                lines.append(f"}}; _Static_assert(sizeof(struct order_{number}) == {size}, \"\");")
-                saved += figures.saved
-        self.assertGreater(saved, 0)
+        """gcc gives each struct that has a better order the size that is told of that."""
+        lines = [run("--c", ZLIB).stdout]
+        saved = {line.split("  ")[-1]: int(line.split()[5])
+                 for line in run("--sizes", ZLIB).stdout.splitlines()[1:]}
+        orders = re.findall(r"^struct (?:\w+ )?\{\n(.*?)^\}; /\* ([^\n]*?): (\d+) bytes, was \d+:"
+                            r" saves (\d+) \*/$", run("--reorganize", ZLIB).stdout, re.M | re.S)
+        self.assertGreater(len(orders), 2)
+        for place, (members, label, size, less) in enumerate(orders):
+            lines += [f"struct order_{place} {{", members, "};",
+                      f"_Static_assert(sizeof(struct order_{place}) == {size}, \"{label}\");"]
+            self.assertEqual(saved[label], int(less), label)
         done = subprocess.run(["gcc", "-x", "c", "-fsyntax-only", "-"], input="\n".join(lines),
                               capture_output=True, text=True)
         self.assertEqual(done.stderr, "")
@@ -127,7 +119,8 @@ class Told(WithService):
 
     def test_sizes(self) -> None:
         lines = self.told("--sizes", LUA, "lua_*")
-        self.assertEqual(lines[0].split(), reports.COLUMNS.split())
+        self.assertEqual(lines[0].split(),
+                         "bytes members holes in holes padding saves type".split())
         self.assertEqual([line.split()[-1] for line in lines[1:]],
                          ["lua_longjmp", "lua_State", "lua_Debug"])
         self.assertEqual(lines[2].split(), "200 24 1 2 4 0 struct lua_State".split())

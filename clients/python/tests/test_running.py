@@ -5,7 +5,7 @@ import os
 import unittest
 from unittest import mock
 
-from ctfd.tools import convert, running, types
+from ctfd.tools import convert, explore, running
 
 from .support import EXAMPLES, PROGRAM
 
@@ -15,14 +15,14 @@ LUA = str(EXAMPLES / "lua.ctf")
 @unittest.skipUnless(PROGRAM, "CTFD names no built service")
 class Bugs(unittest.TestCase):
     def refusal_text(self, trace: str) -> str:
-        """What `ctfd-convert` and `ctfd-types` say of an error that nobody thought of."""
+        """What `ctfd-convert` and `ctfd-explore` say of an error that nobody thought of."""
         errors = io.StringIO()
         with mock.patch("ctfd.convert.inputs._form", side_effect=ZeroDivisionError("one\n two")), \
                 mock.patch("ctfd.files.anyfile.contents", side_effect=KeyError(99)), \
                 mock.patch.dict(os.environ, {running.TRACE: trace}), \
                 contextlib.redirect_stderr(errors):
             self.assertEqual(convert.main([LUA, "/dev/null"]), convert.FAILED)
-            self.assertEqual(types.main([LUA]), types.FAILED)
+            self.assertEqual(explore.main([LUA]), explore.FAILED)
         return errors.getvalue()
 
     def test_a_bug_is_ours(self) -> None:
@@ -31,7 +31,7 @@ class Bugs(unittest.TestCase):
         self.assertRegex(lines[0], r"^ctfd-convert: .*lua\.ctf: a bug in ctfd [\d.]+"
                                    r" \(ZeroDivisionError: one two\): please report it "
                                    r".*CTFD_TRACE=1")
-        self.assertRegex(lines[1], r"^ctfd-types: a bug in ctfd [\d.]+ \(KeyError: 99\)")
+        self.assertRegex(lines[1], r"^ctfd-explore: a bug in ctfd [\d.]+ \(KeyError: 99\)")
         self.assertNotIn("damaged", "".join(lines))
 
     def test_where_it_is_can_be_seen(self) -> None:

@@ -6,7 +6,6 @@ import tempfile
 import unittest
 
 import ctfd
-from ctfd.layout import repeated
 from ctfd.layout.catalog import Catalog
 
 from .support import (ENUM, FUNCTION, STRUCT, WithService, dictionary, integer, member,
@@ -72,15 +71,3 @@ class StoredTests(WithService):
         with tempfile.TemporaryDirectory() as folder:
             path = converted(folder, "all", PROGRAM)
             self.assertGreater(self.check(ctfd.open_file(self.session, path)), 20)
-
-
-class RepeatedTests(WithService):
-    def test_each_name_of_a_program(self) -> None:
-        """Where several types have a name, these are all types of the name."""
-        for name in ("lua.ctf", "zlib.ctf"):
-            types = self.example(name)
-            assert types.handed_in is not None
-            for one in set(types.names()):
-                told = repeated.of_name(types.handed_in.ctf, one)
-                if told:
-                    self.assertEqual(told, [t.number for t in types.find_all(one)], one)

@@ -14,11 +14,11 @@ from typing import Dict, Iterable, Optional
 from ctfd.client.gather import ALL_LISTS
 from ctfd.files.opening import Opener
 from ctfd.layout.whole import Whole
-from ctfd.tools import diff, explore, types
+from ctfd.tools import diff, explore
 
-from .support import PROGRAM, WithService
+from .support import COMMAND, PROGRAM, WithService, run
 
-MAINS = {"ctfd-types": types.main, "ctfd-diff": diff.main, "ctfd-explore": explore.main}
+MAINS = {"ctfd-diff": diff.main, "ctfd-explore": explore.main}
 CLIENT = Path(__file__).resolve().parents[1]
 
 
@@ -27,14 +27,18 @@ WHY_NOT = "no service or gcc here"
 
 
 def command(name: str, *words: str) -> "subprocess.CompletedProcess[str]":
-    """A command of the client, run as a user would."""
+    """A command, run as a user would."""
+    if name == COMMAND.name:
+        return run(*words)
     environment = {**os.environ, "CTFD": PROGRAM}
     return subprocess.run([sys.executable, str(CLIENT / name), *words], capture_output=True,
                           text=True, env=environment)
 
 
 def within(name: str, *words: str) -> "subprocess.CompletedProcess[str]":
-    """The same within this process, which is quicker."""
+    """The same within this process, which is quicker, where it is one in Python."""
+    if name == COMMAND.name:
+        return run(*words)
     out, err = io.StringIO(), io.StringIO()
     with contextlib.redirect_stdout(out), contextlib.redirect_stderr(err):
         status = MAINS[name](["--service", PROGRAM, *words])

@@ -1,7 +1,7 @@
 """A file's types in one call: `ctfd.open(path)`."""
 from __future__ import annotations
 
-from typing import Optional
+from typing import Optional, cast
 
 from .dictionary import Dictionary
 from .model import Model
@@ -17,7 +17,9 @@ def open_path(path: str, model: Optional[Model] = None, base: Optional[str] = No
     `base` is the kernel's BTF under that of a module, `parent` the dictionary of which the file is
     a child. Without a client a service of its own is started, which ends with `close`, with the
     `with` that it is opened in, or with the dictionary. What is converted is kept in the user's
-    cache, unless `is_kept` is false. What CTF can't hold of the file is logged. Raises Error.
+    cache, unless `is_kept` is false. What CTF can't hold of the file is logged. A file in parts, as
+    ctfd-convert writes it of a program with more types than a dictionary holds, gives Parts, which
+    asks all of them as one. Raises Error.
     """
     import logging
     import weakref
@@ -25,12 +27,17 @@ def open_path(path: str, model: Optional[Model] = None, base: Optional[str] = No
     from ..files.anyfile import Asked  # here: who has a session of his own needs none of these
     from ..files.cache import user_cache
     from ..files.opening import Opener
+    from .parts import Parts, is_in_parts
 
     asked = Asked(model, None, base, cache=user_cache if is_kept else None,
                   warn=logging.getLogger(__name__).warning)
     mine = client or connect()
     try:
-        types = Opener(mine.session(), asked).open(path, parent)
+        opener = Opener(mine.session(), asked)
+        if parent is None and is_in_parts(path):
+            types = cast(Dictionary, Parts(opener, path))  # it answers what is asked by name
+        else:
+            types = opener.open(path, parent)
     except BaseException:
         if client is None:
             mine.close()

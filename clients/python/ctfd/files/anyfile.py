@@ -77,20 +77,19 @@ def add_words(parser: argparse.ArgumentParser) -> None:
                        " cache ($XDG_CACHE_HOME/ctfd, or ~/.cache/ctfd)")
 
 
-def read(path: str, asked: Asked, has_symbols: bool = True) -> Read:
-    """What is handed in for a file, with or without the symbols that can wait (see `of_bytes`).
-    Raises Unreadable for what is none that is read."""
+def read(path: str, asked: Asked) -> Read:
+    """What is handed in for a file. Raises Unreadable for what is none that is read."""
     data = contents(path)
     if asked.form in (None, "ctf") and asked.base is None:
         try:
-            return Read(source.of_bytes(data, path, asked.number, has_symbols), data)
+            return Read(source.of_bytes(data, path, asked.number), data)
         except Unreadable:
             if not _is_converted(data, path):
                 raise
     losses: List[str] = []
     with _Place(path, data) as place:
         made = place.told(lambda: _made(place.path, data, asked, losses))
-    return Read(source.with_symbols(made) if has_symbols else made, data, True, losses)
+    return Read(source.with_symbols(made), data, True, losses)
 
 
 def _is_converted(data: Mapped, path: str) -> bool:

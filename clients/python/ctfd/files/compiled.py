@@ -52,6 +52,7 @@ def converted(path: str, options: Options) -> Optional[Kept]:
 
 def _words(options: Options) -> Iterator[str]:
     """The options of the command, each a word."""
+    yield "--one"
     if options.model:
         yield f"--model={options.model}"
     if options.form:

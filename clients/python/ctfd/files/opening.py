@@ -2,7 +2,7 @@
 from __future__ import annotations
 
 import contextlib
-from typing import TYPE_CHECKING, Dict, Iterable, Iterator, Optional, Set
+from typing import TYPE_CHECKING, Dict, Iterable, Iterator, Optional
 
 from ..client.dictionary import Dictionary, open_file, open_found, open_source
 from ..client.faults import BadSymbols, Error, Refused, Unreadable
@@ -14,9 +14,8 @@ from .anyfile import Asked, Read
 if TYPE_CHECKING:
     from ..layout.whole import Whole
 
-ALONE = ("--parent, --symbols and --strings go with a dictionary, and this file's types are"
-         " converted first: leave them out, or make the dictionary by ctfd-convert (--parent makes"
-         " a child)")
+ALONE = ("a parent goes with a dictionary, and this file's types are converted first: leave the"
+         " parent out, or make the dictionary by ctfd-convert (--parent makes a child)")
 
 
 class Opener:
@@ -27,19 +26,16 @@ class Opener:
         self.session = session
         self.asked = asked
         self.read: Dict[str, Read] = {}
-        self.cut: Set[str] = set()  # the files of which not all is told
         self._parents: Dict[str, Dictionary] = {}
 
-    def open(self, path: str, parent: Optional[str] = None, sym: Optional[bytes] = None,
-             strings: Optional[bytes] = None, has_symbols: bool = True) -> Dictionary:
-        """The dictionary of a file, over its parent where one is named. Without `has_symbols` it
-        may lack its symbols, which `with_symbols` gives."""
+    def open(self, path: str, parent: Optional[str] = None) -> Dictionary:
+        """The dictionary of a file, over its parent where one is named."""
         with told_of(path):
-            found = anyfile.read(path, self.asked, has_symbols)
+            found = anyfile.read(path, self.asked)
             self.read[path] = found
-            if found.is_made and (sym, strings, parent) != (None, None, None):
+            if found.is_made and parent is not None:
                 raise Unreadable(f"{path}: {ALONE}")
-            types = self._opened(found, path, sym, strings)
+            types = self._opened(found, path)
         if parent is not None:
             if parent not in self._parents:
                 with told_of(parent):
@@ -48,24 +44,11 @@ class Opener:
                 types.import_parent(self._parents[parent])
         return types
 
-    def with_symbols(self, path: str, types: Dictionary) -> Dictionary:
-        """The dictionary that was opened for a file, with its symbols."""
-        if types.how != source.LATER:
-            return types
-        found = self.read[path]
-        self.read[path] = found._replace(source=source.with_symbols(found.source))
-        with told_of(path):
-            made = self._opened(self.read[path], path, None, None)
-            if types.parent is not None:
-                made.import_parent(types.parent)
-        return made
-
-    def _opened(self, found: Read, path: str, sym: Optional[bytes], strings: Optional[bytes]
-                ) -> Dictionary:
+    def _opened(self, found: Read, path: str) -> Dictionary:
         """The dictionary of a file; one that was converted without what does not fit its symbols.
         """
         try:
-            return open_found(self.session, found.source, path, sym, strings, self.asked.model)
+            return open_found(self.session, found.source, path, model=self.asked.model)
         except BadSymbols:
             if not found.is_made:
                 raise

@@ -65,15 +65,12 @@ def read(path: str, number: Optional[int] = None) -> Source:
     return of_bytes(contents(path), path, number)
 
 
-def of_bytes(data: Mapped, path: str = "the file", number: Optional[int] = None,
-             has_symbols: bool = True) -> Source:
-    """As `read`, of a file's bytes. Without `has_symbols` the names of symbols that a dictionary
-    has itself are left out, and `with_symbols` hands them in when they are asked for."""
+def of_bytes(data: Mapped, path: str = "the file", number: Optional[int] = None) -> Source:
+    """As `read`, of a file's bytes."""
     if data[:4] == elf.MAGIC:
         return _of_elf(Elf(data, path), number)
     ctf = plain(several.chosen(data[:], number, path), path)
-    found = Source(ctf, how=LATER, model=identity.model(ctf))
-    return with_symbols(found) if has_symbols else found
+    return with_symbols(Source(ctf, how=LATER, model=identity.model(ctf)))
 
 
 def with_symbols(found: Source) -> Source:

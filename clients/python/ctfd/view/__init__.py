@@ -1,1 +1,1 @@
-"""How types are shown: declarations, listings, tables, JSON, pictures and a page."""
+"""How types are shown: declarations, listings, JSON and a page."""

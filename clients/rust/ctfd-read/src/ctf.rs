@@ -1,4 +1,5 @@
 //! CTF of version 2: its sections, inflated, and its records as a table, behind those of a parent.
+//! FreeBSD's version 3 is the same with numbers of types of 32 bits in place of 16.
 //!
 //! A dictionary that is read here is judged by the library before it is used, so nothing is judged
 //! but that it can be read.
@@ -8,23 +9,83 @@ use crate::error::{refuse, Error, Result};
 use crate::section::{LONG_MEMBERS, LONG_SIZE};
 use crate::table::{Encoding, Enumerator, Kind, Member, Name, Parts, Record, Table};
 use flate2::{Decompress, FlushDecompress, Status};
-use object::endian::Endianness;
+use object::endian::{Endian as _, Endianness};
 use std::borrow::Cow;
 
 /// The bytes of a header.
 pub const HEADER: usize = 36;
 /// The most bytes of a dictionary.
 pub const LONGEST: u64 = 67_108_864;
-/// How a little-endian dictionary of version 2 begins.
-pub const BEGINS: [u8; 3] = [0xf1, 0xcf, 2];
+/// How a dictionary of version 2 begins, of either byte order.
+const BEGINS: [[u8; 3]; 2] = [[0xf1, 0xcf, 2], [0xcf, 0xf1, 2]];
+/// The same of version 3, as FreeBSD writes it since its release 14.
+const BEGINS_WIDE: [[u8; 3]; 2] = [[0xf1, 0xcf, 3], [0xcf, 0xf1, 3]];
 /// From this number on a child's types are its own.
 const CHILD: u32 = 0x8000;
+const WIDE_CHILD: u32 = 0x8000_0000;
+const WIDE_LONG_SIZE: u32 = 0xffff_ffff;
+const WIDE_LONG_MEMBERS: u64 = 536_870_912;
 const COMPRESSED: u8 = 1;
 const MOST_PADDING: usize = 16;
 const WHAT: &str = "dictionary";
 
+/// The byte order of a dictionary, and whether it is of version 3.
+#[derive(Clone, Copy, PartialEq, Eq)]
+pub struct Layout {
+    endian: Endianness,
+    /// Whether numbers of types have 32 bits.
+    pub is_wide: bool,
+}
+
+impl Layout {
+    /// That of some bytes, if they begin as a dictionary does.
+    pub fn of(bytes: &[u8]) -> Option<Layout> {
+        let begins = |listed: &[[u8; 3]; 2]| listed.iter().position(|one| bytes.starts_with(one));
+        let of = |place, is_wide| Layout {
+            endian: if place == 0 { Endianness::Little } else { Endianness::Big },
+            is_wide,
+        };
+        let narrow = begins(&BEGINS).map(|place| of(place, false));
+        narrow.or_else(|| begins(&BEGINS_WIDE).map(|place| of(place, true)))
+    }
+
+    /// Whether it is that of the dictionaries that are written here.
+    pub fn is_native(self) -> bool {
+        self.endian == Endianness::Little && !self.is_wide
+    }
+
+    fn child(self) -> u32 {
+        if self.is_wide {
+            WIDE_CHILD
+        } else {
+            CHILD
+        }
+    }
+
+    /// The numbers of types that some bytes are.
+    fn numbers(self, bytes: &[u8]) -> Vec<u32> {
+        if self.is_wide {
+            let word = |one: &[u8]| self.endian.read_u32_bytes([one[0], one[1], one[2], one[3]]);
+            return bytes.chunks_exact(4).map(word).collect();
+        }
+        let half = |one: &[u8]| self.endian.read_u16_bytes([one[0], one[1]]).into();
+        bytes.chunks_exact(2).map(half).collect()
+    }
+
+    /// How many bytes a number of a type has.
+    fn width(self) -> usize {
+        if self.is_wide {
+            4
+        } else {
+            2
+        }
+    }
+}
+
 /// The sections of a dictionary that is not compressed.
 pub struct Sections<'a> {
+    /// How its numbers are written.
+    pub layout: Layout,
     /// The name of its parent's label, as a reference.
     pub parent_label: u32,
     /// The name of its parent, as a reference; 0 where it has none.
@@ -44,7 +105,9 @@ pub struct Sections<'a> {
 impl<'a> Sections<'a> {
     /// Those of a dictionary.
     pub fn of(bytes: &'a [u8]) -> Result<Sections<'a>> {
-        let mut head = Reader::new(bytes, Endianness::Little, WHAT);
+        let little = Layout { endian: Endianness::Little, is_wide: false };
+        let layout = Layout::of(bytes).unwrap_or(little);
+        let mut head = Reader::new(bytes, layout.endian, WHAT);
         head.take(4)?;
         let (parent_label, parent_name) = (head.word()?, head.word()?);
         let mut ends = [0; 6];
@@ -57,6 +120,7 @@ impl<'a> Sections<'a> {
             part(body, from, length, WHAT)
         };
         Ok(Sections {
+            layout,
             parent_label,
             parent_name,
             labels: between(ends[0], ends[1])?,
@@ -73,7 +137,7 @@ impl<'a> Sections<'a> {
 pub fn each(section: &[u8]) -> Vec<&[u8]> {
     let mut found = Vec::new();
     let mut at = 0;
-    while section[at..].starts_with(&BEGINS) {
+    while Layout::of(&section[at..]).is_some() {
         let Some(length) = length_of(&section[at..]) else {
             found.push(&section[at..]);
             break;
@@ -112,9 +176,10 @@ fn length_of(bytes: &[u8]) -> Option<usize> {
 
 /// Where the names begin behind the header, and their length, as a header says.
 fn lengths(bytes: &[u8]) -> Option<(u64, u64)> {
+    let endian = Layout::of(bytes).map_or(Endianness::Little, |layout| layout.endian);
     let number = |at: usize| {
         let bytes = bytes.get(at..at + 4)?;
-        Some(u64::from(u32::from_le_bytes([bytes[0], bytes[1], bytes[2], bytes[3]])))
+        Some(u64::from(endian.read_u32_bytes([bytes[0], bytes[1], bytes[2], bytes[3]])))
     };
     (bytes.len() >= HEADER).then(|| Some((number(28)?, number(32)?)))?
 }
@@ -173,7 +238,8 @@ pub fn table_of<'a>(
         has_outer_names: false,
         is_child,
         parents: table.bases,
-        types: Reader::new(sections.types, Endianness::Little, WHAT),
+        layout: sections.layout,
+        types: Reader::new(sections.types, sections.layout.endian, WHAT),
     };
     while !section.types.is_empty() {
         let record = section.record()?;
@@ -191,6 +257,7 @@ struct Section<'a> {
     has_outer_names: bool,
     is_child: bool,
     parents: u32,
+    layout: Layout,
     types: Reader<'a>,
 }
 
@@ -199,19 +266,19 @@ impl<'a> Section<'a> {
     /// entries: it is judged with the symbols alone.
     fn symbols(&mut self, sections: &Sections<'a>, table: &mut Table<'a>) -> Result<()> {
         let count = table.len();
-        table.objects = halves(sections.objects)
-            .map(|n| self.number(n))
-            .map(|n| if n <= count { n } else { 0 })
-            .collect();
+        let objects = self.layout.numbers(sections.objects).into_iter();
+        table.objects =
+            objects.map(|n| self.number(n)).map(|n| if n <= count { n } else { 0 }).collect();
         table.functions = self
             .entries(sections.functions)
             .into_iter()
             .map(|one| one.filter(|one| one.references().all(|n| n <= count)))
             .collect();
         for label in sections.labels.chunks_exact(8) {
-            let mut label = Reader::new(label, Endianness::Little, WHAT);
+            let mut label = Reader::new(label, self.layout.endian, WHAT);
             let (name, last) = (label.word()?, label.word()?);
-            let last = self.number(last as u16);
+            let last = if self.layout.is_wide { last } else { last & 0xffff };
+            let last = self.number(last);
             table.labels.push((self.name(name)?, last));
         }
         table.parent_name = self.name(sections.parent_name)?;
@@ -221,11 +288,12 @@ impl<'a> Section<'a> {
 
     /// The entries of functions; what is left of the section may be none.
     fn entries(&self, functions: &[u8]) -> Vec<Option<Record<'a>>> {
-        let words: Vec<u16> = halves(functions).collect();
+        let words: Vec<u32> = self.layout.numbers(functions);
         let mut found = Vec::new();
         let mut at = 0;
         while at < words.len() {
-            let count = usize::from(words[at] & 0x3ff);
+            let most = if self.layout.is_wide { 0x1ff_ffff } else { 0x3ff };
+            let count = (words[at] & most) as usize;
             if words[at] == 0 {
                 found.push(None);
                 at += 1;
@@ -242,7 +310,7 @@ impl<'a> Section<'a> {
     }
 
     /// The arguments of a function; a 0 behind them says that more may follow.
-    fn arguments(&self, record: &mut Record<'a>, listed: &[u16]) {
+    fn arguments(&self, record: &mut Record<'a>, listed: &[u32]) {
         record.varargs = listed.last() == Some(&0);
         let listed = &listed[..listed.len() - usize::from(record.varargs)];
         record.parts = Parts::Arguments(listed.iter().map(|&n| self.number(n)).collect());
@@ -266,25 +334,38 @@ impl<'a> Section<'a> {
     }
 
     /// The number in the table of a type that a record names.
-    fn number(&self, n: u16) -> u32 {
-        let n = u32::from(n);
-        if self.is_child && n > CHILD {
-            n - CHILD + self.parents
+    fn number(&self, n: u32) -> u32 {
+        let child = self.layout.child();
+        if self.is_child && n > child {
+            (n - child).saturating_add(self.parents)
         } else {
             n
         }
     }
 
+    /// The number of a type that stands next.
+    fn reference(&mut self) -> Result<u32> {
+        let n = if self.layout.is_wide { self.types.word()? } else { self.types.half()?.into() };
+        Ok(self.number(n))
+    }
+
     fn record(&mut self) -> Result<Record<'a>> {
-        let (name, info, field) = (self.types.word()?, self.types.half()?, self.types.half()?);
-        let mut size = u64::from(field);
-        if size == LONG_SIZE {
+        let name = self.types.word()?;
+        let (kind, is_root, count, mut size, is_long) = if self.layout.is_wide {
+            let (info, field) = (self.types.word()?, self.types.word()?);
+            let is_long = field == WIDE_LONG_SIZE;
+            (info >> 26, info >> 25 & 1 != 0, info & 0x1ff_ffff, u64::from(field), is_long)
+        } else {
+            let (info, field) = (u32::from(self.types.half()?), u64::from(self.types.half()?));
+            (info >> 11, info >> 10 & 1 != 0, info & 0x3ff, field, field == LONG_SIZE)
+        };
+        if is_long {
             size = u64::from(self.types.word()?) << 32 | u64::from(self.types.word()?);
         }
-        let Some(kind) = Kind::of_number(info >> 11) else { return Err(self.types.damage()) };
-        let count = usize::from(info & 0x3ff);
+        let Some(kind) = Kind::of_number(kind as u16) else { return Err(self.types.damage()) };
+        let count = count as usize;
         let mut record = Record::new(kind, self.name(name)?);
-        record.root = info >> 10 & 1 != 0;
+        record.root = is_root;
         self.fields(&mut record, size, count)?;
         Ok(record)
     }
@@ -298,16 +379,14 @@ impl<'a> Section<'a> {
             }
             Kind::Array => {
                 record.size = size;
-                let (contents, index) = (self.types.half()?, self.types.half()?);
-                record.of = self.number(contents);
-                record.index = self.number(index);
+                record.of = self.reference()?;
+                record.index = self.reference()?;
                 record.elements = self.types.word()?.into();
             }
             Kind::Function => {
-                record.of = self.number(size as u16);
-                let listed = self.types.take(2 * (count + count % 2))?;
-                let listed: Vec<u16> = halves(listed).take(count).collect();
-                self.arguments(record, &listed);
+                record.of = self.number(size as u32);
+                let listed = self.types.take(self.layout.width() * (count + count % 2))?;
+                self.arguments(record, &self.layout.numbers(listed)[..count]);
             }
             Kind::Struct | Kind::Union => {
                 record.size = size;
@@ -319,7 +398,7 @@ impl<'a> Section<'a> {
             }
             Kind::Forward => record.tag = Kind::of_forward(size),
             Kind::Unknown | Kind::Atomic => {}
-            _ => record.of = self.number(size as u16),
+            _ => record.of = self.number(size as u32),
         }
         Ok(())
     }
@@ -327,14 +406,20 @@ impl<'a> Section<'a> {
     fn members(&mut self, size: u64, count: usize) -> Result<Box<[Member<'a>]>> {
         let mut members = Vec::new();
         for _ in 0..count {
-            let (name, of) = (self.types.word()?, self.types.half()?);
-            let offset = if size < LONG_MEMBERS {
-                self.types.half()?.into()
-            } else {
-                self.types.half()?;
+            let (name, of) = (self.types.word()?, self.reference()?);
+            let is_wide = self.layout.is_wide;
+            let most = if is_wide { WIDE_LONG_MEMBERS } else { LONG_MEMBERS };
+            let offset = if size >= most {
+                if !is_wide {
+                    self.types.half()?;
+                }
                 u64::from(self.types.word()?) << 32 | u64::from(self.types.word()?)
+            } else if is_wide {
+                self.types.word()?.into()
+            } else {
+                self.types.half()?.into()
             };
-            let (name, of) = (self.name(name)?, self.number(of));
+            let name = self.name(name)?;
             members.push(Member { name, of, offset, width: None });
         }
         Ok(members.into())
@@ -348,9 +433,4 @@ impl<'a> Section<'a> {
         }
         Ok(values.into())
     }
-}
-
-/// The numbers of 16 bits that some bytes are.
-fn halves(bytes: &[u8]) -> impl Iterator<Item = u16> + '_ {
-    bytes.chunks_exact(2).map(|half| u16::from_le_bytes([half[0], half[1]]))
 }

@@ -7,7 +7,8 @@ use crate::inputs::{Form, ProgramTypes};
 use crate::labels;
 use crate::limits::fit;
 use crate::merge::{merge, name_once};
-use crate::section::{encode, MOST_TYPES};
+use crate::section::encode;
+pub use crate::section::MOST_TYPES;
 use crate::select::{closure_of_all, fitting, left_out, roots, types_named};
 use crate::symbols::{SymbolTable, Symbols};
 use crate::table::{Record, Table};
@@ -61,7 +62,7 @@ pub fn select<'a>(found: ProgramTypes<'a>, names: &[String]) -> Result<(ProgramT
     match form {
         Form::Dwarf | Form::Gnu => merge(&mut table, 0),
         Form::Btf => name_once(&mut table, 0),
-        Form::Ctf => {}
+        Form::Ctf | Form::OtherCtf => {}
     }
     if table.is_empty() {
         return refuse("nothing is to be written: the file tells no type of C with a name");

@@ -4,6 +4,7 @@ use crate::bytes::Names;
 use crate::error::{refuse, Result};
 use crate::image::{Data, Elf, ElfSection, Image};
 use crate::symbols::{Symbol, SymbolTable, Symbols};
+use gimli::{Endianity as _, RunTimeEndian};
 use object::read::elf::{FileHeader, SectionHeader, Sym as _};
 use object::{elf, Architecture, Endianness, Object, ObjectKind, ObjectSection, ObjectSymbol};
 use object::{Relocation, RelocationKind, RelocationTarget, SectionIndex};
@@ -19,6 +20,15 @@ const PAGE: u64 = 4096;
 pub fn has_debug(file: &Elf<'_>) -> bool {
     file.section_by_name(".debug_info")
         .is_some_and(|one| matches!(one.file_range(), Some((_, size)) if size > 0))
+}
+
+/// The byte order of a file.
+pub fn endian(file: &Elf<'_>) -> RunTimeEndian {
+    if file.is_little_endian() {
+        RunTimeEndian::Little
+    } else {
+        RunTimeEndian::Big
+    }
 }
 
 /// What to do with an object file of -flto.
@@ -174,7 +184,7 @@ pub fn section<'a>(file: &Elf<'a>, name: &str) -> Result<Cow<'a, [u8]>> {
 
 /// Writes in an object file what the linker would.
 fn relocate(file: &Elf<'_>, section: &ElfSection<'_, '_>, data: &mut [u8]) -> Result<()> {
-    let places = places(file);
+    let (places, mut endian) = (places(file), endian(file));
     for (at, one) in section.relocations() {
         let Some(length) = relocated_bytes(file.architecture(), &one)? else { continue };
         let place = match one.target() {
@@ -191,11 +201,13 @@ fn relocate(file: &Elf<'_>, section: &ElfSection<'_, '_>, data: &mut [u8]) -> Re
         };
         let mut value = place.wrapping_add(one.addend() as u64);
         if one.has_implicit_addend() {
-            let mut there = [0; 8];
-            there[..length].copy_from_slice(cell);
-            value = value.wrapping_add(u64::from_le_bytes(there));
+            value = value.wrapping_add(endian.read_uint(cell));
         }
-        cell.copy_from_slice(&value.to_le_bytes()[..length]);
+        let bytes = value.to_le_bytes();
+        cell.copy_from_slice(&bytes[..length]);
+        if endian.is_big_endian() {
+            cell.reverse();
+        }
     }
     Ok(())
 }
@@ -326,11 +338,11 @@ pub fn symbols_of<'a>(image: &'a Image, table: SymbolTable) -> Result<Option<Sym
     Ok(Some(Symbols { table, listed }))
 }
 
-/// A symbol table and its strings as the library takes them: tables of 64 bits alone.
+/// A symbol table and its strings as the library takes them: little-endian ones of 64 bits alone.
 pub fn symbol_lists(image: &Image, table: SymbolTable) -> Option<(&[u8], &[u8])> {
     let data = image.data();
     let header = elf::FileHeader64::<Endianness>::parse(data).ok()?;
-    let endian = header.endian().ok()?;
+    let endian = header.endian().ok().filter(|&endian| endian == Endianness::Little)?;
     let sections = header.sections(endian, data).ok()?;
     let (_, section) = sections.section_by_name(endian, table.word().as_bytes())?;
     let strings = sections.section(SectionIndex(section.sh_link(endian) as usize)).ok()?;

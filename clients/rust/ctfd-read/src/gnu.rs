@@ -8,13 +8,13 @@ use crate::ctf::LONGEST;
 use crate::error::{refuse, Error, Result};
 use crate::table::{Encoding, Enumerator, Kind, Member, Name, Parts, Record, Table};
 use flate2::{Decompress, FlushDecompress};
-use object::endian::Endianness;
+use object::endian::{Endian as _, Endianness};
 use std::borrow::Cow;
 use std::collections::HashMap;
 
-/// How a dictionary begins.
-pub const MAGIC: [u8; 2] = [0xf2, 0xdf];
-/// How an archive of dictionaries begins.
+/// How a dictionary begins, of either byte order.
+pub const MAGICS: [[u8; 2]; 2] = [[0xf2, 0xdf], [0xdf, 0xf2]];
+/// How an archive of dictionaries begins, whatever the byte order of these.
 pub const ARCHIVE: [u8; 8] = 0x8b47_f2a4_d762_3eeb_u64.to_le_bytes();
 const VERSION: u8 = 4; // of the bytes: the format calls it 3
 const HEADER: u64 = 4 + 12 * 4;
@@ -84,7 +84,7 @@ fn dictionaries_of(section: &[u8]) -> Result<Vec<&[u8]>> {
 
 /// A dictionary whose body, if it is compressed, is inflate; the header bounds it.
 fn inflate(bytes: &[u8]) -> Result<Cow<'_, [u8]>> {
-    if bytes.get(..2) != Some(&MAGIC) {
+    if !MAGICS.iter().any(|magic| bytes.starts_with(magic)) {
         return refuse(format!("GNU CTF was expected, and it begins with {:02x?}", bytes.get(..4)));
     }
     match bytes.get(2) {
@@ -96,7 +96,7 @@ fn inflate(bytes: &[u8]) -> Result<Cow<'_, [u8]>> {
             ));
         }
     }
-    let mut head = Reader::new(bytes, Endianness::Little, WHAT);
+    let mut head = Reader::new(bytes, endian(bytes), WHAT);
     head.take(HEADER as usize - 8)?;
     let wanted = u64::from(head.word()?) + u64::from(head.word()?);
     if bytes[3] & COMPRESSED == 0 {
@@ -154,6 +154,7 @@ pub fn read<'a>(
 /// One dictionary; `numbers` has for each of its own numbers that of the table.
 struct Dictionary<'a> {
     flags: u8,
+    endian: Endianness,
     symbols: [&'a [u8]; 4],
     types: Reader<'a>,
     names: Names<'a>,
@@ -184,7 +185,8 @@ impl Numbers {
 
 impl<'a> Dictionary<'a> {
     fn new(bytes: &'a [u8], strings: &'a [u8], parent: Option<&Dictionary<'a>>) -> Result<Self> {
-        let mut head = Reader::new(bytes, Endianness::Little, WHAT);
+        let endian = endian(bytes);
+        let mut head = Reader::new(bytes, endian, WHAT);
         head.take(4)?;
         let mut fields = [0; 12];
         for field in &mut fields {
@@ -202,7 +204,8 @@ impl<'a> Dictionary<'a> {
                 between(fields[6], fields[7])?,
                 between(fields[7], fields[8])?,
             ],
-            types: Reader::new(between(fields[9], fields[10])?, Endianness::Little, WHAT),
+            types: Reader::new(between(fields[9], fields[10])?, endian, WHAT),
+            endian,
             names: Names(part(body, fields[10], fields[11], WHAT)?),
             strings: Names(strings),
             parent,
@@ -259,10 +262,11 @@ impl<'a> Dictionary<'a> {
     }
 
     fn entries_of(&self, types: &[u8], names: &[u8]) -> Result<Listed<'a>> {
-        let types =
-            words(types).map(|n| self.number(n).ok_or_else(damage)).collect::<Result<_>>()?;
+        let types = words(types, self.endian)
+            .map(|n| self.number(n).ok_or_else(damage))
+            .collect::<Result<_>>()?;
         let names = (!names.is_empty())
-            .then(|| words(names).map(|one| self.name(one)).collect::<Result<_>>())
+            .then(|| words(names, self.endian).map(|one| self.name(one)).collect::<Result<_>>())
             .transpose()?;
         Ok(Listed { types, names })
     }
@@ -352,7 +356,7 @@ impl<'a> Dictionary<'a> {
 
     fn arguments(&mut self, record: &mut Record<'a>, count: usize) -> Result<()> {
         let listed = self.types.take(4 * (count + count % 2))?;
-        let mut listed: Vec<u32> = words(listed).take(count).collect();
+        let mut listed: Vec<u32> = words(listed, self.endian).take(count).collect();
         record.varargs = listed.last() == Some(&0);
         if record.varargs {
             listed.pop();
@@ -388,8 +392,17 @@ impl<'a> Dictionary<'a> {
 }
 
 /// The numbers of 32 bits that some bytes are.
-fn words(bytes: &[u8]) -> impl Iterator<Item = u32> + '_ {
-    bytes.chunks_exact(4).map(|one| u32::from_le_bytes([one[0], one[1], one[2], one[3]]))
+fn words(bytes: &[u8], endian: Endianness) -> impl Iterator<Item = u32> + '_ {
+    bytes.chunks_exact(4).map(move |one| endian.read_u32_bytes([one[0], one[1], one[2], one[3]]))
+}
+
+/// The byte order of a dictionary, by how it begins.
+fn endian(bytes: &[u8]) -> Endianness {
+    if bytes.starts_with(&MAGICS[1]) {
+        Endianness::Big
+    } else {
+        Endianness::Little
+    }
 }
 
 fn damage() -> Error {

@@ -122,15 +122,9 @@ impl Image {
         self.data().read_bytes_at(0, 4) == Ok(&object::elf::ELFMAG[..])
     }
 
-    /// The file as ELF, of little-endian machines.
+    /// The file as ELF.
     pub fn elf(&self) -> Result<Elf<'_>> {
-        let file = object::File::parse(self.data())?;
-        if !object::Object::is_little_endian(&file) {
-            return refuse(
-                "a big-endian ELF file, which is not read: take a little-endian build of the program",
-            );
-        }
-        Ok(file)
+        Ok(object::File::parse(self.data())?)
     }
 
     /// The check sum by which `.gnu_debuglink` knows a file.

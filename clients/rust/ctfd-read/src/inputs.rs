@@ -2,10 +2,10 @@
 
 use crate::btf;
 use crate::bytes::Names;
-use crate::ctf::{self, Sections};
+use crate::ctf::{self, Layout, Sections};
 use crate::dictionary::keep_described;
 use crate::dwarf::sections;
-use crate::dwarf::types::Collector;
+use crate::dwarf::types::collect;
 use crate::dwarf::units::Debug;
 use crate::elf;
 use crate::error::{refuse, Error, Result};
@@ -28,6 +28,8 @@ use std::path::{Path, PathBuf};
 pub enum Form {
     /// CTF of version 2.
     Ctf,
+    /// FreeBSD's CTF of version 3, and version 2 of a big-endian machine.
+    OtherCtf,
     /// The kernel's BTF.
     Btf,
     /// The debug information of compilers.
@@ -38,12 +40,13 @@ pub enum Form {
 
 impl Form {
     /// All of them, in the order in which they are looked for.
-    pub const ALL: [Form; 4] = [Form::Ctf, Form::Btf, Form::Dwarf, Form::Gnu];
+    pub const ALL: [Form; 5] = [Form::Ctf, Form::OtherCtf, Form::Btf, Form::Dwarf, Form::Gnu];
 
     /// The word for it on a command line.
     pub fn word(self) -> &'static str {
         match self {
             Form::Ctf => "ctf",
+            Form::OtherCtf => "other-ctf",
             Form::Btf => "btf",
             Form::Dwarf => "dwarf",
             Form::Gnu => "gnu",
@@ -53,7 +56,7 @@ impl Form {
     /// The sections of an ELF file that have it.
     fn sections(self) -> &'static [&'static str] {
         match self {
-            Form::Ctf => &[".SUNW_ctf", ".ctf"],
+            Form::Ctf | Form::OtherCtf => &[".SUNW_ctf", ".ctf"],
             Form::Btf => &[".BTF"],
             Form::Dwarf => &[],
             Form::Gnu => &[".ctf"],
@@ -64,10 +67,13 @@ impl Form {
     fn of(bytes: &[u8]) -> Option<Form> {
         if btf::is_btf(bytes) {
             Some(Form::Btf)
-        } else if bytes.starts_with(&gnu::MAGIC) || bytes.starts_with(&gnu::ARCHIVE) {
+        } else if bytes.starts_with(&gnu::ARCHIVE)
+            || gnu::MAGICS.iter().any(|magic| bytes.starts_with(magic))
+        {
             Some(Form::Gnu)
         } else {
-            bytes.starts_with(&ctf::BEGINS).then_some(Form::Ctf)
+            let layout = Layout::of(bytes)?;
+            Some(if layout.is_native() { Form::Ctf } else { Form::OtherCtf })
         }
     }
 }
@@ -76,6 +82,7 @@ impl fmt::Display for Form {
     fn fmt(&self, to: &mut fmt::Formatter<'_>) -> fmt::Result {
         to.write_str(match self {
             Form::Ctf => "CTF version 2",
+            Form::OtherCtf => "CTF of FreeBSD or of a big-endian machine",
             Form::Btf => "BTF",
             Form::Dwarf => "DWARF",
             Form::Gnu => "GNU's CTF",
@@ -166,17 +173,10 @@ fn read(image: &Image, options: &Options, run: &mut Use<'_>) -> Result<()> {
 fn foreign(bytes: &[u8]) -> String {
     let version = bytes.get(2).copied().unwrap_or(0);
     match bytes.get(..2) {
-        Some([0xdf, 0xf2]) => "big-endian GNU CTF, which is not read".to_owned(),
-        Some([0xcf, 0xf1]) => "CTF of a big-endian machine, which is not read: take that of a \
-                               little-endian build of the program"
-            .to_owned(),
-        Some([0xf1, 0xcf]) => {
-            let writer = if version == 1 { "very old tools" } else { "newer releases of FreeBSD" };
-            format!(
-                "CTF version {version}, as {writer} write it, which is not read; ctfd-convert makes \
-                 CTF of version 2 from the program's debug information"
-            )
-        }
+        Some([0xcf, 0xf1] | [0xf1, 0xcf]) => format!(
+            "CTF version {version}, which is not read: versions 2 and 3 are; ctfd-convert makes CTF \
+             of version 2 from the program's debug information"
+        ),
         _ => {
             let begins: String = bytes.iter().take(4).map(|byte| format!("{byte:02x}")).collect();
             format!(
@@ -186,10 +186,22 @@ fn foreign(bytes: &[u8]) -> String {
     }
 }
 
+/// What is to be known of a program of a big-endian machine.
+const BIG_ENDIAN: &str =
+    "it is of a big-endian machine: its types are read, and the dictionary is \
+                          little-endian, as all are that ctfd opens";
+
 /// The first of the forms that an ELF file has, or the one asked for; DWARF may be elsewhere.
 fn with_elf(image: &Image, options: &Options, run: &mut Use<'_>) -> Result<()> {
     let path = image.path().display().to_string();
     let file = image.elf().map_err(|error| error.of(&path))?;
+    let is_big = !file.is_little_endian();
+    let run: &mut Use<'_> = &mut |mut found: ProgramTypes<'_>| {
+        if is_big && found.note.is_empty() {
+            found.note = BIG_ENDIAN.to_owned();
+        }
+        run(found)
+    };
     let model = model_of(&file);
     if options.model.is_some_and(|wanted| wanted != model) {
         let wanted = options.model.map_or("", labels::model_word);
@@ -271,7 +283,7 @@ fn symbols_of<'a>(file: Option<&'a Image>, sections: &Sections<'a>) -> Result<Op
 /// Refuses the number of a dictionary where there are none to choose from.
 fn judge_number(form: Form, options: &Options) -> Result<()> {
     match options.number {
-        Some(number) if form != Form::Ctf => refuse(format!(
+        Some(number) if !matches!(form, Form::Ctf | Form::OtherCtf) => refuse(format!(
             "--dictionary {number} chooses one of several dictionaries of CTF version 2, and its \
              types are read from {form}: leave it out"
         )),
@@ -343,10 +355,7 @@ fn with_dwarf(image: &Image, options: &Options, run: &mut Use<'_>) -> Result<()>
     let sections =
         sections::Sections::load(debug, &options.folders).map_err(|error| error.of(&debug_path))?;
     let units = Debug::new(&sections).map_err(|error| error.of(&debug_path))?;
-    let mut collector = Collector::default();
-    collector
-        .read(&units, &symbols.listed, !file.is_64())
-        .map_err(|error| error.of(&debug_path))?;
+    let collector = collect(&[(units, debug_path)], &symbols.listed, !file.is_64())?;
     let is_linked = file.kind() != ObjectKind::Relocatable;
     let (mut table, roots) =
         collector.finish(&symbols, is_linked, !file.is_64()).map_err(|error| error.of(&path))?;
@@ -384,6 +393,12 @@ fn note(image: &Image, symbols: &Symbols<'_>, debug: &Image) -> Result<String> {
 /// that a dictionary could go by.
 fn with_archive(image: &Image, data: &[u8], options: &Options, run: &mut Use<'_>) -> Result<()> {
     let path = image.path();
+    if crate::archive::has_dictionaries(data) {
+        return refuse(format!(
+            "{}: it has several dictionaries, which ctfd-convert wrote of a program: name the program",
+            path.display()
+        ));
+    }
     judge_number(Form::Dwarf, options).map_err(|error| error.of(path.display()))?;
     let members = members(path, data).map_err(|error| error.of(path.display()))?;
     let mut model = options.model;
@@ -407,11 +422,6 @@ fn with_archive(image: &Image, data: &[u8], options: &Options, run: &mut Use<'_>
         }
     }
     let is_ilp32 = model == Some(Model::Ilp32);
-    let mut collector = Collector::default();
-    for (member, sections) in &with_debug {
-        let read = || collector.read(&Debug::new(sections)?, &[], is_ilp32);
-        read_named(read, member.path())?;
-    }
     if with_debug.is_empty() {
         let is_lto = |member: &Image| member.elf().is_ok_and(|file| elf::is_lto(&file));
         let advice = match members.iter().any(is_lto) {
@@ -423,15 +433,17 @@ fn with_archive(image: &Image, data: &[u8], options: &Options, run: &mut Use<'_>
             path.display()
         ));
     }
+    let mut files = Vec::new();
+    for (member, sections) in &with_debug {
+        let name = member.path().display().to_string();
+        files.push((Debug::new(sections).map_err(|error| error.of(&name))?, name));
+    }
+    let collector = collect(&files, &[], is_ilp32)?;
     let symbols = Symbols::default();
     let (table, roots) =
         collector.finish(&symbols, false, is_ilp32).map_err(|error| error.of(path.display()))?;
     let note = String::new();
     run(ProgramTypes { table, roots, bases: 0, form: Form::Dwarf, symbols, note })
-}
-
-fn read_named(mut read: impl FnMut() -> Result<()>, path: &Path) -> Result<()> {
-    read().map_err(|error| error.of(path.display()))
 }
 
 /// The object files of an archive; those of a thin one are files beside it.
@@ -516,14 +528,20 @@ fn with_ctf(
     let mut of_table = |parent: Option<Table<'_>>| -> Result<()> {
         let mut table = ctf::table_of(&sections, section.strings, parent)?;
         table.is_ilp32 = model == Model::Ilp32;
-        let symbols = symbols_of(section.file, &sections)?;
-        if symbols.is_none() && labels::symbols(&sections).is_some() {
+        let is_native = sections.layout.is_native();
+        let symbols = match section.file.filter(|_| !is_native) {
+            Some(file) => elf::symbols_of(file, SymbolTable::Symtab)?
+                .filter(|found| has_entries_for(&table, found)),
+            None => symbols_of(section.file, &sections)?,
+        };
+        if symbols.is_none() && (labels::symbols(&sections).is_some() || !is_native) {
             table.objects.clear();
             table.functions.clear();
         }
         let (roots, bases) = ((table.bases + 1..=table.len()).collect(), table.bases);
         let (symbols, note) = (symbols.unwrap_or_default(), String::new());
-        run(ProgramTypes { table, roots, bases, form: Form::Ctf, symbols, note })
+        let form = if is_native { Form::Ctf } else { Form::OtherCtf };
+        run(ProgramTypes { table, roots, bases, form, symbols, note })
     };
     let Some(base) = &options.base else { return of_table(None) };
     let image = Image::open(base)?;
@@ -537,6 +555,12 @@ fn with_ctf(
         }
         of_table(Some(parent.table))
     })
+}
+
+/// Whether a dictionary tells of as many functions and objects as a symbol table has.
+fn has_entries_for(table: &Table<'_>, symbols: &Symbols<'_>) -> bool {
+    table.objects.len() == symbols.objects().count()
+        && table.functions.len() >= symbols.functions().count()
 }
 
 /// The dictionary of a number, which counts from 1, or the only one.

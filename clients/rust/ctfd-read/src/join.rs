@@ -3,7 +3,12 @@
 //! Two types become one where no walk along their references shows a difference. A struct or union
 //! of a name is compared with those that look like it; what has none follows from what it names,
 //! since without names nothing in C leads round. What a bound leaves apart, `merge` finds.
+//!
+//! A tag that has a single definition in the program stands for it, also where a unit only declares
+//! it: `slots` has these.
 
+use crate::dwarf::tags::SingleTags;
+use crate::slots::Slots;
 use crate::table::{Record, Table};
 use std::collections::{HashMap, HashSet};
 use std::hash::{BuildHasherDefault, Hash, Hasher};
@@ -12,6 +17,8 @@ use std::hash::{BuildHasherDefault, Hash, Hasher};
 /// for each type of a unit.
 const MOST_ALIKE: usize = 32;
 const MOST_STEPS: u64 = 256;
+/// How often a unit is looked at anew without the tags whose definitions differ.
+const MOST_TRIES: u32 = 8;
 
 /// A hasher of numbers that are hashes already, or places.
 #[derive(Default)]
@@ -53,19 +60,39 @@ impl Chains {
     }
 }
 
-/// The types of one unit, with numbers of its own from 1 on, and how each shape.
+/// The types of one unit, with numbers of its own from 1 on, and the shape of each.
 pub struct Piece<'a> {
     pub records: Vec<Record<'a>>,
     pub shape: Vec<u64>,
+    /// For each type with a tag of a single definition the key of that; 0 for all others.
+    pub single: Vec<u64>,
+    /// The keys of those by which declarations were joined already.
+    pub loose: HashSet<u64>,
 }
 
 impl<'a> Piece<'a> {
-    pub fn new(records: Vec<Record<'a>>) -> Piece<'a> {
+    pub fn new(records: Vec<Record<'a>>, tags: &SingleTags) -> Piece<'a> {
         let shape = records.iter().map(Record::shape).collect();
-        Piece { records, shape }
+        Piece::with_shape(records, shape, HashSet::new(), tags)
     }
 
-    fn get(&self, number: u32) -> &Record<'a> {
+    fn with_shape(
+        records: Vec<Record<'a>>,
+        shape: Vec<u64>,
+        loose: HashSet<u64>,
+        tags: &SingleTags,
+    ) -> Piece<'a> {
+        let single = records.iter().map(|record| tags.key(record)).collect();
+        Piece { records, shape, single, loose }
+    }
+
+    /// The numbers of types with a tag of a single definition, and the keys of these.
+    pub fn tagged(&self) -> impl Iterator<Item = (u32, u64)> + '_ {
+        (1..).zip(self.single.iter().copied()).filter(|&(_, key)| key != 0)
+    }
+
+    /// The type of a number.
+    pub fn get(&self, number: u32) -> &Record<'a> {
         &self.records[number as usize - 1]
     }
 
@@ -77,16 +104,21 @@ impl<'a> Piece<'a> {
 /// The types of a table that are known so far, each once.
 #[derive(Default)]
 pub struct Joiner<'a> {
-    pub table: Table<'a>,
+    table: Table<'a>,
     shape: Vec<u64>,
+    /// For each type when it was told first, in full where that is told at all.
+    turn: Vec<u64>,
+    turns: u64,
     known: Chains,
     named: Chains,
+    slots: Slots,
 }
 
 /// What a unit's types were found to be: 0 for what is not known yet, a number of the table, or one
 /// behind all of these for the unit's own.
-struct Found {
-    is: Vec<u32>,
+pub struct Found {
+    /// For each number, 0 too, what it was found to be.
+    pub is: Vec<u32>,
     pairs: Vec<u32>,
     differ: HashSet<(u32, u32)>,
     steps: u64,
@@ -94,17 +126,34 @@ struct Found {
 
 impl<'a> Joiner<'a> {
     /// Takes the types of a unit in. For each of its numbers, 0 too, that of the table.
-    pub fn join(&mut self, piece: Piece<'a>) -> Vec<u32> {
+    pub fn join(&mut self, mut piece: Piece<'a>) -> Vec<u32> {
+        self.slots.leave_several_out(&mut piece);
+        for left in (0..MOST_TRIES).rev() {
+            let found = self.find(&piece);
+            let judged = self.slots.judge(&piece, &self.table, &found);
+            if judged.several.is_empty() {
+                self.slots.loosen(&piece, &judged.loose);
+                return self.take(piece, found.is, &judged.fuller);
+            }
+            let several = if left == 1 { piece.single.clone() } else { judged.several };
+            self.slots.add_several(&several, &piece);
+            self.slots.leave_several_out(&mut piece);
+        }
+        unreachable!("without tags there are none that differ");
+    }
+
+    /// Finds what each type of a unit is.
+    fn find(&self, piece: &Piece<'a>) -> Found {
         let count = piece.records.len() as u32;
         let mut found = Found {
-            is: vec![0; count as usize + 1],
+            is: self.slots.find(piece, &self.table),
             pairs: vec![0; count as usize + 1],
             differ: HashSet::new(),
             steps: MOST_STEPS * u64::from(count) + MOST_STEPS,
         };
         for number in 1..=count {
             if found.is[number as usize] == 0 && piece.get(number).is_named_aggregate() {
-                self.compare(&piece, number, &mut found);
+                self.compare(piece, number, &mut found);
             }
         }
         for number in 1..=count {
@@ -114,13 +163,13 @@ impl<'a> Joiner<'a> {
         }
         let mut fresh = Chains::default();
         for number in 1..=count {
-            self.look_up(&piece, number, &mut found, &mut fresh);
+            self.look_up(piece, number, &mut found, &mut fresh);
         }
-        self.take(piece, found.is)
+        found
     }
 
     /// Writes what is new behind what is known, in the order of its first copies.
-    fn take(&mut self, piece: Piece<'a>, is: Vec<u32>) -> Vec<u32> {
+    fn take(&mut self, piece: Piece<'a>, is: Vec<u32>, fuller: &HashSet<u32>) -> Vec<u32> {
         let known = self.table.len();
         let mut to = vec![0; is.len()];
         let mut kept = vec![0; is.len()];
@@ -130,7 +179,7 @@ impl<'a> Joiner<'a> {
             if same > known {
                 let own = &mut kept[(same - known) as usize];
                 if *own == 0 {
-                    order.push(same - known);
+                    order.push((same - known, number));
                     *own = known + order.len() as u32;
                 }
                 same = *own;
@@ -138,27 +187,84 @@ impl<'a> Joiner<'a> {
             to[number] = same;
         }
         let mut records: Vec<Option<Record>> = piece.records.into_iter().map(Some).collect();
-        for own in order {
-            let mut record = records[own as usize - 1].take().expect("each is kept once");
+        for &(own, first) in &order {
+            let place = own as usize - 1;
+            let mut record = records[place].take().expect("each is kept once");
             record.renumber(|n| to[n as usize]);
-            let shape = piece.shape[own as usize - 1];
-            let hash = with_references(shape, record.references());
-            let is_named = record.is_named_aggregate();
-            let number = self.table.add(record);
-            self.shape.push(shape);
-            self.known.add(hash, number);
-            if is_named {
-                self.named.add(shape, number);
+            let turn = self.turns + first as u64;
+            self.add(record, piece.shape[place], piece.single[place], turn);
+        }
+        for (place, &key) in piece.single.iter().enumerate().filter(|(_, &key)| key != 0) {
+            let Some(mut record) = records[place].take() else { continue };
+            let number = to[place + 1];
+            let is_declared = self.table.get(number).is_forward() && !record.is_forward();
+            if self.slots.number(key) == Some(number) && is_declared {
+                self.turn[number as usize - 1] = self.turns + place as u64 + 1;
+                record.renumber(|n| to[n as usize]);
+                self.replace(number, record, piece.shape[place]);
+            } else if fuller.contains(&(place as u32 + 1)) {
+                record.renumber(|n| to[n as usize]);
+                self.replace(number, record, piece.shape[place]);
             }
         }
+        self.turns += records.len() as u64;
         to
     }
 
+    fn add(&mut self, record: Record<'a>, shape: u64, key: u64, turn: u64) {
+        let hash = with_references(shape, record.references());
+        let is_named = record.is_named_aggregate();
+        let number = self.table.add(record);
+        self.shape.push(shape);
+        self.turn.push(turn);
+        self.known.add(hash, number);
+        if is_named {
+            self.named.add(shape, number);
+        }
+        if key != 0 {
+            self.slots.add(key, number);
+        }
+    }
+
+    /// Puts a further copy of a type in the place of one that tells less.
+    fn replace(&mut self, number: u32, record: Record<'a>, shape: u64) {
+        let place = number as usize - 1;
+        if record.is_named_aggregate() && self.shape[place] != shape {
+            self.named.add(shape, number);
+        }
+        self.shape[place] = shape;
+        self.table.records[place] = record;
+    }
+
+    /// The keys of tags that have several definitions, though declarations were joined by them.
+    pub fn conflicts(&mut self) -> &mut HashSet<u64> {
+        &mut self.slots.conflicts
+    }
+
+    /// The table in the order in which its types were told, and for each number that was given, 0
+    /// too, the one in it.
+    pub fn into_table(self) -> (Table<'a>, Vec<u32>) {
+        let Joiner { mut table, turn, .. } = self;
+        let (order, to) = ordered(&turn);
+        table.choose(&order, &to);
+        (table, to)
+    }
+
+    /// What was joined, to be joined with more: a piece, the numbers in it, and the conflicts.
+    pub fn into_piece(self, tags: &SingleTags) -> (Piece<'a>, Vec<u32>, HashSet<u64>) {
+        let Joiner { mut table, shape, turn, slots, .. } = self;
+        let (order, to) = ordered(&turn);
+        table.choose(&order, &to);
+        let shape = order.iter().map(|&n| shape[n as usize - 1]).collect();
+        (Piece::with_shape(table.records, shape, slots.loose, tags), to, slots.conflicts)
+    }
+
     /// Finds a struct or union, with all that it names, among those that are known.
-    fn compare(&mut self, piece: &Piece<'a>, number: u32, found: &mut Found) {
+    fn compare(&self, piece: &Piece<'a>, number: u32, found: &mut Found) {
         let alike: Vec<u32> = self.named.of(piece.shape(number)).take(MOST_ALIKE).collect();
         for other in alike {
-            if !found.differ.contains(&(number, other)) && self.is_same(piece, number, other, found)
+            if !found.differ.contains(&(number, other))
+                && self.is_alike(piece, number, other, found)
             {
                 return;
             }
@@ -167,7 +273,7 @@ impl<'a> Joiner<'a> {
 
     /// Whether a new type, and all that it names, are the same as known ones; if so these are found.
     /// Where two differ, so do all on the way to them: none of these is compared again.
-    fn is_same(&self, piece: &Piece<'a>, number: u32, other: u32, found: &mut Found) -> bool {
+    fn is_alike(&self, piece: &Piece<'a>, number: u32, other: u32, found: &mut Found) -> bool {
         found.pairs[number as usize] = other;
         let mut met = vec![(number, 0)];
         let mut at = 0;
@@ -177,8 +283,8 @@ impl<'a> Joiner<'a> {
             let same = found.pairs[one as usize];
             let (mine, theirs) = (piece.get(one), self.table.get(same));
             let cost = 1 + mine.members().len() as u64;
-            let is_alike = piece.shape(one) == self.shape[same as usize - 1];
-            if found.steps < cost || !is_alike || !mine.has_shape_of(theirs) {
+            let has_hash = piece.shape(one) == self.shape[same as usize - 1];
+            if found.steps < cost || !has_hash || !mine.has_shape_of(theirs) {
                 differs = Some(at);
             }
             found.steps = found.steps.saturating_sub(cost);
@@ -253,6 +359,17 @@ impl<'a> Joiner<'a> {
         fresh.add(hash, number);
         self.table.len() + number
     }
+}
+
+/// Types in the order of their turns, and for each, 0 too, its place in that, from 1 on.
+fn ordered(turn: &[u64]) -> (Vec<u32>, Vec<u32>) {
+    let mut order: Vec<u32> = (1..=turn.len() as u32).collect();
+    order.sort_by_key(|&n| turn[n as usize - 1]);
+    let mut to = vec![0; order.len() + 1];
+    for (place, &number) in order.iter().enumerate() {
+        to[number as usize] = place as u32 + 1;
+    }
+    (order, to)
 }
 
 /// Pairs what two types name; false where that differs.

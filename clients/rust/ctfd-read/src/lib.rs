@@ -6,8 +6,10 @@
 //! [`dictionary`] makes a dictionary of it, alone or over a parent, whose bytes `section` writes
 //! and the library of this project, which is proved, opens before anybody gets them.
 
+mod archive;
 mod btf;
 mod bytes;
+pub mod collection;
 mod ctf;
 mod descriptions;
 pub mod dictionary;
@@ -22,9 +24,13 @@ mod join;
 mod labels;
 mod limits;
 mod merge;
-mod nearest;
+pub mod nearest;
+pub mod opening;
+pub mod parts;
 mod section;
 mod select;
+mod slots;
 mod sound;
+mod spread;
 pub mod symbols;
 pub mod table;

@@ -37,8 +37,8 @@ fn float(table: &mut Table<'_>, record: &mut Record<'_>) {
         return;
     }
     record.encoding.flags = match &*record.name {
-        b"float" | b"_Float32" => 1,
-        b"double" | b"_Float64" | b"_Float32x" => 2,
+        b"float" | b"_Float32" | b"f32" => 1,
+        b"double" | b"_Float64" | b"_Float32x" | b"f64" => 2,
         b"complex float" | b"_Complex float" => 3,
         b"complex double" | b"_Complex double" => 4,
         b"complex long double" | b"_Complex long double" => 5,

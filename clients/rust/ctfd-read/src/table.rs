@@ -270,6 +270,11 @@ impl<'a> Record<'a> {
         made
     }
 
+    /// Whether it only declares a struct, union or enum.
+    pub fn is_forward(&self) -> bool {
+        self.kind == Kind::Forward
+    }
+
     /// A struct or union that has a name: in C each circle of types has one.
     pub fn is_named_aggregate(&self) -> bool {
         self.kind.is_aggregate() && !self.name.is_empty()
@@ -315,7 +320,7 @@ impl<'a> Record<'a> {
 }
 
 /// Whether two names are the same: most often they stand in one place.
-fn is_same(one: &[u8], other: &[u8]) -> bool {
+pub fn is_same(one: &[u8], other: &[u8]) -> bool {
     std::ptr::eq(one, other) || one == other
 }
 
@@ -402,8 +407,8 @@ impl<'a> Table<'a> {
         seen
     }
 
-    /// Keeps these types in this order, without labels and without a parent; each reference, symbols' too, becomes what `to` says. Of a
-    /// function is told nothing where a type in it is left out.
+    /// Keeps these types in this order, without labels and without a parent; each reference, symbols'
+    /// too, becomes what `to` says. Of a function is told nothing where a type in it is left out.
     pub fn choose(&mut self, order: &[u32], to: &[u32]) {
         let to = |n: u32| to[n as usize];
         self.labels.clear();

@@ -10,6 +10,7 @@ use ctfd_read::dictionary::{self, Dictionary, Parent};
 use ctfd_read::error::{refuse, Error, Result};
 use ctfd_read::image::Image;
 use ctfd_read::inputs::{plain_bytes, with_types, Form, Options, ProgramTypes};
+use ctfd_read::parts;
 use ctfd_read::symbols::SymbolTable;
 use std::ffi::OsString;
 use std::path::{Path, PathBuf};
@@ -61,6 +62,7 @@ struct Words {
     is_section: bool,
     is_self_contained: bool,
     is_lossy: bool,
+    is_one: bool,
 }
 
 impl Words {
@@ -97,6 +99,7 @@ impl Words {
             is_section: matches.get_flag("section"),
             is_self_contained: matches.get_flag("self-contained"),
             is_lossy: matches.get_flag("lossy"),
+            is_one: matches.get_flag("one"),
         }
     }
 
@@ -177,7 +180,7 @@ fn options() -> Command {
 /// The options that say what is read.
 fn of_reading() -> [Arg; 7] {
     [
-        word("from", "ctf|btf|dwarf|gnu").help("the form to read"),
+        word("from", "ctf|other-ctf|btf|dwarf|gnu").help("the form to read"),
         Arg::new("dictionary")
             .long("dictionary")
             .value_name("N")
@@ -207,7 +210,7 @@ fn of_reading() -> [Arg; 7] {
 }
 
 /// The options that say what is written.
-fn of_writing() -> [Arg; 7] {
+fn of_writing() -> [Arg; 8] {
     [
         path("parent").long("parent").value_name("FILE").help(
             "a dictionary: OUT is a child of it, with only the types that it lacks",
@@ -223,6 +226,9 @@ fn of_writing() -> [Arg; 7] {
             .long("report")
             .value_name("FILE")
             .help("report what was read, written and lost; - is standard output"),
+        flag("one").help(
+            "one dictionary also of more types than it holds: those without room are left out",
+        ),
         flag("lossy").help("end with status 0 even if CTF can't hold everything"),
         path("service")
             .long("service")
@@ -250,20 +256,45 @@ fn convert(words: &Words) -> Result<Vec<String>> {
             warn(NAME, format!("{}: {}", words.input.display(), found.note));
         }
         let (form, count) = (found.form, found.table.len());
-        with_dictionary(words, &image, found, |mut made| {
-            let bytes = made.checked_bytes(&image, &words.output)?;
+        with_dictionary(words, &image, found, |made| {
+            let (made, bytes, counts) = match made {
+                Made::One(mut made) => {
+                    let bytes = made.checked_bytes(&image, &words.output)?;
+                    (made, bytes, Vec::new())
+                }
+                Made::InParts(made) => (made.whole, made.bytes, made.counts),
+            };
             write(words, &made, &bytes)?;
             if let Some(path) = &words.report {
-                let mut text = String::new();
-                for line in dictionary::report(&words.input, form, count, &made) {
-                    text.extend(line.chars().map(crate::messages::printable));
-                    text.push('\n');
+                let mut lines = dictionary::report(&words.input, form, count, &made);
+                if let [parent, children @ ..] = counts.as_slice() {
+                    let children: Vec<String> = children.iter().map(usize::to_string).collect();
+                    let line = format!(
+                        "  in parts: a parent of {parent}, children of {}",
+                        children.join(", ")
+                    );
+                    lines.insert(2, line);
                 }
-                output::write(path, text.as_bytes())?;
+                write_report(path, &lines)?;
             }
             Ok(made.table.losses)
         })
     })
+}
+
+fn write_report(path: &Path, lines: &[String]) -> Result<()> {
+    let mut text = String::new();
+    for line in lines {
+        text.extend(line.chars().map(crate::messages::printable));
+        text.push('\n');
+    }
+    output::write(path, text.as_bytes())
+}
+
+/// What is made of a program: a dictionary, or several in one file.
+enum Made<'a> {
+    One(Dictionary<'a>),
+    InParts(parts::Written<'a>),
 }
 
 /// Makes the dictionary that the words want, and runs something on it.
@@ -271,19 +302,25 @@ fn with_dictionary<T>(
     words: &Words,
     image: &Image,
     found: ProgramTypes<'_>,
-    run: impl FnOnce(Dictionary<'_>) -> Result<T>,
+    run: impl FnOnce(Made<'_>) -> Result<T>,
 ) -> Result<T> {
     let is_plain = words.only.is_empty() && words.parent.is_none() && words.split.is_none();
     if found.form == Form::Ctf && is_plain {
-        return run(plain(words, image, found)?);
+        return run(Made::One(plain(words, image, found)?));
     }
     let named = |error: Error| error.within(&words.input.display().to_string());
     let (found, bases) = dictionary::select(found, &words.only).map_err(named)?;
     let ProgramTypes { table, symbols, .. } = found;
     if let Some(path) = &words.split {
-        return run(dictionary::split(dictionary::parent_name(path), table, bases, symbols)?);
+        let made = dictionary::split(dictionary::parent_name(path), table, bases, symbols)?;
+        return run(Made::One(made));
     }
-    let Some(path) = &words.parent else { return run(dictionary::alone(table, symbols)) };
+    let Some(path) = &words.parent else {
+        if table.len() > dictionary::MOST_TYPES && !words.is_section && !words.is_one {
+            return run(Made::InParts(parts::write(table, symbols, image, &words.output)?));
+        }
+        return run(Made::One(dictionary::alone(table, symbols)));
+    };
     let parent = Image::open(path)?;
     let reading =
         Options { model: Some(table.model()), form: Some(Form::Ctf), ..Options::default() };
@@ -296,7 +333,8 @@ fn with_dictionary<T>(
         }
         let ctf = plain_bytes(&parent, None)?;
         let name = dictionary::parent_name(path);
-        run(dictionary::child(Parent { table: of_parent.table, ctf: &ctf, name }, table, symbols)?)
+        let parent = Parent { table: of_parent.table, ctf: &ctf, name };
+        run(Made::One(dictionary::child(parent, table, symbols)?))
     })
 }
 

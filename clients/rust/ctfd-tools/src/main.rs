@@ -8,6 +8,7 @@ mod convert;
 mod messages;
 mod output;
 mod standard;
+mod types;
 
 use std::ffi::OsString;
 use std::path::{Path, PathBuf};
@@ -16,7 +17,8 @@ use std::process::ExitCode;
 /// A command: from its words, the program's name first, to its exit status.
 type Command = fn(Vec<OsString>) -> ExitCode;
 
-const COMMANDS: [(&str, Command); 1] = [("ctfd-convert", convert::main)];
+const COMMANDS: [(&str, Command); 2] =
+    [("ctfd-convert", convert::main), ("ctfd-types", types::main)];
 
 fn main() -> ExitCode {
     let mut words: Vec<OsString> = std::env::args_os().collect();

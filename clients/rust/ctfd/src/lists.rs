@@ -16,14 +16,14 @@ pub struct Member<'d, N = Name> {
     pub name: N,
     /// Where it begins, in bits from the start.
     pub offset: u64,
-    /// Its type.
-    pub kind: Option<Type<'d>>,
+    /// Its type; none where that is no type.
+    pub of_type: Option<Type<'d>>,
 }
 
 impl<N: AsRef<[u8]>> fmt::Display for Member<'_, N> {
     fn fmt(&self, to: &mut fmt::Formatter<'_>) -> fmt::Result {
-        Declaration::new(self.kind, self.name.as_ref()).fmt(to)?;
-        match self.kind.and_then(Type::bit_field) {
+        Declaration::new(self.of_type, self.name.as_ref()).fmt(to)?;
+        match self.of_type.and_then(Type::bit_field) {
             Some(lies) => write!(to, ":{}", lies.bits),
             None => Ok(()),
         }
@@ -198,7 +198,7 @@ impl<'d> Members<'d> {
             counted(of.member_in(index, &mut room));
             Name(room)
         });
-        Member { name, offset: row.offset, kind: Type::some(of.dictionary(), row.tnum) }
+        Member { name, offset: row.offset, of_type: Type::some(of.dictionary(), row.tnum) }
     }
 }
 

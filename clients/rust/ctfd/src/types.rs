@@ -292,7 +292,7 @@ impl<'d> Type<'d> {
             *told = raw.name_len;
             status
         })?;
-        Ok(Member { name: room, offset: raw.offset, kind: Type::some(self.of, raw.tnum) })
+        Ok(Member { name: room, offset: raw.offset, of_type: Type::some(self.of, raw.tnum) })
     }
 
     /// The name of an enumerator by its number.

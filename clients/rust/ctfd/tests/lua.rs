@@ -39,7 +39,7 @@ fn lines_of_types(types: &Dictionary) -> Vec<String> {
             said(t.align()),
         ));
         for member in t.members().into_iter().flatten() {
-            let kind = member.kind.map_or(0, |t| t.number());
+            let kind = member.of_type.map_or(0, |t| t.number());
             lines.push(format!("  member {:?} offset={} type={kind}", member.name, member.offset));
         }
         for one in t.enumerators().into_iter().flatten() {
@@ -226,12 +226,12 @@ fn lying_in(t: Type<'_>, offset: u64, depth: u32, rows: &mut Vec<VisitRow>) {
         let row = VisitRow {
             offset: offset + member.offset,
             depth: depth + 1,
-            tnum: member.kind.map_or(0, Type::number),
+            tnum: member.of_type.map_or(0, Type::number),
             holder: holder.number(),
             ..VisitRow::default()
         };
         rows.push(row);
-        if let Some(kind) = member.kind {
+        if let Some(kind) = member.of_type {
             lying_in(kind, row.offset, row.depth, rows);
         }
     }

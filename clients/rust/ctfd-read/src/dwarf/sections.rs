@@ -6,7 +6,7 @@ use crate::elf;
 use crate::error::{refuse, Result};
 use crate::image::Image;
 use gimli::{constants as dw, SectionId, UnitHeader, UnitType};
-use gimli::{AttributeValue, DwarfFileType, DwarfPackage, DwoId, EndianSlice, LittleEndian};
+use gimli::{AttributeValue, DwarfFileType, DwarfPackage, DwoId, EndianSlice, RunTimeEndian};
 use std::borrow::Cow;
 use std::collections::HashMap;
 use std::path::{Path, PathBuf};
@@ -23,6 +23,8 @@ pub struct Sections<'a> {
     pub main: OwnedSections<'a>,
     /// Those of dwz's common file.
     pub common: Option<OwnedSections<'a>>,
+    /// The byte order of all of them.
+    pub endian: RunTimeEndian,
     /// Those of .dwo files and packages.
     pub splits: Vec<Split>,
     /// By the offset of a unit that stands for another, which that is.
@@ -45,11 +47,15 @@ pub struct Split {
     pub path: PathBuf,
     data: HashMap<&'static str, Vec<u8>>,
     is_package: bool,
+    endian: RunTimeEndian,
 }
 
 /// The sections as gimli reads them.
-pub fn borrow_all<'a>(sections: &'a OwnedSections<'a>) -> gimli::Dwarf<Slice<'a>> {
-    sections.borrow(|section: &'a Cow<'a, [u8]>| EndianSlice::new(section, LittleEndian))
+pub fn borrow_all<'a>(
+    sections: &'a OwnedSections<'a>,
+    endian: RunTimeEndian,
+) -> gimli::Dwarf<Slice<'a>> {
+    sections.borrow(|section: &'a Cow<'a, [u8]>| EndianSlice::new(section, endian))
 }
 
 impl<'a> Sections<'a> {
@@ -58,8 +64,9 @@ impl<'a> Sections<'a> {
     pub fn load(image: &'a Image, folders: &[PathBuf]) -> Result<Self> {
         let file = image.elf()?;
         let main = gimli::Dwarf::load(|id: SectionId| elf::section(&file, id.name()))?;
-        let mut sections =
-            Sections { main, common: None, splits: Vec::new(), skeletons: HashMap::new() };
+        let endian = elf::endian(&file);
+        let (splits, skeletons) = (Vec::new(), HashMap::new());
+        let mut sections = Sections { main, common: None, endian, splits, skeletons };
         if let Some(common) = elf::alternate_file(image, folders)? {
             let file = common.elf()?;
             let owned = |id: SectionId| -> Result<Cow<'a, [u8]>> {
@@ -67,7 +74,7 @@ impl<'a> Sections<'a> {
             };
             sections.common = Some(gimli::Dwarf::load(owned)?);
         }
-        let named = skeletons(&borrow_all(&sections.main))?;
+        let named = named_splits(&borrow_all(&sections.main, endian))?;
         let mut places: HashMap<PathBuf, usize> = HashMap::new();
         for (start, one) in named {
             let split = sections.split_of(image, &one, &mut places)?;
@@ -120,7 +127,7 @@ struct Named {
 }
 
 /// The units of a program that stand for others, by their offsets.
-fn skeletons(dwarf: &gimli::Dwarf<Slice<'_>>) -> Result<Vec<(u64, Named)>> {
+fn named_splits(dwarf: &gimli::Dwarf<Slice<'_>>) -> Result<Vec<(u64, Named)>> {
     let mut found = Vec::new();
     let mut units = dwarf.units();
     while let Some(header) = units.next()? {
@@ -202,12 +209,12 @@ impl Split {
             }
         }
         let is_package = data.get(".debug_cu_index").is_some_and(|index| !index.is_empty());
-        Ok(Some(Split { path: path.to_owned(), data, is_package }))
+        Ok(Some(Split { path: path.to_owned(), data, is_package, endian: elf::endian(&file) }))
     }
 
     fn section(&self, id: SectionId) -> gimli::Result<Slice<'_>> {
         let data = id.dwo_name().and_then(|name| self.data.get(name));
-        Ok(EndianSlice::new(data.map_or(&[][..], Vec::as_slice), LittleEndian))
+        Ok(EndianSlice::new(data.map_or(&[][..], Vec::as_slice), self.endian))
     }
 
     /// The parts of it that a unit is in: all of a .dwo file; of a package the unit's own, and with
@@ -225,7 +232,7 @@ impl Split {
             dwarf.ranges.set_debug_ranges(*main.ranges.debug_ranges());
             return Ok(vec![dwarf]);
         }
-        let empty = EndianSlice::new(&[], LittleEndian);
+        let empty = EndianSlice::new(&[], self.endian);
         let package = DwarfPackage::load(|id| self.section(id), empty)?;
         let mut parts: Vec<_> = package.find_cu(id, main)?.into_iter().collect();
         if has_types {

@@ -1,22 +1,29 @@
 //! The types of C in a program's debug information, as a table.
 
 use crate::descriptions::{Description, Descriptions, Statement, SymbolFilter};
+use crate::dwarf::names::{Language, Prefixes};
+use crate::dwarf::tags::SingleTags;
 use crate::dwarf::units::{scopes, Debug, Entry, Scope, Unit};
 use crate::error::{refuse, Result};
 use crate::join::{Joiner, NumberHasher, Piece};
 use crate::symbols::{Symbol, Symbols};
 use crate::table::{Encoding, Enumerator, Kind, Member, Parts, Record, Table};
-use gimli::{constants as dw, DwLang, DwTag, LittleEndian, Reader as _, UnitOffset};
+use gimli::{constants as dw, DwLang, DwTag, Reader as _, RunTimeEndian, UnitOffset};
 use rayon::prelude::*;
 use std::borrow::Cow;
 use std::collections::{BTreeMap, HashMap, HashSet};
 use std::hash::BuildHasherDefault;
+use std::rc::Rc;
 
 /// A declaration, an abstract function and a copy of it are three; damage may lead round.
 const LONGEST_CHAIN: usize = 16;
 const LONGEST_TYPE: usize = 512;
-/// How many units are read before they are joined.
-const AT_ONCE: usize = 64;
+/// How many units one thread reads and joins before they are joined with those of others.
+const GROUP: usize = 16;
+/// How many such groups are read at a time.
+const GROUPS: usize = 16;
+/// How often all is read: again where a tag turned out to have several definitions.
+const MOST_ROUNDS: usize = 3;
 
 const SIGNED: u8 = 1;
 const CHARACTER: u8 = 2;
@@ -32,7 +39,7 @@ struct UnitTypes<'a> {
 }
 
 enum Outcome<'a> {
-    OfC(Piece<'a>, UnitTypes<'a>),
+    OfC(UnitTypes<'a>),
     Foreign(DwLang),
     Nothing,
 }
@@ -48,18 +55,56 @@ pub struct Collector<'a> {
     foreign: BTreeMap<String, usize>,
 }
 
+/// What some units told, joined.
+struct Group<'a> {
+    piece: Piece<'a>,
+    conflicts: HashSet<u64>,
+    unit_types: UnitTypes<'a>,
+    units: usize,
+    foreign: Vec<DwLang>,
+}
+
+/// Reads all units of some files, each with the name that a refusal has in front.
+pub fn collect<'a>(
+    files: &[(Debug<'a>, String)],
+    wanted: &[Symbol<'a>],
+    is_ilp32: bool,
+) -> Result<Collector<'a>> {
+    let mut tags = SingleTags::of(files.iter().map(|(debug, _)| debug));
+    for left in (0..MOST_ROUNDS).rev() {
+        let mut collector = Collector::default();
+        for (debug, name) in files {
+            collector.read(debug, wanted, is_ilp32, &tags).map_err(|error| error.of(name))?;
+        }
+        let conflicts = std::mem::take(collector.joiner.conflicts());
+        match left {
+            _ if conflicts.is_empty() => return Ok(collector),
+            1 => tags.clear(),
+            _ => tags.remove(conflicts),
+        }
+    }
+    refuse("its types can't be told apart")
+}
+
 impl<'a> Collector<'a> {
     /// Reads all units of a program: many at a time, joined one after the other in their order.
-    pub fn read(&mut self, debug: &Debug<'a>, wanted: &[Symbol<'a>], is_ilp32: bool) -> Result<()> {
+    fn read(
+        &mut self,
+        debug: &Debug<'a>,
+        wanted: &[Symbol<'a>],
+        is_ilp32: bool,
+        tags: &SingleTags,
+    ) -> Result<()> {
         let filter = SymbolFilter::new(wanted);
         let imports = imports(debug)?;
         let read = |number: usize| read_unit(debug, number, &filter, &imports, is_ilp32);
         let numbers: Vec<usize> = (0..debug.units()).collect();
-        let mut ready: Vec<Result<Outcome>> = Vec::new();
-        for some in numbers.chunks(AT_ONCE).chain([&[][..]]) {
+        let groups: Vec<&[usize]> = numbers.chunks(GROUP).collect();
+        let mut ready: Vec<Result<Group>> = Vec::new();
+        for some in groups.chunks(GROUPS).chain([&[][..]]) {
             let before = std::mem::take(&mut ready);
             let (next, joined) = rayon::join(
-                || some.par_iter().map(|&number| read(number)).collect(),
+                || some.par_iter().map(|numbers| Group::read(numbers, &read, tags)).collect(),
                 || before.into_iter().try_for_each(|one| one.map(|one| self.take(one))),
             );
             joined?;
@@ -68,26 +113,17 @@ impl<'a> Collector<'a> {
         Ok(())
     }
 
-    fn take(&mut self, outcome: Outcome<'a>) {
-        match outcome {
-            Outcome::Nothing => {}
-            Outcome::Foreign(language) => {
-                *self.foreign.entry(language_name(language)).or_default() += 1;
-            }
-            Outcome::OfC(piece, unit_types) => {
-                self.units += 1;
-                let to = self.joiner.join(piece);
-                self.roots.extend(unit_types.roots.iter().map(|&n| to[n as usize]));
-                self.losses.extend(unit_types.losses);
-                for mut told in unit_types.told {
-                    told.said.of = to[told.said.of as usize];
-                    if let Some(function) = &mut told.said.function {
-                        function.renumber(|n| to[n as usize]);
-                    }
-                    self.symbols.tell(told);
-                }
-            }
+    fn take(&mut self, group: Group<'a>) {
+        for language in group.foreign {
+            *self.foreign.entry(language_name(language)).or_default() += 1;
         }
+        self.units += group.units;
+        self.joiner.conflicts().extend(group.conflicts);
+        let to = self.joiner.join(group.piece);
+        let UnitTypes { roots, told, losses, .. } = group.unit_types.renumbered(&to);
+        self.roots.extend(roots);
+        self.losses.extend(losses);
+        told.into_iter().for_each(|told| self.symbols.tell(told));
     }
 
     /// The table, with what is told of symbols, and the types that are wanted for themselves.
@@ -105,24 +141,77 @@ impl<'a> Collector<'a> {
         if self.units == 0 && !listed.is_empty() {
             let listed = listed.join(" and ");
             return refuse(format!(
-                "its debug information is of {listed}: types of C alone are read"
+                "its debug information is of {listed}: types of C, C++ and Rust are read"
             ));
         }
-        let mut table = self.joiner.table;
+        let (mut table, to) = self.joiner.into_table();
+        let place = |n: u32| to[n as usize];
         for one in &wanted.listed {
             let said = self.symbols.description_of(one, is_linked);
             if one.is_function {
-                table.functions.push(said.and_then(|said| said.function.clone()));
+                let function = said.and_then(|said| said.function.as_ref());
+                table.functions.push(function.map(|record| record.renumbered(place)));
             } else {
-                table.objects.push(said.map_or(0, |said| said.of));
+                table.objects.push(said.map_or(0, |said| place(said.of)));
             }
         }
         table.is_ilp32 = is_ilp32;
         table.losses = self.losses;
         table.losses.extend(listed.iter().map(|one| {
-            format!("{one} of the program: types of C alone are read; what it tells is left out")
+            format!(
+                "{one} of the program: types of C, C++ and Rust are read; what it tells is left out"
+            )
         }));
-        Ok((table, self.roots))
+        Ok((table, self.roots.into_iter().map(place).collect()))
+    }
+}
+
+impl<'a> Group<'a> {
+    /// Reads some units and joins them, in the thread that reads them: what is left of each is freed
+    /// where it was made.
+    fn read(
+        numbers: &[usize],
+        read: impl Fn(usize) -> Result<Outcome<'a>>,
+        tags: &SingleTags,
+    ) -> Result<Group<'a>> {
+        let mut joiner = Joiner::default();
+        let mut all = UnitTypes::default();
+        let (mut units, mut foreign) = (0, Vec::new());
+        for &number in numbers {
+            match read(number)? {
+                Outcome::Nothing => {}
+                Outcome::Foreign(language) => foreign.push(language),
+                Outcome::OfC(mut unit_types) => {
+                    units += 1;
+                    let records = std::mem::take(&mut unit_types.records);
+                    let to = joiner.join(Piece::new(records, tags));
+                    all.append(unit_types.renumbered(&to));
+                }
+            }
+        }
+        let (piece, to, conflicts) = joiner.into_piece(tags);
+        Ok(Group { piece, conflicts, unit_types: all.renumbered(&to), units, foreign })
+    }
+}
+
+impl<'a> UnitTypes<'a> {
+    /// The same with other numbers for what it names, without its records.
+    fn renumbered(mut self, to: &[u32]) -> UnitTypes<'a> {
+        self.roots.iter_mut().for_each(|n| *n = to[*n as usize]);
+        for told in &mut self.told {
+            told.said.of = to[told.said.of as usize];
+            if let Some(function) = &mut told.said.function {
+                function.renumber(|n| to[n as usize]);
+            }
+        }
+        self
+    }
+
+    /// Takes in what another tells, but for its records.
+    fn append(&mut self, mut other: UnitTypes<'a>) {
+        self.roots.append(&mut other.roots);
+        self.told.append(&mut other.told);
+        self.losses.append(&mut other.losses);
     }
 }
 
@@ -141,7 +230,9 @@ fn read_unit<'a>(
     }
     match top.constant(dw::DW_AT_language).map(|said| DwLang(said as u16)) {
         Some(dw::DW_LANG_Mips_Assembler | DwLang(0x31)) => return Ok(Outcome::Nothing),
-        Some(language) if !is_of_c(language) => return Ok(Outcome::Foreign(language)),
+        Some(language) if Language::of(language).is_none() => {
+            return Ok(Outcome::Foreign(language));
+        }
         _ => {}
     }
     let mut reader = Reader::new(debug, filter, is_ilp32);
@@ -149,8 +240,7 @@ fn read_unit<'a>(
     for &key in imports.get(&debug.start(number)).into_iter().flatten() {
         reader.unit(debug.unit_of(key)?)?;
     }
-    let mut unit_types = reader.unit_types;
-    Ok(Outcome::OfC(Piece::new(std::mem::take(&mut unit_types.records)), unit_types))
+    Ok(Outcome::OfC(reader.unit_types))
 }
 
 /// For each unit those that dwz made of what several have in common, and that it imports first.
@@ -201,26 +291,9 @@ fn imported_units<'a>(debug: &Debug<'a>, unit: &Unit<'a>) -> Result<Vec<u64>> {
     Ok(made)
 }
 
-fn is_of_c(language: DwLang) -> bool {
-    const C17: DwLang = DwLang(0x2c);
-    const C23: DwLang = DwLang(0x3e);
-    matches!(
-        language,
-        dw::DW_LANG_C89
-            | dw::DW_LANG_C
-            | dw::DW_LANG_C99
-            | dw::DW_LANG_UPC
-            | dw::DW_LANG_C11
-            | C17
-            | C23
-    )
-}
-
 /// How a language is called.
 fn language_name(language: DwLang) -> String {
     let name = match language.0 {
-        0x04 | 0x1a | 0x21 | 0x2b => "C++",
-        0x1c => "Rust",
         0x16 => "Go",
         0x13 => "D",
         0x03 | 0x0d | 0x2e | 0x2f => "Ada",
@@ -238,14 +311,16 @@ fn language_name(language: DwLang) -> String {
 }
 
 /// Reads one unit, with those that it imports. An entry has a number from when it is first named.
-struct Reader<'d, 'a> {
-    debug: &'d Debug<'a>,
+pub(super) struct Reader<'d, 'a> {
+    pub(super) debug: &'d Debug<'a>,
     asked: &'d SymbolFilter<'d>,
     is_ilp32: bool,
     unit_types: UnitTypes<'a>,
     numbers: HashMap<u64, u32, BuildHasherDefault<NumberHasher>>,
     todo: Vec<(&'d Unit<'a>, UnitOffset, u32)>,
     index: u32,
+    /// For each unit that types were read from what their names have in front; None in C.
+    prefixes: HashMap<u64, Option<Rc<Prefixes>>>,
 }
 
 impl<'d, 'a> Reader<'d, 'a> {
@@ -258,12 +333,15 @@ impl<'d, 'a> Reader<'d, 'a> {
             numbers: HashMap::default(),
             todo: Vec::new(),
             index: 0,
+            prefixes: HashMap::new(),
         }
     }
 
     /// The types, functions and objects in a unit and in its functions.
     fn unit(&mut self, unit: &'d Unit<'a>) -> Result<()> {
-        let scopes = scopes(unit)?;
+        let is_scoped = self.prefixes(unit)?.is_some();
+        let language = if is_scoped { Language::Scoped } else { Language::C };
+        let scopes = scopes(unit, language)?;
         for &(offset, tag) in scopes.iter().flat_map(|scope| &scope.entries) {
             match tag {
                 dw::DW_TAG_variable => self.variable(Entry::read(unit, offset)?)?,
@@ -308,7 +386,7 @@ impl<'d, 'a> Reader<'d, 'a> {
     }
 
     /// The number of the type that an entry names; 0 where it names none.
-    fn of(&mut self, entry: &Entry<'d, 'a>) -> Result<u32> {
+    pub(super) fn of(&mut self, entry: &Entry<'d, 'a>) -> Result<u32> {
         let Some(key) = self.debug.key(entry, dw::DW_AT_type)? else { return Ok(0) };
         if let Some(&known) = self.numbers.get(&key) {
             return Ok(known);
@@ -322,9 +400,14 @@ impl<'d, 'a> Reader<'d, 'a> {
             entry = target;
         }
         let kind = kind(entry.tag);
-        let name = self.debug.name(&entry)?;
+        let prefixes = self.prefixes(entry.unit)?;
+        let name = match &prefixes {
+            Some(prefixes) => prefixes.full_name(self.debug, &entry)?,
+            None => self.debug.name(&entry)?,
+        };
         let mut made = Record::new(kind, name);
         match kind {
+            _ if prefixes.is_some() && self.scoped(&entry, &mut made)? => {}
             Kind::Struct | Kind::Union | Kind::Enum if entry.has(dw::DW_AT_declaration) => {
                 made.kind = Kind::Forward;
             }
@@ -354,16 +437,23 @@ impl<'d, 'a> Reader<'d, 'a> {
     fn members(&mut self, entry: &Entry<'d, 'a>) -> Result<Box<[Member<'a>]>> {
         let mut made = Vec::new();
         for one in entry.children()? {
-            if one.tag != dw::DW_TAG_member || one.has(dw::DW_AT_external) {
-                continue;
+            if one.tag == dw::DW_TAG_member && !one.has(dw::DW_AT_external) {
+                made.push(self.member(entry, &one)?);
             }
-            let name = self.debug.name(&one)?;
-            let width = one.constant(dw::DW_AT_bit_size).map(natural).transpose()?;
-            let of = self.of(&one)?;
-            let offset = natural(self.offset(entry, &one, width)?)?;
-            made.push(Member { name, of, offset, width });
         }
         Ok(made.into())
+    }
+
+    pub(super) fn member(
+        &mut self,
+        whole: &Entry<'d, 'a>,
+        entry: &Entry<'d, 'a>,
+    ) -> Result<Member<'a>> {
+        let name = self.debug.name(entry)?;
+        let width = entry.constant(dw::DW_AT_bit_size).map(natural).transpose()?;
+        let of = self.of(entry)?;
+        let offset = natural(self.offset(whole, entry, width)?)?;
+        Ok(Member { name, of, offset, width })
     }
 
     /// Where a member begins, in bits.
@@ -385,7 +475,10 @@ impl<'d, 'a> Reader<'d, 'a> {
                     Some(size) if size != 0 => size,
                     _ => self.size_of(member)?,
                 };
-                Ok(begins + 8 * size - left - i128::from(width))
+                Ok(match self.debug.endian {
+                    RunTimeEndian::Big => begins + left,
+                    RunTimeEndian::Little => begins + 8 * size - left - i128::from(width),
+                })
             }
             _ => Ok(begins),
         }
@@ -516,7 +609,7 @@ impl<'d, 'a> Reader<'d, 'a> {
         ));
     }
 
-    fn lost(&mut self, line: &str) {
+    pub(super) fn lost(&mut self, line: &str) {
         self.unit_types.losses.push(line.to_owned());
     }
 
@@ -534,7 +627,7 @@ impl<'d, 'a> Reader<'d, 'a> {
         if place.is_none() && !is_external {
             return Ok(());
         }
-        let name = self.name_in(&chain)?;
+        let name = self.symbol_name(&chain)?;
         if self.asked.has(&name, place) {
             let of = type_source(&chain).map_or(Ok(0), |one| self.of(one))?;
             let said = Description { of, function: None, is_whole };
@@ -547,7 +640,7 @@ impl<'d, 'a> Reader<'d, 'a> {
     /// The address of an object.
     fn place(&self, entry: &Entry<'d, 'a>) -> Option<u64> {
         let said = entry.block(dw::DW_AT_location)?;
-        let mut rest = gimli::EndianSlice::new(said.get(1..)?, LittleEndian);
+        let mut rest = gimli::EndianSlice::new(said.get(1..)?, self.debug.endian);
         match dw::DwOp(said[0]) {
             dw::DW_OP_addr => rest.read_address(entry.unit.inner.encoding().address_size).ok(),
             dw::DW_OP_addrx | dw::DW_OP_GNU_addr_index => {
@@ -566,7 +659,7 @@ impl<'d, 'a> Reader<'d, 'a> {
         if place.is_none() && !is_external {
             return Ok(());
         }
-        let name = self.name_in(&chain)?;
+        let name = self.symbol_name(&chain)?;
         if !self.asked.has(&name, place) {
             return Ok(());
         }
@@ -613,12 +706,27 @@ impl<'d, 'a> Reader<'d, 'a> {
         refuse("its debug information is damaged: its entries lead round")
     }
 
-    /// The name of the first entry that has one.
-    fn name_in(&self, chain: &[Entry<'d, 'a>]) -> Result<Cow<'a, [u8]>> {
-        match chain.iter().find(|one| one.has(dw::DW_AT_name)) {
-            Some(one) => self.debug.name(one),
-            None => Ok(Cow::Borrowed(b"")),
+    /// The name of the first entry that has one; that of its symbol, where an entry has such too.
+    fn symbol_name(&self, chain: &[Entry<'d, 'a>]) -> Result<Cow<'a, [u8]>> {
+        for name in [dw::DW_AT_linkage_name, dw::DW_AT_name] {
+            if let Some(one) = chain.iter().find(|one| one.has(name)) {
+                return self.debug.text(one, name);
+            }
         }
+        Ok(Cow::Borrowed(b""))
+    }
+
+    /// What names of types in a unit have in front; None in C.
+    fn prefixes(&mut self, unit: &Unit<'a>) -> Result<Option<Rc<Prefixes>>> {
+        if let Some(known) = self.prefixes.get(&unit.start) {
+            return Ok(known.clone());
+        }
+        let made = match Language::of_unit(unit)? {
+            Some(Language::Scoped) => Some(Rc::new(Prefixes::of(self.debug, unit)?)),
+            _ => None,
+        };
+        self.prefixes.insert(unit.start, made.clone());
+        Ok(made)
     }
 }
 
@@ -641,7 +749,7 @@ fn kind(tag: DwTag) -> Kind {
         dw::DW_TAG_pointer_type | dw::DW_TAG_reference_type | dw::DW_TAG_rvalue_reference_type => {
             Kind::Pointer
         }
-        dw::DW_TAG_typedef => Kind::Typedef,
+        dw::DW_TAG_typedef | dw::DW_TAG_template_alias => Kind::Typedef,
         dw::DW_TAG_const_type => Kind::Const,
         dw::DW_TAG_volatile_type => Kind::Volatile,
         dw::DW_TAG_restrict_type => Kind::Restrict,
@@ -654,14 +762,14 @@ fn kind(tag: DwTag) -> Kind {
 }
 
 /// A number that no damage made negative or too large.
-fn natural(value: i128) -> Result<u64> {
+pub(super) fn natural(value: i128) -> Result<u64> {
     match u64::try_from(value) {
         Ok(value) if value < 1 << 63 => Ok(value),
         _ => refuse("a type has a place or a size that no type of C has: damage"),
     }
 }
 
-fn size(entry: &Entry<'_, '_>) -> Result<Option<u64>> {
+pub(super) fn size(entry: &Entry<'_, '_>) -> Result<Option<u64>> {
     entry.constant(dw::DW_AT_byte_size).map(natural).transpose()
 }
 
@@ -690,13 +798,13 @@ fn base(entry: &Entry<'_, '_>, made: &mut Record<'_>) -> Result<()> {
 }
 
 /// The byte at which a member begins; older DWARF has an expression for it.
-fn location(member: &Entry<'_, '_>) -> Result<i128> {
+pub(super) fn location(member: &Entry<'_, '_>) -> Result<i128> {
     let Some(said) = member.block(dw::DW_AT_data_member_location) else {
         return Ok(member.constant(dw::DW_AT_data_member_location).unwrap_or(0));
     };
     match said.split_first() {
         Some((&op, rest)) if dw::DwOp(op) == dw::DW_OP_plus_uconst => {
-            let mut rest = gimli::EndianSlice::new(rest, LittleEndian);
+            let mut rest = gimli::EndianSlice::new(rest, RunTimeEndian::Little);
             Ok(rest.read_uleb128()?.into())
         }
         _ => Ok(0),

@@ -3,16 +3,17 @@
 //! Each entry of all files has a number of its own, its key: which file and which section it is in,
 //! and its place there.
 
+use crate::dwarf::names::{self, Language};
 use crate::dwarf::sections::{borrow_all, dwo_id, Sections, Skeleton};
 use crate::error::{refuse, Result};
 use gimli::{constants as dw, DwAt, DwForm, DwTag, UnitType};
-use gimli::{Abbreviation, AttributeValue, EndianSlice, LittleEndian, UnitHeader, UnitOffset};
+use gimli::{Abbreviation, AttributeValue, EndianSlice, RunTimeEndian, UnitHeader, UnitOffset};
 use smallvec::SmallVec;
 use std::borrow::Cow;
 use std::collections::{HashMap, HashSet};
 use std::sync::OnceLock;
 
-pub type Slice<'a> = EndianSlice<'a, LittleEndian>;
+pub type Slice<'a> = EndianSlice<'a, RunTimeEndian>;
 pub type Attribute<'a> = gimli::Attribute<Slice<'a>>;
 
 /// From this bit on a key has the number of a file.
@@ -59,6 +60,8 @@ impl Unit<'_> {
 pub struct Debug<'a> {
     files: Vec<gimli::Dwarf<Slice<'a>>>,
     has_common: bool,
+    /// The byte order of all of them.
+    pub endian: RunTimeEndian,
     slots: Vec<Slot<'a>>,
     order: Vec<usize>,
     signatures: HashMap<u64, u64>,
@@ -66,16 +69,16 @@ pub struct Debug<'a> {
 
 impl<'a> Debug<'a> {
     pub fn new(sections: &'a Sections<'a>) -> Result<Debug<'a>> {
-        let main = borrow_all(&sections.main);
+        let endian = sections.endian;
+        let main = borrow_all(&sections.main, endian);
         let common = match &sections.common {
-            Some(common) => borrow_all(common),
-            None => {
-                gimli::Dwarf::load(|_| Ok::<_, gimli::Error>(EndianSlice::new(&[], LittleEndian)))?
-            }
+            Some(common) => borrow_all(common, endian),
+            None => gimli::Dwarf::load(|_| Ok::<_, gimli::Error>(EndianSlice::new(&[], endian)))?,
         };
         let mut debug = Debug {
             files: vec![main, common],
             has_common: sections.common.is_some(),
+            endian,
             slots: Vec::new(),
             order: Vec::new(),
             signatures: HashMap::new(),
@@ -183,6 +186,16 @@ impl<'a> Debug<'a> {
 
     fn dwarf(&self, file: u64) -> &gimli::Dwarf<Slice<'a>> {
         &self.files[file as usize]
+    }
+
+    /// How many units all files have.
+    pub fn slot_count(&self) -> usize {
+        self.slots.len()
+    }
+
+    /// The unit of a place among those of all files, opened for who asks alone.
+    pub fn open_place(&self, place: usize) -> Result<Unit<'a>> {
+        self.open_slot(&self.slots[place])
     }
 
     /// The unit of a number, opened for who asks alone.
@@ -333,6 +346,8 @@ const KEPT: u128 = {
         dw::DW_AT_language,
         dw::DW_AT_import,
         dw::DW_AT_dwo_name,
+        dw::DW_AT_linkage_name,
+        dw::DW_AT_virtuality,
     ];
     let (mut bits, mut at) = (0, 0);
     while at < listed.len() {
@@ -361,9 +376,22 @@ pub struct Entry<'d, 'a> {
 
 impl<'d, 'a> Entry<'d, 'a> {
     pub fn read(unit: &'d Unit<'a>, offset: UnitOffset) -> Result<Entry<'d, 'a>> {
+        Entry::read_kept(unit, offset, is_kept)
+    }
+
+    /// The same with the line of its declaration too.
+    pub fn read_with_line(unit: &'d Unit<'a>, offset: UnitOffset) -> Result<Entry<'d, 'a>> {
+        Entry::read_kept(unit, offset, |name| is_kept(name) || name == dw::DW_AT_decl_line)
+    }
+
+    fn read_kept(
+        unit: &'d Unit<'a>,
+        offset: UnitOffset,
+        is_kept: impl Fn(DwAt) -> bool,
+    ) -> Result<Entry<'d, 'a>> {
         let mut raw = unit.inner.entries_raw(Some(offset))?;
         match raw.read_abbreviation()? {
-            Some(shape) => Entry::read_on(unit, offset, shape, &mut raw),
+            Some(shape) => Entry::read_on(unit, offset, shape, &mut raw, is_kept),
             None => refuse("a reference to no entry: damage"),
         }
     }
@@ -379,6 +407,7 @@ impl<'d, 'a> Entry<'d, 'a> {
         offset: UnitOffset,
         shape: &Abbreviation,
         raw: &mut gimli::EntriesRaw<'_, '_, Slice<'a>>,
+        is_kept: impl Fn(DwAt) -> bool,
     ) -> Result<Entry<'d, 'a>> {
         let mut said = SmallVec::new();
         let mut specs = shape.attributes();
@@ -444,7 +473,7 @@ impl<'d, 'a> Entry<'d, 'a> {
                 None if depth == 0 => break,
                 None => depth -= 1,
                 Some(shape) if depth == 0 => {
-                    let child = Entry::read_on(self.unit, offset, shape, &mut raw)?;
+                    let child = Entry::read_on(self.unit, offset, shape, &mut raw, is_kept)?;
                     depth += usize::from(child.has_children);
                     made.push(child);
                 }
@@ -463,11 +492,15 @@ impl<'d, 'a> Entry<'d, 'a> {
 pub struct Scope {
     pub offset: UnitOffset,
     pub entries: Vec<(UnitOffset, DwTag)>,
+    /// Whether it is a class, whose functions and objects are told elsewhere.
+    is_class: bool,
 }
 
 /// What stands in the unit itself, its functions and the blocks of these, in order of their
-/// beginnings: types that are looked up by name, objects, functions, arguments.
-pub fn scopes(unit: &Unit<'_>) -> Result<Vec<Scope>> {
+/// beginnings: types that are looked up by name, objects, functions, arguments. In C++ and Rust
+/// namespaces and classes have such too.
+pub fn scopes(unit: &Unit<'_>, language: Language) -> Result<Vec<Scope>> {
+    let is_scoped = language == Language::Scoped;
     let mut made: Vec<Scope> = Vec::new();
     let mut outer: Vec<Option<usize>> = Vec::new();
     let mut inner: Option<usize> = None; // None within what is no scope
@@ -481,11 +514,13 @@ pub fn scopes(unit: &Unit<'_>) -> Result<Vec<Scope>> {
             inner = outer.pop().flatten();
             continue;
         };
-        if let Some(scope) = inner.filter(|_| is_listed(shape)) {
+        if let Some(scope) = inner.filter(|&scope| is_listed(shape, made[scope].is_class)) {
             made[scope].entries.push((offset, shape.tag()));
         }
         let sibling = behind(shape, &mut raw)?;
-        let is_scope = matches!(shape.tag(), dw::DW_TAG_subprogram | dw::DW_TAG_lexical_block);
+        let is_class = shape.tag() != dw::DW_TAG_namespace && names::is_scope(shape.tag());
+        let is_scope = matches!(shape.tag(), dw::DW_TAG_subprogram | dw::DW_TAG_lexical_block)
+            || is_scoped && names::is_scope(shape.tag());
         if !shape.has_children() {
             if outer.is_empty() {
                 break;
@@ -493,7 +528,7 @@ pub fn scopes(unit: &Unit<'_>) -> Result<Vec<Scope>> {
         } else if is_scope || outer.is_empty() {
             outer.push(inner);
             inner = Some(made.len());
-            made.push(Scope { offset, entries: Vec::new() });
+            made.push(Scope { offset, entries: Vec::new(), is_class });
         } else if let Some(behind) = sibling {
             if behind < raw.next_offset() {
                 return refuse("its entries lead round: damage");
@@ -529,17 +564,19 @@ fn behind(
 
 /// Whether entries of a shape can be wanted: of variables those that may be objects, of enums those
 /// that name something.
-fn is_listed(shape: &Abbreviation) -> bool {
+fn is_listed(shape: &Abbreviation, is_in_class: bool) -> bool {
     let form =
         |name: DwAt| shape.attributes().iter().find(|one| one.name() == name).map(|one| one.form());
     let has = |name: DwAt| form(name).is_some();
     match shape.tag() {
-        dw::DW_TAG_structure_type
-        | dw::DW_TAG_class_type
-        | dw::DW_TAG_union_type
-        | dw::DW_TAG_typedef
-        | dw::DW_TAG_base_type => has(dw::DW_AT_name),
+        dw::DW_TAG_structure_type | dw::DW_TAG_class_type | dw::DW_TAG_union_type => {
+            has(dw::DW_AT_name) || has(dw::DW_AT_specification)
+        }
+        dw::DW_TAG_typedef | dw::DW_TAG_template_alias | dw::DW_TAG_base_type => {
+            has(dw::DW_AT_name)
+        }
         dw::DW_TAG_enumeration_type => shape.has_children() || has(dw::DW_AT_name),
+        _ if is_in_class => false,
         dw::DW_TAG_variable => {
             has(dw::DW_AT_external)
                 || has(dw::DW_AT_specification)

@@ -1,0 +1,107 @@
+"""A program with more types than a dictionary holds: a parent and its children, asked as one.
+
+`ctfd-convert` writes them into one file, an archive as `ar` makes it, whose first member is the
+parent. A type that several children need stands in each of these, under a number of its own.
+"""
+from __future__ import annotations
+
+import os
+import tempfile
+from typing import Iterator, List, Optional, Tuple, Union
+
+from ..files.opening import Opener
+from ..text import Name
+from .dictionary import OWN_OF_CHILD, Dictionary
+from .faults import NotFound, Unreadable
+from .types import Signature, Type
+
+MAGIC = b"!<arch>\n"
+HEADER = 60
+PARENT = ".ctf"
+
+
+def is_in_parts(path: str) -> bool:
+    """Whether a file has a parent and its children."""
+    try:
+        with open(path, "rb") as file:
+            begin = file.read(len(MAGIC) + 16)
+    except OSError:
+        return False
+    return begin[:len(MAGIC)] == MAGIC and _name(begin[len(MAGIC):]) == PARENT
+
+
+def _name(header: bytes) -> str:
+    return header[:16].decode("latin-1").rstrip().rstrip("/")
+
+
+def members(data: bytes) -> Iterator[Tuple[str, bytes]]:
+    """The members of an archive, each with its name. Raises Unreadable."""
+    at = len(MAGIC)
+    while at < len(data):
+        header = data[at:at + HEADER]
+        length = header[48:58].decode("latin-1").strip()
+        if len(header) < HEADER or not length.isdecimal() or at + HEADER + int(length) > len(data):
+            raise Unreadable("a damaged archive: let ctfd-convert make it anew")
+        at += HEADER
+        yield _name(header), data[at:at + int(length)]
+        at += int(length) + int(length) % 2
+
+
+class Parts:
+    """The dictionaries of one file: `parts` has them, the parent first."""
+
+    def __init__(self, opener: Opener, path: str) -> None:
+        self.parts: List[Dictionary] = []
+        self.ends: Optional[object] = None
+        with open(path, "rb") as file, tempfile.TemporaryDirectory() as folder:
+            parent: Optional[str] = None
+            for number, (_, ctf) in enumerate(members(file.read())):
+                part = os.path.join(folder, f"{number}.ctf")
+                with open(part, "wb") as made:
+                    made.write(ctf)
+                self.parts.append(opener.open(part, parent))
+                parent = parent or part
+
+    def find(self, name: Name) -> Type:
+        """The type of a name, of the first part that has it. Raises NotFound."""
+        for part in self.parts[:-1]:
+            try:
+                return part.find(name)
+            except NotFound:
+                pass
+        return self.parts[-1].find(name)
+
+    def find_all(self, name: Name) -> List[Type]:
+        """All types of a name, those of the parent once."""
+        return [one for place, part in enumerate(self.parts) for one in part.find_all(name)
+                if place == 0 or one.number > OWN_OF_CHILD]
+
+    def symbol(self, name: Name) -> Union[Type, Signature]:
+        """The type of a function or variable, of the first part that tells it. Raises NotFound."""
+        for part in self.parts[:-1]:
+            try:
+                return part.symbol(name)
+            except NotFound:
+                pass
+        return self.parts[-1].symbol(name)
+
+    def types(self) -> List[Type]:
+        """The types of all parts; one that several children need once for each of them."""
+        return [one for part in self.parts for one in part.types()]
+
+    def names(self) -> List[str]:
+        """The names of all types, each once."""
+        return list(dict.fromkeys(name for part in self.parts for name in part.names()))
+
+    def close(self) -> None:
+        """Closes all of them, and the service that was started for them."""
+        for part in reversed(self.parts):
+            part.close()
+        if callable(self.ends):
+            self.ends()
+
+    def __enter__(self) -> Parts:
+        return self
+
+    def __exit__(self, *_: object) -> None:
+        self.close()

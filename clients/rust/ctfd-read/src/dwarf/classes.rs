@@ -1,0 +1,89 @@
+//! Classes of C++ and types of Rust, as far as a struct of C tells them: their sizes, data members
+//! and bases, and where these are. What C has no form for is told as a loss.
+
+use crate::dwarf::types::{location, natural, size, Reader};
+use crate::dwarf::units::Entry;
+use crate::error::Result;
+use crate::table::{Kind, Member, Parts, Record};
+use gimli::constants as dw;
+use std::borrow::Cow;
+
+const METHODS: &str =
+    "a class with functions of its own: a struct of C has none; its data members \
+                       and bases stand there";
+const VIRTUAL: &str =
+    "a class with a virtual base: where that is in it is known only as the program \
+                       runs; it is left out";
+const VARIANTS: &str =
+    "a type with variants: C has none; its size and the members that all variants \
+                        have stand there";
+const REFERENCE: &str = "a reference: C has none; a pointer stands in its place";
+const OF_MEMBER: &str =
+    "a pointer to a member of a class: C has none; an unnamed struct of its size \
+                         stands in its place";
+
+impl<'d, 'a> Reader<'d, 'a> {
+    /// Reads what is other than in C of a type that C++ or Rust has; whether that is all of it.
+    pub(super) fn scoped(&mut self, entry: &Entry<'d, 'a>, made: &mut Record<'a>) -> Result<bool> {
+        match entry.tag {
+            dw::DW_TAG_structure_type | dw::DW_TAG_class_type | dw::DW_TAG_union_type
+                if !entry.has(dw::DW_AT_declaration) =>
+            {
+                made.size = size(entry)?.unwrap_or(0);
+                made.parts = Parts::Members(self.class_members(entry)?);
+            }
+            dw::DW_TAG_reference_type | dw::DW_TAG_rvalue_reference_type => {
+                self.lost(REFERENCE);
+                return Ok(false);
+            }
+            dw::DW_TAG_ptr_to_member_type => {
+                self.lost(OF_MEMBER);
+                let of = self.debug.target(entry, dw::DW_AT_type)?;
+                let is_function = of.is_some_and(|of| of.tag == dw::DW_TAG_subroutine_type);
+                let pointer = u64::from(entry.unit.inner.encoding().address_size);
+                *made = Record::new(Kind::Struct, Cow::Borrowed(b""));
+                made.size = if is_function { 2 * pointer } else { pointer };
+            }
+            dw::DW_TAG_base_type if size(entry)? == Some(0) => {
+                // The types of Rust that have one value, or none.
+                made.kind = Kind::Struct;
+                made.tag = Kind::Struct;
+            }
+            _ => return Ok(false),
+        }
+        Ok(true)
+    }
+
+    /// The data members of a class, and its bases, each under its own name.
+    fn class_members(&mut self, entry: &Entry<'d, 'a>) -> Result<Box<[Member<'a>]>> {
+        let mut made = Vec::new();
+        let mut lost = Vec::new();
+        for one in entry.children()? {
+            match one.tag {
+                dw::DW_TAG_member
+                    if !one.has(dw::DW_AT_external) && !one.has(dw::DW_AT_declaration) =>
+                {
+                    made.push(self.member(entry, &one)?);
+                }
+                dw::DW_TAG_inheritance if one.has(dw::DW_AT_virtuality) => lost.push(VIRTUAL),
+                dw::DW_TAG_inheritance => made.push(self.base_class(&one)?),
+                dw::DW_TAG_subprogram => lost.push(METHODS),
+                dw::DW_TAG_variant_part => lost.push(VARIANTS),
+                _ => {}
+            }
+        }
+        lost.sort_unstable();
+        lost.dedup();
+        lost.into_iter().for_each(|line| self.lost(line));
+        Ok(made.into())
+    }
+
+    fn base_class(&mut self, entry: &Entry<'d, 'a>) -> Result<Member<'a>> {
+        let name = match self.debug.target(entry, dw::DW_AT_type)? {
+            Some(base) => self.debug.name(&base)?,
+            None => Cow::Borrowed(&b""[..]),
+        };
+        let offset = natural(8 * location(entry)?)?;
+        Ok(Member { name, of: self.of(entry)?, offset, width: None })
+    }
+}

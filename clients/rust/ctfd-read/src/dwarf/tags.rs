@@ -1,0 +1,124 @@
+//! Which tags of a program have a single definition, found before its types are read.
+//!
+//! A unit that only declares such a tag is then joined with those that define it at once. What is
+//! compared here is only the size and the line of each definition: `join` compares them in full, and
+//! names the tags that turn out to have several.
+
+use crate::dwarf::names::{Language, Prefixes};
+use crate::dwarf::units::{scopes, Debug, Entry, Unit};
+use crate::join::NumberHasher;
+use crate::table::{Kind, Record};
+use gimli::constants as dw;
+use rayon::prelude::*;
+use std::collections::{HashMap, HashSet};
+use std::hash::{BuildHasherDefault, Hash, Hasher};
+
+type Definitions = HashMap<u64, Definition, BuildHasherDefault<NumberHasher>>;
+
+/// The size and the line of a definition.
+type Definition = (i128, i128);
+
+/// Stands for a tag whose definitions differ.
+const SEVERAL: Definition = (-1, -1);
+
+/// The tags with a single definition, by their keys.
+#[derive(Default)]
+pub struct SingleTags {
+    keys: HashSet<u64, BuildHasherDefault<NumberHasher>>,
+}
+
+impl SingleTags {
+    /// Those of some files together. What can't be read is left out: reading its types refuses it.
+    pub fn of<'d, 'a: 'd>(files: impl IntoIterator<Item = &'d Debug<'a>>) -> SingleTags {
+        let mut all = Definitions::default();
+        for debug in files {
+            let of_file = (0..debug.slot_count())
+                .into_par_iter()
+                .fold(Definitions::default, |mut made, place| {
+                    let _ = debug.open_place(place).and_then(|unit| add(debug, &unit, &mut made));
+                    made
+                })
+                .reduce(Definitions::default, combine);
+            all = combine(all, of_file);
+        }
+        let single = all.into_iter().filter(|&(_, definition)| definition != SEVERAL);
+        SingleTags { keys: single.map(|(key, _)| key).collect() }
+    }
+
+    /// The key of a type's tag; 0 where it has none, or one with several definitions.
+    pub fn key(&self, record: &Record<'_>) -> u64 {
+        let is_of_tag =
+            record.kind.is_aggregate() || matches!(record.kind, Kind::Enum | Kind::Forward);
+        if self.keys.is_empty() || !is_of_tag || record.name.is_empty() {
+            return 0;
+        }
+        let key = tag_key(record.tag, &record.name);
+        if self.keys.contains(&key) {
+            key
+        } else {
+            0
+        }
+    }
+
+    /// Leaves tags out.
+    pub fn remove(&mut self, keys: impl IntoIterator<Item = u64>) {
+        for key in keys {
+            self.keys.remove(&key);
+        }
+    }
+
+    /// Leaves all out.
+    pub fn clear(&mut self) {
+        self.keys.clear();
+    }
+}
+
+/// What stands for a tag in tables.
+fn tag_key(kind: Kind, name: &[u8]) -> u64 {
+    let mut hasher = ahash::AHasher::new_with_keys(3, 4);
+    (kind, name).hash(&mut hasher);
+    hasher.finish()
+}
+
+fn combine(one: Definitions, other: Definitions) -> Definitions {
+    let (mut large, small) = if one.len() < other.len() { (other, one) } else { (one, other) };
+    for (key, definition) in small {
+        add_one(&mut large, key, definition);
+    }
+    large
+}
+
+fn add_one(made: &mut Definitions, key: u64, definition: Definition) {
+    let known = made.entry(key).or_insert(definition);
+    if *known != definition {
+        *known = SEVERAL;
+    }
+}
+
+/// The definitions in a unit and its functions.
+fn add<'a>(debug: &Debug<'a>, unit: &Unit<'a>, made: &mut Definitions) -> crate::error::Result<()> {
+    let Some(language) = Language::of_unit(unit)? else { return Ok(()) };
+    let prefixes = match language {
+        Language::C => Prefixes::default(),
+        Language::Scoped => Prefixes::of(debug, unit)?,
+    };
+    for (offset, tag) in scopes(unit, language)?.into_iter().flat_map(|scope| scope.entries) {
+        let kind = match tag {
+            dw::DW_TAG_structure_type | dw::DW_TAG_class_type => Kind::Struct,
+            dw::DW_TAG_union_type => Kind::Union,
+            dw::DW_TAG_enumeration_type => Kind::Enum,
+            _ => continue,
+        };
+        let entry = Entry::read_with_line(unit, offset)?;
+        if entry.has(dw::DW_AT_declaration) || entry.has(dw::DW_AT_signature) {
+            continue;
+        }
+        let name = prefixes.full_name(debug, &entry)?;
+        if !name.is_empty() {
+            let said = |name| entry.constant(name).unwrap_or(0);
+            let definition = (said(dw::DW_AT_byte_size), said(dw::DW_AT_decl_line));
+            add_one(made, tag_key(kind, &name), definition);
+        }
+    }
+    Ok(())
+}

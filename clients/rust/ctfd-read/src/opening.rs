@@ -1,0 +1,357 @@
+//! What the library is given for a file: its dictionary as it is, or one that is made of its types,
+//! and the symbols that go with it.
+
+use crate::ctf::{self, Sections};
+use crate::dictionary::{alone, select};
+use crate::elf;
+use crate::error::{refuse, Error, Result};
+use crate::image::{Data, Image};
+use crate::inputs::{plain_bytes, with_types, Form, Options};
+use crate::labels;
+use crate::symbols::SymbolTable;
+use ctfd::Model;
+use object::elf::{FileHeader32, FileHeader64, SHF_COMPRESSED};
+use object::elf::{SHT_DYNSYM, SHT_NOBITS, SHT_STRTAB, SHT_SYMTAB};
+use object::read::elf::{FileHeader, SectionHeader, SectionTable};
+use object::{Endianness, Object as _, ObjectSection as _, SectionFlags, SectionIndex};
+use std::borrow::Cow;
+
+/// The sections that have a dictionary.
+const SECTIONS: [&str; 2] = [".SUNW_ctf", ".ctf"];
+/// Those of a file whose types can be converted.
+const OTHERS: [&str; 4] = [".debug_info", ".zdebug_info", ".gnu_debuglink", ".BTF"];
+
+/// How the symbols that go with a dictionary were found.
+#[derive(Clone, Copy, Debug, PartialEq, Eq)]
+pub enum Origin {
+    /// There are none.
+    None,
+    /// They are those that the dictionary says that it was written for.
+    Named,
+    /// The section with the dictionary names them.
+    Linked,
+    /// They are those of `.symtab`, which may not be those that the dictionary was written for.
+    Guessed,
+    /// The caller has handed them in.
+    Given,
+    /// Those that were guessed do not fit.
+    Refused,
+    /// Those of the file are no longer those that the dictionary was written for.
+    Differs,
+    /// Those that it was written for were stripped from the file.
+    Stripped,
+    /// They are of 32 bits.
+    Unread,
+}
+
+impl Origin {
+    /// What a user should know of symbols that were found so.
+    pub fn warning(self) -> &'static str {
+        match self {
+            Origin::Guessed => {
+                "the section names no symbol table: if the types were not written for the file's \
+                 .symtab, the types of symbols are wrong"
+            }
+            Origin::Refused => {
+                "the types were not written for the file's symbol table: symbols are left out"
+            }
+            Origin::Differs => {
+                "the file was linked, stripped or changed after its types were written, so they no \
+                 longer fit its symbol table: symbols are left out, and ctfd-convert writes the \
+                 types anew"
+            }
+            Origin::Stripped => {
+                "the symbol table that the types were written for was stripped from the file: \
+                 symbols are left out; ctfd-convert --symbols dynsym writes for the one that strip \
+                 keeps"
+            }
+            Origin::Unread => {
+                "the file's symbol table has 32 bits, which is not read: symbols are left out"
+            }
+            Origin::None | Origin::Named | Origin::Linked | Origin::Given => "",
+        }
+    }
+}
+
+/// What the library is given for a file.
+pub struct Handed<'a> {
+    /// The dictionary, inflated.
+    pub ctf: Cow<'a, [u8]>,
+    /// A symbol table of ELF64.
+    pub symbols: Option<Cow<'a, [u8]>>,
+    /// Its strings, where names of the dictionary may stand too.
+    pub strings: Option<Cow<'a, [u8]>>,
+    /// How these were found.
+    pub origin: Origin,
+    /// The data model, where something tells it.
+    pub model: Option<Model>,
+    /// Whether the dictionary was made here.
+    pub is_made: bool,
+    /// What CTF does not hold of the file, a line each.
+    pub losses: Vec<String>,
+}
+
+impl<'a> Handed<'a> {
+    fn plain(ctf: Cow<'a, [u8]>) -> Handed<'a> {
+        Handed {
+            ctf,
+            symbols: None,
+            strings: None,
+            origin: Origin::None,
+            model: None,
+            is_made: false,
+            losses: Vec::new(),
+        }
+    }
+
+    /// Whether the dictionary has names of symbols that are not handed in yet, as `add_names` does.
+    pub fn has_more_names(&self) -> bool {
+        let is_bare = self.symbols.is_none() && self.origin == Origin::None;
+        is_bare
+            && Sections::of(&self.ctf)
+                .ok()
+                .and_then(|sections| labels::symbols(&sections))
+                .is_some_and(|wanted| wanted.table == SymbolTable::Names)
+    }
+
+    /// Hands in the symbols whose names the dictionary has itself.
+    pub fn add_names(&mut self) {
+        let own = Sections::of(&self.ctf).ok().and_then(|sections| {
+            labels::own_symbols(&sections).map(|symbols| symbols.made_table())
+        });
+        if let Some((symbols, strings)) = own {
+            self.symbols = Some(symbols.into());
+            self.strings = Some(strings.into());
+            self.origin = Origin::Named;
+        }
+    }
+
+    /// What is handed in with the dictionary.
+    pub fn options(&self) -> ctfd::Options<'_> {
+        ctfd::Options {
+            symbols: self.symbols.as_deref(),
+            strings: self.strings.as_deref(),
+            model: self.model.unwrap_or_default(),
+        }
+    }
+}
+
+/// The data model that a dictionary names.
+pub fn model_named(ctf: &[u8]) -> Option<Model> {
+    Sections::of(ctf).ok().and_then(|sections| labels::model(&sections))
+}
+
+/// Why a dictionary is not the parent that a child names; None where it may be.
+pub fn why_not_parent(child: &ctfd::Dictionary<'_>, parent: &[u8]) -> Option<&'static str> {
+    let sections = Sections::of(parent).ok()?;
+    let of_parent = labels::of_types(&sections);
+    child.is_child().then(|| labels::not_its_parent(&child.parent_label(), &of_parent)).flatten()
+}
+
+/// The symbol table of an ELF file, and its strings.
+pub fn table_of_program(image: &Image) -> Option<(&[u8], &[u8])> {
+    let listed = |table| elf::symbol_lists(image, table).filter(|(symbols, _)| !symbols.is_empty());
+    listed(SymbolTable::Symtab).or_else(|| listed(SymbolTable::Dynsym))
+}
+
+/// What the library is given for a file: its own dictionary, or one that is made of its types.
+pub fn handed<'a>(image: &'a Image, options: &Options) -> Result<Handed<'a>> {
+    let is_plain = matches!(options.form, None | Some(Form::Ctf)) && options.base.is_none();
+    if is_plain {
+        match dictionary_of(image, options.number) {
+            Ok(Some(found)) => return Ok(found),
+            Ok(None) => {}
+            Err(error) if has_others(image) => drop(error),
+            Err(error) => return Err(error.within(&image.path().display().to_string())),
+        }
+    }
+    converted(image, options)
+}
+
+/// The dictionary of a file as it is; None where the file has none of version 2.
+pub fn dictionary_of<'a>(image: &'a Image, number: Option<usize>) -> Result<Option<Handed<'a>>> {
+    if image.is_elf() {
+        return match image.elf()?.is_64() {
+            true => in_elf::<FileHeader64<Endianness>>(image, number, Model::Lp64),
+            false => in_elf::<FileHeader32<Endianness>>(image, number, Model::Ilp32),
+        };
+    }
+    let data = image.all().map_err(|error| error.of(image.path().display()))?;
+    if !ctf::Layout::of(data).is_some_and(ctf::Layout::is_native) {
+        return Ok(None);
+    }
+    let ctf = match number.is_none() && ctf::each(data).len() == 1 {
+        true => ctf::inflate(data)?,
+        false => Cow::Owned(plain_bytes(image, number)?),
+    };
+    let model = model_named(&ctf);
+    Ok(Some(Handed { model, ..Handed::plain(ctf) }))
+}
+
+/// Whether an ELF file has types beside those of its dictionary.
+fn has_others(image: &Image) -> bool {
+    let file = image.is_elf().then(|| image.elf().ok()).flatten();
+    file.is_some_and(|file| OTHERS.iter().any(|name| file.section_by_name(name).is_some()))
+}
+
+fn in_elf<'a, F: FileHeader<Endian = Endianness>>(
+    image: &'a Image,
+    number: Option<usize>,
+    model: Model,
+) -> Result<Option<Handed<'a>>> {
+    let file = image.elf()?;
+    let has_bytes = |name: &&str| {
+        file.section_by_name(name).is_some_and(|section| section.file_range().is_some())
+    };
+    let Some(name) = SECTIONS.into_iter().find(|name| has_bytes(name)) else { return Ok(None) };
+    let flags = file.section_by_name(name).map(|section| section.flags());
+    let packed = u64::from(SHF_COMPRESSED);
+    if matches!(flags, Some(SectionFlags::Elf { sh_flags }) if sh_flags & packed != 0) {
+        return refuse(format!(
+            "{}: {name} is compressed as ELF has it, which is not read: objcopy \
+             --decompress-debug-sections undoes that",
+            image.path().display()
+        ));
+    }
+    let data = elf::section_bytes(image, name)?;
+    if !ctf::Layout::of(data).is_some_and(ctf::Layout::is_native) {
+        return Ok(None);
+    }
+    let place = format!("{}, {name}", image.path().display());
+    let ctf = match number.is_none() && ctf::each(data).len() == 1 {
+        true => ctf::inflate(data).map_err(|error| error.of(&place))?,
+        false => Cow::Owned(plain_bytes(image, number)?),
+    };
+    let of_ctf = model_named(&ctf).unwrap_or(model);
+    if of_ctf != model {
+        return refuse(format!(
+            "{place}: it says that it is of {}, and the file is of {}: it was put into another \
+             program",
+            labels::model_word(of_ctf),
+            labels::model_word(model)
+        ));
+    }
+    let mut made = Handed { model: Some(model), ..Handed::plain(ctf) };
+    match Sections::of(&made.ctf).ok().and_then(|sections| labels::symbols(&sections)) {
+        Some(wanted) => add_named(&mut made, image, wanted.table)?,
+        None => add_unnamed::<F>(&mut made, image.data(), name, model)?,
+    }
+    Ok(Some(made))
+}
+
+/// Adds the symbols that a dictionary says that it was written for, if its file has them.
+fn add_named<'a>(made: &mut Handed<'a>, image: &'a Image, table: SymbolTable) -> Result<()> {
+    if table == SymbolTable::Names {
+        made.add_names();
+        if made.symbols.is_none() {
+            made.origin = Origin::Stripped;
+        }
+        return Ok(());
+    }
+    let wanted = Sections::of(&made.ctf).ok().and_then(|sections| labels::symbols(&sections));
+    let found = elf::symbols_of(image, table)?;
+    let is_same = found.as_ref().is_some_and(|found| Some(found.identity()) == wanted);
+    made.origin = match (&found, is_same) {
+        (Some(_), true) => Origin::Unread,
+        (Some(_), false) => Origin::Differs,
+        (None, _) => Origin::Stripped,
+    };
+    if let (true, Some((symbols, strings))) = (is_same, elf::symbol_lists(image, table)) {
+        made.symbols = Some(symbols.into());
+        made.strings = Some(strings.into());
+        made.origin = Origin::Named;
+    }
+    Ok(())
+}
+
+/// Adds the symbol table and strings of a section whose dictionary says nothing of them. What strip
+/// leaves in .dynsym is never taken for .symtab.
+fn add_unnamed<'a, F: FileHeader<Endian = Endianness>>(
+    made: &mut Handed<'a>,
+    data: Data<'a>,
+    name: &str,
+    model: Model,
+) -> Result<()> {
+    let header = F::parse(data)?;
+    let endian = header.endian()?;
+    let sections: SectionTable<'a, F, Data<'a>> = header.sections(endian, data)?;
+    let numbered = |number: u32| sections.section(SectionIndex(number as usize)).ok();
+    let of_name = |name: &str| sections.section_by_name(endian, name.as_bytes());
+    let link = of_name(name).map_or(0, |(_, section)| section.sh_link(endian));
+    let mut table = (link != 0).then(|| numbered(link)).flatten();
+    let mut origin = Origin::Linked;
+    if let Some(strings) = table.filter(|one| one.sh_type(endian) == SHT_STRTAB) {
+        made.strings = Some(strings.data(endian, data)?.into());
+        made.origin = origin;
+        return Ok(());
+    }
+    let is_table = |kind: u32| matches!(kind, SHT_SYMTAB | SHT_DYNSYM);
+    if !table.is_some_and(|one| is_table(one.sh_type(endian))) {
+        table = of_name(SymbolTable::Symtab.word()).map(|(_, section)| section);
+        origin = Origin::Guessed;
+    }
+    let table = table.filter(|one| one.sh_type(endian) != SHT_NOBITS);
+    let strings = table.and_then(|one| numbered(one.sh_link(endian)));
+    let (Some(table), Some(strings)) = (table, strings) else {
+        let is_guess = origin == Origin::Guessed;
+        made.origin = if is_guess { Origin::Stripped } else { Origin::None };
+        return Ok(());
+    };
+    made.strings = Some(strings.data(endian, data)?.into());
+    made.origin = Origin::Unread;
+    if model == Model::Lp64 {
+        made.symbols = Some(table.data(endian, data)?.into());
+        made.origin = origin;
+    }
+    Ok(())
+}
+
+/// A dictionary that is made of a file's types.
+fn converted<'a>(image: &'a Image, options: &Options) -> Result<Handed<'a>> {
+    let options = Options { symbols: table_wanted(image)?, ..options.clone() };
+    let is_ilp32 = image.is_elf() && !image.elf()?.is_64();
+    with_types(image, &options, |found| {
+        let named = |error: Error| error.within(&image.path().display().to_string());
+        let (found, _) = select(found, &[]).map_err(named)?;
+        let mut dictionary = alone(found.table, found.symbols);
+        let ctf = dictionary.bytes().map_err(named)?;
+        let table = dictionary.symbols.table;
+        let mut made = Handed {
+            model: Some(dictionary.table.model()),
+            is_made: true,
+            losses: std::mem::take(&mut dictionary.table.losses),
+            ..Handed::plain(Cow::Owned(ctf))
+        };
+        if dictionary.has_label() && table == SymbolTable::Names {
+            return Ok(made); // their names stand in it
+        }
+        let lists = match is_ilp32 {
+            true => None,
+            false => elf::symbol_lists(image, table),
+        };
+        if let Some((symbols, strings)) = lists.filter(|_| dictionary.has_label()) {
+            made.symbols = Some(symbols.into());
+            made.strings = Some(strings.into());
+            made.origin = Origin::Named;
+        } else if dictionary.has_label() {
+            let (symbols, strings) = dictionary.symbols.made_table();
+            made.symbols = Some(symbols.into());
+            made.strings = Some(strings.into());
+            made.origin = Origin::Named;
+        }
+        Ok(made)
+    })
+}
+
+/// The symbol table by which entries are to go: what is exported, where strip has left nothing else.
+fn table_wanted(image: &Image) -> Result<SymbolTable> {
+    if !image.is_elf() {
+        return Ok(SymbolTable::Symtab);
+    }
+    let named = |error: Error| error.within(&image.path().display().to_string());
+    let count = |table| -> Result<usize> {
+        Ok(elf::symbols_of(image, table).map_err(named)?.map_or(0, |found| found.listed.len()))
+    };
+    let is_exported = count(SymbolTable::Symtab)? == 0 && count(SymbolTable::Dynsym)? != 0;
+    Ok(if is_exported { SymbolTable::Dynsym } else { SymbolTable::Symtab })
+}

@@ -1,0 +1,104 @@
+//! A program with more types than a dictionary holds, as several in one file: an archive with a
+//! parent and its children.
+
+use crate::archive::{self, child_name, PARENT};
+use crate::dictionary::{keep_described, Dictionary};
+use crate::error::Result;
+use crate::image::Image;
+use crate::select::left_out;
+use crate::spread::spread;
+use crate::symbols::{SymbolTable, Symbols};
+use crate::table::Table;
+use std::borrow::Cow;
+use std::path::Path;
+
+/// What is written of a program in parts.
+pub struct Written<'a> {
+    /// The file.
+    pub bytes: Vec<u8>,
+    /// The types of all parts, as one that is not written, with the losses.
+    pub whole: Dictionary<'a>,
+    /// How many types the parent has, and each child beside them.
+    pub counts: Vec<usize>,
+}
+
+/// The dictionaries of a table, each checked by the library, in one file.
+pub fn write<'a>(
+    mut table: Table<'a>,
+    symbols: Symbols<'a>,
+    image: &Image,
+    output: &Path,
+) -> Result<Written<'a>> {
+    let spread = spread(&table);
+    let mut losses = std::mem::take(&mut table.losses);
+    losses.extend(left_out(&table, &spread.left, "a part of the file holds"));
+    let mut parts = Parts { table, symbols, told: Told::default(), losses, image, output };
+    let parent = parts.bytes(&spread.parent, &[], None)?;
+    let mut members = vec![(PARENT.to_owned(), parent.clone())];
+    for (place, own) in spread.children.iter().enumerate() {
+        let bytes = parts.bytes(&spread.parent, own, Some(&parent))?;
+        members.push((child_name(place + 1), bytes));
+    }
+    let listed = members.iter().map(|(name, bytes)| (name.clone(), bytes.as_slice()));
+    let bytes = archive::write(listed)?;
+    let counts = std::iter::once(&spread.parent).chain(&spread.children).map(Vec::len).collect();
+    let Parts { mut table, symbols, losses, .. } = parts;
+    table.losses = losses;
+    let whole = Dictionary { table, symbols, parent: None, has_own_parent: false, plain: None };
+    Ok(Written { bytes, whole, counts })
+}
+
+/// The table that is spread, and what was written of it.
+struct Parts<'p, 'a> {
+    table: Table<'a>,
+    symbols: Symbols<'a>,
+    told: Told,
+    losses: Vec<String>,
+    image: &'p Image,
+    output: &'p Path,
+}
+
+/// Which objects and functions are told of: each is in the first part that has its type.
+#[derive(Default)]
+struct Told {
+    objects: Vec<bool>,
+    functions: Vec<bool>,
+}
+
+impl Told {
+    fn leave_out(&mut self, part: &mut Table<'_>) {
+        self.objects.resize(part.objects.len(), false);
+        self.functions.resize(part.functions.len(), false);
+        for (number, is_told) in part.objects.iter_mut().zip(&mut self.objects) {
+            *number = if *is_told { 0 } else { *number };
+            *is_told |= *number != 0;
+        }
+        for (function, is_told) in part.functions.iter_mut().zip(&mut self.functions) {
+            *function = function.take().filter(|_| !*is_told);
+            *is_told |= function.is_some();
+        }
+    }
+}
+
+impl Parts<'_, '_> {
+    /// The bytes of the parent, or of a child with types of its own over it.
+    fn bytes(&mut self, parents: &[u32], own: &[u32], parent: Option<&Vec<u8>>) -> Result<Vec<u8>> {
+        let mut part = self.table.clone();
+        let order: Vec<u32> = parents.iter().chain(own).copied().collect();
+        part.keep(&order);
+        self.told.leave_out(&mut part);
+        if parent.is_some() {
+            part.bases = parents.len() as u32;
+            part.parent_name = Cow::Borrowed(PARENT.as_bytes());
+        }
+        let symbols = match self.symbols.table {
+            SymbolTable::Names => keep_described(&mut part, self.symbols.clone()),
+            _ => self.symbols.clone(),
+        };
+        let (parent, has_own_parent) = (parent.cloned(), false);
+        let mut made = Dictionary { table: part, symbols, parent, has_own_parent, plain: None };
+        let bytes = made.checked_bytes(self.image, self.output)?;
+        self.losses.append(&mut made.table.losses);
+        Ok(bytes)
+    }
+}

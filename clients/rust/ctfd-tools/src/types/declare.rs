@@ -1,0 +1,230 @@
+//! C's declaration of a type, or of something that has it.
+//!
+//! The declarator is written from the inside out, along the type. It is cut at a depth and at a
+//! number of steps: a function may take a pointer to itself, and a hostile one may take many.
+
+use super::catalog::{is_qualifier, Catalog, Signature};
+use super::text::printable;
+use ctfd::Kind;
+
+const DEEPEST: usize = 4;
+const STEPS: i32 = 4096;
+const CUT: &str = "/* .. */";
+
+/// How a declaration calls the type that it begins with.
+pub type Naming<'n> = dyn Fn(u16) -> String + 'n;
+
+/// A declaration in its parts: `qualifiers base left name right`, as in `const int (* f )(void)`.
+#[derive(Clone, Debug)]
+pub struct Declarator {
+    /// The qualifiers of the base.
+    pub qualifiers: Vec<&'static str>,
+    /// The type that it begins with: 0 for void.
+    pub base: u16,
+    /// How that is called.
+    pub named: String,
+    /// What stands left of the name.
+    pub left: String,
+    /// What stands right of it.
+    pub right: String,
+}
+
+impl Declarator {
+    /// The base with its qualifiers.
+    pub fn spelled(&self) -> String {
+        let mut made = String::with_capacity(32);
+        for word in &self.qualifiers {
+            made += word;
+            made.push(' ');
+        }
+        made += &self.named;
+        made
+    }
+
+    /// The declaration of a name; with none that of the type alone.
+    pub fn around(&self, name: &str) -> String {
+        let is_closed = name.is_empty() && self.right.starts_with(')'); // as in "(*const)()"
+        let left = if is_closed { self.left.trim_end() } else { &self.left };
+        let made = format!("{} {left}{name}{}", self.spelled(), self.right);
+        made.trim_end().to_owned()
+    }
+
+    /// Whether it is that of a pointer, or of what holds some.
+    pub fn has_star(&self) -> bool {
+        self.left.contains('*')
+    }
+}
+
+/// A type that is neither pointer, array, function nor qualifier, by its name.
+pub fn base(catalog: &Catalog<'_>, number: u16) -> String {
+    if number == 0 {
+        return "void".to_owned();
+    }
+    let record = catalog.record(number);
+    let name = printable(&record.name);
+    match record.word() {
+        "" if name.is_empty() => "(anon)".to_owned(),
+        "" => name.into_owned(),
+        word if name.is_empty() => format!("{word} {{...}}"),
+        word => format!("{word} {name}"),
+    }
+}
+
+/// How C declares a name with a type, arguments of functions and all.
+pub fn declaration(catalog: &Catalog<'_>, number: u16, name: &[u8]) -> String {
+    declarator(catalog, number, 0).around(&printable(name))
+}
+
+/// How C declares an object, which may be an array of a length that is not known.
+pub fn object(catalog: &Catalog<'_>, number: u16, name: &[u8]) -> String {
+    let named = |one| base(catalog, one);
+    let maker = Maker { catalog, named: &named, is_open: true };
+    maker.declarator(number, 0, 0, &mut STEPS.clone()).around(&printable(name))
+}
+
+/// How C declares a function.
+pub fn function(catalog: &Catalog<'_>, signature: &Signature, name: &[u8]) -> String {
+    let named = |one| base(catalog, one);
+    let maker = Maker { catalog, named: &named, is_open: false };
+    let arguments = maker.arguments(signature, 0, &mut STEPS.clone());
+    let returns = declarator(catalog, signature.returns, 0);
+    returns.around(&format!("{}({arguments})", printable(name)))
+}
+
+/// The parts of the declaration of a type, or of so many pointers to it.
+pub fn declarator(catalog: &Catalog<'_>, number: u16, stars: usize) -> Declarator {
+    let named = |one| base(catalog, one);
+    let maker = Maker { catalog, named: &named, is_open: false };
+    maker.declarator(number, stars, 0, &mut STEPS.clone())
+}
+
+/// The same with other names for bases. With `is_open` an array of no elements is one whose length
+/// is not known, where C takes that.
+pub fn declarator_by(
+    catalog: &Catalog<'_>,
+    number: u16,
+    named: &Naming<'_>,
+    is_open: bool,
+) -> Declarator {
+    Maker { catalog, named, is_open }.declarator(number, 0, 0, &mut STEPS.clone())
+}
+
+/// Makes the declarators of one declaration, which share the steps that are left.
+struct Maker<'m, 'd> {
+    catalog: &'m Catalog<'d>,
+    named: &'m Naming<'m>,
+    is_open: bool,
+}
+
+impl Maker<'_, '_> {
+    fn declarator(&self, number: u16, stars: usize, depth: usize, budget: &mut i32) -> Declarator {
+        let (mut left, mut right) = (String::new(), String::new());
+        let mut qualifiers: Vec<&'static str> = Vec::new();
+        let mut of_pointer: Vec<&'static str> = Vec::new(); // those of the pointer that comes next
+        if stars != 0 {
+            left = "*".repeat(stars);
+            self.enclose(number, &mut left, &mut right);
+        }
+        let mut number = number;
+        loop {
+            *budget -= 1;
+            let record = self.catalog.record(number);
+            match record.kind {
+                Kind::Pointer => {
+                    number = record.of;
+                    left.insert(0, '*');
+                    of_pointer.clear();
+                    self.enclose(number, &mut left, &mut right);
+                }
+                Kind::Array => {
+                    let is_unknown = self.is_open && record.elements == 0 && !right.ends_with(']');
+                    right += &match is_unknown {
+                        true => "[]".to_owned(),
+                        false => format!("[{}]", record.elements),
+                    };
+                    number = record.of;
+                }
+                Kind::Function => {
+                    let signature = self.catalog.signature(number);
+                    right += &format!("({})", self.arguments(signature, depth, budget));
+                    number = signature.returns;
+                }
+                kind if is_qualifier(kind) => {
+                    let word = word_of(kind);
+                    number = record.of;
+                    if self.catalog.kind(self.element(number)) == Kind::Pointer {
+                        if !of_pointer.contains(&word) {
+                            left.insert_str(0, &format!("{word} "));
+                        }
+                        of_pointer.push(word);
+                    } else if !qualifiers.contains(&word) {
+                        qualifiers.push(word);
+                    }
+                }
+                _ => break,
+            }
+        }
+        Declarator { qualifiers, base: number, named: (self.named)(number), left, right }
+    }
+
+    /// Brackets round the stars of a pointer to an array or a function.
+    fn enclose(&self, to: u16, left: &mut String, right: &mut String) {
+        let to = self.unqualified(to);
+        if matches!(self.catalog.kind(to), Kind::Array | Kind::Function) {
+            left.insert(0, '(');
+            right.push(')');
+        }
+    }
+
+    fn unqualified(&self, mut number: u16) -> u16 {
+        while is_qualifier(self.catalog.kind(number)) {
+            number = self.catalog.record(number).of;
+        }
+        number
+    }
+
+    /// What a qualifier of a type is said of: of an array its elements.
+    fn element(&self, mut number: u16) -> u16 {
+        for _ in 0..STEPS {
+            number = self.unqualified(number);
+            if self.catalog.kind(number) != Kind::Array {
+                break;
+            }
+            number = self.catalog.record(number).of;
+        }
+        number
+    }
+
+    fn arguments(&self, signature: &Signature, depth: usize, budget: &mut i32) -> String {
+        if depth >= DEEPEST || *budget <= 0 {
+            return CUT.to_owned();
+        }
+        if signature.is_open && signature.arguments.is_empty() {
+            return String::new(); // what they are is not said, as by `int f()`
+        }
+        let maker = Maker { is_open: false, ..*self };
+        let mut listed: Vec<String> = Vec::new();
+        for &argument in &signature.arguments {
+            if *budget <= 0 {
+                listed.push(CUT.to_owned());
+                return listed.join(", ");
+            }
+            listed.push(maker.declarator(argument, 0, depth + 1, budget).around(""));
+        }
+        if signature.is_open {
+            listed.push("...".to_owned());
+        }
+        match listed.is_empty() {
+            true => "void".to_owned(),
+            false => listed.join(", "),
+        }
+    }
+}
+
+fn word_of(qualifier: Kind) -> &'static str {
+    match qualifier {
+        Kind::Volatile => "volatile",
+        Kind::Const => "const",
+        _ => "restrict",
+    }
+}

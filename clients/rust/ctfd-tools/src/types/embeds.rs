@@ -1,0 +1,212 @@
+//! Which structs and unions hold a type by value, and which point to it.
+
+use super::catalog::{is_renaming, Catalog, Part};
+use super::declare::declaration;
+use super::names::Names;
+use ctfd::Kind;
+use std::cell::{Cell, RefCell};
+use std::collections::{BTreeSet, HashMap, HashSet};
+
+const DEEPEST: usize = 64;
+const MOST: usize = 100_000;
+const LEAST: i64 = 400_000;
+const EACH: i64 = 64;
+
+/// A member, and members of members, of a struct or union; `offset` is in bits.
+#[derive(Clone, Debug)]
+pub struct Embedded<'d> {
+    /// The struct or union.
+    pub owner: u16,
+    /// The names of the member and of those that it lies in, the outermost first.
+    pub path: Vec<&'d [u8]>,
+    /// The type of the member.
+    pub of: u16,
+    /// Where it begins, the first of the elements that it stands in.
+    pub offset: u128,
+    /// In how many elements of arrays it stands.
+    pub elements: u128,
+}
+
+impl Embedded<'_> {
+    /// The path as C writes it: members without a name are left out.
+    pub fn name(&self) -> Vec<u8> {
+        let named: Vec<&[u8]> = self.path.iter().copied().filter(|name| !name.is_empty()).collect();
+        named.join(&b'.')
+    }
+
+    /// `offset  owner  declaration`.
+    pub fn line(&self, names: &Names<'_, '_>) -> String {
+        let (byte, bit) = (self.offset / 8, self.offset % 8);
+        let at = if bit == 0 { byte.to_string() } else { format!("{byte}:{bit}") };
+        let first = match self.elements {
+            0 | 1 => String::new(),
+            count => format!("  (the first of {count})"),
+        };
+        let told = declaration(names.catalog, self.of, &self.name());
+        format!("{at:>8}  {}  {told}{first}", names.label(self.owner))
+    }
+}
+
+/// Walks the members of a catalog's structs and unions.
+///
+/// Those without any name are walked through: they are no answer to the question who it is. With
+/// `is_deep` all are.
+pub struct Embeds<'e, 'd> {
+    names: &'e Names<'e, 'd>,
+    is_deep: bool,
+    cut: RefCell<Vec<u16>>,
+    left: Cell<i64>,
+    through: RefCell<HashMap<u16, bool>>,
+    member_types: BTreeSet<u16>,
+}
+
+impl<'e, 'd> Embeds<'e, 'd> {
+    /// A walk over types by their names.
+    pub fn new(names: &'e Names<'e, 'd>, is_deep: bool) -> Embeds<'e, 'd> {
+        let catalog = names.catalog;
+        // What is walked in all follows the number of members, each level of one counted.
+        let mut count = 0;
+        let mut seen = vec![false; usize::from(u16::MAX) + 1];
+        for number in catalog.aggregates() {
+            let members = catalog.members(number);
+            count += members.len() as i64;
+            members.iter().for_each(|part| seen[usize::from(part.of)] = true);
+        }
+        let types = (0..=u16::MAX).filter(|&number| seen[usize::from(number)]);
+        Embeds {
+            names,
+            is_deep,
+            cut: RefCell::default(),
+            left: Cell::new(LEAST + EACH * count),
+            through: RefCell::default(),
+            member_types: types.collect(),
+        }
+    }
+
+    fn catalog(&self) -> &'e Catalog<'d> {
+        self.names.catalog
+    }
+
+    /// Those of which not all members were walked, since members of members were too many.
+    pub fn cut(&self) -> Vec<u16> {
+        self.cut.borrow().clone()
+    }
+
+    /// Where some types stand by value, or with `is_pointer` where pointers to these stand.
+    pub fn of(&self, targets: &BTreeSet<u16>, is_pointer: bool) -> Vec<Embedded<'d>> {
+        let reaching = Reaching { catalog: self.catalog(), targets, is_pointer };
+        let mut known = HashMap::new();
+        let mut leads =
+            |number: &u16| reaching.reaches(*number, &mut known) || self.is_walked_through(*number);
+        let leading: HashSet<u16> =
+            self.member_types.iter().copied().filter(|number| leads(number)).collect();
+        let mut found = Vec::new();
+        for owner in self.owners() {
+            let leads = |part: &Part<'_>| leading.contains(&part.of);
+            if self.catalog().members(owner).iter().any(leads) {
+                self.walk(owner, |one| {
+                    if reaching.reaches(one.of, &mut known) {
+                        found.push(one.clone());
+                    }
+                });
+            }
+        }
+        found
+    }
+
+    /// Its own structs and unions but those that are walked through in others.
+    fn owners(&self) -> Vec<u16> {
+        let reached = |&number: &u16| self.catalog().reached(number).number;
+        let inner: HashSet<u16> = self.member_types.iter().map(reached).collect();
+        let is_owner = |number: &u16| !inner.contains(number) || self.names.has_name(*number);
+        self.catalog().aggregates().filter(is_owner).collect()
+    }
+
+    /// Visits each member, and those of the structs that are walked through, in order of members.
+    pub fn walk(&self, owner: u16, mut visit: impl FnMut(&Embedded<'d>)) {
+        let mut todo =
+            vec![Embedded { owner, path: Vec::new(), of: owner, offset: 0, elements: 1 }];
+        for _ in 0..MOST {
+            let Some(here) = todo.pop() else { return };
+            self.left.set(self.left.get() - 1 - here.path.len() as i64);
+            if self.left.get() < 0 {
+                break;
+            }
+            if !here.path.is_empty() {
+                visit(&here);
+            }
+            self.push_inside(&here, &mut todo);
+        }
+        self.cut.borrow_mut().push(owner);
+    }
+
+    /// Whether the members of a member of this type are walked too.
+    fn is_walked_through(&self, number: u16) -> bool {
+        *self.through.borrow_mut().entry(number).or_insert_with(|| {
+            let end = self.catalog().reached(number).number;
+            let is_named = self.names.has_name(end);
+            self.catalog().record(end).is_aggregate() && (self.is_deep || !is_named)
+        })
+    }
+
+    /// Pushes the members of a member, the first last, where it is walked through.
+    fn push_inside(&self, here: &Embedded<'d>, todo: &mut Vec<Embedded<'d>>) {
+        let reached = self.catalog().reached(here.of);
+        if !self.catalog().record(reached.number).is_aggregate() {
+            return;
+        }
+        if !here.path.is_empty() && !self.is_walked_through(here.of) {
+            return;
+        }
+        if here.path.len() >= DEEPEST {
+            let mut cut = self.cut.borrow_mut();
+            if cut.last() != Some(&here.owner) {
+                cut.push(here.owner);
+            }
+            return;
+        }
+        for part in self.catalog().members(reached.number).iter().rev() {
+            let mut path = Vec::with_capacity(here.path.len() + 1);
+            path.extend(&here.path);
+            path.push(part.name);
+            todo.push(Embedded {
+                owner: here.owner,
+                path,
+                of: part.of,
+                offset: here.offset + u128::from(part.offset),
+                elements: here.elements.saturating_mul(reached.elements),
+            });
+        }
+    }
+}
+
+/// Whether types lead to some others, through pointers or without.
+struct Reaching<'r, 'd> {
+    catalog: &'r Catalog<'d>,
+    targets: &'r BTreeSet<u16>,
+    is_pointer: bool,
+}
+
+impl Reaching<'_, '_> {
+    fn reaches(&self, number: u16, known: &mut HashMap<(u16, bool), bool>) -> bool {
+        let mut passed = Vec::new(); // each with whether it is behind a pointer
+        let mut here = (number, false);
+        let answer = loop {
+            if let Some(&answer) = known.get(&here) {
+                break answer;
+            }
+            passed.push(here);
+            let record = self.catalog.record(here.0);
+            let is_star = record.kind == Kind::Pointer && self.is_pointer;
+            if here.1 == self.is_pointer && self.targets.contains(&here.0) {
+                break true;
+            }
+            if !is_star && !is_renaming(record.kind) && record.kind != Kind::Array {
+                break false;
+            }
+            here = (record.of, here.1 || is_star);
+        };
+        known.extend(passed.into_iter().map(|one| (one, answer)));
+        answer
+    }
+}

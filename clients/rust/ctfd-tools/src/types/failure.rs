@@ -1,0 +1,46 @@
+//! Why there is no answer.
+
+use ctfd_read::error::Error;
+use std::fmt::Display;
+use std::io;
+
+/// Why a file has no answer.
+#[derive(Debug)]
+pub enum Failure {
+    /// A name is that of nothing there: another file may have it.
+    Unknown(String),
+    /// Something is refused, in a line for a user.
+    Refused(String),
+    /// What was printed can't be written.
+    Unwritten(io::Error),
+}
+
+/// What a question answers.
+pub type Outcome<T> = Result<T, Failure>;
+
+impl Failure {
+    /// A refusal by the library, of some file.
+    pub fn of_library(what: impl Display, refusal: ctfd::Refusal) -> Failure {
+        Failure::Refused(told(what, refusal))
+    }
+}
+
+/// What the library refuses of a file, and what to do.
+pub fn told(what: impl Display, ctfd::Refusal { fault, place }: ctfd::Refusal) -> String {
+    match place {
+        0 => format!("{what}: {fault}: {}", fault.advice()),
+        _ => format!("{what}: {fault} at {place}: {}", fault.advice()),
+    }
+}
+
+impl From<Error> for Failure {
+    fn from(error: Error) -> Failure {
+        Failure::Refused(error.0)
+    }
+}
+
+impl From<io::Error> for Failure {
+    fn from(error: io::Error) -> Failure {
+        Failure::Unwritten(error)
+    }
+}

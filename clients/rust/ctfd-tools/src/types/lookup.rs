@@ -1,0 +1,118 @@
+//! The type that a name says, as a person writes it.
+
+use super::catalog::{number_of, Catalog};
+use super::text::{name_and_number, normal, printable, spellings, without_tag, TAGS};
+use ctfd::{Fault, Kind, Refusal};
+
+/// A type, or so many pointers to it. Pointers need not be in the dictionary.
+#[derive(Clone, Copy, Debug, PartialEq, Eq)]
+pub struct Found {
+    /// The type: 0 for void.
+    pub number: u16,
+    /// How many stars the name has.
+    pub stars: usize,
+}
+
+/// The type of a name; the least, where several have it. Qualifiers are left out. Another one of the
+/// name is found by that and its number, as `struct dict__17`.
+pub fn find(catalog: &Catalog<'_>, name: &[u8]) -> Result<Option<Found>, Refusal> {
+    let (base, stars) = normal(name);
+    if base == b"void" {
+        return Ok(Some(Found { number: 0, stars }));
+    }
+    let mut refusals = Vec::new();
+    for spelling in spellings(&base) {
+        match catalog.types.find(&spelling) {
+            Ok(found) => return Ok(Some(Found { number: found.number(), stars })),
+            Err(refusal) => refusals.push(refusal),
+        }
+    }
+    if let Some(number) = other_of(catalog, &base) {
+        return Ok(Some(Found { number, stars }));
+    }
+    match refusals.first() {
+        Some(refusal) if refusal.fault != Fault::NotFound => Err(*refusal),
+        _ => Ok(None),
+    }
+}
+
+/// A type that is named by its name and its number, since the name alone leads to none or to another.
+fn other_of(catalog: &Catalog<'_>, base: &[u8]) -> Option<u16> {
+    let (name, number) = name_and_number(base)?;
+    let is_there = catalog.types.get(number).is_ok();
+    let record = is_there.then(|| catalog.record(number))?;
+    let usual = normal(name).0;
+    spellings(&usual).contains(&record.called()).then_some(number)
+}
+
+/// The only struct, union or enum that has a tag.
+pub fn find_tag(catalog: &Catalog<'_>, tag: &[u8]) -> Option<u16> {
+    let is_plain = !tag.is_empty() && tag.iter().all(|&byte| !b" *".contains(&byte));
+    let named = |word: &&str| {
+        catalog.types.find([word.as_bytes(), b" ", tag].concat()).ok().map(ctfd::Type::number)
+    };
+    let mut found = TAGS.iter().filter_map(named);
+    let first = is_plain.then(|| found.next()).flatten();
+    first.filter(|_| found.next().is_none())
+}
+
+/// All own types with a name, hidden ones among them: one name may stand for several. A name with
+/// stars is that of none. Copies that only bit-fields have are left out.
+pub fn find_all(catalog: &Catalog<'_>, name: &[u8]) -> Vec<u16> {
+    let (base, stars) = normal(name);
+    if stars != 0 {
+        return Vec::new();
+    }
+    let wanted = spellings(&base);
+    let apart: Vec<(&str, &[u8])> = wanted.iter().map(|name| without_tag(name)).collect();
+    let mut found = Vec::new();
+    for of in catalog.types.types() {
+        let Ok(own) = of.declared_name() else { continue };
+        if apart.iter().any(|(_, bare)| **bare == *own) {
+            let record = catalog.record(of.number());
+            if apart.contains(&(record.word(), &record.name)) {
+                found.push(of.number());
+            }
+        }
+    }
+    found.retain(|&number| !is_copy(catalog, number));
+    found
+}
+
+/// Whether a type is a hidden integer, or a hidden typedef of one.
+fn is_copy(catalog: &Catalog<'_>, number: u16) -> bool {
+    let end = catalog.record(catalog.resolved(number));
+    !catalog.record(number).is_root && !end.is_root && end.kind == Kind::Integer
+}
+
+/// That there are more types of a name than the one that is told; None where there are none.
+pub fn others(found: &[u16], name: &[u8]) -> Option<String> {
+    let numbers: Vec<String> = found.iter().map(u16::to_string).collect();
+    (found.len() > 1).then(|| {
+        format!(
+            "{} types are called {}, and this is the first: --all shows them all, --number N one \
+             ({})",
+            found.len(),
+            printable(name),
+            numbers.join(", ")
+        )
+    })
+}
+
+/// The names by which types are found, those of the parent too.
+pub fn names(catalog: &Catalog<'_>) -> Vec<Vec<u8>> {
+    let is_found = |number: &u16| {
+        let record = catalog.record(*number);
+        record.is_root && !record.name.is_empty()
+    };
+    catalog.all().filter(is_found).map(|number| catalog.record(number).called()).collect()
+}
+
+/// Of a typedef of a struct, union or enum, that; else the type itself.
+pub fn worth_listing(catalog: &Catalog<'_>, number: u16) -> u16 {
+    let end = number_of(catalog.get(number).and_then(|of| of.resolve().ok().flatten()));
+    match catalog.kind(end) {
+        Kind::Struct | Kind::Union | Kind::Enum => end,
+        _ => number,
+    }
+}

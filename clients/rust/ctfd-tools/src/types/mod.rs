@@ -1,0 +1,93 @@
+//! `ctfd-types`: prints the types of a program.
+
+mod catalog;
+mod declare;
+mod drawing;
+mod embeds;
+mod failure;
+mod figures;
+mod header;
+mod json;
+mod layout;
+mod listing;
+mod lookup;
+mod members;
+mod names;
+mod open;
+mod options;
+mod output;
+mod picture;
+mod records;
+mod reorganize;
+mod report;
+mod symbols;
+mod text;
+mod treemap;
+mod whole;
+
+use crate::messages;
+use crate::standard;
+use failure::{Failure, Outcome};
+use open::Parents;
+use options::{Words, NAME};
+use output::{Output, Titled};
+use std::ffi::OsString;
+use std::io::Write as _;
+use std::os::unix::ffi::OsStrExt as _;
+use std::process::ExitCode;
+
+const FAILED: u8 = 1;
+
+/// The command; its exit status.
+pub fn main(words: Vec<OsString>) -> ExitCode {
+    let words = Words::parsed(words);
+    if standard::is_output_closed() {
+        warn(standard::CLOSED);
+        return ExitCode::from(FAILED);
+    }
+    let mut output = Output::new();
+    let status = run(&words, &mut output);
+    let written = output.flush().map_err(Failure::from);
+    match status.and_then(|status| written.map(|()| status)) {
+        Ok(status) => ExitCode::from(status),
+        Err(Failure::Unwritten(error)) => output::lost(NAME, FAILED, &error),
+        Err(Failure::Unknown(said) | Failure::Refused(said)) => {
+            warn(&said);
+            ExitCode::from(FAILED)
+        }
+    }
+}
+
+/// A line on standard error.
+fn warn(line: &str) {
+    messages::warn(NAME, text::printable(line.as_bytes()));
+}
+
+/// All files, one after the other; one without what is wanted is passed over if another has it.
+fn run(words: &Words, output: &mut Output) -> Outcome<u8> {
+    let parents = Parents::new(words);
+    let mut missed = Vec::new();
+    let mut status = 0;
+    for path in &words.files {
+        let mut titled = Titled::new(output, title(words, path.as_os_str().as_bytes()));
+        match report::file(words, &parents, path, &mut titled) {
+            Ok(is_whole) => {
+                titled.begin()?;
+                let is_told = matches!(words.question, options::Question::Show(_));
+                status = if is_whole || is_told { status } else { FAILED };
+            }
+            Err(Failure::Unknown(said)) => missed.push(said),
+            Err(failure) => return Err(failure),
+        }
+    }
+    match missed.len() == words.files.len() {
+        true => Err(Failure::Unknown(missed.swap_remove(0))),
+        false => Ok(status),
+    }
+}
+
+/// The line in front of a file's answer, where there is more than one file.
+fn title(words: &Words, path: &[u8]) -> Option<String> {
+    let is_wanted = words.files.len() > 1 && !words.is_json;
+    is_wanted.then(|| format!("{}:\n", text::printable(path)))
+}

@@ -1,0 +1,114 @@
+//! What a person calls the types of a catalog, and which of them a name or a pattern means.
+
+use super::catalog::Catalog;
+use super::declare::declaration;
+use super::failure::{Failure, Outcome};
+use super::text::{patterns_of, printable, Meaning};
+use ctfd_read::nearest::suggestion;
+use std::collections::{BTreeSet, HashMap};
+
+/// The names of a catalog's types: a tag, a name, or the typedef of what has no tag.
+pub struct Names<'c, 'd> {
+    /// The types.
+    pub catalog: &'c Catalog<'d>,
+    typedefs: HashMap<u16, Vec<u16>>,
+}
+
+impl<'c, 'd> Names<'c, 'd> {
+    /// Those of all types of a catalog.
+    pub fn new(catalog: &'c Catalog<'d>) -> Names<'c, 'd> {
+        let mut typedefs: HashMap<u16, Vec<u16>> = HashMap::new();
+        for number in catalog.all() {
+            if catalog.kind(number) == ctfd::Kind::Typedef {
+                let named = catalog.resolved(number);
+                if catalog.record(named).is_tagged() {
+                    typedefs.entry(named).or_default().push(number);
+                }
+            }
+        }
+        Names { catalog, typedefs }
+    }
+
+    /// Whether something names it: else it is known by where it stands alone.
+    pub fn has_name(&self, number: u16) -> bool {
+        !self.catalog.record(number).name.is_empty() || self.typedefs.contains_key(&number)
+    }
+
+    /// The name by which it is told.
+    pub fn label(&self, number: u16) -> String {
+        let record = self.catalog.record(number);
+        let name = printable(&record.name);
+        if !record.is_tagged() {
+            return match name.is_empty() {
+                true => self.spelled(number),
+                false => name.into_owned(),
+            };
+        }
+        if !name.is_empty() {
+            return format!("{} {name}", record.word());
+        }
+        match self.typedefs.get(&number) {
+            Some(typedefs) => printable(&self.catalog.record(typedefs[0]).name).into_owned(),
+            None => format!("{} (anon {number})", record.word()),
+        }
+    }
+
+    /// As C spells it.
+    pub fn spelled(&self, number: u16) -> String {
+        declaration(self.catalog, number, b"")
+    }
+
+    /// Whether one of the names that it is found by meets something: those of its typedefs, and
+    /// tags alone and with their word.
+    fn is_called(&self, number: u16, meets: impl Fn(&[u8]) -> bool) -> bool {
+        self.calls(number).iter().any(|name| meets(name))
+    }
+
+    fn calls(&self, number: u16) -> Vec<std::borrow::Cow<'_, [u8]>> {
+        let record = self.catalog.record(number);
+        let typedefs = self.typedefs.get(&number).map(Vec::as_slice).unwrap_or_default();
+        let mut names: Vec<std::borrow::Cow<'_, [u8]>> =
+            typedefs.iter().map(|&one| self.catalog.record(one).name.as_slice().into()).collect();
+        if !record.name.is_empty() {
+            names.push(record.name.as_slice().into());
+            if record.is_tagged() {
+                names.push(record.called().into());
+            }
+        }
+        names
+    }
+
+    /// Those types that one of the patterns means.
+    pub fn matching(
+        &self,
+        patterns: &[Vec<u8>],
+        among: impl Iterator<Item = u16>,
+    ) -> Outcome<Vec<u16>> {
+        let meaning = Meaning::of(patterns.iter().flat_map(|one| patterns_of(one)));
+        let found: Vec<u16> =
+            among.filter(|&n| self.is_called(n, |name| meaning.has(name))).collect();
+        match found.is_empty() {
+            true => Err(self.nothing(patterns)),
+            false => Ok(found),
+        }
+    }
+
+    /// The types that one name says; of a typedef of a struct, union or enum that too.
+    pub fn meant(&self, name: &[u8]) -> Outcome<BTreeSet<u16>> {
+        let names = [name.to_vec()];
+        Ok(self.matching(&names, self.catalog.all())?.into_iter().collect())
+    }
+
+    /// That no type is meant, and which name is near.
+    fn nothing(&self, patterns: &[Vec<u8>]) -> Failure {
+        let shown: Vec<_> = patterns.iter().map(|one| printable(one)).collect();
+        let advice = match patterns {
+            [one] => {
+                let known = self.catalog.all().flat_map(|n| self.calls(n));
+                suggestion(&printable(one), known.map(|name| printable(&name).into_owned()))
+            }
+            _ => String::new(),
+        };
+        Failure::Unknown(format!("no type is called {}{advice}", shown.join(" or ")))
+    }
+}

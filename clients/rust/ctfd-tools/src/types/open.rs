@@ -1,0 +1,214 @@
+//! Opens the dictionaries that a command line names, over their parents.
+
+use super::catalog::{Catalog, Lists};
+use super::failure::{told, Failure, Outcome};
+use super::options::Words;
+use super::text::printable;
+use super::warn;
+use ctfd::{Dictionary, Fault, Refusal};
+use ctfd_read::dictionary::notice;
+use ctfd_read::image::Image;
+use ctfd_read::opening::{self, Handed, Origin};
+use std::borrow::Cow;
+use std::cell::OnceCell;
+use std::os::unix::ffi::OsStrExt as _;
+use std::path::Path;
+
+/// How many lines tell what was lost where a file is converted.
+const FEW: usize = 3;
+const ALONE: &str =
+    "--parent, --symbols and --strings go with a dictionary, and this file's types \
+                     are converted first: leave them out, or make the dictionary by ctfd-convert \
+                     (--parent makes a child)";
+
+/// A file, as a line on it begins.
+pub fn shown(path: &Path) -> String {
+    printable(path.as_os_str().as_bytes()).into_owned()
+}
+
+/// The parent that a command line names, read once for all files.
+pub struct Parents<'w> {
+    words: &'w Words,
+    image: OnceCell<Image>,
+}
+
+impl<'w> Parents<'w> {
+    /// That of some words, which is not read yet.
+    pub fn new(words: &'w Words) -> Parents<'w> {
+        Parents { words, image: OnceCell::new() }
+    }
+
+    /// What is given for the parent; None where none is named.
+    fn handed(&self) -> Outcome<Option<(&Path, Handed<'_>)>> {
+        let Some(path) = &self.words.parent else { return Ok(None) };
+        if self.image.get().is_none() {
+            let _ = self.image.set(Image::open(path)?);
+        }
+        let Some(image) = self.image.get() else { return Ok(None) };
+        let reading = ctfd_read::inputs::Options {
+            model: self.words.reading.model,
+            ..ctfd_read::inputs::Options::default()
+        };
+        let mut handed = opening::handed(image, &reading)?;
+        judge_model(&mut handed, self.words, path)?;
+        Ok(Some((path, handed)))
+    }
+}
+
+/// What is given for a file, with what the command line says of it.
+pub fn handed<'i>(image: &'i Image, words: &Words) -> Outcome<Handed<'i>> {
+    let path = image.path();
+    let mut found = opening::handed(image, &words.reading)?;
+    for line in losses(&found, path) {
+        warn(&format!("{}: {line}", shown(path)));
+    }
+    let is_given = words.parent.is_some() || words.symbols.is_some() || words.strings.is_some();
+    if found.is_made && is_given {
+        return Err(Failure::Refused(format!("{}: {ALONE}", shown(path))));
+    }
+    judge_model(&mut found, words, path)?;
+    Ok(found)
+}
+
+/// What CTF can't hold of a file: each where it is little.
+fn losses(found: &Handed<'_>, path: &Path) -> Vec<String> {
+    let how = format!("`ctfd-convert --report - {} /dev/null` lists them all", shown(path));
+    match found.losses.is_empty() {
+        true => Vec::new(),
+        false => notice(&found.losses, FEW, &how),
+    }
+}
+
+fn judge_model(found: &mut Handed<'_>, words: &Words, path: &Path) -> Outcome<()> {
+    let Some(wanted) = words.reading.model else { return Ok(()) };
+    let word = |model| match model {
+        ctfd::Model::Ilp32 => "ilp32",
+        ctfd::Model::Lp64 => "lp64",
+    };
+    if let Some(said) = opening::model_named(&found.ctf).filter(|&said| said != wanted) {
+        return Err(Failure::Refused(format!(
+            "{}: it says that it is of {}, and {} was asked for: leave the model out",
+            shown(path),
+            word(said),
+            word(wanted)
+        )));
+    }
+    found.model = Some(wanted);
+    Ok(())
+}
+
+/// A symbol table and its strings, each in place of what the file has.
+pub struct Given {
+    symbols: Option<Image>,
+    strings: Option<Image>,
+}
+
+impl Given {
+    /// Those that the command line names.
+    pub fn of(words: &Words) -> Outcome<Given> {
+        let open = |path: &Option<std::path::PathBuf>| {
+            path.as_deref().map(Image::open).transpose().map_err(Failure::from)
+        };
+        Ok(Given { symbols: open(&words.symbols)?, strings: open(&words.strings)? })
+    }
+
+    /// Puts them in place. A whole program stands for its symbol table.
+    pub fn put<'a>(&'a self, found: &mut Handed<'a>) -> Outcome<()> {
+        if let Some(image) = &self.symbols {
+            found.origin = Origin::Given;
+            if image.is_elf() {
+                let Some((symbols, strings)) = opening::table_of_program(image) else {
+                    return Err(Failure::Refused(format!(
+                        "{}: it has no symbol table of 64 bits",
+                        shown(image.path())
+                    )));
+                };
+                found.symbols = Some(symbols.into());
+                found.strings = Some(strings.into());
+            } else {
+                found.symbols = Some(image.all()?.into());
+            }
+        }
+        if let Some(image) = &self.strings {
+            found.origin = Origin::Given;
+            found.strings = Some(image.all()?.into());
+        }
+        Ok(())
+    }
+}
+
+/// A dictionary that is open, and how its symbols were found.
+pub struct Opened<'o, 'd> {
+    /// The types.
+    pub catalog: &'o Catalog<'d>,
+    /// What the dictionary was given.
+    pub handed: &'o Handed<'o>,
+}
+
+/// Opens what is given for a file, and runs something on it. Where guessed symbols do not fit, or
+/// those of what was converted, it is opened without.
+pub fn with_catalog<T>(
+    path: &Path,
+    handed: &Handed<'_>,
+    parents: &Parents<'_>,
+    run: impl FnOnce(&Opened<'_, '_>) -> Outcome<T>,
+) -> Outcome<T> {
+    let refusal = match Dictionary::open_lent(&handed.ctf, handed.options()) {
+        Ok(types) => return over_parent(path, types, handed, parents, run),
+        Err(refusal) => refusal,
+    };
+    let is_guess = handed.origin == Origin::Guessed;
+    if !is_of_symbols(&refusal) || !(is_guess || handed.is_made) {
+        return Err(Failure::of_library(shown(path), refusal));
+    }
+    if handed.is_made {
+        warn(&format!(
+            "{}: the types of its symbols do not fit its symbol table: symbols are left out",
+            shown(path)
+        ));
+    }
+    let bare = Handed {
+        ctf: Cow::Borrowed(&handed.ctf),
+        symbols: None,
+        strings: handed.strings.as_deref().filter(|_| is_guess).map(Cow::Borrowed),
+        origin: if is_guess { Origin::Refused } else { Origin::None },
+        model: handed.model,
+        is_made: handed.is_made,
+        losses: Vec::new(),
+    };
+    let types = Dictionary::open_lent(&bare.ctf, bare.options())
+        .map_err(|refusal| Failure::of_library(shown(path), refusal))?;
+    over_parent(path, types, &bare, parents, run)
+}
+
+/// Whether a refusal is one of the rules on symbols.
+fn is_of_symbols(refusal: &Refusal) -> bool {
+    matches!(refusal.fault, Fault::BadFuncs | Fault::BadSymbolType | Fault::BadSymtab)
+}
+
+fn over_parent<T>(
+    path: &Path,
+    types: Dictionary<'_>,
+    handed: &Handed<'_>,
+    parents: &Parents<'_>,
+    run: impl FnOnce(&Opened<'_, '_>) -> Outcome<T>,
+) -> Outcome<T> {
+    let own = lists(handed);
+    let Some((parent_path, parent)) = parents.handed()? else {
+        return run(&Opened { catalog: &Catalog::new(&types, own, None), handed });
+    };
+    let what = format!("{}, as the parent of {}", shown(parent_path), shown(path));
+    if let Some(why) = opening::why_not_parent(&types, &parent.ctf) {
+        return Err(Failure::Refused(format!("{what}: {why}")));
+    }
+    let opened = Dictionary::open_lent(&parent.ctf, parent.options())
+        .map_err(|refusal| Failure::of_library(shown(parent_path), refusal))?;
+    let mut types = types; // which lives no longer than what its parent borrows
+    types.import(&opened).map_err(|refusal| Failure::Refused(told(what, refusal)))?;
+    let catalog = Catalog::new(&types, own, Some(lists(&parent)));
+    run(&Opened { catalog: &catalog, handed })
+}
+
+fn lists<'h>(handed: &'h Handed<'_>) -> Lists<'h> {
+    Lists { ctf: &handed.ctf, strings: handed.strings.as_deref().unwrap_or_default() }
+}

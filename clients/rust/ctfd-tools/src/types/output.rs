@@ -1,0 +1,109 @@
+//! Standard output: written in large pieces, and what can't be written is told.
+
+use crate::messages::warn;
+use ctfd_read::error::reason;
+use std::io::{self, BufWriter, ErrorKind, IsTerminal as _, StdoutLock, Write};
+use std::process::ExitCode;
+
+/// The status of a command whose output nobody reads, as a shell has it of SIGPIPE.
+const UNREAD: u8 = 141;
+const PIECE: usize = 1 << 16;
+
+/// How a terminal shows a hole, other comments, and what is plain again.
+const HOLE: &[u8] = b"\x1b[33m";
+const COMMENT: &[u8] = b"\x1b[2m";
+const PLAIN: &[u8] = b"\x1b[0m";
+
+/// What a command prints to.
+pub struct Output {
+    written: BufWriter<StdoutLock<'static>>,
+    has_colors: bool,
+    line: Vec<u8>,
+}
+
+impl Output {
+    /// Standard output. Where it is a terminal, comments have colors, unless NO_COLOR is set.
+    pub fn new() -> Output {
+        let written = BufWriter::with_capacity(PIECE, io::stdout().lock());
+        let is_set = |name: &str| std::env::var_os(name).is_some_and(|word| !word.is_empty());
+        let is_dumb = std::env::var_os("TERM").is_none_or(|word| word == "dumb");
+        let has_colors = io::stdout().is_terminal() && !is_set("NO_COLOR") && !is_dumb;
+        Output { written, has_colors, line: Vec::new() }
+    }
+
+    /// Writes a line of C, its comment in a color.
+    fn write_colored(&mut self) -> io::Result<()> {
+        let line = std::mem::take(&mut self.line);
+        let begins = line.windows(2).position(|pair| pair == b"/*").unwrap_or(line.len());
+        let (code, comment) = line.split_at(begins);
+        self.written.write_all(code)?;
+        if !comment.is_empty() {
+            let color = if comment.starts_with(b"/* XXX") { HOLE } else { COMMENT };
+            let text = comment.strip_suffix(b"\n").unwrap_or(comment);
+            let parts = [color, text, PLAIN, &comment[text.len()..]];
+            parts.into_iter().try_for_each(|part| self.written.write_all(part))?;
+        }
+        Ok(())
+    }
+}
+
+impl Write for Output {
+    fn write(&mut self, bytes: &[u8]) -> io::Result<usize> {
+        if !self.has_colors {
+            return self.written.write(bytes);
+        }
+        for part in bytes.split_inclusive(|&byte| byte == b'\n') {
+            self.line.extend_from_slice(part);
+            if part.ends_with(b"\n") {
+                self.write_colored()?;
+            }
+        }
+        Ok(bytes.len())
+    }
+
+    fn flush(&mut self) -> io::Result<()> {
+        self.write_colored()?;
+        self.written.flush()
+    }
+}
+
+/// How a command ends whose output can't be written: quietly where its reader has left.
+pub fn lost(command: &str, trouble: u8, error: &io::Error) -> ExitCode {
+    if error.kind() == ErrorKind::BrokenPipe {
+        return ExitCode::from(UNREAD);
+    }
+    warn(command, format!("standard output: {}", reason(error)));
+    ExitCode::from(trouble)
+}
+
+/// An answer with a line in front of it, which is written once there is an answer.
+pub struct Titled<'o> {
+    output: &'o mut Output,
+    title: Option<String>,
+}
+
+impl<'o> Titled<'o> {
+    /// One with this title, or without.
+    pub fn new(output: &'o mut Output, title: Option<String>) -> Titled<'o> {
+        Titled { output, title }
+    }
+
+    /// Writes the title, if it is not written yet.
+    pub fn begin(&mut self) -> io::Result<()> {
+        match self.title.take() {
+            Some(title) => self.output.write_all(title.as_bytes()),
+            None => Ok(()),
+        }
+    }
+}
+
+impl Write for Titled<'_> {
+    fn write(&mut self, bytes: &[u8]) -> io::Result<usize> {
+        self.begin()?;
+        self.output.write(bytes)
+    }
+
+    fn flush(&mut self) -> io::Result<()> {
+        self.output.flush()
+    }
+}

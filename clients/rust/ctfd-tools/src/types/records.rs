@@ -1,0 +1,127 @@
+//! The values of a type that follow each other in a file.
+
+use super::failure::{Failure, Outcome};
+use super::members::{number, offset};
+use super::text::printable;
+use super::whole::Whole;
+use ctfd_read::error::reason;
+use std::fs::File;
+use std::io::{Read, Seek, SeekFrom, Write};
+use std::path::Path;
+
+/// How many bytes of the file are read at a time, about.
+const PIECE: usize = 1 << 22;
+
+/// Which records are wanted: `TYPE FILE [OFFSET] [COUNT]`.
+pub struct Wanted<'w> {
+    /// The name of the type.
+    pub name: &'w [u8],
+    /// The file.
+    pub file: &'w Path,
+    /// From where on.
+    pub offset: Option<&'w str>,
+    /// How many at most.
+    pub count: Option<&'w str>,
+}
+
+/// Tells the values, a line each.
+pub fn records(
+    whole: &Whole<'_, '_>,
+    wanted: &Wanted<'_>,
+    is_hexadecimal: bool,
+    output: &mut dyn Write,
+) -> Outcome<()> {
+    let shown = printable(wanted.name);
+    let start = wanted.offset.map(offset).transpose()?.unwrap_or(0) / 8;
+    let start = u64::try_from(start).unwrap_or(u64::MAX);
+    let catalog = whole.names.catalog;
+    let of = whole.names.meant(wanted.name)?.into_iter().next().and_then(|n| catalog.get(n));
+    let size = of.and_then(|of| catalog.size(of.number())).unwrap_or(0);
+    let (Some(of), Ok(size @ 1..)) = (of, usize::try_from(size)) else {
+        return Err(Failure::Refused(format!("{shown} has no size: no records are of it")));
+    };
+    let count = wanted.count.map(count_of).transpose()?;
+    let mut file = Pieces::open(wanted.file, start)?;
+    if let Some(count) = count {
+        file.judge(start, count, size)?;
+    }
+    let most = count.map_or(u64::MAX, |count| count.saturating_mul(size as u64));
+    let at_once = (PIECE / size).max(1).saturating_mul(size);
+    let (mut at, mut read) = (start, 0);
+    while read < most {
+        let length = at_once.min(usize::try_from(most - read).unwrap_or(usize::MAX));
+        let piece = file.next(length)?;
+        for value in piece.chunks_exact(size) {
+            let text = match of.show(value, 0) {
+                Ok(text) => text.to_string(),
+                Err(refusal) => format!("({})", refusal.fault),
+            };
+            let place = match is_hexadecimal {
+                true => format!("{at:#x}"),
+                false => at.to_string(),
+            };
+            writeln!(output, "{place:>8}  {text}")?;
+            at += size as u64;
+        }
+        read += piece.len() as u64;
+        let rest = piece.len() % size;
+        if rest != 0 {
+            let path = wanted.file.display();
+            whole.cut(format!("{path}: {rest} bytes behind the last record of {size}"));
+        }
+        if piece.len() < length {
+            break;
+        }
+    }
+    Ok(())
+}
+
+fn count_of(written: &str) -> Outcome<u64> {
+    if written.starts_with('-') && number(&written[1..]).is_some() {
+        return Ok(0);
+    }
+    number(written).ok_or_else(|| {
+        let shown = printable(written.as_bytes());
+        Failure::Refused(format!("{shown} is no number of records"))
+    })
+}
+
+/// A file that is read in pieces.
+struct Pieces<'p> {
+    path: &'p Path,
+    file: File,
+}
+
+impl<'p> Pieces<'p> {
+    fn open(path: &'p Path, start: u64) -> Outcome<Pieces<'p>> {
+        let mut made = Pieces { path, file: File::open(path).map_err(|e| refused(path, &e))? };
+        made.file.seek(SeekFrom::Start(start)).map_err(|error| refused(path, &error))?;
+        Ok(made)
+    }
+
+    /// Refuses a file that has fewer records than are asked for.
+    fn judge(&self, start: u64, count: u64, size: usize) -> Outcome<()> {
+        let about = self.file.metadata().map_err(|error| refused(self.path, &error))?;
+        let length = about.len().saturating_sub(start);
+        if !about.is_file() || u128::from(length) >= u128::from(count) * size as u128 {
+            return Ok(());
+        }
+        Err(Failure::Refused(format!(
+            "{}: {length} bytes are there from {start} on, and {count} records of {size} are asked \
+             for",
+            self.path.display()
+        )))
+    }
+
+    /// The next bytes, fewer than so many at the end alone.
+    fn next(&mut self, length: usize) -> Outcome<Vec<u8>> {
+        let mut piece = Vec::new();
+        let read = (&mut self.file).take(length as u64).read_to_end(&mut piece);
+        read.map_err(|error| refused(self.path, &error))?;
+        Ok(piece)
+    }
+}
+
+fn refused(path: &Path, error: &std::io::Error) -> Failure {
+    Failure::Refused(format!("{}: {}", path.display(), reason(error)))
+}

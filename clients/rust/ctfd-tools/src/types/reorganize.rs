@@ -1,0 +1,153 @@
+//! A struct with its members in an order without holes, as one can paste it.
+
+use super::catalog::Catalog;
+use super::declare::base;
+use super::failure::{Failure, Outcome};
+use super::layout::{Layout, Place};
+use super::listing;
+use super::text::printable;
+use super::whole::Whole;
+use ctfd::Kind;
+use std::cmp::Reverse;
+use std::collections::HashSet;
+use std::io::Write;
+
+/// What i386 aligns numbers to within structs.
+const WORD: u64 = 4;
+/// The power of two that a source aligns by at most, over what a type needs.
+const MOST_ALIGNED: u32 = 12;
+const NONE_SMALLER: &str = "/* no struct has an order of its members that is smaller */";
+
+/// Tells the structs that are named in a better order; of all, those alone that have one.
+pub fn reorganized(
+    whole: &Whole<'_, '_>,
+    patterns: &[Vec<u8>],
+    output: &mut dyn Write,
+) -> Outcome<()> {
+    let catalog = whole.names.catalog;
+    let all = [b"*".to_vec()];
+    let wanted = if patterns.is_empty() { &all[..] } else { patterns };
+    let (mut structs, mut known) = (Vec::new(), HashSet::new());
+    for number in whole.names.matching(wanted, catalog.own())? {
+        let end = catalog.resolved(number);
+        if catalog.kind(end) == Kind::Struct && known.insert(end) {
+            structs.push(end);
+        }
+    }
+    if structs.is_empty() {
+        let shown: Vec<_> = patterns.iter().map(|one| printable(one)).collect();
+        return Err(Failure::Refused(format!(
+            "{}: no struct, and only the members of a struct have an order",
+            shown.join(" or ")
+        )));
+    }
+    let mut has_any = !patterns.is_empty();
+    for number in structs {
+        match order_of(whole, number) {
+            Ok(text) => {
+                has_any = true;
+                output.write_all(text.as_bytes())?;
+            }
+            Err(text) if !patterns.is_empty() => writeln!(output, "{text}")?,
+            Err(_) => {}
+        }
+    }
+    if !has_any {
+        writeln!(output, "{NONE_SMALLER}")?;
+    }
+    Ok(())
+}
+
+/// A struct in an order that is smaller, and what that saves; else a line that says that none is.
+fn order_of(whole: &Whole<'_, '_>, number: u16) -> Result<String, String> {
+    let catalog = whole.names.catalog;
+    let layout = Layout::of(catalog, number);
+    let order = Order { whole, catalog };
+    let align = u128::from(order.alignment(number));
+    let mut runs = runs(&layout.places);
+    // By falling alignment; what has no bytes, as an array of no elements, stays at the end.
+    runs.sort_by_key(|run| (bytes(run) == 0, Reverse(bytes(run).min(1) * order.of_run(run))));
+    let size = order.size(&runs, align);
+    let label = whole.names.label(number);
+    let was = u128::from(layout.size);
+    if size >= was || align > 1 && was % align != 0 {
+        return Err(format!(
+            "/* {label}: no order of its members is smaller than its {was} bytes */"
+        ));
+    }
+    let record = catalog.record(number);
+    let head = if record.name.is_empty() { "struct".to_owned() } else { base(catalog, number) };
+    let members = listing::members(catalog, &runs.concat());
+    let (saved, hints) = (was - size, order.hints(&layout.places));
+    Ok(format!(
+        "{head} {{\n{members}}}; /* {label}: {size} bytes, was {was}: saves {saved} */\n{hints}"
+    ))
+}
+
+/// Members that stay together: one, or bit-fields that follow each other.
+fn runs<'p>(places: &[Place<'p>]) -> Vec<Vec<Place<'p>>> {
+    let mut made: Vec<Vec<Place<'p>>> = Vec::new();
+    for &place in places {
+        match made.last_mut() {
+            Some(run) if place.width.is_some() && run[0].width.is_some() => run.push(place),
+            _ => made.push(vec![place]),
+        }
+    }
+    made
+}
+
+fn bytes(run: &[Place<'_>]) -> u128 {
+    run.iter().map(|place| place.bits).sum::<u128>().div_ceil(8)
+}
+
+/// What the order of members goes by.
+struct Order<'o, 'w, 'd> {
+    whole: &'o Whole<'w, 'd>,
+    catalog: &'o Catalog<'d>,
+}
+
+impl Order<'_, '_, '_> {
+    /// How a run is aligned: bit-fields by the bytes that they fill.
+    fn of_run(&self, run: &[Place<'_>]) -> u128 {
+        let each = run.iter().map(|place| self.alignment(place.part.of));
+        each.max().map_or(1, u128::from)
+    }
+
+    fn alignment(&self, number: u16) -> u64 {
+        let found = self.whole.sizes.alignment(number);
+        if self.catalog.is_ilp32() {
+            found.min(WORD)
+        } else {
+            found
+        }
+    }
+
+    /// A line for each member that stands farther on than its type needs: the source may align it.
+    fn hints(&self, places: &[Place<'_>]) -> String {
+        let hint = |place: &Place<'_>| {
+            let end = place.start - place.gap;
+            let is_at = |align: &u128| end.div_ceil(8 * align) * 8 * align == place.start;
+            let own = u128::from(self.alignment(place.part.of));
+            let is_plain = place.width.is_none() && place.gap != 0 && !is_at(&own);
+            let mut powers = (0..=MOST_ALIGNED).map(|power| own << power);
+            let aligned = is_plain.then(|| powers.find(is_at)).flatten()?;
+            Some(format!(
+                "/* {} stands at {} behind a hole that its type does not need: does the source align \
+                 it to {aligned}? */\n",
+                printable(place.part.name),
+                place.start / 8
+            ))
+        };
+        places.iter().filter_map(hint).collect()
+    }
+
+    /// The bytes of a struct of runs in this order.
+    fn size(&self, runs: &[Vec<Place<'_>>], align: u128) -> u128 {
+        let mut end: u128 = 0;
+        for run in runs {
+            let own = self.of_run(run);
+            end = end.div_ceil(own) * own + bytes(run);
+        }
+        end.div_ceil(align) * align
+    }
+}

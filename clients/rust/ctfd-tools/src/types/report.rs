@@ -1,0 +1,370 @@
+//! What is told of one file.
+
+use super::catalog::Catalog;
+use super::embeds::Embeds;
+use super::failure::{told, Failure, Outcome};
+use super::figures::{table, Order};
+use super::listing::{definition, Manner};
+use super::lookup::{self, Found};
+use super::names::Names;
+use super::open::{handed, shown, with_catalog, Given, Opened, Parents};
+use super::options::{Question, Words};
+use super::text::{is_pattern, printable, without_tag, TAGS};
+use super::whole::Whole;
+use super::{declare, header, json, members, picture, records, reorganize, symbols, treemap, warn};
+use ctfd_read::image::Image;
+use ctfd_read::nearest::suggestion;
+use ctfd_read::opening::{Handed, Origin};
+use std::borrow::Cow;
+use std::collections::{BTreeSet, HashSet};
+use std::io::Write;
+use std::os::unix::ffi::OsStrExt as _;
+use std::path::Path;
+
+/// Answers the question for a file; whether nothing of the answer is left out.
+pub fn file(
+    words: &Words,
+    parents: &Parents<'_>,
+    path: &Path,
+    output: &mut dyn Write,
+) -> Outcome<bool> {
+    let image = Image::open(path)?;
+    let given = Given::of(words)?;
+    let mut found = handed(&image, words)?;
+    given.put(&mut found)?;
+    if matches!(words.question, Question::Functions(_)) && found.has_more_names() {
+        found.add_names();
+    }
+    with_catalog(path, &found, parents, |opened| {
+        if matches!(opened.handed.origin, Origin::Refused | Origin::Differs) {
+            warn(&format!("{}: {}", shown(path), opened.handed.origin.warning()));
+        }
+        let answer = Answer { words, parents, path, opened };
+        match words.is_of_all() {
+            true => answer.on_all(output),
+            false => answer.on_some(output).map(|()| true),
+        }
+    })
+}
+
+/// The answer for one file that is open.
+struct Answer<'a, 'd> {
+    words: &'a Words,
+    parents: &'a Parents<'a>,
+    path: &'a Path,
+    opened: &'a Opened<'a, 'd>,
+}
+
+impl<'a, 'd> Answer<'a, 'd> {
+    fn catalog(&self) -> &'a Catalog<'d> {
+        self.opened.catalog
+    }
+
+    fn manner(&self) -> Manner {
+        Manner {
+            has_places: !self.words.is_plain,
+            cache_line: self.words.cache_line,
+            is_expanded: self.words.is_expanded,
+            is_hexadecimal: self.words.is_hexadecimal,
+        }
+    }
+
+    /// What is said of a child that is read alone.
+    fn without_parent(&self) -> Option<String> {
+        let types = self.catalog().types;
+        let name = types.parent_name();
+        let name = match name.is_empty() {
+            true => Cow::Borrowed("a parent without a name"),
+            false => printable(&name),
+        };
+        let is_alone = types.is_child() && self.words.parent.is_none();
+        is_alone.then(|| {
+            format!(
+                "{} is a child of {name}, whose types it names: name the parent's file by --parent",
+                shown(self.path)
+            )
+        })
+    }
+
+    /// The answer to a question on all types; whether nothing of it is left out.
+    fn on_all(&self, output: &mut dyn Write) -> Outcome<bool> {
+        if let Some(why) = self.without_parent() {
+            return Err(Failure::Refused(why));
+        }
+        let names = Names::new(self.catalog());
+        let whole = Whole::new(self.path.as_os_str().as_bytes(), &names);
+        self.answer(&whole, output)?;
+        let cuts = whole.cuts();
+        cuts.iter().for_each(|cut| warn(&format!("{}: {cut}", shown(self.path))));
+        Ok(cuts.is_empty())
+    }
+
+    fn answer(&self, whole: &Whole<'_, 'd>, output: &mut dyn Write) -> Outcome<()> {
+        let words = self.words;
+        let of_names = &words.names;
+        match &words.question {
+            Question::At(name, offset) => {
+                let mut held = Vec::new(); // a later one may be refused
+                members::at(whole, name, offset, &mut held)?;
+                Ok(output.write_all(&held)?)
+            }
+            Question::Members(name) => members::named(whole, name, words.is_json, output),
+            Question::Functions(name) => {
+                let given = self.opened.handed;
+                let table = given.symbols.as_deref().zip(given.strings.as_deref());
+                symbols::functions(whole, table, name, words.is_json, output)
+            }
+            Question::Show(listed) => self.records(whole, listed, output),
+            Question::Reorganize => reorganize::reorganized(whole, of_names, output),
+            Question::Contains(name) => self.holders(whole, name, false, output),
+            Question::Uses(name) => self.holders(whole, name, true, output),
+            Question::Header => header::write(whole, of_names, output),
+            Question::Picture(name) => {
+                let picture = picture::svg(whole, name, words.cache_line)?;
+                Ok(output.write_all(picture.as_bytes())?)
+            }
+            Question::Treemap => Ok(output.write_all(treemap::svg(whole, of_names)?.as_bytes())?),
+            Question::Sizes(least) => self.sizes(whole, *least, output),
+            Question::Complete(text) => self.completions(text, output),
+            Question::Types | Question::Number(_) => self.matching(whole, output),
+        }
+    }
+
+    fn records(
+        &self,
+        whole: &Whole<'_, 'd>,
+        listed: &[std::ffi::OsString],
+        output: &mut dyn Write,
+    ) -> Outcome<()> {
+        let text = |place: usize| listed.get(place).map(|word| word.to_string_lossy());
+        let (offset, count) = (text(2), text(3));
+        let wanted = records::Wanted {
+            name: listed[0].as_bytes(),
+            file: Path::new(&listed[1]),
+            offset: offset.as_deref(),
+            count: count.as_deref(),
+        };
+        records::records(whole, &wanted, self.words.is_hexadecimal, output)
+    }
+
+    /// Who holds a type, or points to it: a line for each member.
+    fn holders(
+        &self,
+        whole: &Whole<'_, 'd>,
+        name: &[u8],
+        is_pointer: bool,
+        output: &mut dyn Write,
+    ) -> Outcome<()> {
+        let targets = whole.names.meant(name)?;
+        let embeds = Embeds::new(whole.names, self.words.is_recursive);
+        let found = embeds.of(&targets, is_pointer);
+        for owner in embeds.cut() {
+            let label = whole.names.label(owner);
+            whole.cut(format!("{label} has more members of members than are walked"));
+        }
+        for one in found {
+            match self.words.is_json {
+                true => writeln!(output, "{}", json::embedded(whole, &one))?,
+                false => writeln!(output, "{}", one.line(whole.names))?,
+            }
+        }
+        Ok(())
+    }
+
+    fn sizes(
+        &self,
+        whole: &Whole<'_, 'd>,
+        least: Option<i64>,
+        output: &mut dyn Write,
+    ) -> Outcome<()> {
+        let usual = if least.is_none() { Order::Size } else { Order::Holes };
+        let order = self.words.order.unwrap_or(usual);
+        let found = whole.sizes.listed(&self.words.names, least.unwrap_or(0), order)?;
+        if !self.words.is_json {
+            return table(&found, output);
+        }
+        for one in found {
+            writeln!(output, "{}", json::of_type(whole, one.number))?;
+        }
+        Ok(())
+    }
+
+    /// Types in full, each once, a blank line between them; or as objects.
+    fn matching(&self, whole: &Whole<'_, 'd>, output: &mut dyn Write) -> Outcome<()> {
+        let catalog = self.catalog();
+        let numbers: Vec<u16> = match &self.words.names[..] {
+            [] => catalog.own().collect(),
+            names => whole.names.matching(names, catalog.own())?,
+        };
+        if self.words.is_json {
+            for number in numbers {
+                writeln!(output, "{}", json::of_type(whole, number))?;
+            }
+            return Ok(());
+        }
+        let mut known = HashSet::new();
+        for number in numbers {
+            let number = lookup::worth_listing(catalog, number);
+            if known.insert(number) {
+                let blank = if known.len() > 1 { "\n" } else { "" };
+                write!(output, "{blank}{}", definition(catalog, number, self.manner()))?;
+            }
+        }
+        Ok(())
+    }
+
+    /// The names that begin with a text, a line each, tags without their word too.
+    fn completions(&self, text: &[u8], output: &mut dyn Write) -> Outcome<()> {
+        let is_plain = |name: &[u8]| name.iter().all(|byte| matches!(byte, b' '..=b'~'));
+        let mut listed = BTreeSet::new();
+        for name in lookup::names(self.catalog()) {
+            let (_, bare) = without_tag(&name);
+            let both = [&name[..], bare];
+            let wanted = both.into_iter().filter(|name| name.starts_with(text) && is_plain(name));
+            listed.extend(wanted.map(|name| name.to_vec()));
+        }
+        for name in listed {
+            writeln!(output, "{}", printable(&name))?;
+        }
+        Ok(())
+    }
+
+    // Some types, or a list of all.
+
+    fn on_some(&self, output: &mut dyn Write) -> Outcome<()> {
+        if let Some(why) = self.without_parent() {
+            warn(&why);
+        }
+        let mut text = String::new();
+        if let Question::Number(number) = self.words.question {
+            text = definition(self.catalog(), self.of_number(number)?, self.manner());
+        } else if self.words.names.is_empty() {
+            return self.all(output);
+        }
+        for name in &self.words.names {
+            text += &self.named(name)?;
+        }
+        if self.catalog().lacks_parent() {
+            let fault = ctfd::Fault::NoParent;
+            let refusal = ctfd::Refusal { fault, place: 0 };
+            return Err(Failure::Refused(told(shown(self.path), refusal)));
+        }
+        Ok(output.write_all(text.as_bytes())?)
+    }
+
+    fn of_number(&self, number: u64) -> Outcome<u16> {
+        let catalog = self.catalog();
+        let known = u16::try_from(number).ok().filter(|&number| catalog.get(number).is_some());
+        known.ok_or_else(|| {
+            let mut own = catalog.own();
+            Failure::Refused(match (own.next(), own.next_back()) {
+                (Some(first), last) => format!(
+                    "no type has the number {number}: they go from {first} to {}",
+                    last.unwrap_or(first)
+                ),
+                (None, _) => "it has no types".to_owned(),
+            })
+        })
+    }
+
+    /// A line for each type: its number, its size in bytes ("-" where it has none), its name.
+    fn all(&self, output: &mut dyn Write) -> Outcome<()> {
+        for of in self.catalog().types.types() {
+            let size = of.size().map_or("-".to_owned(), |size| size.to_string());
+            let number = of.number();
+            match of.name() {
+                Ok(name) => writeln!(output, "{number:>6} {size:>8}  {}", printable(&name))?,
+                Err(refusal) => {
+                    writeln!(output, "{number:>6} {size:>8}  ({})", refusal.fault)?;
+                }
+            }
+        }
+        Ok(())
+    }
+
+    /// A type of a name in full, or all of them, or how C declares a symbol.
+    fn named(&self, name: &[u8]) -> Outcome<String> {
+        let catalog = self.catalog();
+        let all = lookup::find_all(catalog, name);
+        if self.words.is_all && !all.is_empty() {
+            return Ok(all.into_iter().map(|number| self.listing(number)).collect());
+        }
+        if !self.words.is_all {
+            lookup::others(&all, name).iter().for_each(|line| warn(line));
+        }
+        let found = lookup::find(catalog, name)
+            .map_err(|refusal| Failure::of_library(shown(self.path), refusal))?;
+        match found {
+            Some(Found { number, stars: 0 }) if number != 0 => Ok(self.listing(number)),
+            Some(Found { number, stars }) => {
+                Ok(format!("{};\n", declare::declarator(catalog, number, stars).around("")))
+            }
+            None => self.symbol_or_tag(name),
+        }
+    }
+
+    fn listing(&self, number: u16) -> String {
+        let number = lookup::worth_listing(self.catalog(), number);
+        definition(self.catalog(), number, self.manner())
+    }
+
+    /// How C declares a symbol; else the only struct, union or enum whose tag is the name.
+    fn symbol_or_tag(&self, name: &[u8]) -> Outcome<String> {
+        let why = match self.symbol(name)? {
+            Ok(declared) => return Ok(declared + "\n"),
+            Err(why) => why,
+        };
+        if let Some(number) = lookup::find_tag(self.catalog(), name) {
+            return Ok(self.listing(number));
+        }
+        let shown = printable(name);
+        Err(Failure::Unknown(format!(
+            "{shown}: no type, and no symbol with a type, has this name ({why}){}",
+            self.advice(name)
+        )))
+    }
+
+    /// How C declares a symbol, or why nothing is told of one.
+    fn symbol(&self, name: &[u8]) -> Outcome<Result<String, String>> {
+        let handed = self.opened.handed;
+        if handed.has_more_names() {
+            let mut whole = Handed {
+                ctf: Cow::Borrowed(&handed.ctf),
+                symbols: None,
+                strings: None,
+                origin: Origin::None,
+                model: handed.model,
+                is_made: handed.is_made,
+                losses: Vec::new(),
+            };
+            whole.add_names();
+            return with_catalog(self.path, &whole, self.parents, |opened| {
+                Ok(symbols::declared(opened.catalog, name).map_err(|r| r.fault.to_string()))
+            });
+        }
+        if matches!(handed.origin, Origin::Unread | Origin::Differs | Origin::Stripped) {
+            return Ok(Err(handed.origin.warning().to_owned()));
+        }
+        let declared = symbols::declared(self.catalog(), name);
+        if declared.is_ok() && handed.origin == Origin::Guessed {
+            warn(handed.origin.warning());
+        }
+        Ok(declared.map_err(|refusal| refusal.fault.to_string()))
+    }
+
+    /// What may have been meant: stars behind a blank are a pointer's, and no pattern.
+    fn advice(&self, name: &[u8]) -> String {
+        let text = printable(name);
+        let stripped = text.replace('*', " ");
+        let words: Vec<&str> = stripped.split_whitespace().collect();
+        match words[..] {
+            [word] if text.contains('*') && TAGS.contains(&word) && !is_pattern(name) => {
+                format!("; a star behind a blank is a pointer's: '{word} ?*' is the pattern of all")
+            }
+            _ => {
+                let known = lookup::names(self.catalog());
+                suggestion(&text, known.into_iter().map(|name| printable(&name).into_owned()))
+            }
+        }
+    }
+}
