@@ -33,3 +33,4 @@ mod sound;
 mod spread;
 pub mod symbols;
 pub mod table;
+mod verify;
