@@ -5,7 +5,8 @@ usage: tests/reader/independent.py [PROGRAM..]
 
 Of each struct, class and union with a name that a program's debug information defines, the size, the
 names, places and widths of its data members and the places of its bases must be those of a type of
-this name in the dictionary; each such type of the dictionary must be defined so. Without programs
+this name in the dictionary; each such type of the dictionary must be defined so. The command compares
+what it writes with the units itself too (--verify). Without programs
 some are compiled: C, C++ by gcc and clang, and Rust. Needs llvm-dwarfdump and the compiled commands.
 """
 from __future__ import annotations
@@ -37,6 +38,7 @@ TYPEDEF, QUALIFIERS = 10, (11, 12, 13)
 CHILD = 0x8000
 ARCHIVE = b"!<arch>\n"
 LISTED = 10
+IN_PARTS = b"more than one dictionary holds"
 # Types of Rust that have one value or none, which debug information has as integers of no bytes.
 NO_STRUCTS = (b"()", b"!")
 
@@ -100,7 +102,7 @@ def shapes(program: Path) -> Iterator[Shape]:
         if is_scoped and one.tag in SCOPES:
             outer = above[-1] if above and above[-1].tag in SCOPES else None
             if declared := re.match(r"0x[0-9a-f]+", one.said.get("specification", "")):
-                one.name = one.name or full_names.get(declared[0], "")
+                one.name = full_names.get(declared[0]) or one.name
             elif one.tag == "DW_TAG_namespace" and not one.name:
                 one.name = "(anonymous namespace)"
             if outer and outer.name and one.name and "specification" not in one.said:
@@ -164,7 +166,7 @@ def told(ctf: bytes) -> dict[tuple[int, str], list[Shape]]:
                 offset = place[0] << 32 | place[1] if len(place) > 1 else place[0]
                 bits = width(parents, own, of)
                 members.append((member.decode("utf-8", "surrogateescape"), offset, bits))
-            if len(members) > 1 and not any(one[0] for one in members):
+            if said[0] > MOST_MEMBERS and not any(one[0] for one in members):
                 continue  # its members are too many, and stand in unnamed ones
             key = (kind, name.decode("utf-8", "surrogateescape"))
             made.setdefault(key, []).append((*key, said[0], tuple(members)))
@@ -199,7 +201,9 @@ def is_told(defined: Shape, shape: Shape) -> bool:
 def judge(program: Path) -> tuple[int, int, list[str]]:
     """How many definitions and members were compared, and which differ."""
     command = [str(rust.folder() / "ctfd-convert"), str(program), "-", "--from", "dwarf", "--lossy"]
-    done = subprocess.run(command, capture_output=True)
+    done = subprocess.run([*command, "--verify"], capture_output=True)
+    if done.returncode and IN_PARTS in done.stderr:
+        done = subprocess.run(command, capture_output=True)
     if done.returncode:
         return 0, 0, [f"it is not converted: {done.stderr.decode(errors='replace').strip()}"]
     known = told(done.stdout)

@@ -3,7 +3,7 @@
 use crate::ctf::Sections;
 use crate::error::{refuse, Error, Result};
 use crate::image::Image;
-use crate::inputs::{Form, ProgramTypes};
+use crate::inputs::{Form, ProgramTypes, Verifier};
 use crate::labels;
 use crate::limits::fit;
 use crate::merge::{merge, name_once};
@@ -43,7 +43,7 @@ pub struct Dictionary<'a> {
 
 /// What is wanted of a file, each type once and as CTF holds it; which of these are the base's.
 pub fn select<'a>(found: ProgramTypes<'a>, names: &[String]) -> Result<(ProgramTypes<'a>, u32)> {
-    let ProgramTypes { mut table, roots, bases, form, symbols, note } = found;
+    let ProgramTypes { mut table, roots, bases, form, symbols, note, verifier } = found;
     if table.lacks_parent {
         let name = String::from_utf8_lossy(&table.parent_name);
         let name = if name.is_empty() { "a parent without a name".into() } else { name };
@@ -70,7 +70,8 @@ pub fn select<'a>(found: ProgramTypes<'a>, names: &[String]) -> Result<(ProgramT
     if form != Form::Ctf {
         fit(&mut table);
     }
-    Ok((ProgramTypes { table, roots: Vec::new(), bases, form, symbols, note }, bases))
+    let roots = Vec::new();
+    Ok((ProgramTypes { table, roots, bases, form, symbols, note, verifier }, bases))
 }
 
 /// A dictionary without a parent.
@@ -294,6 +295,11 @@ impl<'a> Dictionary<'a> {
         }
         Ok(())
     }
+}
+
+/// Refuses the bytes of a dictionary that does not tell what was read; how many types were compared.
+pub fn verify(bytes: &[u8], verifier: &Verifier<'_>) -> Result<usize> {
+    verifier(&crate::ctf::table_of(&Sections::of(bytes)?, &[], None)?)
 }
 
 /// Whether a refusal is one of the rules on symbols.

@@ -5,7 +5,7 @@ use crate::bytes::Names;
 use crate::ctf::{self, Layout, Sections};
 use crate::dictionary::keep_described;
 use crate::dwarf::sections;
-use crate::dwarf::types::collect;
+use crate::dwarf::types::{collect, verify};
 use crate::dwarf::units::Debug;
 use crate::elf;
 use crate::error::{refuse, Error, Result};
@@ -123,7 +123,13 @@ pub struct ProgramTypes<'a> {
     pub symbols: Symbols<'a>,
     /// What should be known of these; empty where it is nothing.
     pub note: String,
+    /// Judges a dictionary by the units that were read, where types were read from such.
+    pub verifier: Option<&'a Verifier<'a>>,
 }
+
+/// Refuses types that were written where they are not those of the units that were read; how many of
+/// the units' types were compared.
+pub type Verifier<'a> = dyn Fn(&Table<'_>) -> Result<usize> + 'a;
 
 /// A section with types, in its ELF file where it is in one, with the strings that go with it.
 struct Section<'a> {
@@ -355,7 +361,9 @@ fn with_dwarf(image: &Image, options: &Options, run: &mut Use<'_>) -> Result<()>
     let sections =
         sections::Sections::load(debug, &options.folders).map_err(|error| error.of(&debug_path))?;
     let units = Debug::new(&sections).map_err(|error| error.of(&debug_path))?;
-    let collector = collect(&[(units, debug_path)], &symbols.listed, !file.is_64())?;
+    let (read, is_ilp32) = ([(units, debug_path)], !file.is_64());
+    let collector = collect(&read, &symbols.listed, is_ilp32)?;
+    let verifier = |table: &Table<'_>| verify(&read, is_ilp32, table);
     let is_linked = file.kind() != ObjectKind::Relocatable;
     let (mut table, roots) =
         collector.finish(&symbols, is_linked, !file.is_64()).map_err(|error| error.of(&path))?;
@@ -364,7 +372,8 @@ fn with_dwarf(image: &Image, options: &Options, run: &mut Use<'_>) -> Result<()>
         _ => symbols,
     };
     let note = note(image, &symbols, debug)?;
-    run(ProgramTypes { table, roots, bases: 0, form: Form::Dwarf, symbols, note })
+    let verifier: Option<&Verifier<'_>> = Some(&verifier);
+    run(ProgramTypes { table, roots, bases: 0, form: Form::Dwarf, symbols, note, verifier })
 }
 
 /// What is to be known of the symbols of a program.
@@ -443,7 +452,7 @@ fn with_archive(image: &Image, data: &[u8], options: &Options, run: &mut Use<'_>
     let (table, roots) =
         collector.finish(&symbols, false, is_ilp32).map_err(|error| error.of(path.display()))?;
     let note = String::new();
-    run(ProgramTypes { table, roots, bases: 0, form: Form::Dwarf, symbols, note })
+    run(ProgramTypes { table, roots, bases: 0, form: Form::Dwarf, symbols, note, verifier: None })
 }
 
 /// The object files of an archive; those of a thin one are files beside it.
@@ -541,7 +550,7 @@ fn with_ctf(
         let (roots, bases) = ((table.bases + 1..=table.len()).collect(), table.bases);
         let (symbols, note) = (symbols.unwrap_or_default(), String::new());
         let form = if is_native { Form::Ctf } else { Form::OtherCtf };
-        run(ProgramTypes { table, roots, bases, form, symbols, note })
+        run(ProgramTypes { table, roots, bases, form, symbols, note, verifier: None })
     };
     let Some(base) = &options.base else { return of_table(None) };
     let image = Image::open(base)?;
@@ -655,7 +664,7 @@ fn with_gnu(
         None => String::new(),
     };
     let roots = (1..=table.len()).filter(|&n| is_wanted(table.get(n))).collect();
-    run(ProgramTypes { table, roots, bases: 0, form: Form::Gnu, symbols, note })
+    run(ProgramTypes { table, roots, bases: 0, form: Form::Gnu, symbols, note, verifier: None })
 }
 
 /// What is wanted for itself: what has a name, and the names of an enum.
@@ -701,7 +710,15 @@ fn with_btf(
         symbols
     };
     let note = String::new();
-    run(ProgramTypes { table, roots: found.roots, bases, form: Form::Btf, symbols, note })
+    run(ProgramTypes {
+        table,
+        roots: found.roots,
+        bases,
+        form: Form::Btf,
+        symbols,
+        note,
+        verifier: None,
+    })
 }
 
 /// What BTF tells of the symbols of its file.

@@ -34,3 +34,4 @@ mod sound;
 mod spread;
 pub mod symbols;
 pub mod table;
+mod verify;

@@ -19,6 +19,7 @@ use std::process::ExitCode;
 const NAME: &str = "ctfd-convert";
 /// How many lines tell losses of a user, and how to see all.
 const MOST_LINES: usize = 12;
+const VERIFIED_ALONE: &str = "--verify: its types are more than one dictionary holds: leave it out";
 const ALL_LINES: &str = "--report - lists them all";
 const ABOUT: &str = "\
 Writes a program's types as a dictionary of CTF version 2.
@@ -63,6 +64,7 @@ struct Words {
     is_self_contained: bool,
     is_lossy: bool,
     is_one: bool,
+    is_verified: bool,
 }
 
 impl Words {
@@ -100,6 +102,7 @@ impl Words {
             is_self_contained: matches.get_flag("self-contained"),
             is_lossy: matches.get_flag("lossy"),
             is_one: matches.get_flag("one"),
+            is_verified: matches.get_flag("verify"),
         }
     }
 
@@ -114,6 +117,14 @@ impl Words {
         if self.parent.is_some() && self.split.is_some() {
             return refuse(
                 "--parent and --split: give one of them, for a parent that is there or one to write",
+            );
+        }
+        let is_of_some =
+            !self.only.is_empty() || self.is_one || self.parent.is_some() || self.split.is_some();
+        if self.is_verified && is_of_some {
+            return refuse(
+                "--verify compares all types of a program in one dictionary: leave --only, --one, \
+                 --parent and --split out",
             );
         }
         if self.is_section && self.split.is_some() {
@@ -210,7 +221,7 @@ fn of_reading() -> [Arg; 7] {
 }
 
 /// The options that say what is written.
-fn of_writing() -> [Arg; 8] {
+fn of_writing() -> [Arg; 9] {
     [
         path("parent").long("parent").value_name("FILE").help(
             "a dictionary: OUT is a child of it, with only the types that it lacks",
@@ -228,6 +239,10 @@ fn of_writing() -> [Arg; 8] {
             .help("report what was read, written and lost; - is standard output"),
         flag("one").help(
             "one dictionary also of more types than it holds: those without room are left out",
+        ),
+        flag("verify").help(
+            "compare what is written with each unit of the debug information (DWARF), and refuse it \
+             where they differ",
         ),
         flag("lossy").help("end with status 0 even if CTF can't hold everything"),
         path("service")
@@ -255,13 +270,17 @@ fn convert(words: &Words) -> Result<Vec<String>> {
         if !found.note.is_empty() {
             warn(NAME, format!("{}: {}", words.input.display(), found.note));
         }
-        let (form, count) = (found.form, found.table.len());
+        let (form, count, verifier) = (found.form, found.table.len(), found.verifier);
         with_dictionary(words, &image, found, |made| {
             let (made, bytes, counts) = match made {
                 Made::One(mut made) => {
                     let bytes = made.checked_bytes(&image, &words.output)?;
+                    if let Some(verifier) = verifier.filter(|_| words.is_verified) {
+                        dictionary::verify(&bytes, verifier)?;
+                    }
                     (made, bytes, Vec::new())
                 }
+                Made::InParts(_) if words.is_verified => return refuse(VERIFIED_ALONE),
                 Made::InParts(made) => (made.whole, made.bytes, made.counts),
             };
             write(words, &made, &bytes)?;

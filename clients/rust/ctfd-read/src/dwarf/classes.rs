@@ -79,7 +79,12 @@ impl<'d, 'a> Reader<'d, 'a> {
     }
 
     fn base_class(&mut self, entry: &Entry<'d, 'a>) -> Result<Member<'a>> {
-        let name = match self.debug.target(entry, dw::DW_AT_type)? {
+        let mut base = self.debug.target(entry, dw::DW_AT_type)?;
+        for name in [dw::DW_AT_signature, dw::DW_AT_specification] {
+            let further = base.as_ref().map(|one| self.debug.target(one, name)).transpose()?;
+            base = further.flatten().or(base);
+        }
+        let name = match base {
             Some(base) => self.debug.name(&base)?,
             None => Cow::Borrowed(&b""[..]),
         };

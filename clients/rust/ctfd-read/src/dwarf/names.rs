@@ -90,16 +90,13 @@ impl Prefixes {
     pub fn full_name<'a>(&self, debug: &Debug<'a>, entry: &Entry<'_, 'a>) -> Result<Cow<'a, [u8]>> {
         let mut name = debug.name(entry)?;
         let mut offset = entry.offset;
-        if name.is_empty() {
-            // A class that is defined outside of the one that declares it has its name there.
-            match debug.target(entry, dw::DW_AT_specification)? {
-                Some(declared) if declared.unit.start == entry.unit.start => {
-                    name = debug.name(&declared)?;
-                    offset = declared.offset;
-                }
-                _ if entry.tag == dw::DW_TAG_namespace => name = Cow::Borrowed(NO_NAMESPACE),
-                _ => {}
-            }
+        // A class that is defined outside of what declares it is called as it is there.
+        let declared = debug.target(entry, dw::DW_AT_specification)?;
+        if let Some(declared) = declared.filter(|one| one.unit.start == entry.unit.start) {
+            name = debug.name(&declared)?;
+            offset = declared.offset;
+        } else if name.is_empty() && entry.tag == dw::DW_TAG_namespace {
+            name = Cow::Borrowed(NO_NAMESPACE);
         }
         if name.is_empty() {
             return Ok(name);

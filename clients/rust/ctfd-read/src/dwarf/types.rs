@@ -8,6 +8,7 @@ use crate::error::{refuse, Result};
 use crate::join::{Joiner, NumberHasher, Piece};
 use crate::symbols::{Symbol, Symbols};
 use crate::table::{Encoding, Enumerator, Kind, Member, Parts, Record, Table};
+use crate::verify::Judge;
 use gimli::{constants as dw, DwLang, DwTag, Reader as _, RunTimeEndian, UnitOffset};
 use rayon::prelude::*;
 use std::borrow::Cow;
@@ -84,6 +85,26 @@ pub fn collect<'a>(
         }
     }
     refuse("its types can't be told apart")
+}
+
+/// Refuses a dictionary that does not tell what the units of some files do; how many types of theirs
+/// were compared.
+pub fn verify(files: &[(Debug<'_>, String)], is_ilp32: bool, written: &Table<'_>) -> Result<usize> {
+    let judge = Judge::new(written);
+    let filter = SymbolFilter::new(&[]);
+    let mut count = 0;
+    for (debug, name) in files {
+        let imports = imports(debug)?;
+        let judged = |number: usize| -> Result<usize> {
+            match read_unit(debug, number, &filter, &imports, is_ilp32)? {
+                Outcome::OfC(unit) => judge.judge(&unit.records, &unit.roots),
+                _ => Ok(0),
+            }
+        };
+        let of_file: Result<usize> = (0..debug.units()).into_par_iter().map(judged).sum();
+        count += of_file.map_err(|error| error.of(name))?;
+    }
+    Ok(count)
 }
 
 impl<'a> Collector<'a> {

@@ -1,0 +1,233 @@
+//! Whether a dictionary tells truly what units tell: a walk of its own, which knows nothing of how
+//! types were joined.
+//!
+//! For each type that a unit has for itself some type of the dictionary must be of the same name, and
+//! alike with all that both name: kinds, sizes, names, places and widths of members, values, elements
+//! and arguments. Pairs that lead back to themselves are alike unless something else shows that they
+//! are not. What CTF can't hold is compared as it is told: a bit-field by its width alone, an atomic
+//! type by the typedef in its place. A declaration may stand for what another unit tells in full.
+
+use crate::error::{refuse, Result};
+use crate::table::{Kind, Record, Table};
+use std::collections::{HashMap, HashSet};
+
+/// Members, enumerators and arguments of more than so many are told otherwise.
+const MOST_PARTS: usize = 1023;
+/// How many pairs are compared for each type of a unit.
+const MOST_PAIRS: usize = 4096;
+
+/// The types of a dictionary by their names.
+pub struct Judge<'t> {
+    table: &'t Table<'t>,
+    by_name: HashMap<(Kind, Vec<u8>), Vec<u32>>,
+}
+
+impl<'t> Judge<'t> {
+    /// Over the types that were written.
+    pub fn new(table: &'t Table<'t>) -> Judge<'t> {
+        let mut by_name: HashMap<_, Vec<u32>> = HashMap::new();
+        for (number, record) in (1..).zip(&table.records) {
+            if !record.name.is_empty() {
+                by_name.entry((record.tag, record.name.to_vec())).or_default().push(number);
+            }
+        }
+        Judge { table, by_name }
+    }
+
+    /// Refuses what a unit has for itself and the dictionary does not tell; how many are told.
+    pub fn judge(&self, records: &[Record<'_>], roots: &[u32]) -> Result<usize> {
+        let mut walk = Walk { judge: self, records, known: HashSet::new() };
+        let mut met = HashSet::new();
+        for &root in roots.iter().filter(|&&root| root != 0) {
+            let record = &records[root as usize - 1];
+            if record.name.is_empty() || !met.insert(root) {
+                continue;
+            }
+            let candidates = self.by_name.get(&(record.tag, record.name.to_vec()));
+            let is_told =
+                candidates.is_some_and(|listed| listed.iter().any(|&n| walk.is_alike(root, n)));
+            if !is_told {
+                return refuse(format!(
+                    "{} is not told as its debug information has it: please report this, with the \
+                     program",
+                    record.tagged()
+                ));
+            }
+        }
+        Ok(met.len())
+    }
+}
+
+/// The pairs of a unit's types and the dictionary's that are known to be alike.
+struct Walk<'w, 't> {
+    judge: &'w Judge<'t>,
+    records: &'w [Record<'w>],
+    known: HashSet<(u32, u32)>,
+}
+
+impl Walk<'_, '_> {
+    fn is_alike(&mut self, x: u32, y: u32) -> bool {
+        let mut met = HashSet::new();
+        let mut todo = vec![(x, y)];
+        while let Some((x, y)) = todo.pop() {
+            if self.known.contains(&(x, y)) || !met.insert((x, y)) {
+                continue;
+            }
+            // What is too much to compare at once is judged by the types that it consists of.
+            if met.len() > MOST_PAIRS {
+                return true;
+            }
+            if (x == 0) != (y == 0) || x != 0 && !self.compare(x, y, &mut todo) {
+                return false;
+            }
+        }
+        self.known.extend(met);
+        true
+    }
+
+    /// Whether two types say the same; what they name is added to what is to be compared.
+    fn compare(&self, x: u32, y: u32, todo: &mut Vec<(u32, u32)>) -> bool {
+        let (mine, told) = (&self.records[x as usize - 1], self.judge.table.get(y));
+        if mine.kind == Kind::Forward {
+            return mine.tag == told.tag && mine.name == told.name;
+        }
+        if mine.kind == Kind::Atomic {
+            todo.push((mine.of, told.of));
+            return told.kind == Kind::Typedef && told.name.starts_with(b"_Atomic(");
+        }
+        let is_named = !matches!(mine.kind, Kind::Array | Kind::Function | Kind::Pointer);
+        if mine.kind != told.kind || is_named && mine.name != told.name {
+            return false;
+        }
+        match mine.kind {
+            Kind::Struct | Kind::Union => mine.size == told.size && self.members(mine, told, todo),
+            Kind::Enum => mine.size == told.size && values(mine, told),
+            Kind::Integer | Kind::Float => {
+                mine.size == told.size && mine.encoding.bits == told.encoding.bits
+            }
+            Kind::Array => {
+                todo.extend([(mine.of, told.of), (mine.index, told.index)]);
+                mine.elements == told.elements || mine.elements > u64::from(u32::MAX)
+            }
+            Kind::Function => {
+                todo.push((mine.of, told.of));
+                let (own, theirs) = (mine.arguments(), told.arguments());
+                todo.extend(own.iter().copied().zip(theirs.iter().copied()));
+                mine.varargs == told.varargs
+                    && (own.len() == theirs.len() || own.len() >= MOST_PARTS)
+            }
+            Kind::Unknown => true,
+            _ => {
+                todo.push((mine.of, told.of));
+                true
+            }
+        }
+    }
+
+    fn members(&self, mine: &Record<'_>, told: &Record<'_>, todo: &mut Vec<(u32, u32)>) -> bool {
+        let (own, theirs) = (mine.members(), told.members());
+        if own.len() > MOST_PARTS {
+            return true;
+        }
+        own.len() == theirs.len()
+            && own.iter().zip(theirs).all(|(own, told)| {
+                let is_wide = match own.width {
+                    None => {
+                        todo.push((own.of, told.of));
+                        true
+                    }
+                    Some(width) => self.has_width(told.of, width),
+                };
+                is_wide && own.name == told.name && own.offset == told.offset
+            })
+    }
+
+    /// Whether a type is an integer or an enum of some bits, behind typedefs and qualifiers.
+    fn has_width(&self, number: u32, width: u64) -> bool {
+        let end = self.judge.table.resolved(number);
+        let record = (end != 0).then(|| self.judge.table.get(end));
+        record.is_some_and(|record| match record.kind {
+            Kind::Integer => record.encoding.bits == width,
+            Kind::Enum => 8 * record.size == width,
+            _ => false,
+        })
+    }
+}
+
+/// Whether the values that a dictionary holds of an enum are those that it has.
+fn values(mine: &Record<'_>, told: &Record<'_>) -> bool {
+    let most = if mine.size == 4 { 1i128 << 32 } else { 1 << 31 };
+    let fitting = mine.values().iter().filter(|one| (-(1i128 << 31)..most).contains(&one.value));
+    let mut theirs = told.values().iter();
+    fitting.take(MOST_PARTS).all(|one| {
+        theirs
+            .next()
+            .is_some_and(|other| one.name == other.name && one.value as i32 == other.value as i32)
+    }) && theirs.next().is_none()
+}
+
+#[cfg(test)]
+mod tests {
+    use super::*;
+    use crate::table::{Encoding, Member, Parts};
+    use std::borrow::Cow;
+
+    /// An int, a struct with one and a pointer to itself, and that pointer.
+    fn unit() -> Vec<Record<'static>> {
+        let mut int = Record::new(Kind::Integer, Cow::Borrowed(b"int"));
+        int.size = 4;
+        int.encoding = Encoding { flags: 1, offset: 0, bits: 32 };
+        let mut node = Record::new(Kind::Struct, Cow::Borrowed(b"node"));
+        let member = |name: &'static [u8], of, offset, width| Member {
+            name: Cow::Borrowed(name),
+            of,
+            offset,
+            width,
+        };
+        node.size = 16;
+        node.parts =
+            Parts::Members(Box::new([member(b"value", 1, 0, None), member(b"next", 3, 64, None)]));
+        let mut pointer = Record::new(Kind::Pointer, Cow::Borrowed(b""));
+        pointer.of = 2;
+        vec![int, node, pointer]
+    }
+
+    fn is_told(change: impl FnOnce(&mut Vec<Record<'static>>)) -> bool {
+        let mut records = unit();
+        change(&mut records);
+        let table = Table { records, ..Table::default() };
+        Judge::new(&table).judge(&unit(), &[1, 2]).is_ok()
+    }
+
+    fn members(record: &mut Record<'static>, change: impl FnOnce(&mut [Member<'static>])) {
+        if let Parts::Members(listed) = &mut record.parts {
+            change(listed);
+        }
+    }
+
+    #[test]
+    fn what_is_told_truly_is_accepted() {
+        assert!(is_told(|_| {}));
+        // Another type of the name may stand in front.
+        assert!(is_told(|records| {
+            let mut other = records[1].clone();
+            other.size = 24;
+            records.push(other);
+        }));
+    }
+
+    #[test]
+    fn each_difference_is_refused() {
+        assert!(!is_told(|records| records[0].size = 8));
+        assert!(!is_told(|records| records[0].encoding.bits = 31));
+        assert!(!is_told(|records| records[1].size = 24));
+        assert!(!is_told(|records| records[1].name = Cow::Borrowed(b"other")));
+        assert!(!is_told(|records| records[2].of = 1));
+        assert!(!is_told(|records| members(&mut records[1], |listed| listed[1].offset = 32)));
+        assert!(!is_told(|records| members(&mut records[1], |listed| listed[1].of = 1)));
+        assert!(!is_told(|records| {
+            members(&mut records[1], |listed| listed[0].name = Cow::Borrowed(b"worth"));
+        }));
+        assert!(!is_told(|records| records[1] = Record::unknown()));
+    }
+}
