@@ -727,9 +727,15 @@ impl<'d, 'a> Reader<'d, 'a> {
         refuse("its debug information is damaged: its entries lead round")
     }
 
-    /// The name of the first entry that has one; that of its symbol, where an entry has such too.
-    fn symbol_name(&self, chain: &[Entry<'d, 'a>]) -> Result<Cow<'a, [u8]>> {
-        for name in [dw::DW_AT_linkage_name, dw::DW_AT_name] {
+    /// The name of the first entry that has one. Outside of C it is that of its symbol, where an
+    /// entry has such too; in C declarations name the symbol that a header puts in its place.
+    fn symbol_name(&mut self, chain: &[Entry<'d, 'a>]) -> Result<Cow<'a, [u8]>> {
+        let is_scoped = self.prefixes(chain[0].unit)?.is_some();
+        let listed: &[_] = match is_scoped {
+            true => &[dw::DW_AT_linkage_name, dw::DW_AT_name],
+            false => &[dw::DW_AT_name],
+        };
+        for &name in listed {
             if let Some(one) = chain.iter().find(|one| one.has(name)) {
                 return self.debug.text(one, name);
             }
