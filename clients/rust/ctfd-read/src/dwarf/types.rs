@@ -25,6 +25,8 @@ const GROUP: usize = 16;
 const GROUPS: usize = 16;
 /// How often all is read: again where a tag turned out to have several definitions.
 const MOST_ROUNDS: usize = 3;
+/// Files with fewer bytes of entries are read in less time than it takes to find their tags first.
+const WORTH_TAGS: usize = 1 << 24;
 
 const SIGNED: u8 = 1;
 const CHARACTER: u8 = 2;
@@ -71,7 +73,10 @@ pub fn collect<'a>(
     wanted: &[Symbol<'a>],
     is_ilp32: bool,
 ) -> Result<Collector<'a>> {
-    let mut tags = SingleTags::of(files.iter().map(|(debug, _)| debug));
+    let mut tags = SingleTags::default();
+    if files.iter().map(|(debug, _)| debug.entry_bytes()).sum::<usize>() >= WORTH_TAGS {
+        tags = SingleTags::of(files.iter().map(|(debug, _)| debug));
+    }
     for left in (0..MOST_ROUNDS).rev() {
         let mut collector = Collector::default();
         for (debug, name) in files {

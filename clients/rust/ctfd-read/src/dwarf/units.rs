@@ -6,6 +6,7 @@
 use crate::dwarf::names::{self, Language};
 use crate::dwarf::sections::{borrow_all, dwo_id, Sections, Skeleton};
 use crate::error::{refuse, Result};
+use gimli::Section as _;
 use gimli::{constants as dw, DwAt, DwForm, DwTag, UnitType};
 use gimli::{Abbreviation, AttributeValue, EndianSlice, RunTimeEndian, UnitHeader, UnitOffset};
 use smallvec::SmallVec;
@@ -186,6 +187,11 @@ impl<'a> Debug<'a> {
 
     fn dwarf(&self, file: u64) -> &gimli::Dwarf<Slice<'a>> {
         &self.files[file as usize]
+    }
+
+    /// How many bytes its entries have.
+    pub fn entry_bytes(&self) -> usize {
+        self.files.iter().map(|file| file.debug_info.reader().len()).sum()
     }
 
     /// How many units all files have.
