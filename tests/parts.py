@@ -118,7 +118,7 @@ def parts(program: str) -> list[Part]:
         Part("refusals", ["tests/refusals.py"]),
         Part("lists_refused", ["tests/lists_refused.py", program], after=of_library),
         Part("edits", ["tests/further_edits.py", "--apply"]),
-        Part("manual", ["tests/manual.sh"]),
+        Part("manual", ["tests/manual.sh"], after=("compiled",)),
         Part("examples", ["tests/examples.py", program]),
         Part("written_bytes", ["bash", "-c",
                                "tests/written_bytes.py | cmp - examples/written.ctf"]),

@@ -154,6 +154,14 @@ class Case(unittest.TestCase):
                         str(source)], check=True, cwd=self.folder)
         return self.folder / name
 
+    def compiled_as_ada(self, code: str, *options: str, name: str) -> Path:
+        """An object file of C whose debug information says that it is Ada, which is not read."""
+        text = self.compiled(code, "-g", "-dA", "-S", *options, name=f"{name}.s")
+        said = re.sub(r"(\.byte\s+)0x\w+(\s+# DW_AT_language)", r"\g<1>0xd\2", text.read_text())
+        text.write_text(said)
+        subprocess.run(["gcc", "-c", str(text), "-o", str(self.folder / name)], check=True)
+        return self.folder / name
+
     def assert_tame(self, done: Outcome, what: object = "", seconds: float = SECONDS,
                     megabytes: float = MEGABYTES) -> None:
         """A door ended by itself, in time and memory, without a trace of its insides."""

@@ -78,15 +78,13 @@ class Uncompared(Diff):
         self.assertEqual(self.asked(old, old).status, SAME)
 
     def test_units_of_other_languages(self) -> None:
-        self.needs("g++")
-        plus = self.compiled('extern "C" int more(int x) { return x; }', "-g", "-fPIC",
-                             name="more.o", compiler="g++")
+        other = self.compiled_as_ada("int more(int x) { return x; }", "-fPIC", name="more.o")
         made = []
         for name in ("old", "new"):
             one = self.compiled(EXPORTED + f"static int {name};", "-g", "-fPIC", name=f"{name}.o")
             made.append(self.folder / f"{name}.so")
-            subprocess.run(["gcc", "-shared", "-o", made[-1], one, plus], check=True)
-        self.assert_uncompared(made[0], made[1], "not compared: 1 unit in C")
+            subprocess.run(["gcc", "-shared", "-o", made[-1], one, other], check=True)
+        self.assert_uncompared(made[0], made[1], "not compared: 1 unit in Ada")
 
     def test_what_each_thread_has_for_itself(self) -> None:
         old = self.library("_Thread_local int t;", "old.so")

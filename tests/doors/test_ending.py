@@ -19,6 +19,11 @@ LIMIT = 20
 CODE = "struct point { long x, y, z; } first; int main(void) { return 0; }"
 
 
+def heeds_interrupts() -> None:
+    """Takes SIGINT as a terminal's programs do, though these tests may run where it is ignored."""
+    signal.signal(signal.SIGINT, signal.SIG_DFL)
+
+
 class Ending(Case):
     def setUp(self) -> None:
         super().setUp()
@@ -62,7 +67,8 @@ class Interrupted(Ending):
     def interrupted(self, wait: float, *words: Word) -> "tuple[int, str]":
         """The status and messages of a command that gets SIGINT after so many seconds."""
         door = subprocess.Popen([str(word) for word in words], stdout=subprocess.DEVNULL,
-                                stderr=subprocess.PIPE, env=clean(self.around()), text=True)
+                                stderr=subprocess.PIPE, env=clean(self.around()), text=True,
+                                preexec_fn=heeds_interrupts)
         time.sleep(wait)
         door.send_signal(signal.SIGINT)
         _, errors = door.communicate(timeout=20)
@@ -77,7 +83,8 @@ class Interrupted(Ending):
             "debuginfo": [pipe, self.folder / "out"]}
         for name, words in listed.items():
             door = subprocess.Popen([tool(name), *map(str, words)], stdout=subprocess.DEVNULL,
-                                    stderr=subprocess.PIPE, env=clean(self.around()), text=True)
+                                    stderr=subprocess.PIPE, env=clean(self.around()), text=True,
+                                    preexec_fn=heeds_interrupts)
             with open(pipe, "wb"):
                 door.send_signal(signal.SIGINT)
                 _, errors = door.communicate(timeout=20)

@@ -75,22 +75,19 @@ class Messages(Case):
     def test_what_matters_comes_first(self) -> None:
         code = "".join(WIDE % (n, n, n, n) for n in range(70))
         one = self.compiled(code, "-g", name="one.o")
-        plus = self.folder / "two.cc"
-        plus.write_text("int two(int x) { return x; }\n")
-        self.needs("g++")
-        subprocess.run(["g++", "-g", "-c", plus, "-o", self.folder / "two.o"], check=True)
+        two = self.compiled_as_ada("int two(int x) { return x; }", name="two.o")
         both = self.folder / "both.o"
-        subprocess.run(["ld", "-r", "-o", both, one, self.folder / "two.o"], check=True)
+        subprocess.run(["ld", "-r", "-o", both, one, two], check=True)
         done = self.converted(both)
         self.assertEqual(done.status, 1)
         lines = done.errors.splitlines()
-        self.assertRegex(lines[0], "1 unit in C.. of the program")
+        self.assertRegex(lines[0], "1 unit in Ada of the program")
         self.assertLess(len(lines), 15)
         self.assertRegex(lines[-1], r"59 constructs more .*: --report - lists them all")
         listed = self.converted(both, "--report", "-").output
         self.assertEqual(len([line for line in listed.splitlines() if "lost: enum" in line]), 70)
         told = run(tool("types"), both, "enum e1").errors.splitlines()
-        self.assertRegex(told[0], "1 unit in C.. of the program")
+        self.assertRegex(told[0], "1 unit in Ada of the program")
         self.assertEqual(len(told), 4)
 
 

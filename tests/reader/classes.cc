@@ -21,4 +21,5 @@ std::map<std::string, std::vector<int>> table;
 std::unique_ptr<shapes::Base> base;
 int shapes::Derived::shared; int shapes::Derived::area() const { return number + shared; }
 shapes::Base::~Base() {}
+union Nameless { struct { struct Inside { short first; } inside; } unnamed; int other; } nameless;
 int main() { auto lambda = [&](int x) { struct Local { int here; } local{x}; return local.here + either.i; }; return lambda(3) + (alias.next != nullptr); }

@@ -84,6 +84,16 @@ def number(text: Optional[str]) -> int:
     return int(text, 0) if text and re.fullmatch(r"-?(0x)?[0-9a-f]+", text) else 0
 
 
+def scope_of(above: list[Entry]) -> str:
+    """The name of the innermost namespace or class with a name; "" where there is none."""
+    for one in reversed(above):
+        if one.tag not in SCOPES:
+            return ""
+        if one.name:
+            return one.name
+    return ""
+
+
 def shapes(program: Path) -> Iterator[Shape]:
     """What a program's debug information defines."""
     above: list[Entry] = []
@@ -100,13 +110,13 @@ def shapes(program: Path) -> Iterator[Shape]:
             is_scoped, is_read = bool(SCOPED.match(language)), bool(READ.match(language))
         one.name = quoted(one.said.get("name", ""))
         if is_scoped and one.tag in SCOPES:
-            outer = above[-1] if above and above[-1].tag in SCOPES else None
+            outer = scope_of(above)
             if declared := re.match(r"0x[0-9a-f]+", one.said.get("specification", "")):
                 one.name = full_names.get(declared[0]) or one.name
             elif one.tag == "DW_TAG_namespace" and not one.name:
                 one.name = "(anonymous namespace)"
-            if outer and outer.name and one.name and "specification" not in one.said:
-                one.name = f"{outer.name}::{one.name}"
+            if outer and one.name and "specification" not in one.said:
+                one.name = f"{outer}::{one.name}"
             full_names[one.place] = one.name
         if above:
             above[-1].parts.append(one)

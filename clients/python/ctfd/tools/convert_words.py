@@ -61,6 +61,10 @@ def _add_outputs(parser: argparse.ArgumentParser) -> None:
                         help="for CTF version 2: copy names from the strings of the ELF file")
     parser.add_argument("--report", metavar="FILE", help="report what was read, written and lost;"
                         " - is standard output")
+    parser.add_argument("--one", action="store_true", help="one dictionary also of more types than"
+                        " it holds: those without room are left out; this command writes no other")
+    parser.add_argument("--verify", action="store_true", help="compare what is written with each"
+                        " unit of the debug information: the compiled command alone does that")
     parser.add_argument("--lossy", action="store_true",
                         help="end with status 0 even if CTF can't hold everything")
     add_version(parser)
@@ -74,7 +78,10 @@ def written(words: argparse.Namespace) -> Iterator[str]:
 
 
 def judge(words: argparse.Namespace) -> None:
-    """Raises Error for words that contradict each other."""
+    """Raises Error for words that contradict each other, and for what this command can't do."""
+    if words.verify:
+        raise Error("--verify: the ctfd-convert in Python can't; build the compiled one (`make`,"
+                    " with cargo)")
     if words.parent and words.split:
         raise Error("--parent and --split: give one of them, for a parent that is there or one"
                     " to write")

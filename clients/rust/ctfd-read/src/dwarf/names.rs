@@ -71,7 +71,10 @@ impl Prefixes {
                     dw::DW_TAG_compile_unit | dw::DW_TAG_type_unit | dw::DW_TAG_partial_unit => 0,
                     _ if is_scope(tag) => {
                         let entry = Entry::read(unit, offset)?;
-                        made.add(&made.full_name(debug, &entry)?)
+                        match &*made.full_name(debug, &entry)? {
+                            b"" => prefix, // one without a name adds nothing to others
+                            name => made.add(name),
+                        }
                     }
                     _ => 0,
                 };
