@@ -74,6 +74,8 @@ def main() -> int:
                 names = [member.name for member in found.members]
                 assert (found.size, names) == (size(number), [f"a{number % 7}", "near", "text"])
                 assert " struct s" in str(found.members[1].type)
+            asked = types["struct s1"], len(types) >= LEAST, "struct s2" in types, "no" in types
+            assert (asked[0].sizeof, *asked[1:]) == (size(1), True, True, False), asked
             parts = len(types.parts)
     print(f"many_types: {count} types in {parts} parts, {ASKED} of them asked")
     return 0

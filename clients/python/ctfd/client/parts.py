@@ -9,10 +9,13 @@ import os
 import tempfile
 from typing import Iterator, List, Optional, Tuple, Union
 
+from .. import text
 from ..files.opening import Opener
 from ..text import Name
 from .dictionary import OWN_OF_CHILD, Dictionary
-from .faults import NotFound, Unreadable
+from .faults import NoSuchType, NotFound, Refused, Unreadable
+from .model import Model
+from .nearest import offered
 from .types import Signature, Type
 
 MAGIC = b"!<arch>\n"
@@ -61,6 +64,42 @@ class Parts:
                     made.write(ctf)
                 self.parts.append(opener.open(part, parent))
                 parent = parent or part
+
+    @property
+    def model(self) -> Model:
+        """The data model of the program."""
+        return self.parts[0].model
+
+    def __repr__(self) -> str:
+        return f"<Parts: {len(self)} types in {len(self.parts)} dictionaries, {self.model}>"
+
+    def __len__(self) -> int:
+        return sum(map(len, self.parts))
+
+    def __bool__(self) -> bool:
+        return True
+
+    def __iter__(self) -> Iterator[Type]:
+        return iter(self.types())
+
+    def __getitem__(self, name: Name) -> Type:
+        """The type that C's name says. Raises NoSuchType, which says which names are near. A number
+        names none: each dictionary has its own."""
+        if isinstance(name, int):
+            raise NoSuchType("a program in parts has types of one number in each: ask by name")
+        try:
+            return self.find(name).gather()
+        except NotFound as fault:
+            told = text.name(text.escape(name))
+            raise NoSuchType(text.printable(
+                f"no type is called {told}{offered(told, self.names())}")) from fault
+
+    def __contains__(self, name: Name) -> bool:
+        try:
+            self.find(name)
+        except Refused:
+            return False
+        return True
 
     def find(self, name: Name) -> Type:
         """The type of a name, of the first part that has it. Raises NotFound."""
