@@ -1,7 +1,7 @@
 #!/usr/bin/env python3
 """Tries mutants again without the written proofs that no longer fit them.
 
-usage: tests/emptied.py CRATE[/EDIT]..
+usage: tests/emptied.py [--libraries FOLDER] CRATE[/EDIT]..
 
 A mutant that the gate refuses because a written proof no longer fits may still mean what the
 contract says: another proof might exist. Here each mutant of a crate's must-fail/ is put into a
@@ -15,6 +15,10 @@ none is left or the mutant is accepted. What the check says then is printed:
 
 The status is 1 where a mutant is accepted, or where nothing of it was tried. The copy begins with
 what is built here, so `rt check` in the crate first makes this quick.
+
+With `--libraries` the crates below are not proved first. They are taken as built in FOLDER, which
+has crates/NAME/out/rlib of each as `rt ci` leaves them, made of the same files as are here. The
+first mutant of a crate then takes as long as a check of the crate, and those after it less.
 """
 from __future__ import annotations
 
@@ -84,38 +88,81 @@ def declarations(lines: list[str]) -> Iterator[tuple[int, int]]:
     yield from zip(starts, [*starts[1:], len(lines)])
 
 
-def remove_at(path: Path, number: int) -> bool:
-    """Takes the declaration of a line out of a file of answers; whether there was one."""
+def imports(lines: list[str]) -> Iterator[tuple[int, int]]:
+    """Likewise each import. It may be there for an answer that is taken out, and name what only the
+    code as it was had."""
+    yield from ((at, at + 1) for at, line in enumerate(lines) if line.startswith("use "))
+
+
+def remove_at(path: Path, numbers: list[int]) -> bool:
+    """Takes the declarations and imports of some lines out of a file of answers; whether there were
+    any."""
     lines = path.read_text(encoding="utf-8").splitlines()
-    for begin, end in declarations(lines):
-        if begin < number <= end:
-            del lines[begin:end]
-            path.unlink()
-            if any(SIGNATURE.match(line) for line in lines):
-                path.write_text("\n".join(lines) + "\n", encoding="utf-8")
-            return True
-    return False
+    refused = [(begin, end) for begin, end in [*declarations(lines), *imports(lines)]
+               if any(begin < number <= end for number in numbers)]
+    for begin, end in sorted(refused, reverse=True):
+        del lines[begin:end]
+    if refused:
+        path.unlink()
+        if any(SIGNATURE.match(line) for line in lines):
+            path.write_text("\n".join(lines) + "\n", encoding="utf-8")
+    return bool(refused)
 
 
-def check_says(crate: Path) -> str:
+def with_libraries(text: str) -> Path:
+    """A folder that has built libraries."""
+    folder = Path(text).resolve()
+    if not any(folder.glob("crates/*/out/rlib")):
+        raise argparse.ArgumentTypeError(f"{text} has no crates/NAME/out/rlib: build it first")
+    return folder
+
+
+def listed_in_crates(name: str) -> tuple[list[str], list[str]]:
+    """What kind a crate is said to be, and the crates that it uses."""
+    for line in (TOP / "crates.txt").read_text(encoding="utf-8").splitlines():
+        head, colon, uses = line.partition(":")
+        if colon and head.split()[0] == name:
+            return head.split()[1:], uses.split()
+    raise SystemExit(f"emptied: crates.txt has no {name}")
+
+
+def command_over(libraries: Path, name: str, kept: Path) -> list[str]:
+    """Checks a crate over built libraries; what it checks is kept in a folder."""
+    kit = Path(shutil.which("rattle") or "rattle").resolve().parents[1]
+    kinds, uses = listed_in_crates(name)
+    words = ["rattle", "check", "--crate-name", name, "src/lib.rt"]
+    words += ["--crate-type=staticlib"] if "staticlib" in kinds else []
+    for used in ["std", *uses]:
+        built = libraries / "crates" / used / "out" / "rlib" / f"{used}.rlib"
+        rlib = built if built.exists() else kit / "rlibs" / built.name
+        words += ["--extern", f"{used}={rlib}"]
+    for folder in [kit / "rlibs", *sorted(libraries.glob("crates/*/out/rlib"))]:
+        words += ["-L", f"dependency={folder}"]
+    logic = kit / "rattle" / "logic" / "antt-project.json"
+    words += ["--antt-project", str(logic), "--logic-built", str(kit / "logic_built")]
+    return [*words, "--incremental", str(kept / name)]
+
+
+def check_says(crate: Path, command: list[str]) -> str:
     """What a check of a crate says."""
-    ended = subprocess.run(["rt", "check"], cwd=crate, stdout=subprocess.PIPE, check=False,
+    ended = subprocess.run(command, cwd=crate, stdout=subprocess.PIPE, check=False,
                            stderr=subprocess.STDOUT, text=True, errors="replace")
     return ended.stdout
 
 
 def take_out(crate: Path, said: str) -> bool:
     """Takes out the answers that the check refused; whether there were any."""
-    places = sorted({(file, int(line)) for file, line in ERROR.findall(said)}, reverse=True)
-    answers = [place for place in places if place[0].endswith(("/Answers.antt", "/Proof.antt"))]
-    done = [remove_at(crate / file, line) for file, line in answers if (crate / file).exists()]
-    return any(done)
+    places: dict[str, list[int]] = {}
+    for file, line in ERROR.findall(said):
+        if file.endswith(("/Answers.antt", "/Proof.antt")) and (crate / file).exists():
+            places.setdefault(file, []).append(int(line))
+    return any([remove_at(crate / file, numbers) for file, numbers in places.items()])
 
 
-def judge(crate: Path) -> Found:
+def judge(crate: Path, command: list[str]) -> Found:
     """What is left of a mutant's refusal without the proofs that do not fit it."""
     for _ in range(MOST_TRIES):
-        said = check_says(crate)
+        said = check_says(crate, command)
         if not take_out(crate, said):
             break
     if "logic=proved" in said:
@@ -126,30 +173,34 @@ def judge(crate: Path) -> Found:
     return Found("names", next(iter(said.splitlines()), ""))
 
 
-def of_crate(name: str, only: str, copy: Path) -> Iterator[tuple[str, Found]]:
+def of_crate(name: str, only: str, copy: Path,
+             libraries: Path | None) -> Iterator[tuple[str, Found]]:
     """Each mutant of a crate with what is found."""
     crate = copy / "crates" / name
     plain = copy / "plain"
+    command = command_over(libraries, name, copy / "kept") if libraries else ["rt", "check"]
     shutil.copytree(crate, plain, copy_function=link_or_copy)
     for edit in of_the_gate(CRATES / name):
         if only in ("", edit.name):
             shutil.rmtree(crate)
             shutil.copytree(plain, crate, copy_function=link_or_copy)
             mutate(crate, edit)
-            yield edit.name, judge(crate)
+            yield edit.name, judge(crate, command)
     shutil.rmtree(plain)
 
 
 def main() -> int:
     assert __doc__
     options = argparse.ArgumentParser(usage=__doc__.split("usage: ")[1].split("\n")[0])
+    options.add_argument("--libraries", type=with_libraries)
     options.add_argument("crates", nargs="+", metavar="CRATE[/EDIT]")
+    given = options.parse_args()
     wrong = 0
     with tempfile.TemporaryDirectory() as copy:
         copy_tree(Path(copy))
-        for asked in options.parse_args().crates:
+        for asked in given.crates:
             name, _, only = asked.partition("/")
-            for edit, found in of_crate(name, only, Path(copy)):
+            for edit, found in of_crate(name, only, Path(copy), given.libraries):
                 print(f"{name}/{edit}: {found.kind}: {found.said}", flush=True)
                 wrong += not found.is_well
     return 1 if wrong else 0
