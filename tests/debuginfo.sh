@@ -18,6 +18,7 @@
 set -eu
 program=$(realpath "$1")
 top=$(realpath "$(dirname "$0")/..")
+compiled=${CARGO_TARGET_DIR:-$top/clients/rust/target}/release
 tests=$top/tests/debuginfo
 for tool in gdb gcc objcopy llvm-dwarfdump; do
     command -v "$tool" > /dev/null || { echo "skipped: no $tool here"; exit 0; }
@@ -46,7 +47,10 @@ count() {
 
 # client COMMAND WORD..: a command of the client.
 client() {
-    python3 "$top/clients/python/$1" "${@:2}"
+    case $1 in
+    ctfd-diff) "$compiled/$1" "${@:2}" ;;
+    *) python3 "$top/clients/python/$1" "${@:2}" ;;
+    esac
 }
 
 # made NAME WORD..: NAME.g with debug information, NAME without it, and NAME.debug, of what gcc

@@ -88,7 +88,7 @@ used() {
         count "${command##*/}" "$below/bin/${command##*/}" --help
     done
     if [ -f "$compiled" ]; then
-        for command in ctfd-convert ctfd-types; do
+        for command in ctfd-convert ctfd-diff ctfd-types; do
             count "$command, compiled" cmp "$compiled" "$below/bin/$command"
         done
     fi
@@ -101,6 +101,8 @@ used() {
     done
     [ ! -f "$compiled" ] || count "a type by ctfd-types" env -i "$below/bin/ctfd-types" "$lua" \
         "struct luaL_Reg"
+    [ ! -f "$compiled" ] || count "no difference by ctfd-diff" env -i "$below/bin/ctfd-diff" \
+        "$lua" "$lua"
     count "a unit" grep -q "^ExecStart=.*/bin/ctfd serve" "$below/lib/systemd/system/ctfd@.service"
     count "a page of the manual" test -s "$below/share/man/man3/ctfd.3"
     if command -v cargo > /dev/null && cargo --version > /dev/null 2>&1; then
@@ -133,9 +135,9 @@ count "install" made install PREFIX="$work/prefix"
 )
 read -r checks wrong < "$work/counts"
 cd /
-ln -s "$work/prefix/bin/ctfd-diff" "$work/linked"
+ln -s "$work/prefix/bin/ctfd-explore" "$work/linked"
 count "a command by a link" env -u CTFD PATH="/usr/bin:/bin" \
-    "$work/linked" "$top/examples/lua.ctf" "$top/examples/lua.ctf"
+    "$work/linked" "$top/examples/lua.ctf" -o "$work/page.html"
 ln -s "$work/prefix/bin/ctfd-convert" "$work/to_ctf"
 count "ctfd-convert by a link" env -u CTFD PATH="/usr/bin:/bin" \
     "$work/to_ctf" "$top/examples/lua.ctf" "$work/converted"

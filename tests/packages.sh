@@ -64,11 +64,12 @@ used() {
     count "ctfd-convert in $below" env PATH=/usr/bin:/bin "$below/bin/ctfd-convert" \
         "$work/own" "$work/own.ctf"
     if [ -f "$compiled" ]; then
-        for command in ctfd-convert ctfd-types; do
+        for command in ctfd-convert ctfd-diff ctfd-types; do
             count "$command, compiled, in $below" cmp "$compiled" "$below/bin/$command"
         done
         env -i "$below/bin/ctfd-types" "$work/own.ctf" "struct point" > "$work/types" 2>&1 || true
         count "ctfd-types in $below" grep -q 'size: 32, cachelines: 1, members: 4' "$work/types"
+        count "ctfd-diff in $below" env -i "$below/bin/ctfd-diff" "$work/own" "$work/own"
     fi
     count "the program in $below" says "ctfd $version" first "$below/bin/ctfd" --version
     count "the header in $below" cc -I"$below/include" "$work/header.c" -o "$work/header" \

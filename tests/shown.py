@@ -54,6 +54,7 @@ COPIED = ("README.md", "Makefile", "HANDLES", "crates.txt", "crates", "clients",
 RECIPE = "/tmp/recipe"
 ARCHIVE = "crates/ctf_c/out/libctfd.a"
 COMPILED = "clients/rust/target/release"
+COMPILED_ALONE = ("ctfd-diff", "ctfd-types")
 TOOLS = ("cc", "gcc", "gdb", "objcopy", "llvm-objcopy", "jq", "man", "rt")
 # What of the client takes which package of Python.
 LIBRARIES = {"build.declare": "pycparser"}
@@ -144,8 +145,9 @@ def lacking(text: str) -> str:
     for word, library in LIBRARIES.items():
         if word in text and not importlib.util.find_spec(library):
             return f"skipped: {sys.executable} has no package {library}"
-    if "ctfd-types" in text and not (rust.folder() / "ctfd-types").exists():
-        return "skipped: ctfd-types is not compiled"
+    for name in COMPILED_ALONE:
+        if name in text and not (rust.folder() / name).exists():
+            return f"skipped: {name} is not compiled"
     if ARCHIVE in text and not Path(archive()).exists():
         return archive()
     if "-m32" in text and subprocess.run(["gcc", "-m32", "-c", "-x", "c", "/dev/null", "-o",

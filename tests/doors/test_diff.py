@@ -1,9 +1,11 @@
 """What `ctfd-diff` answers beside abidiff: a change that breaks is never status 0 or 1."""
 from __future__ import annotations
 
+import struct
 import subprocess
 import unittest
 from pathlib import Path
+from typing import Callable, List
 
 from . import writers as w
 from .support import Case, Outcome, run, tool
@@ -108,6 +110,66 @@ class Uncompared(Diff):
             done = self.asked(paths[0], paths[1], *words)
             self.assertEqual((done.status, done.output), (TROUBLE, ""), done.text)
             self.assertRegex(done.errors, "more members of members than are compared|more work")
+
+
+class Slow(Diff):
+    """Files that are made to be slow, or to fill the memory: refused, or cut with a line."""
+
+    def pair(self, make: Callable[[int], bytes]) -> List[Path]:
+        paths = [self.folder / "old.ctf", self.folder / "new.ctf"]
+        for turn, path in enumerate(paths):
+            path.write_bytes(make(turn))
+        return paths
+
+    def asked_all(self, old: Path, new: Path) -> List[Outcome]:
+        return [self.asked(old, new, *words) for words in ((), ("--all",), ("--all", "--json"))]
+
+    def test_a_name_that_many_types_share(self) -> None:
+        def made(turn: int) -> bytes:
+            types = [w.record(9, w.STRUCT, 1, 4 + turn, w.member(1, 1, 0)) for _ in range(30_000)]
+            names = b"\0int\0ab\0\0" + b"s" * 400_000 + b"\0"
+            return w.ctf(b"".join([w.record(1, w.INTEGER, 0, 4, w.INT), *types]), names)
+
+        for done in self.asked_all(*self.pair(made)):
+            self.assertEqual((done.status, done.output), (TROUBLE, ""), done.text)
+            self.assertRegex(done.errors, "its names share their bytes")
+
+    def test_a_long_name_behind_many_pointers(self) -> None:
+        def made(turn: int) -> bytes:
+            types = [w.record(1, w.INTEGER, 0, 4, w.INT), w.record(5, w.STRUCT, 0, 4 + 4 * turn)]
+            for n in range(30_000):
+                kind = (w.POINTER, w.CONST, w.VOLATILE)[n % 3]
+                types.append(w.record(0, kind, 0, 2 if n % 64 < 3 else len(types)))
+            return w.ctf(b"".join(types), b"\0int\0" + b"s" * 400_000 + b"\0")
+
+        for done in self.asked_all(*self.pair(made)):
+            self.assertEqual(done.status, BREAKING, done.text[-300:])
+
+    def test_a_large_enum_of_many_members(self) -> None:
+        count = 1023
+
+        def made(turn: int) -> bytes:
+            named = b"".join(struct.pack("<Ii", 5 + 2 * (n % 8), n + turn) for n in range(count))
+            types = [w.record(1, w.INTEGER, 0, 4, w.INT), w.record(5, w.ENUM, count, 4, named)]
+            types += [w.record(0, w.CONST, 0, 2) for _ in range(20_000)]
+            members = [w.member(5 + 2 * (n % 8), 3 + (n + turn) % 20_000, 0) for n in range(1000)]
+            types += [w.record(5, w.STRUCT, 1000, 4, b"".join(members)) for _ in range(40)]
+            letters = b"".join(bytes([97 + n, 0]) for n in range(8))
+            return w.ctf(b"".join(types), b"\0int\0" + letters)
+
+        for done in self.asked_all(*self.pair(made)):
+            self.assertIn(done.status, (TROUBLE, BREAKING), done.text[-300:])
+
+    def test_circles_of_structs_that_meet_in_all_pairs(self) -> None:
+        made = []
+        for count in (1201, 1200):
+            code = "".join(f"struct s{n} {{ struct s{(n + 1) % count} *p; }};\n"
+                           for n in range(count))
+            made.append(self.library(code + "int f(struct s0 *p) { return p != 0; }",
+                                     f"{count}.so"))
+        done = self.asked(*made)
+        self.assertEqual(done.status, TROUBLE, done.text[-300:])
+        self.assertRegex(done.errors, "more pairs of types are reached than are compared")
 
 
 def doubled(levels: int) -> bytes:

@@ -35,9 +35,8 @@ class OverSocket(WithFront):
     def test_tools_print_the_same(self) -> None:
         front = self.front().started()
         page = os.path.join(self.folder, "page.html")
-        for words in (["ctfd-diff", OLDER, FILE], ["ctfd-diff", "--all", OLDER, FILE],
-                      ["ctfd-diff", "--all", "--json", OLDER, FILE, "-C", "no_such"],
-                      ["ctfd-explore", FILE, "-o", "-"], ["ctfd-explore", "/dev/null"]):
+        for words in (["ctfd-explore", FILE, "-o", "-"], ["ctfd-explore", OLDER, "-o", "-"],
+                      ["ctfd-explore", "/dev/null"]):
             self.assertEqual(run(words, CTFD_SOCKET=front.path), run(words), words)
         self.assertFalse(os.path.exists(page))
         self.assertNotIn("lines 0", front.tell())

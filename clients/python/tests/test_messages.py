@@ -12,7 +12,7 @@ import unittest
 from pathlib import Path
 from typing import List, NamedTuple
 
-from .support import (COMMAND, EXAMPLES, PROGRAM, TOOLS, dictionary, integer, object_file,
+from .support import (ALONE, COMPILED, EXAMPLES, PROGRAM, TOOLS, dictionary, integer, object_file,
                       pointer, staged)
 
 FOLDER = Path(__file__).resolve().parents[1]
@@ -158,10 +158,10 @@ class Messages(unittest.TestCase):
             name, _, value = words.pop(0).partition("=")
             environment[name] = value
         command = [sys.executable, str(FOLDER / words[0])]
-        if words[0] == COMMAND.name:
-            if not COMMAND.exists():
-                self.skipTest("ctfd-types is not compiled")
-            command = [str(COMMAND)]
+        if words[0] in ALONE:
+            command = [str(COMPILED / words[0])]
+            if not Path(command[0]).exists():
+                self.skipTest(f"{words[0]} is not compiled")
         command += words[1:]
         done = subprocess.run(command, capture_output=True, text=True, env=environment)
         lines = done.stderr.splitlines()

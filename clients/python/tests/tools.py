@@ -14,11 +14,11 @@ from typing import Dict, Iterable, Optional
 from ctfd.client.gather import ALL_LISTS
 from ctfd.files.opening import Opener
 from ctfd.layout.whole import Whole
-from ctfd.tools import diff, explore
+from ctfd.tools import explore
 
-from .support import COMMAND, PROGRAM, WithService, run
+from .support import ALONE, PROGRAM, WithService, run_compiled
 
-MAINS = {"ctfd-diff": diff.main, "ctfd-explore": explore.main}
+MAINS = {"ctfd-explore": explore.main}
 CLIENT = Path(__file__).resolve().parents[1]
 
 
@@ -28,8 +28,8 @@ WHY_NOT = "no service or gcc here"
 
 def command(name: str, *words: str) -> "subprocess.CompletedProcess[str]":
     """A command, run as a user would."""
-    if name == COMMAND.name:
-        return run(*words)
+    if name in ALONE:
+        return run_compiled(name, *words)
     environment = {**os.environ, "CTFD": PROGRAM}
     return subprocess.run([sys.executable, str(CLIENT / name), *words], capture_output=True,
                           text=True, env=environment)
@@ -37,8 +37,8 @@ def command(name: str, *words: str) -> "subprocess.CompletedProcess[str]":
 
 def within(name: str, *words: str) -> "subprocess.CompletedProcess[str]":
     """The same within this process, which is quicker, where it is one in Python."""
-    if name == COMMAND.name:
-        return run(*words)
+    if name in ALONE:
+        return run_compiled(name, *words)
     out, err = io.StringIO(), io.StringIO()
     with contextlib.redirect_stdout(out), contextlib.redirect_stderr(err):
         status = MAINS[name](["--service", PROGRAM, *words])

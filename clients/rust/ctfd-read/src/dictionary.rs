@@ -43,6 +43,18 @@ pub struct Dictionary<'a> {
 
 /// What is wanted of a file, each type once and as CTF holds it; which of these are the base's.
 pub fn select<'a>(found: ProgramTypes<'a>, names: &[String]) -> Result<(ProgramTypes<'a>, u32)> {
+    let (mut found, bases) = select_in_full(found, names)?;
+    if found.form != Form::Ctf {
+        fit(&mut found.table);
+    }
+    Ok((found, bases))
+}
+
+/// As [`select`], with all that the file says, CTF may hold it or not.
+pub fn select_in_full<'a>(
+    found: ProgramTypes<'a>,
+    names: &[String],
+) -> Result<(ProgramTypes<'a>, u32)> {
     let ProgramTypes { mut table, roots, bases, form, symbols, note, verifier } = found;
     if table.lacks_parent {
         let name = String::from_utf8_lossy(&table.parent_name);
@@ -67,11 +79,7 @@ pub fn select<'a>(found: ProgramTypes<'a>, names: &[String]) -> Result<(ProgramT
     if table.is_empty() {
         return refuse("nothing is to be written: the file tells no type of C with a name");
     }
-    if form != Form::Ctf {
-        fit(&mut table);
-    }
-    let roots = Vec::new();
-    Ok((ProgramTypes { table, roots, bases, form, symbols, note, verifier }, bases))
+    Ok((ProgramTypes { table, roots: Vec::new(), bases, form, symbols, note, verifier }, bases))
 }
 
 /// A dictionary without a parent.

@@ -105,6 +105,8 @@ pub struct Options {
     pub number: Option<usize>,
     /// The symbol table that is wanted.
     pub symbols: SymbolTable,
+    /// Whether what CTF does not hold is wanted beside the dictionary.
+    pub is_in_full: bool,
 }
 
 /// What a file has: its types, those of them that are wanted for themselves, and the number of types

@@ -7,6 +7,7 @@
 //! and the library of this project, which is proved, opens before anybody gets them.
 
 mod archive;
+pub mod beyond;
 mod btf;
 mod bytes;
 pub mod collection;
@@ -16,6 +17,7 @@ pub mod dictionary;
 mod dwarf;
 mod elf;
 pub mod error;
+pub mod exports;
 mod gnu;
 mod gnu_symbols;
 pub mod image;

@@ -1,14 +1,17 @@
 //! What the library is given for a file: its dictionary as it is, or one that is made of its types,
 //! and the symbols that go with it.
 
+use crate::beyond::Beyond;
 use crate::ctf::{self, Sections};
-use crate::dictionary::{alone, select};
+use crate::dictionary::{alone, select, select_in_full};
 use crate::elf;
 use crate::error::{refuse, Error, Result};
 use crate::image::{Data, Image};
-use crate::inputs::{plain_bytes, with_types, Form, Options};
+use crate::inputs::{plain_bytes, with_types, Form, Options, ProgramTypes};
 use crate::labels;
+use crate::limits::fit;
 use crate::symbols::SymbolTable;
+use crate::table::Table;
 use ctfd::Model;
 use object::elf::{FileHeader32, FileHeader64, SHF_COMPRESSED};
 use object::elf::{SHT_DYNSYM, SHT_NOBITS, SHT_STRTAB, SHT_SYMTAB};
@@ -89,6 +92,8 @@ pub struct Handed<'a> {
     pub is_made: bool,
     /// What CTF does not hold of the file, a line each.
     pub losses: Vec<String>,
+    /// The same as far as it can be said, where that was asked for.
+    pub beyond: Option<Beyond>,
 }
 
 impl<'a> Handed<'a> {
@@ -101,6 +106,7 @@ impl<'a> Handed<'a> {
             model: None,
             is_made: false,
             losses: Vec::new(),
+            beyond: None,
         }
     }
 
@@ -312,13 +318,17 @@ fn converted<'a>(image: &'a Image, options: &Options) -> Result<Handed<'a>> {
     let is_ilp32 = image.is_elf() && !image.elf()?.is_64();
     with_types(image, &options, |found| {
         let named = |error: Error| error.within(&image.path().display().to_string());
-        let (found, _) = select(found, &[]).map_err(named)?;
+        let (found, full) = match options.is_in_full {
+            true => fitted(select_in_full(found, &[]).map_err(named)?.0),
+            false => (select(found, &[]).map_err(named)?.0, None),
+        };
         let mut dictionary = alone(found.table, found.symbols);
         let ctf = dictionary.bytes().map_err(named)?;
         let table = dictionary.symbols.table;
         let mut made = Handed {
             model: Some(dictionary.table.model()),
             is_made: true,
+            beyond: full.and_then(|full| Beyond::of_written(&full, &dictionary.table)),
             losses: std::mem::take(&mut dictionary.table.losses),
             ..Handed::plain(Cow::Owned(ctf))
         };
@@ -341,6 +351,17 @@ fn converted<'a>(image: &'a Image, options: &Options) -> Result<Handed<'a>> {
         }
         Ok(made)
     })
+}
+
+/// Types as CTF holds them, and all that the file says of them, where CTF does not hold that.
+fn fitted<'a>(found: ProgramTypes<'a>) -> (ProgramTypes<'a>, Option<Table<'a>>) {
+    let full = found.table.clone();
+    let mut found = found;
+    if found.form != Form::Ctf {
+        fit(&mut found.table);
+    }
+    let has_losses = !found.table.losses.is_empty();
+    (found, has_losses.then_some(full))
 }
 
 /// The symbol table by which entries are to go: what is exported, where strip has left nothing else.

@@ -89,6 +89,7 @@ impl Words {
                     Some("dynsym") => SymbolTable::Dynsym,
                     _ => SymbolTable::Symtab,
                 },
+                is_in_full: false,
             },
             only: only
                 .flat_map(|listed| listed.split(','))

@@ -5,6 +5,7 @@
 //! command's.
 
 mod convert;
+mod diff;
 mod messages;
 mod output;
 mod standard;
@@ -17,8 +18,8 @@ use std::process::ExitCode;
 /// A command: from its words, the program's name first, to its exit status.
 type Command = fn(Vec<OsString>) -> ExitCode;
 
-const COMMANDS: [(&str, Command); 2] =
-    [("ctfd-convert", convert::main), ("ctfd-types", types::main)];
+const COMMANDS: [(&str, Command); 3] =
+    [("ctfd-convert", convert::main), ("ctfd-diff", diff::main), ("ctfd-types", types::main)];
 
 fn main() -> ExitCode {
     let mut words: Vec<OsString> = std::env::args_os().collect();

@@ -45,7 +45,7 @@ pub struct Part<'d> {
 }
 
 /// An enumerator.
-#[derive(Clone, Debug)]
+#[derive(Clone, Debug, PartialEq)]
 pub struct Value {
     /// Its name.
     pub name: Vec<u8>,

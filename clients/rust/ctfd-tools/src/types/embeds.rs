@@ -21,6 +21,8 @@ pub struct Embedded<'d> {
     pub path: Vec<&'d [u8]>,
     /// The type of the member.
     pub of: u16,
+    /// The struct or union that it is a member of itself, and its place among the members there.
+    pub within: (u16, usize),
     /// Where it begins, the first of the elements that it stands in.
     pub offset: u128,
     /// In how many elements of arrays it stands.
@@ -124,8 +126,14 @@ impl<'e, 'd> Embeds<'e, 'd> {
 
     /// Visits each member, and those of the structs that are walked through, in order of members.
     pub fn walk(&self, owner: u16, mut visit: impl FnMut(&Embedded<'d>)) {
-        let mut todo =
-            vec![Embedded { owner, path: Vec::new(), of: owner, offset: 0, elements: 1 }];
+        let mut todo = vec![Embedded {
+            owner,
+            path: Vec::new(),
+            of: owner,
+            within: (0, 0),
+            offset: 0,
+            elements: 1,
+        }];
         for _ in 0..MOST {
             let Some(here) = todo.pop() else { return };
             self.left.set(self.left.get() - 1 - here.path.len() as i64);
@@ -141,7 +149,7 @@ impl<'e, 'd> Embeds<'e, 'd> {
     }
 
     /// Whether the members of a member of this type are walked too.
-    fn is_walked_through(&self, number: u16) -> bool {
+    pub fn is_walked_through(&self, number: u16) -> bool {
         *self.through.borrow_mut().entry(number).or_insert_with(|| {
             let end = self.catalog().reached(number).number;
             let is_named = self.names.has_name(end);
@@ -165,7 +173,7 @@ impl<'e, 'd> Embeds<'e, 'd> {
             }
             return;
         }
-        for part in self.catalog().members(reached.number).iter().rev() {
+        for (place, part) in self.catalog().members(reached.number).iter().enumerate().rev() {
             let mut path = Vec::with_capacity(here.path.len() + 1);
             path.extend(&here.path);
             path.push(part.name);
@@ -173,6 +181,7 @@ impl<'e, 'd> Embeds<'e, 'd> {
                 owner: here.owner,
                 path,
                 of: part.of,
+                within: (reached.number, place),
                 offset: here.offset + u128::from(part.offset),
                 elements: here.elements.saturating_mul(reached.elements),
             });

@@ -11,20 +11,23 @@ use std::fmt::Write as _;
 
 /// An object as it is written, a field behind the other.
 #[derive(Default)]
-struct Object(String);
+pub struct Object(String);
 
 impl Object {
-    fn field(&mut self, name: &str, value: impl std::fmt::Display) -> &mut Object {
+    /// Adds a field of a value as JSON has it.
+    pub fn field(&mut self, name: &str, value: impl std::fmt::Display) -> &mut Object {
         let mark = if self.0.is_empty() { '{' } else { ',' };
         let _ = write!(self.0, "{mark}\"{name}\":{value}");
         self
     }
 
-    fn text(&mut self, name: &str, value: &[u8]) -> &mut Object {
+    /// Adds a field of a text.
+    pub fn text(&mut self, name: &str, value: &[u8]) -> &mut Object {
         self.field(name, text(value))
     }
 
-    fn end(&mut self) -> String {
+    /// The object as a line.
+    pub fn end(&mut self) -> String {
         match self.0.is_empty() {
             true => "{}".to_owned(),
             false => std::mem::take(&mut self.0) + "}",
@@ -33,7 +36,7 @@ impl Object {
 }
 
 /// A name as ASCII, none of its bytes lost.
-fn text(name: &[u8]) -> String {
+pub fn text(name: &[u8]) -> String {
     let mut made = String::with_capacity(name.len() + 2);
     made.push('"');
     for point in code_points(name) {
@@ -60,7 +63,8 @@ fn text(name: &[u8]) -> String {
     made
 }
 
-fn list(items: impl Iterator<Item = String>) -> String {
+/// A list of what is JSON each.
+pub fn list(items: impl Iterator<Item = String>) -> String {
     format!("[{}]", items.collect::<Vec<_>>().join(","))
 }
 
@@ -164,7 +168,7 @@ pub fn function(whole: &Whole<'_, '_>, name: &[u8], how: &[&str], declared: &str
 }
 
 /// The service's word for a kind.
-fn word_of(kind: Kind) -> &'static str {
+pub fn word_of(kind: Kind) -> &'static str {
     match kind {
         Kind::Unknown => "unknown",
         Kind::Integer => "integer",

@@ -1,27 +1,27 @@
 //! `ctfd-types`: prints the types of a program.
 
-mod catalog;
-mod declare;
+pub mod catalog;
+pub mod declare;
 mod drawing;
-mod embeds;
-mod failure;
+pub mod embeds;
+pub mod failure;
 mod figures;
 mod header;
-mod json;
+pub mod json;
 mod layout;
 mod listing;
 mod lookup;
 mod members;
-mod names;
-mod open;
+pub mod names;
+pub mod open;
 mod options;
-mod output;
+pub mod output;
 mod picture;
 mod records;
 mod reorganize;
 mod report;
-mod symbols;
-mod text;
+pub mod symbols;
+pub mod text;
 mod treemap;
 mod whole;
 
@@ -60,12 +60,17 @@ pub fn main(words: Vec<OsString>) -> ExitCode {
 
 /// A line on standard error.
 fn warn(line: &str) {
-    messages::warn(NAME, text::printable(line.as_bytes()));
+    warn_by(NAME, line);
+}
+
+/// A line on standard error by a command, without what a terminal obeys.
+pub fn warn_by(command: &str, line: &str) {
+    messages::warn(command, text::printable(line.as_bytes()));
 }
 
 /// All files, one after the other; one without what is wanted is passed over if another has it.
 fn run(words: &Words, output: &mut Output) -> Outcome<u8> {
-    let parents = Parents::new(words);
+    let parents = Parents::new(NAME, words.parent.as_deref(), words.reading.model);
     let mut missed = Vec::new();
     let mut status = 0;
     for path in &words.files {

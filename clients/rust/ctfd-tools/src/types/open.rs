@@ -4,8 +4,8 @@ use super::catalog::{Catalog, Lists};
 use super::failure::{told, Failure, Outcome};
 use super::options::Words;
 use super::text::printable;
-use super::warn;
-use ctfd::{Dictionary, Fault, Refusal};
+use super::{warn, warn_by};
+use ctfd::{Dictionary, Fault, Model, Refusal};
 use ctfd_read::dictionary::notice;
 use ctfd_read::image::Image;
 use ctfd_read::opening::{self, Handed, Origin};
@@ -26,31 +26,33 @@ pub fn shown(path: &Path) -> String {
     printable(path.as_os_str().as_bytes()).into_owned()
 }
 
-/// The parent that a command line names, read once for all files.
+/// The parent that the words of a command name, read once for all files.
 pub struct Parents<'w> {
-    words: &'w Words,
+    command: &'static str,
+    path: Option<&'w Path>,
+    model: Option<Model>,
     image: OnceCell<Image>,
 }
 
 impl<'w> Parents<'w> {
-    /// That of some words, which is not read yet.
-    pub fn new(words: &'w Words) -> Parents<'w> {
-        Parents { words, image: OnceCell::new() }
+    /// That of a path, which is not read yet, and of a model that is asked for.
+    pub fn new(command: &'static str, path: Option<&'w Path>, model: Option<Model>) -> Parents<'w> {
+        Parents { command, path, model, image: OnceCell::new() }
     }
 
     /// What is given for the parent; None where none is named.
     fn handed(&self) -> Outcome<Option<(&Path, Handed<'_>)>> {
-        let Some(path) = &self.words.parent else { return Ok(None) };
+        let Some(path) = self.path else { return Ok(None) };
         if self.image.get().is_none() {
             let _ = self.image.set(Image::open(path)?);
         }
         let Some(image) = self.image.get() else { return Ok(None) };
         let reading = ctfd_read::inputs::Options {
-            model: self.words.reading.model,
+            model: self.model,
             ..ctfd_read::inputs::Options::default()
         };
         let mut handed = opening::handed(image, &reading)?;
-        judge_model(&mut handed, self.words, path)?;
+        judge_model(&mut handed, self.model, path)?;
         Ok(Some((path, handed)))
     }
 }
@@ -66,7 +68,7 @@ pub fn handed<'i>(image: &'i Image, words: &Words) -> Outcome<Handed<'i>> {
     if found.is_made && is_given {
         return Err(Failure::Refused(format!("{}: {ALONE}", shown(path))));
     }
-    judge_model(&mut found, words, path)?;
+    judge_model(&mut found, words.reading.model, path)?;
     Ok(found)
 }
 
@@ -79,8 +81,9 @@ fn losses(found: &Handed<'_>, path: &Path) -> Vec<String> {
     }
 }
 
-fn judge_model(found: &mut Handed<'_>, words: &Words, path: &Path) -> Outcome<()> {
-    let Some(wanted) = words.reading.model else { return Ok(()) };
+/// Refuses a dictionary that says another model than the one that is asked for.
+pub fn judge_model(found: &mut Handed<'_>, wanted: Option<Model>, path: &Path) -> Outcome<()> {
+    let Some(wanted) = wanted else { return Ok(()) };
     let word = |model| match model {
         ctfd::Model::Ilp32 => "ilp32",
         ctfd::Model::Lp64 => "lp64",
@@ -162,10 +165,8 @@ pub fn with_catalog<T>(
         return Err(Failure::of_library(shown(path), refusal));
     }
     if handed.is_made {
-        warn(&format!(
-            "{}: the types of its symbols do not fit its symbol table: symbols are left out",
-            shown(path)
-        ));
+        let line = "the types of its symbols do not fit its symbol table: symbols are left out";
+        warn_by(parents.command, &format!("{}: {line}", shown(path)));
     }
     let bare = Handed {
         ctf: Cow::Borrowed(&handed.ctf),
@@ -175,6 +176,7 @@ pub fn with_catalog<T>(
         model: handed.model,
         is_made: handed.is_made,
         losses: Vec::new(),
+        beyond: None,
     };
     let types = Dictionary::open_lent(&bare.ctf, bare.options())
         .map_err(|refusal| Failure::of_library(shown(path), refusal))?;

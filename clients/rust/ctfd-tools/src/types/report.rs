@@ -336,6 +336,7 @@ impl<'a, 'd> Answer<'a, 'd> {
                 model: handed.model,
                 is_made: handed.is_made,
                 losses: Vec::new(),
+                beyond: None,
             };
             whole.add_names();
             return with_catalog(self.path, &whole, self.parents, |opened| {

@@ -31,7 +31,8 @@ pub fn declared(catalog: &Catalog<'_>, name: &[u8]) -> Result<String, Refusal> {
     }
 }
 
-fn signature_of(found: &ctfd::Function<'_>) -> Signature {
+/// What the library says of a function.
+pub fn signature_of(found: &ctfd::Function<'_>) -> Signature {
     Signature {
         returns: number_of(found.returns),
         arguments: found.arguments.iter().map(|&one| number_of(one)).collect(),

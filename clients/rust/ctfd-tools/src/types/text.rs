@@ -2,8 +2,12 @@
 //! types.
 
 use std::borrow::Cow;
+use std::collections::hash_map::DefaultHasher;
 use std::collections::HashSet;
+use std::hash::{Hash as _, Hasher as _};
 
+/// How many bytes of a name or declaration are told.
+const LONGEST: usize = 2048;
 /// The words for kinds that have tags.
 pub const TAGS: [&str; 3] = ["struct", "union", "enum"];
 const QUALIFIERS: [&str; 3] = ["const", "volatile", "restrict"];
@@ -73,6 +77,17 @@ pub fn code_points(name: &[u8]) -> Vec<u32> {
     name.utf8_chunks().flat_map(of_chunk).collect()
 }
 
+/// A text that is told: of a very long one the beginning, and a number that no other has.
+pub fn shortened(text: String) -> String {
+    if text.len() <= LONGEST {
+        return text;
+    }
+    let mut hasher = DefaultHasher::new();
+    text.hash(&mut hasher);
+    let end = (0..=LONGEST).rev().find(|&end| text.is_char_boundary(end)).unwrap_or(0);
+    format!("{}..{:016x}", &text[..end], hasher.finish())
+}
+
 /// A written name as a dictionary has it, without qualifiers, and its stars.
 pub fn normal(written: &[u8]) -> (Vec<u8>, usize) {
     let stars = written.iter().filter(|&&byte| byte == b'*').count();
@@ -83,6 +98,11 @@ pub fn normal(written: &[u8]) -> (Vec<u8>, usize) {
     let base = words.collect::<Vec<_>>().join(&b' ');
     let usual = SPELLINGS.iter().find(|(other, _)| other.as_bytes() == base);
     (usual.map_or(base, |(_, usual)| usual.as_bytes().to_vec()), stars)
+}
+
+/// The name of a base type that gcc gives it: other compilers spell it otherwise.
+pub fn usual(name: &str) -> &str {
+    SPELLINGS.iter().find(|(other, _)| *other == name).map_or(name, |(_, usual)| *usual)
 }
 
 /// A name without qualifiers, and what else C allows to be written for it.

@@ -1,1 +1,0 @@
-"""What differs between the types of two programs, and what of that breaks others."""

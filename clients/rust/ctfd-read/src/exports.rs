@@ -1,0 +1,336 @@
+//! What a file exports: the functions and objects that other programs see, with their versions.
+
+use crate::bytes::{Names, Reader};
+use crate::error::{Error, Result};
+use crate::image::{Data, Image};
+use object::elf::{self, FileHeader32, FileHeader64};
+use object::read::elf::{Dyn as _, FileHeader, SectionHeader, SectionTable, Sym as _};
+use object::{Endian as _, Endianness, Object as _, SectionIndex};
+use std::borrow::Cow;
+use std::collections::HashMap;
+
+/// Names may overlap: they are read for so many times the bytes of their table, and some more.
+const MOST_TIMES: u64 = 16;
+const AT_LEAST: u64 = 65_536;
+/// The bytes of a symbol as the library takes it.
+const ENTRY: usize = 24;
+/// That of functions whose address is found as a program is loaded.
+const INDIRECT: u8 = 10;
+const UNIQUE: u8 = 10;
+/// Versions below are none; the flag is of those that are no default.
+const LEAST_VERSION: u16 = 2;
+const HIDDEN: u16 = 0x8000;
+/// What linkers define in any file.
+const OF_LINKERS: [&[u8]; 15] = [
+    b"_init",
+    b"_fini",
+    b"_edata",
+    b"edata",
+    b"_end",
+    b"end",
+    b"_etext",
+    b"etext",
+    b"__bss_start",
+    b"_IO_stdin_used",
+    b"__data_start",
+    b"data_start",
+    b"_start",
+    b"__dso_handle",
+    b"__TMC_END__",
+];
+
+/// What an exported symbol is.
+#[derive(Clone, Copy, Debug, PartialEq, Eq)]
+pub enum ExportKind {
+    /// A function.
+    Function,
+    /// An object.
+    Object,
+    /// One of which its table does not say what it is.
+    Symbol,
+}
+
+impl ExportKind {
+    fn of_symbol(kind: u8) -> Option<ExportKind> {
+        match kind {
+            elf::STT_OBJECT | elf::STT_TLS => Some(ExportKind::Object),
+            elf::STT_FUNC | INDIRECT => Some(ExportKind::Function),
+            elf::STT_NOTYPE => Some(ExportKind::Symbol),
+            _ => None,
+        }
+    }
+
+    /// The word for it.
+    pub fn word(self) -> &'static str {
+        match self {
+            ExportKind::Function => "function",
+            ExportKind::Object => "object",
+            ExportKind::Symbol => "symbol",
+        }
+    }
+}
+
+/// A symbol that others see.
+#[derive(Clone, Debug)]
+pub struct Export<'a> {
+    /// Its name.
+    pub name: &'a [u8],
+    /// Its version; empty without one.
+    pub version: &'a [u8],
+    /// What it is.
+    pub kind: ExportKind,
+    /// Its bytes.
+    pub size: u64,
+    /// Its place in the table that types go by, where it is there.
+    pub number: Option<u32>,
+    /// Whether each thread has one of its own.
+    pub is_of_threads: bool,
+}
+
+impl Export<'_> {
+    /// Its name, with its version where it has one.
+    pub fn label(&self) -> Vec<u8> {
+        match self.version {
+            b"" => self.name.to_vec(),
+            version => [self.name, b"@", version].concat(),
+        }
+    }
+}
+
+/// All that a file exports.
+#[derive(Debug, Default)]
+pub struct Exports<'a> {
+    /// The symbols in the order of their table, each once.
+    pub listed: Vec<Export<'a>>,
+    /// What programs that were linked with the file ask for; empty without one.
+    pub soname: Cow<'a, [u8]>,
+    by_version: HashMap<(&'a [u8], &'a [u8]), usize>,
+    by_name: HashMap<&'a [u8], usize>,
+}
+
+impl<'a> Exports<'a> {
+    /// Whether there is a function among them.
+    pub fn has_functions(&self) -> bool {
+        self.listed.iter().any(|one| one.kind == ExportKind::Function)
+    }
+
+    /// What a program finds here that was linked with another's symbol.
+    pub fn matching(&self, other: &Export<'_>) -> Option<&Export<'a>> {
+        let exact = self.by_version.get(&(other.name, other.version));
+        let place = exact.or_else(|| match other.version {
+            b"" => self.by_name.get(other.name),
+            _ => self.by_version.get(&(other.name, &[][..])),
+        });
+        place.map(|&place| &self.listed[place])
+    }
+
+    fn add(&mut self, one: Export<'a>) {
+        let place = self.listed.len();
+        if *self.by_version.entry((one.name, one.version)).or_insert(place) == place {
+            self.by_name.entry(one.name).or_insert(place);
+            self.listed.push(one);
+        }
+    }
+}
+
+/// What a file exports: its dynamic symbols, or of one that was not linked for the loader the
+/// global ones. `table` and `strings` are those that its types go by.
+pub fn exports<'a>(image: &'a Image, table: &[u8], strings: &[u8]) -> Result<Exports<'a>> {
+    let numbers = numbers(table, strings);
+    let found = match image.elf()?.is_64() {
+        true => File::<FileHeader64<Endianness>>::parse(image)?.exports(&numbers),
+        false => File::<FileHeader32<Endianness>>::parse(image)?.exports(&numbers),
+    };
+    found.map_err(|error| error.of(image.path().display()))
+}
+
+/// The places of symbols in the table that types go by, global ones before others.
+type Numbers<'n> = HashMap<(&'n [u8], u64), u32>;
+
+fn numbers<'n>(table: &'n [u8], strings: &'n [u8]) -> Numbers<'n> {
+    let mut made = HashMap::new();
+    let mut names = Strings::new(strings);
+    for is_local in [false, true] {
+        for (number, entry) in table.chunks_exact(ENTRY).enumerate() {
+            let Some(symbol) = Handed::of(entry).filter(|one| one.is_local == is_local) else {
+                continue;
+            };
+            let Some(name) = names.at(symbol.name) else { continue };
+            let key = (without_version(name).0, symbol.address);
+            made.entry(key).or_insert(number as u32);
+        }
+    }
+    made
+}
+
+/// A function or object of the table that types go by.
+struct Handed {
+    name: u32,
+    address: u64,
+    is_local: bool,
+}
+
+impl Handed {
+    fn of(entry: &[u8]) -> Option<Handed> {
+        let name = u32::from_le_bytes(entry.get(..4)?.try_into().ok()?);
+        let address = u64::from_le_bytes(entry.get(8..16)?.try_into().ok()?);
+        let is_told = matches!(entry[4] & 15, elf::STT_OBJECT | elf::STT_FUNC);
+        let is_there = name != 0 && entry[6..8] != [0, 0];
+        let is_local = entry[4] >> 4 == elf::STB_LOCAL;
+        (is_told && is_there).then_some(Handed { name, address, is_local })
+    }
+}
+
+/// The names of a table, read within a bound.
+struct Strings<'a> {
+    names: Names<'a>,
+    left: u64,
+}
+
+impl<'a> Strings<'a> {
+    fn new(bytes: &'a [u8]) -> Strings<'a> {
+        Strings { names: Names(bytes), left: MOST_TIMES * bytes.len() as u64 + AT_LEAST }
+    }
+
+    fn at(&mut self, place: u32) -> Option<&'a [u8]> {
+        let name = self.names.at(place.into())?;
+        self.left = self.left.checked_sub(name.len() as u64)?;
+        Some(name)
+    }
+}
+
+/// A name as its table has it: without a version, and that.
+fn without_version(name: &[u8]) -> (&[u8], &[u8]) {
+    let end = name.iter().position(|&byte| byte == b'@').unwrap_or(name.len());
+    let signs = name[end..].iter().take_while(|&&byte| byte == b'@').count();
+    (&name[..end], &name[end + signs..])
+}
+
+/// An ELF file of one class.
+struct File<'a, F: FileHeader<Endian = Endianness>> {
+    data: Data<'a>,
+    endian: Endianness,
+    is_linked: bool,
+    sections: SectionTable<'a, F, Data<'a>>,
+}
+
+impl<'a, F: FileHeader<Endian = Endianness>> File<'a, F> {
+    fn parse(image: &'a Image) -> Result<File<'a, F>> {
+        let data = image.data();
+        let header = F::parse(data)?;
+        let endian = header.endian()?;
+        let sections = header.sections(endian, data)?;
+        Ok(File { data, endian, is_linked: header.e_type(endian) != elf::ET_REL, sections })
+    }
+
+    /// The section of a name, where it has bytes in the file.
+    fn named(&self, name: &str) -> Option<&'a F::SectionHeader> {
+        let (_, found) = self.sections.section_by_name(self.endian, name.as_bytes())?;
+        (found.sh_type(self.endian) != elf::SHT_NOBITS).then_some(found)
+    }
+
+    fn bytes(&self, section: &F::SectionHeader) -> Result<&'a [u8]> {
+        Ok(section.data(self.endian, self.data)?)
+    }
+
+    /// The strings that go with a section.
+    fn strings(&self, section: &F::SectionHeader) -> Result<Option<Strings<'a>>> {
+        let index = SectionIndex(section.sh_link(self.endian) as usize);
+        let found = self.sections.section(index).ok();
+        found.map(|found| self.bytes(found).map(Strings::new)).transpose()
+    }
+
+    fn exports(&self, numbers: &Numbers<'_>) -> Result<Exports<'a>> {
+        let mut made = Exports { soname: self.soname()?.into(), ..Exports::default() };
+        let dynamic = self.named(".dynsym").filter(|_| self.is_linked);
+        let Some(table) = dynamic.or_else(|| self.named(".symtab")) else { return Ok(made) };
+        let Some(mut strings) = self.strings(table)? else { return Ok(made) };
+        let versions = self.versions()?;
+        let symbols: &[F::Sym] = table.data_as_array(self.endian, self.data)?;
+        for (place, symbol) in symbols.iter().enumerate() {
+            let name = match symbol.st_name(self.endian) {
+                0 => &[],
+                at => strings.at(at).ok_or_else(damage)?,
+            };
+            let Some(kind) = self.seen(symbol, name) else { continue };
+            let (name, own) = without_version(name);
+            let version = versions.get(place).copied().filter(|one| !one.is_empty());
+            made.add(Export {
+                name,
+                version: version.unwrap_or(own),
+                kind,
+                size: symbol.st_size(self.endian).into(),
+                number: numbers.get(&(name, symbol.st_value(self.endian).into())).copied(),
+                is_of_threads: symbol.st_type() == elf::STT_TLS,
+            });
+        }
+        Ok(made)
+    }
+
+    /// What a symbol is that other files see; None of others.
+    fn seen(&self, symbol: &F::Sym, name: &[u8]) -> Option<ExportKind> {
+        let section = symbol.st_shndx(self.endian);
+        let is_bound = matches!(symbol.st_bind(), elf::STB_GLOBAL | elf::STB_WEAK | UNIQUE);
+        let is_seen = matches!(symbol.st_visibility(), elf::STV_DEFAULT | elf::STV_PROTECTED);
+        let is_a_number = section == elf::SHN_ABS
+            && matches!(symbol.st_type(), elf::STT_OBJECT | elf::STT_NOTYPE);
+        let is_there = is_bound && is_seen && section != elf::SHN_UNDEF && !is_a_number;
+        let is_own = !name.is_empty() && !OF_LINKERS.contains(&name);
+        ExportKind::of_symbol(symbol.st_type()).filter(|_| is_there && is_own)
+    }
+
+    /// The version of each dynamic symbol, as GNU's linker writes them; empty for none, and for
+    /// that of the file itself.
+    fn versions(&self) -> Result<Vec<&'a [u8]>> {
+        let Some(table) = self.named(".gnu.version") else { return Ok(Vec::new()) };
+        let defined = match self.named(".gnu.version_d") {
+            Some(section) => self.defined(section)?,
+            None => HashMap::new(),
+        };
+        let of_place = |bytes: &[u8]| {
+            let number = self.endian.read_u16_bytes([bytes[0], bytes[1]]);
+            defined.get(&(number & !HIDDEN)).copied().unwrap_or_default()
+        };
+        Ok(self.bytes(table)?.chunks_exact(2).map(of_place).collect())
+    }
+
+    /// The names of the versions that a file defines.
+    fn defined(&self, section: &F::SectionHeader) -> Result<HashMap<u16, &'a [u8]>> {
+        let mut made = HashMap::new();
+        let mut rest = self.bytes(section)?;
+        let Some(mut strings) = self.strings(section)? else { return Ok(made) };
+        while rest.len() >= 20 {
+            let mut record = Reader::new(rest, self.endian, "the versions of its symbols");
+            record.word()?;
+            let number = record.half()?;
+            record.half()?;
+            record.word()?;
+            let (first, following) = (record.word()? as usize, record.word()? as usize);
+            if number >= LEAST_VERSION {
+                let name = rest.get(first..).ok_or_else(damage)?;
+                let at = Reader::new(name, self.endian, "the versions of its symbols").word()?;
+                made.insert(number, strings.at(at).ok_or_else(damage)?);
+            }
+            if following == 0 {
+                break;
+            }
+            rest = rest.get(following..).unwrap_or_default();
+        }
+        Ok(made)
+    }
+
+    /// What programs that were linked with the file ask for.
+    fn soname(&self) -> Result<&'a [u8]> {
+        let Some(section) = self.named(".dynamic") else { return Ok(&[]) };
+        let Some(mut strings) = self.strings(section)? else { return Ok(&[]) };
+        let listed: &[F::Dyn] = section.data_as_array(self.endian, self.data)?;
+        let found = listed.iter().find(|one| one.tag32(self.endian) == Some(elf::DT_SONAME));
+        let Some(found) = found else { return Ok(&[]) };
+        let name = found.val32(self.endian).and_then(|at| strings.at(at));
+        name.ok_or_else(|| Error("the name in its dynamic section is damaged".to_owned()))
+    }
+}
+
+fn damage() -> Error {
+    Error("its symbols are damaged: a name lies outside of its strings, or many are one".to_owned())
+}

@@ -1,0 +1,90 @@
+//! The new types of a name of which an old one may be the same: found at once, since a file may
+//! have thousands of one name.
+
+use super::side::Side;
+use ctfd::Kind;
+use std::collections::hash_map::DefaultHasher;
+use std::collections::{HashMap, VecDeque};
+use std::hash::{Hash, Hasher};
+
+/// How many with the same sum are compared.
+const TRIES: usize = 4;
+
+/// The new types of a name.
+pub struct Candidates<'c> {
+    listed: &'c [u16],
+    is_left: Vec<bool>,
+    /// Their places by their sums; none of a single one, which is compared at once.
+    by_sum: HashMap<u64, VecDeque<usize>>,
+}
+
+impl<'c> Candidates<'c> {
+    /// Those types of a side.
+    pub fn new(side: &Side<'_, '_>, listed: &'c [u16]) -> Candidates<'c> {
+        let mut by_sum: HashMap<u64, VecDeque<usize>> = HashMap::new();
+        if listed.len() > 1 {
+            for (place, &number) in listed.iter().enumerate() {
+                by_sum.entry(sum(side, number)).or_default().push_back(place);
+            }
+        }
+        Candidates { listed, is_left: vec![true; listed.len()], by_sum }
+    }
+
+    /// Takes the first that is the same as an old type; whether there is one.
+    pub fn take(
+        &mut self,
+        side: &Side<'_, '_>,
+        old: u16,
+        is_same: impl Fn(u16, u16) -> bool,
+    ) -> bool {
+        if let [only] = self.listed {
+            let is_taken = self.is_left[0] && is_same(old, *only);
+            self.is_left[0] &= !is_taken;
+            return is_taken;
+        }
+        if self.by_sum.is_empty() {
+            return false;
+        }
+        let Some(places) = self.by_sum.get_mut(&sum(side, old)) else { return false };
+        let tried = places.iter().take(TRIES).position(|&place| is_same(old, self.listed[place]));
+        let taken = tried.and_then(|tried| places.remove(tried));
+        if let Some(place) = taken {
+            self.is_left[place] = false;
+        }
+        taken.is_some()
+    }
+
+    /// Those that were not taken, in order.
+    pub fn left(self) -> impl Iterator<Item = u16> + 'c {
+        let listed = self.listed.iter().copied().zip(self.is_left);
+        listed.filter(|(_, is_left)| *is_left).map(|(number, _)| number)
+    }
+}
+
+/// A number that two types have in common which do not differ.
+fn sum(side: &Side<'_, '_>, number: u16) -> u64 {
+    let mut parts: Vec<u64> = Vec::new();
+    let mut add = |part: &dyn Fn(&mut DefaultHasher)| {
+        let mut hasher = DefaultHasher::new();
+        part(&mut hasher);
+        parts.push(hasher.finish());
+    };
+    let record = side.catalog.record(number);
+    if record.is_aggregate() {
+        for (place, _) in side.parts(number) {
+            add(&|to| (&place.path, place.start, place.told.bits, &place.told.text).hash(to));
+        }
+    } else {
+        for one in side.values(number) {
+            add(&|to| one.hash(to));
+        }
+    }
+    parts.sort_unstable(); // members may stand in any order
+    let mut hasher = DefaultHasher::new();
+    (record.kind as u32, side.catalog.size(number), side.flags(number)).hash(&mut hasher);
+    if record.kind == Kind::Typedef {
+        side.text(record.of).hash(&mut hasher);
+    }
+    parts.hash(&mut hasher);
+    hasher.finish()
+}

@@ -1,0 +1,177 @@
+//! What differs between the types of two dictionaries, as an engineer would say it.
+//!
+//! Types are matched by kind and name. A change breaks where a program that was built for the old
+//! types goes wrong with the new: sizes, offsets, the values of enumerators, what functions take
+//! and return.
+
+use super::candidates::Candidates;
+use super::members::differences as members;
+use super::said::{kind_word, size, Change, Datum, Fate, Said};
+use super::side::{is_of_base, places, Key, Side};
+use crate::types::catalog::is_renaming;
+use crate::types::json::word_of;
+use crate::types::text::printable;
+use ctfd::Kind;
+use std::collections::{HashMap, HashSet};
+
+/// The old and the new types.
+#[derive(Clone, Copy)]
+pub struct Sides<'s, 'o, 'n> {
+    /// The old.
+    pub before: &'s Side<'s, 'o>,
+    /// The new.
+    pub after: &'s Side<'s, 'n>,
+}
+
+impl Sides<'_, '_, '_> {
+    /// All changes: of the old types in their order, then what was added.
+    pub fn changes(&self) -> Vec<Change> {
+        let (before, after) = (self.before, self.after);
+        let mut made = Vec::new();
+        for (key, numbers) in before.own.iter() {
+            let others = after.get(key);
+            if is_of_base(key.0) && others.is_none() {
+                continue; // what was of it is of another now, which is told
+            }
+            made.extend(self.changes_of(key, numbers, others.unwrap_or_default()));
+        }
+        for (key, numbers) in after.own.iter() {
+            if !is_of_base(key.0) && before.get(key).is_none() {
+                made.push(addition(after, key, numbers[0]));
+            }
+        }
+        made
+    }
+
+    /// The types of one name: equal ones first, then the others in order.
+    fn changes_of(&self, key: &Key, old: &[u16], new: &[u16]) -> Vec<Change> {
+        let mut candidates = Candidates::new(self.after, new);
+        let is_same = |old: u16, new: u16| self.differences(old, new).is_empty();
+        let mut rest = Vec::new();
+        for &number in old {
+            if !candidates.take(self.before, number, is_same) {
+                rest.push(number);
+            }
+        }
+        let mut left = candidates.left().peekable();
+        if left.peek().is_none() && !new.is_empty() {
+            return Vec::new(); // of several of one name some are gone: what was there still is
+        }
+        let changed = |number: u16| {
+            let (fate, said) = match left.next() {
+                Some(other) => (Fate::Changed, self.differences(number, other)),
+                None => (Fate::Removed, vec![Said::breaking("removed", "removed")]),
+            };
+            Change::new(key.1.clone(), word_of(key.0), fate, said)
+        };
+        rest.into_iter().map(changed).collect()
+    }
+
+    /// What differs in two types of one key.
+    fn differences(&self, old: u16, new: u16) -> Vec<Said> {
+        let (before, after) = (self.before.kind(old), self.after.kind(new));
+        if before != after {
+            return vec![other_kind(before, after)];
+        }
+        match before {
+            Some(Kind::Struct | Kind::Union) => {
+                let sizes = (self.before.catalog.size(old), self.after.catalog.size(new));
+                let mut said = Vec::from_iter(size(sizes.0, sizes.1));
+                let (here, there) = (self.before.parts(old), self.after.parts(new));
+                said.extend(members(&places(&here), &places(&there)));
+                said
+            }
+            Some(Kind::Enum) => self.enums(old, new),
+            Some(Kind::Typedef) => Vec::from_iter(self.typedefs(old, new)),
+            Some(Kind::Integer | Kind::Float) => self.numbers(old, new),
+            _ => Vec::new(),
+        }
+    }
+
+    /// What differs in the enumerators, matched by name.
+    pub fn enums(&self, old: u16, new: u16) -> Vec<Said> {
+        let sizes = (self.before.catalog.size(old), self.after.catalog.size(new));
+        let mut said = Vec::from_iter(size(sizes.0, sizes.1));
+        let (here, there) = (self.before.values(old), self.after.values(new));
+        let (was, now) = (by_name(&here), by_name(&there));
+        for name in each_once(&here) {
+            let (shown, old) = (printable(name), was[name]);
+            let one = match now.get(name) {
+                None => Said::breaking("removed enumerator", format!("{shown} removed"))
+                    .from(Datum::Number(old), Datum::Nothing),
+                Some(&new) if new != old => {
+                    Said::breaking("value", format!("{shown} {old} -> {new}"))
+                        .from(Datum::Number(old), Datum::Number(new))
+                }
+                Some(_) => continue,
+            };
+            said.push(one.of(name));
+        }
+        for name in each_once(&there).filter(|name| !was.contains_key(name)) {
+            let text = format!("{} = {} added", printable(name), now[name]);
+            let one = Said::harmless("added enumerator", text).of(name);
+            said.push(one.from(Datum::Nothing, Datum::Number(now[name])));
+        }
+        said
+    }
+
+    fn typedefs(&self, old: u16, new: u16) -> Option<Said> {
+        let one = self.before.catalog.record(old).of;
+        let other = self.after.catalog.record(new).of;
+        let (was, now) = (self.before.text(one), self.after.text(other));
+        let breaks = self.before.value(one) != self.after.value(other);
+        let is_told = was != now || breaks && !is_told(self.before, one);
+        let said = Said { breaks, ..Said::breaking("type", format!("is {now}, was {was}")) };
+        is_told.then(|| said.from(Datum::text(&*was), Datum::text(&*now)))
+    }
+
+    fn numbers(&self, old: u16, new: u16) -> Vec<Said> {
+        let sizes = (self.before.catalog.size(old), self.after.catalog.size(new));
+        let mut said = Vec::from_iter(size(sizes.0, sizes.1));
+        let (was, now) = (self.before.flags(old), self.after.flags(new));
+        if was != now {
+            let one = Said::breaking("encoding", format!("encoding {was} -> {now}"));
+            said.push(one.from(Datum::number(was), Datum::number(now)));
+        }
+        said
+    }
+}
+
+/// The values of an enum by their names; of several of one name the last counts.
+fn by_name<'v>(values: &[(&'v [u8], i128)]) -> HashMap<&'v [u8], i128> {
+    values.iter().copied().collect()
+}
+
+/// The names of an enum's values in their order.
+fn each_once<'v>(values: &[(&'v [u8], i128)]) -> impl Iterator<Item = &'v [u8]> {
+    let mut seen = HashSet::new();
+    let names: Vec<&[u8]> = values.iter().map(|(name, _)| *name).collect();
+    names.into_iter().filter(move |name| seen.insert(*name))
+}
+
+fn addition(side: &Side<'_, '_>, key: &Key, number: u16) -> Change {
+    let size = side.catalog.size(number);
+    let text = size.map_or("added".to_owned(), |size| format!("added, size {size}"));
+    let said = Said::harmless("added", text).from(Datum::Nothing, Datum::size(size));
+    Change::new(key.1.clone(), word_of(key.0), Fate::Added, vec![said])
+}
+
+/// A forward on one side, or a name that has changed its kind.
+fn other_kind(before: Option<Kind>, after: Option<Kind>) -> Said {
+    if before == Some(Kind::Forward) {
+        return Said::harmless("defined", "only declared before, now defined");
+    }
+    if after == Some(Kind::Forward) {
+        return Said::breaking("undefined", "its definition is gone, only declared now");
+    }
+    let (was, now) = (kind_word(before), kind_word(after));
+    Said::breaking("kind", format!("{was} -> {now}")).from(Datum::text(was), Datum::text(now))
+}
+
+/// Whether a change of what a typedef names is told of that by itself.
+fn is_told(side: &Side<'_, '_>, mut number: u16) -> bool {
+    while is_renaming(side.catalog.kind(number)) && side.key(number).is_none() {
+        number = side.catalog.record(number).of;
+    }
+    side.key(number).is_some()
+}

@@ -1,0 +1,119 @@
+//! What differs in the symbols that two files export.
+
+use super::changes::Sides;
+use super::said::{Change, Datum, Fate, Said};
+use super::structure::Found;
+use super::UNTOLD;
+use crate::types::catalog::{number_of, Catalog, Signature};
+use crate::types::symbols::signature_of;
+use crate::types::text::printable;
+use ctfd_read::exports::{Export, ExportKind, Exports};
+
+/// What the dictionary tells of a symbol.
+enum Told {
+    Function(Signature),
+    Object(u16),
+}
+
+impl Told {
+    /// What a dictionary tells of one; None where it tells nothing.
+    fn of(catalog: &Catalog<'_>, one: &Export<'_>) -> Option<Told> {
+        let number = one.number?;
+        match one.kind {
+            ExportKind::Function => catalog
+                .types
+                .function(number)
+                .ok()
+                .map(|found| Told::Function(signature_of(&found))),
+            ExportKind::Object => {
+                catalog.types.object(number).ok().map(|found| Told::Object(number_of(found)))
+            }
+            ExportKind::Symbol => None,
+        }
+    }
+}
+
+/// A symbol as a change calls it.
+pub fn label(one: &Export<'_>) -> String {
+    format!("{} {}", one.kind.word(), printable(&one.label()))
+}
+
+/// The same with its name as it is, by which it may be left out.
+pub fn plain_label(one: &Export<'_>) -> Vec<u8> {
+    [one.kind.word().as_bytes(), b" ", &one.label()].concat()
+}
+
+/// One that is gone.
+pub fn removal(one: &Export<'_>) -> Change {
+    let said = Said::breaking("removed", "removed").of(one.label());
+    Change::new(label(one), one.kind.word(), Fate::Removed, vec![said])
+}
+
+/// One that is new.
+pub fn addition(one: &Export<'_>) -> Change {
+    let said = Said::harmless("added", "added").of(one.label());
+    Change::new(label(one), one.kind.word(), Fate::Added, vec![said])
+}
+
+/// Another name by which programs that were linked ask for the file.
+pub fn soname(old: &Exports<'_>, new: &Exports<'_>) -> Option<Change> {
+    let (was, now) = (&*old.soname, &*new.soname);
+    if was.is_empty() || was == now {
+        return None;
+    }
+    let shown = if now.is_empty() { "none".into() } else { printable(now) };
+    let text = format!(
+        "soname {} -> {shown}: programs that were linked with the old do not find the new",
+        printable(was)
+    );
+    let said = Said::breaking("soname", text).from(Datum::text(was), Datum::text(now));
+    Some(Change::new("the library".to_owned(), "soname", Fate::Changed, vec![said]))
+}
+
+/// What differs in a symbol that is in both.
+pub fn difference(sides: &Sides<'_, '_, '_>, one: &Export<'_>, other: &Export<'_>) -> Found {
+    let kinds = [one.kind, other.kind];
+    if one.kind != other.kind && !kinds.contains(&ExportKind::Symbol) {
+        let (was, now) = (one.kind.word(), other.kind.word());
+        let said = Said::breaking("kind", format!("{was} -> {now}")).of(one.label());
+        return Found::of([said.from(Datum::text(was), Datum::text(now))]);
+    }
+    if one.is_of_threads != other.is_of_threads {
+        let text = match other.is_of_threads {
+            true => "now each thread has its own",
+            false => "now all threads have one",
+        };
+        let said = Said::breaking("threads", text).of(one.label());
+        let (was, now) = (Datum::Truth(one.is_of_threads), Datum::Truth(other.is_of_threads));
+        return Found::of([said.from(was, now)]);
+    }
+    let (was, now) = (Told::of(sides.before.catalog, one), Told::of(sides.after.catalog, other));
+    match (&was, &now) {
+        (Some(Told::Function(was)), Some(Told::Function(now))) => sides.signature(was, now),
+        (Some(Told::Object(was)), Some(Told::Object(now))) => {
+            let mut found = sides.value("it", *was, *now, "is");
+            found.said.extend(sides.qualifiers(*was, *now));
+            found
+        }
+        _ => Found::of(untold(one, other, was.is_some(), now.is_some())),
+    }
+}
+
+/// What differs in symbols of which the types are told on one side at most.
+fn untold(one: &Export<'_>, other: &Export<'_>, was_told: bool, is_told: bool) -> Vec<Said> {
+    let mut said = Vec::new();
+    if one.kind == ExportKind::Object && one.size != other.size {
+        let text = format!("size {} -> {}", one.size, other.size);
+        let sizes = (Datum::number(one.size), Datum::number(other.size));
+        said.push(Said::breaking("size", text).of(one.label()).from(sizes.0, sizes.1));
+    }
+    if one.is_of_threads && other.is_of_threads {
+        let text = "CTF tells no type of what each thread has its own of: it is not compared";
+        said.push(Said::harmless(UNTOLD, text).of(one.label()));
+    } else if was_told != is_told {
+        let which = if is_told { "old" } else { "new" };
+        let text = format!("its type is not told in the {which}, and not compared");
+        said.push(Said::harmless(UNTOLD, text).of(one.label()));
+    }
+    said
+}

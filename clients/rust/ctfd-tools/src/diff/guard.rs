@@ -1,0 +1,273 @@
+//! What breaks programs that use a library: what it exports, and the types that these reach.
+//!
+//! Each exported function and object of the old file is compared with that of the new, and so is
+//! all that its type leads to, each pair of types once. A change of a type is told with the symbols
+//! that reach it, and by which way.
+
+use super::changes::Sides;
+use super::chosen::Chosen;
+use super::exported;
+use super::said::{kind_word, Change, Fate, Reach};
+use super::structure::{Found, Pair};
+use ctfd_read::exports::Exports;
+use std::collections::hash_map::Entry;
+use std::collections::{HashMap, VecDeque};
+use std::rc::Rc;
+
+/// How many steps of a way are told.
+const MOST_STEPS: usize = 32;
+const CUT: &str = "..";
+
+/// A step, and the node that it leads to or comes from.
+type Step = (usize, Rc<str>);
+
+/// How much is compared for each byte of the two dictionaries, and some more: a member, or a letter
+/// of what is told.
+const EACH: usize = 1;
+const AT_LEAST: usize = 300_000;
+/// What is said where that is too little.
+const TOO_MANY: &str = "more pairs of types are reached than are compared";
+
+/// A symbol or a pair of types: what differs of it, and what it leads to.
+struct Node {
+    label: String,
+    kind: &'static str,
+    found: Found,
+    leads: Vec<Step>,
+    /// The node that led here first.
+    way: Option<Step>,
+    /// The symbol at which that way begins.
+    root: usize,
+    /// The next node on the way to the nearest change.
+    to: Option<Step>,
+    /// That change.
+    end: usize,
+}
+
+impl Node {
+    fn new(label: String, kind: &'static str, found: Found) -> Node {
+        let (leads, way, to) = (Vec::new(), None, None);
+        Node { label, kind, found, leads, way, root: 0, to, end: 0 }
+    }
+
+    /// Whether something differs, or breaks.
+    fn changes(&self, is_breaking: bool) -> bool {
+        self.found.said.iter().any(|one| one.breaks || !is_breaking)
+    }
+}
+
+/// Compares what two files export.
+struct Guard<'g, 'o, 'n> {
+    sides: Sides<'g, 'o, 'n>,
+    old: &'g Exports<'g>,
+    new: &'g Exports<'g>,
+    chosen: &'g Chosen,
+    /// Symbols, which come first, then pairs of types.
+    nodes: Vec<Node>,
+    /// How many are symbols.
+    symbols: usize,
+    numbers: HashMap<Pair, Option<usize>>,
+    removed: Vec<Change>,
+    /// How much may be compared yet.
+    left: usize,
+}
+
+/// What two files export: changed types with the symbols that reach them, then changed symbols; and
+/// a line where not all was compared.
+pub fn changes(
+    sides: Sides<'_, '_, '_>,
+    old: &Exports<'_>,
+    new: &Exports<'_>,
+    chosen: &Chosen,
+) -> (Vec<Change>, Option<&'static str>) {
+    let bytes = sides.before.bytes() + sides.after.bytes();
+    let mut guard = Guard {
+        sides,
+        old,
+        new,
+        chosen,
+        nodes: Vec::new(),
+        symbols: 0,
+        numbers: HashMap::new(),
+        removed: Vec::new(),
+        left: EACH * bytes + AT_LEAST,
+    };
+    guard.compare_symbols();
+    guard.follow();
+    guard.lead_back();
+    let is_cut = guard.left == 0;
+    (guard.changes(), is_cut.then_some(TOO_MANY))
+}
+
+impl Guard<'_, '_, '_> {
+    fn changes(mut self) -> Vec<Change> {
+        let mut made = self.types();
+        made.extend(exported::soname(self.old, self.new));
+        made.append(&mut self.removed);
+        for node in self.nodes.drain(..self.symbols).filter(|node| !node.found.said.is_empty()) {
+            made.push(Change::new(node.label, node.kind, Fate::Changed, node.found.said));
+        }
+        let is_told = |label: &[u8]| !self.chosen.leaves_out(label);
+        let come = self.new.listed.iter().filter(|one| self.old.matching(one).is_none());
+        let come = come.filter(|one| is_told(&exported::plain_label(one)));
+        made.extend(come.map(exported::addition));
+        made
+    }
+
+    fn compare_symbols(&mut self) {
+        for one in &self.old.listed {
+            if self.chosen.leaves_out(&exported::plain_label(one)) {
+                continue;
+            }
+            match self.new.matching(one) {
+                None => self.removed.push(exported::removal(one)),
+                Some(other) => {
+                    let found = exported::difference(&self.sides, one, other);
+                    self.nodes.push(Node::new(exported::label(one), one.kind.word(), found));
+                }
+            }
+        }
+        self.symbols = self.nodes.len();
+    }
+
+    /// All pairs of types that symbols lead to, the nearest first.
+    fn follow(&mut self) {
+        let mut todo: VecDeque<usize> = (0..self.symbols).collect();
+        while let Some(number) = todo.pop_front() {
+            for lead in std::mem::take(&mut self.nodes[number].found.leads) {
+                let (reached, is_new) = self.node(lead.pair);
+                let Some(reached) = reached else { continue };
+                self.nodes[number].leads.push((reached, lead.text.clone()));
+                if is_new {
+                    let is_symbol = number < self.symbols;
+                    let root = if is_symbol { number } else { self.nodes[number].root };
+                    self.nodes[reached].way = Some((number, lead.text));
+                    self.nodes[reached].root = root;
+                    todo.push_back(reached);
+                }
+            }
+        }
+    }
+
+    /// The node of a pair, and whether it was made now; None where it is not to be told.
+    fn node(&mut self, pair: Pair) -> (Option<usize>, bool) {
+        let entry = match self.numbers.entry(pair) {
+            Entry::Occupied(known) => return (*known.get(), false),
+            Entry::Vacant(entry) => entry,
+        };
+        if self.left == 0 {
+            return (None, false);
+        }
+        let label = self.sides.before.names.label(pair.0);
+        let work = label.len() + self.sides.before.length(pair.0) + self.sides.after.length(pair.1);
+        self.left = self.left.saturating_sub(work + 1);
+        if self.chosen.leaves_out(label.as_bytes()) {
+            entry.insert(None);
+            return (None, false);
+        }
+        let number = self.nodes.len();
+        entry.insert(Some(number));
+        let kind = kind_word(self.sides.before.kind(pair.0));
+        self.nodes.push(Node::new(label, kind, self.sides.found(pair)));
+        (Some(number), true)
+    }
+
+    /// Finds the nearest change of each node: what breaks before what does not.
+    fn lead_back(&mut self) {
+        let mut behind: Vec<Vec<Step>> = vec![Vec::new(); self.nodes.len()];
+        for (number, node) in self.nodes.iter().enumerate() {
+            for (reached, text) in &node.leads {
+                behind[*reached].push((number, text.clone()));
+            }
+        }
+        let mut is_seen = vec![false; self.nodes.len()];
+        for is_breaking in [true, false] {
+            let mut todo = VecDeque::new();
+            for (number, is_seen) in is_seen.iter_mut().enumerate().skip(self.symbols) {
+                if !*is_seen && self.nodes[number].changes(is_breaking) {
+                    *is_seen = true;
+                    self.nodes[number].end = number;
+                    todo.push_back(number);
+                }
+            }
+            while let Some(number) = todo.pop_front() {
+                for (before, text) in &behind[number] {
+                    if !std::mem::replace(&mut is_seen[*before], true) {
+                        self.nodes[*before].to = Some((number, text.clone()));
+                        self.nodes[*before].end = self.nodes[number].end;
+                        todo.push_back(*before);
+                    }
+                }
+            }
+        }
+    }
+
+    /// The changes of types.
+    fn types(&mut self) -> Vec<Change> {
+        let mut hit: HashMap<usize, Vec<(usize, Vec<String>)>> = HashMap::new();
+        for number in 0..self.symbols {
+            let steps = self.way(number);
+            if !steps.is_empty() {
+                hit.entry(self.nodes[number].end).or_default().push((number, steps));
+            }
+        }
+        let mut made = Vec::new();
+        for (number, node) in self.nodes.iter().enumerate().skip(self.symbols) {
+            if node.found.said.is_empty() {
+                continue;
+            }
+            let ways = hit.remove(&number).unwrap_or_else(|| vec![self.first(number)]);
+            let said = node.found.said.clone();
+            let change = Change::new(node.label.clone(), node.kind, Fate::Changed, said);
+            made.push(Change { reached: self.reaches(ways), ..change });
+        }
+        made
+    }
+
+    /// The steps from a symbol to its nearest changed type.
+    fn way(&self, number: usize) -> Vec<String> {
+        let mut steps = Vec::new();
+        let mut following = &self.nodes[number].to;
+        while let Some((next, text)) = following {
+            if steps.len() == MOST_STEPS {
+                steps.push(CUT.to_owned());
+                break;
+            }
+            steps.push(text.to_string());
+            following = &self.nodes[*next].to;
+        }
+        steps
+    }
+
+    /// The symbol that led to a type first, and the steps from it.
+    fn first(&self, number: usize) -> (usize, Vec<String>) {
+        let mut steps = Vec::new();
+        let mut before = &self.nodes[number].way;
+        while let Some((next, text)) = before {
+            if steps.len() == MOST_STEPS {
+                steps.push(CUT.to_owned());
+                break;
+            }
+            steps.push(text.to_string());
+            before = &self.nodes[*next].way;
+        }
+        steps.reverse();
+        (self.nodes[number].root, steps)
+    }
+
+    /// The symbols that go the same way, together.
+    fn reaches(&self, ways: Vec<(usize, Vec<String>)>) -> Vec<Reach> {
+        let mut made: Vec<Reach> = Vec::new();
+        let mut places: HashMap<Vec<String>, usize> = HashMap::new();
+        for (number, steps) in ways {
+            let label = &self.nodes[number].label;
+            let name = label.split_once(' ').map_or(label.as_str(), |(_, name)| name);
+            let place = *places.entry(steps).or_insert_with_key(|steps| {
+                made.push(Reach { symbols: Vec::new(), steps: steps.clone() });
+                made.len() - 1
+            });
+            made[place].symbols.push(name.as_bytes().to_vec());
+        }
+        made
+    }
+}

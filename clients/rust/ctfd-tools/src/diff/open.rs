@@ -1,0 +1,114 @@
+//! Opens the two files, each over its parent.
+
+use super::crowded::is_crowded;
+use super::options::{Words, NAME};
+use super::symbol_changes::is_told;
+use crate::types::catalog::Catalog;
+use crate::types::failure::{Failure, Outcome};
+use crate::types::names::Names;
+use crate::types::open::{judge_model, shown, with_catalog, Parents};
+use crate::types::text::printable;
+use ctfd_read::beyond::Beyond;
+use ctfd_read::exports::{exports, Exports};
+use ctfd_read::image::Image;
+use ctfd_read::opening::{self, Handed};
+use std::borrow::Cow;
+use std::path::Path;
+
+const ALONE: &str = "a parent goes with a dictionary, and this file's types are converted first: \
+                     leave the parent out, or make the dictionary by ctfd-convert (--parent makes \
+                     a child)";
+
+const CROWDED: &str = "its names share their bytes, and are too large each by itself: no compiler \
+                       writes that, so it is damaged or made to be slow";
+
+/// A file that is open.
+pub struct Opened<'o, 'd> {
+    /// Its bytes.
+    pub image: &'o Image,
+    /// Its types.
+    pub names: &'o Names<'o, 'd>,
+    /// What its dictionary was given.
+    pub handed: &'o Handed<'o>,
+    losses: &'o [String],
+    beyond: Option<&'o Beyond>,
+}
+
+impl<'o, 'd> Opened<'o, 'd> {
+    /// The file, as a line on it begins.
+    pub fn path(&self) -> String {
+        shown(self.image.path())
+    }
+
+    /// Its types.
+    pub fn catalog(&self) -> &'o Catalog<'d> {
+        self.names.catalog
+    }
+
+    /// What the file says beyond its dictionary, and what is lost even so.
+    pub fn beyond(&self) -> Cow<'o, Beyond> {
+        let losses = || self.losses.to_vec();
+        match self.beyond {
+            Some(found) => Cow::Borrowed(found),
+            None => Cow::Owned(Beyond { losses: losses(), ..Beyond::default() }),
+        }
+    }
+
+    /// What it exports, where it is a library or the like and types of functions are told.
+    pub fn exports(&self) -> Outcome<Option<Exports<'o>>> {
+        let (Some(table), true) = (&self.handed.symbols, self.image.is_elf()) else {
+            return Ok(None);
+        };
+        if !is_told(self.handed.origin) {
+            return Ok(None);
+        }
+        let strings = self.handed.strings.as_deref().unwrap_or_default();
+        let found = exports(self.image, table, strings)?;
+        Ok(found.has_functions().then_some(found))
+    }
+}
+
+/// Opens a file over its parent, and runs something on it.
+pub fn with_file<T>(
+    words: &Words,
+    path: &Path,
+    parent: Option<&Path>,
+    run: impl FnOnce(&Opened<'_, '_>) -> Outcome<T>,
+) -> Outcome<T> {
+    let image = Image::open(path)?;
+    let mut found = opening::handed(&image, &words.reading)?;
+    if found.is_made && parent.is_some() {
+        return Err(Failure::Refused(format!("{}: {ALONE}", shown(path))));
+    }
+    judge_model(&mut found, words.reading.model, path)?;
+    if found.has_more_names() {
+        found.add_names();
+    }
+    let parents = Parents::new(NAME, parent, words.reading.model);
+    with_catalog(path, &found, &parents, |opened| {
+        let catalog = opened.catalog;
+        if catalog.types.is_child() && parent.is_none() {
+            return Err(without_parent(path, catalog));
+        }
+        let handed = opened.handed;
+        let strings = handed.strings.as_deref().unwrap_or_default();
+        if is_crowded(catalog.types, handed.ctf.len() + strings.len()) {
+            return Err(Failure::Refused(format!("{}: {CROWDED}", shown(path))));
+        }
+        let names = Names::new(catalog);
+        let (losses, beyond) = (&found.losses, found.beyond.as_ref());
+        run(&Opened { image: &image, names: &names, handed, losses, beyond })
+    })
+}
+
+fn without_parent(path: &Path, catalog: &Catalog<'_>) -> Failure {
+    let name = catalog.types.parent_name();
+    let name = match name.is_empty() {
+        true => Cow::Borrowed("a parent without a name"),
+        false => printable(&name),
+    };
+    Failure::Refused(format!(
+        "{} is a child of {name}, whose types it names: name the parent's file by --parent",
+        shown(path)
+    ))
+}

@@ -1,0 +1,143 @@
+//! How C writes the types of a catalog, each type once.
+//!
+//! What `declare` walks for one declaration is kept here for every type on the way, since a command
+//! that looks at all types writes most of them again and again.
+
+use crate::types::catalog::{is_qualifier, Catalog};
+use crate::types::declare;
+use crate::types::json::word_of;
+use crate::types::text::{printable, shortened, usual};
+use ctfd::Kind;
+use ctfd_read::beyond::Beyond;
+use std::cell::RefCell;
+use std::collections::HashMap;
+use std::rc::Rc;
+
+const QUALIFIERS: [&str; 3] = ["volatile", "const", "restrict"];
+
+/// A declaration in its parts: `base left NAME right`, as `const int (*NAME)[2]`.
+#[derive(Clone)]
+struct Written {
+    base: String,
+    left: String,
+    right: String,
+    /// What stands behind its qualifiers, by which a star is bound; None for void.
+    kind: Option<Kind>,
+    /// The same of what an array holds, which is what a qualifier of the array is said of.
+    element: Option<Kind>,
+}
+
+/// The types of a catalog as C writes them, base types by the names that gcc gives them.
+pub struct TypeNames<'n, 'd> {
+    catalog: &'n Catalog<'d>,
+    beyond: &'n Beyond,
+    written: RefCell<HashMap<u16, Rc<Written>>>,
+    names: RefCell<HashMap<u16, Rc<str>>>,
+}
+
+impl<'n, 'd> TypeNames<'n, 'd> {
+    /// Those of a catalog, with what its file says beyond that.
+    pub fn new(catalog: &'n Catalog<'d>, beyond: &'n Beyond) -> TypeNames<'n, 'd> {
+        TypeNames { catalog, beyond, written: RefCell::default(), names: RefCell::default() }
+    }
+
+    /// How C writes a type, without a name.
+    pub fn name(&self, number: u16) -> Rc<str> {
+        if let Some(known) = self.names.borrow().get(&number) {
+            return known.clone();
+        }
+        let made = self.written(number);
+        let is_closed = made.right.starts_with(')'); // as in "(*const)()"
+        let left = if is_closed { made.left.trim_end() } else { &made.left };
+        let name: Rc<str> = format!("{} {left}{}", made.base, made.right).trim_end().into();
+        self.names.borrow_mut().insert(number, name.clone());
+        name
+    }
+
+    /// The parts of a type's declaration.
+    fn written(&self, mut number: u16) -> Rc<Written> {
+        let mut layers = Vec::new();
+        let mut made = loop {
+            if let Some(known) = self.written.borrow().get(&number) {
+                break known.clone();
+            }
+            let kind = self.catalog.kind(number);
+            if !matches!(kind, Kind::Pointer | Kind::Array) && !is_qualifier(kind) {
+                break Rc::new(self.end(number));
+            }
+            layers.push(number);
+            number = self.catalog.record(number).of;
+        };
+        let mut known = self.written.borrow_mut();
+        known.insert(number, made.clone());
+        for layer in layers.into_iter().rev() {
+            made = Rc::new(self.around(layer, &made));
+            known.insert(layer, made.clone());
+        }
+        made
+    }
+
+    /// A type that is neither pointer, array nor qualifier.
+    fn end(&self, number: u16) -> Written {
+        let record = self.catalog.record(number);
+        let kind = (number != 0).then_some(record.kind);
+        if kind == Some(Kind::Function) {
+            let named = |number| shortened(declare::base(self.catalog, number));
+            let made = declare::declarator_by(self.catalog, number, &named, false);
+            let base = made.spelled();
+            let (left, right) = (shortened(made.left), shortened(made.right));
+            return Written { base, left, right, kind, element: kind };
+        }
+        let name = printable(&record.name);
+        let base = match (kind, record.word()) {
+            (None, _) => "void".to_owned(),
+            (Some(Kind::Integer | Kind::Float), _) => usual(&name).to_owned(),
+            (_, "") => name.into_owned(),
+            (_, word) if name.is_empty() => format!("{word} {{...}}"),
+            (_, word) => format!("{word} {name}"),
+        };
+        let base = if base.is_empty() { "(anon)".to_owned() } else { shortened(base) };
+        Written { base, left: String::new(), right: String::new(), kind, element: kind }
+    }
+
+    /// A layer round what it leads to.
+    fn around(&self, number: u16, inside: &Written) -> Written {
+        let record = self.catalog.record(number);
+        let kind = Some(record.kind);
+        let Written { left, right, .. } = inside;
+        match record.kind {
+            Kind::Array => {
+                let known = self.beyond.elements.get(&number).copied();
+                let elements = known.unwrap_or(record.elements.into());
+                let right = shortened(format!("[{elements}]{right}"));
+                Written { right, kind, ..inside.clone() }
+            }
+            Kind::Pointer => {
+                let is_bound = matches!(inside.kind, Some(Kind::Array | Kind::Function));
+                let (left, right) = match is_bound {
+                    true => (format!("{left}(*"), format!("){right}")),
+                    false => (format!("{left}*"), right.clone()),
+                };
+                Written { base: inside.base.clone(), left, right, kind, element: kind }
+            }
+            qualifier => qualified(word_of(qualifier), inside),
+        }
+    }
+}
+
+/// A type with a qualifier, which is said once: of a pointer behind its star, else in front.
+fn qualified(word: &str, inside: &Written) -> Written {
+    if inside.element == Some(Kind::Pointer) {
+        let behind = inside.left.rfind('*').map_or(0, |star| star + 1);
+        let (stars, own) = inside.left.split_at(behind);
+        let own = own.split_whitespace().filter(|one| *one != word).chain([word]);
+        let left = format!("{stars}{} ", own.collect::<Vec<_>>().join(" "));
+        return Written { left, ..inside.clone() };
+    }
+    let words: Vec<&str> = inside.base.split(' ').collect();
+    let is_other = |one: &&str| !QUALIFIERS.contains(one);
+    let count = words.iter().position(is_other).unwrap_or(words.len());
+    let front = words[..count].iter().copied().filter(|one| *one != word);
+    let kept = std::iter::once(word).chain(front).chain(words[count..].iter().copied());
+    Written { base: kept.collect::<Vec<_>>().join(" "), ..inside.clone() }
+}
