@@ -45,8 +45,13 @@ count() {
 }
 
 # client COMMAND WORD..: a command of the client.
+# client COMMAND WORD..: a command, in Python or compiled.
 client() {
-    python3 "$top/clients/python/$1" "${@:2}"
+    if [ -e "$top/clients/python/$1" ]; then
+        python3 "$top/clients/python/$1" "${@:2}"
+    else
+        "${CARGO_TARGET_DIR:-$top/clients/rust/target}/release/$1" "${@:2}"
+    fi
 }
 
 # made NAME WORD..: NAME.g with debug information, NAME without it, and NAME.debug, of what gcc

@@ -9,10 +9,11 @@ from __future__ import annotations
 from collections import Counter
 from typing import Dict, List, NamedTuple, Tuple
 
-from ..convert import conversion, inputs
-from ..convert.held import held
+from ..convert import inputs
+from ..convert.conversion import selection
 from ..files.anyfile import Asked, Read, options_of
 from ..layout.catalog import Catalog
+from ..layout.held import held
 from ..layout.records import AGGREGATES, Part, Record, Table
 from ..layout.whole import Whole
 
@@ -32,7 +33,7 @@ def restore(whole: Whole, read: Read, asked: Asked) -> Incomplete:
     if not losses:
         return Incomplete(whole.path, [])
     found = inputs.read(whole.path, options_of(whole.path, read.data, asked))
-    full, _ = conversion.selection(found, [])
+    full = selection(found)
     before = Counter(full.losses)
     if not _fits(full, whole.catalog):
         return Incomplete(whole.path, losses)

@@ -1,1 +1,1 @@
-"""The commands on types: ctfd-convert, ctfd-diff and ctfd-explore."""
+"""The commands on types: ctfd-diff and ctfd-explore."""

@@ -5,8 +5,10 @@
 //! command's.
 
 mod convert;
+mod interrupts;
 mod messages;
 mod output;
+mod progress;
 mod standard;
 mod types;
 
