@@ -3,9 +3,9 @@
 
 usage: bench/fewer_types.py COUNT IN OUT
 
-IN is what ctfd-convert takes, as /sys/kernel/btf/vmlinux. Types are chosen as ctfd-convert chooses
-them where there are more than a dictionary holds, as if it held COUNT. Says how many OUT has; the
-status is 1 where they are not COUNT. Needs ctfd (CTFD in the environment, or on the path).
+IN is what ctfd-convert takes, as /sys/kernel/btf/vmlinux. Types are taken in their order, each with
+all that it reaches, as long as there is room. Says how many OUT has; the status is 1 where they are
+not COUNT. Needs ctfd (CTFD in the environment, or on the path) and the compiled commands.
 """
 from __future__ import annotations
 
@@ -15,8 +15,25 @@ from pathlib import Path
 TOP = Path(__file__).resolve().parents[1]
 sys.path.insert(0, str(TOP / "clients" / "python"))
 import ctfd  # noqa: E402
-from ctfd.convert import choose, conversion  # noqa: E402
-from ctfd.tools import convert  # noqa: E402
+from ctfd.files.compiled import Options, converted  # noqa: E402
+from ctfd.layout.from_ctf import table_of  # noqa: E402
+from ctfd.layout.records import Table  # noqa: E402
+from ctfd.layout.written import written  # noqa: E402
+
+
+def chosen(table: Table, count: int) -> list[int]:
+    """The numbers of at most so many types, with all that these reach."""
+    found: set[int] = set()
+    for number in table.numbers():
+        own, todo = set(), [number]
+        while todo:
+            here = todo.pop()
+            if here and here not in found and here not in own:
+                own.add(here)
+                todo += table[here].references
+        if len(found) + len(own) <= count:
+            found |= own
+    return sorted(found)
 
 
 def main() -> int:
@@ -24,9 +41,9 @@ def main() -> int:
         print(__doc__, file=sys.stderr)
         return 2
     count, program, out = sys.argv[1:]
-    for module in (choose, conversion):
-        setattr(module, "MOST_TYPES", int(count))
-    convert.main(["--lossy", program, out])
+    table = table_of(converted(program, Options()).ctf)
+    table.objects, table.functions, table.labels = [], [], []
+    Path(out).write_bytes(written(table.kept(chosen(table, int(count)))))
     with ctfd.connect() as client:
         types = client.session().open(Path(out).read_bytes())["types"]
     print(f"{types} types, {Path(out).stat().st_size / 1e6:.3f} MB")

@@ -22,7 +22,7 @@ from pathlib import Path
 from typing import Iterator, List, Sequence
 
 TOP = Path(__file__).resolve().parents[1]
-CONVERT = TOP / "clients" / "python" / "ctfd-convert"
+CONVERT = TOP / "clients" / "rust" / "target" / "release" / "ctfd-convert"
 HEADERS, COMMON, OWN, FUNCTIONS = 40, 100, 150, 40
 EACH = 4  # of the headers, three of so many are included by a file
 BASES = ("int", "unsigned long", "char", "short", "unsigned char", "long long", "double")

@@ -45,12 +45,13 @@ count() {
     head -n 40 said
 }
 
-# client COMMAND WORD..: a command of the client.
+# client COMMAND WORD..: a command, in Python or compiled.
 client() {
-    case $1 in
-    ctfd-diff) "$compiled/$1" "${@:2}" ;;
-    *) python3 "$top/clients/python/$1" "${@:2}" ;;
-    esac
+    if [ -e "$top/clients/python/$1" ]; then
+        python3 "$top/clients/python/$1" "${@:2}"
+    else
+        "$compiled/$1" "${@:2}"
+    fi
 }
 
 # made NAME WORD..: NAME.g with debug information, NAME without it, and NAME.debug, of what gcc

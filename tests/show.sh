@@ -36,8 +36,13 @@ count() {
     head -n 40 said
 }
 
+# client COMMAND WORD..: a command, in Python or compiled.
 client() {
-    python3 "$top/clients/python/$1" "${@:2}"
+    if [ -e "$top/clients/python/$1" ]; then
+        python3 "$top/clients/python/$1" "${@:2}"
+    else
+        "${CARGO_TARGET_DIR:-$top/clients/rust/target}/release/$1" "${@:2}"
+    fi
 }
 
 shows() {

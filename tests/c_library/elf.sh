@@ -27,7 +27,7 @@ long added(struct point *to, int x) { to->x += x; return names[0] != 0; }
 int main(void) { return (int)added(&first, 1); }
 END
 gcc -g -fno-inline -o own own.c
-CTFD=$program "$top/clients/python/ctfd-convert" --section own own.with
+"${CARGO_TARGET_DIR:-$top/clients/rust/target}/release/ctfd-convert" --section own own.with
 printf '%s\n' 'model 2, 16 bytes' 'object struct point first' 'object const char *names[3]' \
     'function added, 2 arguments: long' 'function main, 0 arguments: int' | sort > told
 for file in own.with; do
@@ -53,7 +53,7 @@ done
 # the file: nothing is told of them by their numbers, whatever stands in a section of that name.
 gcc -gbtf -fno-inline -c own.c -o own.o
 objcopy --dump-section .BTF=own.btf own.o
-CTFD=$program "$top/clients/python/ctfd-convert" own.btf own.names
+"${CARGO_TARGET_DIR:-$top/clients/rust/target}/release/ctfd-convert" own.btf own.names
 grep -aq 'ctfd.symbols=names,2,2,' own.names || { echo "no names of its own"; failed=1; }
 objcopy --add-section .ctf=own.names own own.named
 objcopy --add-section .ctf=own.names --add-section names=own.btf own own.both
@@ -102,7 +102,7 @@ wanted with.o int
 
 # Programs of 32 bits: their pointers have 4 bytes, and their symbols are told.
 if gcc -m32 -g -fno-inline -o own own.c 2> said; then
-    CTFD=$program "$top/clients/python/ctfd-convert" --section own own.with32 > said 2>&1 ||
+    "${CARGO_TARGET_DIR:-$top/clients/rust/target}/release/ctfd-convert" --section own own.with32 > said 2>&1 ||
         cat said
     "${programs[0]}" own.with32 "struct point" | head -n 1 > seen
     echo 'model 1, 12 bytes' | cmp -s - seen || { cat seen; failed=1; }

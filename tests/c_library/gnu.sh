@@ -22,7 +22,7 @@ cd "$work"
 failed=0
 for name in enum struct-iteration; do
     gcc -g -shared -fPIC -o types.so "$sources/$name-ctf.c"
-    CTFD=$program "$top/clients/python/ctfd-convert" --section types.so with.so
+    "${CARGO_TARGET_DIR:-$top/clients/rust/target}/release/ctfd-convert" --section types.so with.so
     gcc -I"$top/tests/c_library/gnu" -I"$top/clients/c" "$sources/$name.c" -L"$libraries" -lctfd \
         "-Wl,-rpath,$libraries" -o test
     ./test with.so > seen

@@ -37,7 +37,6 @@ from ctfd.files.mapped import contents
 MOST = 20
 ERROR = "<ERROR("
 TOO_MANY = "that a dictionary holds"
-COMMAND = headers.HERE.parents[1] / "clients/python/ctfd-convert"
 _BLOCK = re.compile(r"^(struct|union) (\w+) \{\n(.*?)^\};?", re.MULTILINE | re.DOTALL)
 # A type that is declared in a struct, which pahole lists a second time in front of its member where
 # clang has it there: it has no place.
@@ -90,9 +89,9 @@ def _bits(what: str, block: str) -> int:
                for found in [pattern.findall(block)] if found)
 
 
-def converted(service: str, path: str, made: str, *options: str) -> Figures:
+def converted(path: str, made: str, *options: str) -> Figures:
     """Runs ctfd-convert; what it took."""
-    words = [sys.executable, str(COMMAND), "--service", service, *options, path, made]
+    words = [str(COMMAND), *options, path, made]
     with tempfile.TemporaryFile("w+") as told:
         child = subprocess.Popen(words, stderr=told)
         _, status, used = os.wait4(child.pid, 0)
@@ -133,9 +132,9 @@ def compare(service: str, path: str) -> int:
     """How many differ in one file."""
     with tempfile.TemporaryDirectory() as folder:
         made, parent = str(Path(folder) / "made.ctf"), str(Path(folder) / "parent.ctf")
-        figures = converted(service, path, made)
+        figures = converted(path, made, "--one")
         if any(TOO_MANY in line for line in figures.losses):
-            figures = converted(service, path, made, "--split", parent)
+            figures = converted(path, made, "--split", parent)
         ours = listed(service, made, parent)
     count = wrong = unknown = 0
     for name, all_of_name in shown(path).items():

@@ -18,8 +18,6 @@ would have made is skipped, by a line.
 """
 from __future__ import annotations
 
-import contextlib
-import io
 import re
 import shutil
 import subprocess
@@ -31,9 +29,9 @@ from typing import Dict, List, Sequence, Set
 
 import beside_pahole  # noqa: E402  it knows where the client is
 from beside_pahole import Listed
+from command import convert
 
 import ctfd
-from ctfd.tools import convert
 from ctfd.view import declare
 
 SOURCES = Path(__file__).resolve().parent / "forms"
@@ -197,9 +195,7 @@ class Forms:
 
     def convert(self, name: str, made: str, *words: str) -> List[str]:
         place = self.folder
-        with contextlib.redirect_stderr(io.StringIO()):  # that entries go by .dynsym
-            return convert.convert(convert.words(["--service", self.service, *words,
-                                                  str(place / name), str(place / made)]))
+        return convert(*words, str(place / name), str(place / made))
 
     def told(self, name: str, made: str, is_whole: bool) -> None:
         """Compares what a dictionary tells."""

@@ -23,7 +23,7 @@ HERE = Path(__file__).resolve().parent
 sys.path.insert(0, str(HERE.parents[1] / "clients/python"))
 
 import ctfd  # noqa: E402
-from ctfd.tools import convert  # noqa: E402
+from command import convert  # noqa: E402
 
 PACKAGES = ("libc6-dev", "linux-libc-dev")
 BATCH = 24
@@ -98,8 +98,7 @@ def listed(service: str, path: Path, folder: Path) -> Listed:
     """What the client lists of the structs and unions that are found by name."""
     made = folder / "all.ctf"
     began = time.monotonic()
-    words = convert.words(["--service", service, str(path), str(made)])
-    for line in convert.convert(words):
+    for line in convert(str(path), str(made)):
         print(f"told: {line}")
     print(f"converted in {time.monotonic() - began:.1f} s")
     with ctfd.Client(service) as client:

@@ -14,31 +14,29 @@ import resource
 import subprocess
 import sys
 import tempfile
-import time
 from pathlib import Path
 
 import headers  # noqa: E402  it knows where the client is
 
 import ctfd
-from ctfd.tools import convert
+from command import convert
 
 SECONDS, KILOBYTES = 60, 2_000_000
 MOST = 20
 
 
 def main(service: str, btf: str) -> int:
-    began = time.process_time()
     with tempfile.TemporaryDirectory() as folder:
         made = str(Path(folder) / "kernel.ctf")
-        losses = convert.convert(convert.words(["--service", service, btf, made]))
-        took = time.process_time() - began
-        used = resource.getrusage(resource.RUSAGE_SELF).ru_maxrss
+        losses = convert("--one", btf, made)
+        used = resource.getrusage(resource.RUSAGE_CHILDREN)
+        took, memory = used.ru_utime + used.ru_stime, used.ru_maxrss
         with ctfd.Client(service) as client:
             types = ctfd.open_file(client.session(), made)
             own = [t for t in types.types() if t.kind in ("struct", "union") and t.name]
             types.gather([t.number for t in own])
             ours = headers.parsed("\n".join(ctfd.listing(t) for t in own if t.is_root))
-    print(f"{types.own} types in {took:.1f} s of the processor and {used // 1000} MB;"
+    print(f"{types.own} types in {took:.1f} s of the processor and {memory // 1000} MB;"
           f" {len(losses)} lines tell what CTF can't hold")
     shown = subprocess.run(["pahole", "-F", "btf", btf], capture_output=True, text=True)
     theirs = headers.parsed(shown.stdout)
@@ -46,7 +44,7 @@ def main(service: str, btf: str) -> int:
     for name in wrong[:MOST]:
         print(f"{name}\n  pahole {theirs[name]}\n  ctfd   {ours.get(name)}")
     print(f"{len(theirs)} structs and unions, {len(wrong)} of them listed otherwise than by pahole")
-    return 1 if wrong or took > SECONDS or used > KILOBYTES else 0
+    return 1 if wrong or took > SECONDS or memory > KILOBYTES else 0
 
 
 if __name__ == "__main__":

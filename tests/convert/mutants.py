@@ -15,14 +15,11 @@ counts; the status is 1 where one is not.
 from __future__ import annotations
 
 import argparse
-import contextlib
-import io
 import multiprocessing
 import os
 import random
 import resource
 import shutil
-import signal
 import struct
 import subprocess
 import sys
@@ -37,10 +34,9 @@ sys.path.insert(0, str(HERE.parents[1] / "clients/python"))
 
 from ctfd.client.faults import Unreadable  # noqa: E402
 from ctfd.files import elf  # noqa: E402
-from ctfd.tools import convert  # noqa: E402
+from command import COMMAND, FOLDER  # noqa: E402
 
-TYPES = Path(os.environ.get("CARGO_TARGET_DIR") or HERE.parents[1] / "clients/rust/target",
-             "release/ctfd-types")
+TYPES = FOLDER / "ctfd-types"
 SECONDS, BYTES = 20, 1 << 30
 MOST_SHOWN = 20
 CODE = """
@@ -101,7 +97,7 @@ def with_dictionaries(folder: Path, service: str) -> Iterator[Path]:
     """Files with dictionaries, as ctfd-convert makes them."""
     for words in (["five.o", "own.ctf"], ["--section", "program", "with"]):
         paths = [word if word[0] == "-" else str(folder / word) for word in words]
-        run(convert.main, ["--service", service, *paths])
+        run(paths)
         yield folder / words[-1]
 
 
@@ -140,15 +136,15 @@ def damaged(data: bytes, chance: random.Random) -> bytes:
     return bytes(changed[:len(data)])
 
 
-def run(main: "object", words: List[str]) -> Tuple[int, str]:
-    """The status of a command and what it told; it runs in this process."""
-    out, err = io.TextIOWrapper(io.BytesIO()), io.StringIO()
-    with contextlib.redirect_stdout(out), contextlib.redirect_stderr(err):
-        try:
-            status = main(words)  # type: ignore[operator]
-        except SystemExit as ended:
-            status = int(ended.code or 0)
-    return status, err.getvalue()
+def run(words: List[str]) -> Tuple[int, str]:
+    """The status of ctfd-convert and what it told. It may not take more than it should."""
+    done = subprocess.run([COMMAND, *words], capture_output=True, preexec_fn=_bounded, check=False)
+    return done.returncode, done.stderr.decode("utf-8", "replace")
+
+
+def _bounded() -> None:
+    resource.setrlimit(resource.RLIMIT_AS, (BYTES + (1 << 28), resource.RLIM_INFINITY))
+    resource.setrlimit(resource.RLIMIT_CPU, (SECONDS, SECONDS))
 
 
 class Worker:
@@ -164,12 +160,9 @@ class Worker:
         path, data = chance.choice(self.files)
         mutant = self.folder / f"mutant{os.getpid()}_{path.name}"
         mutant.write_bytes(damaged(data, chance))
-        resource.setrlimit(resource.RLIMIT_AS, (BYTES + (1 << 28), resource.RLIM_INFINITY))
-        signal.signal(signal.SIGPROF, _too_long)
-        signal.setitimer(signal.ITIMER_PROF, SECONDS)
         try:
             out = str(mutant) + ".out"
-            status, told = run(convert.main, ["--service", self.service, str(mutant), out])
+            status, told = run([str(mutant), out])
             wrong = _judged(status, told)
             if not wrong and path.suffix in ("", ".ctf"):
                 wrong = _judged_types(mutant) if TYPES.exists() else ""
@@ -177,18 +170,13 @@ class Worker:
         except BaseException as error:  # an exception that a user would see
             return Outcome(seed, f"{path.name}: {type(error).__name__} {error}", -1)
         finally:
-            signal.setitimer(signal.ITIMER_PROF, 0)
             mutant.unlink()
-
-
-def _too_long(*_: object) -> None:
-    raise SystemExit(f"more than {SECONDS} s")
 
 
 def _judged(status: int, told: str) -> str:
     """What is wrong with how ctfd-convert went."""
     lines = told.splitlines()
-    if "memory ran out" in told or "Traceback" in told:
+    if "memory ran out" in told or "panicked" in told:
         return told
     if status == 2 and len(lines) != 1 or status not in (0, 1, 2):
         return f"status {status}: {told}"

@@ -28,8 +28,8 @@ sys.path.insert(0, str(HERE.parents[1] / "clients/python"))
 
 import ctfd  # noqa: E402
 from ctfd import build  # noqa: E402
-from ctfd.tools import convert  # noqa: E402
 
+from command import convert  # noqa: E402
 import facts  # noqa: E402
 import random_c  # noqa: E402
 
@@ -89,8 +89,7 @@ class Run:
     def converted(self, client: ctfd.Client, name: str, *options: str) -> ctfd.Dictionary:
         """The dictionary of a program, by the command."""
         made = self.folder / "types.ctf"
-        losses = convert.convert(convert.words(
-            ["--service", self.service, *options, str(self.folder / name), str(made)]))
+        losses = convert(*options, str(self.folder / name), str(made))
         self.wrong += [f"{self.model} lost: {line}" for line in losses
                        if not any(one in line for one in ACCEPTED)]
         self.far = sum(FAR in line for line in losses)

@@ -37,7 +37,7 @@ by() {
 printf -v words '%q ' "$@"
 cd "$work"
 cp "$program" full  # by a path as long as the other's, so that the stack is at the same place
-"$client/ctfd-convert" --lossy --section full with.ctf 2> /dev/null
+"$client/../rust/target/release/ctfd-convert" --lossy --section full with.ctf 2> /dev/null
 objcopy --strip-debug with.ctf bare
 echo "ctfd-debuginfo: $(spent "$client/ctfd-debuginfo" bare it.debug)"
 debug=$(size -A -d full | awk '/^\.debug_/ { n += $2 } END { print n }')

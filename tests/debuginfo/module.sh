@@ -15,10 +15,10 @@ trap 'rm -r "$work"' EXIT
 cd "$work"
 parent=()
 if [ -n "$kernel" ]; then
-    "$client/ctfd-convert" --lossy --from btf "$kernel" kernel.ctf 2> /dev/null
+    "$client/../rust/target/release/ctfd-convert" --lossy --from btf "$kernel" kernel.ctf 2> /dev/null
     parent=(--parent kernel.ctf)
 fi
-"$client/ctfd-convert" --lossy --from dwarf "${parent[@]}" --section "$module" with.ko 2> /dev/null
+"$client/../rust/target/release/ctfd-convert" --lossy --from dwarf "${parent[@]}" --section "$module" with.ko 2> /dev/null
 "$client/ctfd-debuginfo" "${parent[@]}" --symbols "$module" with.ko it.debug
 llvm-dwarfdump --verify it.debug | tail -n 1
 placed=$("$tests/placed.py" "$module")

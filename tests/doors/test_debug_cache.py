@@ -8,7 +8,7 @@ import unittest
 from pathlib import Path
 from typing import List
 
-from .support import CLIENTS, SERVICE, TOOLS, Case, Outcome, run, tool
+from .support import CLIENTS, SERVICE, Case, Outcome, run, tool
 
 CODE = """
 struct point { long x, y, z; } first = { 1, 2, 3 };
@@ -23,7 +23,7 @@ class Kept(Case):
         self.needs("gdb", "objcopy")
         whole = self.compiled(CODE, "-g", name="whole.exe")
         self.program = self.folder / "program"
-        subprocess.run([str(TOOLS / "ctfd-convert"), "--section", str(whole), str(self.program)],
+        subprocess.run([tool("convert"), "--section", str(whole), str(self.program)],
                        check=True, env={**os.environ, "CTFD": SERVICE}, capture_output=True)
         subprocess.run(["objcopy", "-g", str(self.program)], check=True)
         self.cache = self.folder / "cache/ctfd"

@@ -13,7 +13,7 @@ import unittest
 from pathlib import Path
 from typing import Dict, List, Optional
 
-from .support import CLIENTS, EXAMPLES, SERVICE, TOOLS, Case, Outcome, run
+from .support import CLIENTS, EXAMPLES, SERVICE, TOOLS, Case, Outcome, run, tool
 
 FIRST = """
 struct dict { long used[7]; };
@@ -47,7 +47,7 @@ class Debuggers(Case):
         subprocess.run(["gcc", "-g", "-O0", "-o", str(whole), "first.c", "second.c"],
                        cwd=self.folder, check=True)
         self.program = self.folder / "program"
-        subprocess.run([str(TOOLS / "ctfd-convert"), "--section", str(whole), str(self.program)],
+        subprocess.run([tool("convert"), "--section", str(whole), str(self.program)],
                        check=True, env={**os.environ, "CTFD": SERVICE}, capture_output=True)
         subprocess.run(["objcopy", "-g", str(self.program)], check=True)
 

@@ -148,7 +148,7 @@ class Folder(Hostile):
     def with_types(self) -> Path:
         """A program with a section of types, and no debug information."""
         made = self.compiled(POINT, "-g", name="whole.exe")
-        subprocess.run([str(TOOLS / "ctfd-convert"), "--section", str(made), str(made) + ".ctf"],
+        subprocess.run([tool("convert"), "--section", str(made), str(made) + ".ctf"],
                        check=True, capture_output=True, env={**os.environ, "CTFD": SERVICE})
         subprocess.run(["objcopy", "-g", str(made) + ".ctf"], check=True)
         return Path(str(made) + ".ctf")

@@ -16,7 +16,7 @@ import unittest
 from pathlib import Path
 from typing import List
 
-from .support import CLIENTS, EXAMPLES, SERVICE, TOOLS, Case, Outcome, Word, run, tool
+from .support import CLIENTS, EXAMPLES, SERVICE, Case, Outcome, Word, run, tool
 
 CODE = "struct point { long x, y, z; } first = { 1, 2, 3 }; int main(void) { return 0; }"
 LIMIT = 30
@@ -28,7 +28,7 @@ class Truncated(Case):
         self.needs("gcc", "objcopy")
         self.whole = self.compiled(CODE, "-g", name="whole.exe")
         self.program = self.folder / "program"
-        subprocess.run([str(TOOLS / "ctfd-convert"), "--section", str(self.whole),
+        subprocess.run([tool("convert"), "--section", str(self.whole),
                         str(self.program)], check=True, env={**os.environ, "CTFD": SERVICE},
                        capture_output=True)
         subprocess.run(["objcopy", "-g", str(self.program)], check=True)

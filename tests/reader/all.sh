@@ -3,7 +3,9 @@
 # usage: tests/reader/all.sh PROGRAM [--all]
 set -e
 cd "$(dirname "$0")/../.."
-tests/reader/compare.py "$@"
+shift
+tests/reader/sums.py "$@"
+tests/reader/ending.py
 tests/reader/orders.py
 tests/reader/independent.py
 tests/reader/mutants.py

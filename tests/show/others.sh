@@ -22,7 +22,7 @@ work=$(mktemp -d)
 pids=
 trap 'kill -CONT $pids 2> /dev/null; kill $pids 2> /dev/null; rm -r "$work"' EXIT
 cd "$work"
-"$client/ctfd-convert" --lossy --section "$program" with.ctf 2> /dev/null
+"$client/../rust/target/release/ctfd-convert" --lossy --section "$program" with.ctf 2> /dev/null
 objcopy --strip-debug with.ctf runs
 mkfifo input
 sleep 1000 > input &

@@ -18,7 +18,8 @@ EXAMPLES = Path(__file__).resolve().parents[3] / "examples"
 COMPILED = Path(os.environ.get("CARGO_TARGET_DIR")
                 or Path(__file__).resolve().parents[2] / "rust/target") / "release"
 COMMAND = COMPILED / "ctfd-types"
-ALONE = ("ctfd-diff", "ctfd-types")  # commands that are compiled alone
+CONVERT = COMPILED / "ctfd-convert"
+DIFF = COMPILED / "ctfd-diff"
 PROGRAM = os.environ.get("CTFD", "")
 LIBRARY = os.environ.get("CTFD_LIBRARY", "")  # asked in place of the program, where it is named
 TOOLS = all(shutil.which(tool) for tool in ("gcc", "objcopy"))
@@ -112,14 +113,8 @@ def object_file(folder: str, ctf: bytes, section: str = ".SUNW_ctf", code: str =
     return made
 
 
-def run(*words: str) -> "subprocess.CompletedProcess[str]":
-    """The command `ctfd-types`, run as a user would. Skips the test where it is not compiled."""
-    return run_compiled(COMMAND.name, *words)
-
-
-def run_compiled(name: str, *words: str) -> "subprocess.CompletedProcess[str]":
-    """The same of any compiled command."""
-    path = COMPILED / name
-    if not path.exists():
-        raise unittest.SkipTest(f"there is no {path}: scripts/rust.py builds it")
-    return subprocess.run([str(path), *words], capture_output=True, text=True)
+def run(*words: str, command: Path = COMMAND) -> "subprocess.CompletedProcess[str]":
+    """A compiled command, run as a user would. Skips the test where it is not compiled."""
+    if not command.exists():
+        raise unittest.SkipTest(f"there is no {command}: scripts/rust.py builds it")
+    return subprocess.run([str(command), *words], capture_output=True, text=True)

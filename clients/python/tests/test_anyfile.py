@@ -7,12 +7,11 @@ import unittest
 from pathlib import Path
 from unittest import mock
 
-from ctfd.convert import inputs
 from ctfd.files import anyfile
 from ctfd.files.anyfile import Asked
 from ctfd.files.cache import Cache, Kept, key, user_cache
 
-from .support import EXAMPLES, compiles
+from .support import CONVERT, EXAMPLES, compiles, run
 from .tools import CONVERTS, WHY_NOT, command, compiled
 
 CODE = """
@@ -151,7 +150,8 @@ class Caches(Folder):
         Cache(Path("/proc/nowhere")).put("name", Kept(b"x"))
 
     def test_the_forms_are_those_of_the_converter(self) -> None:
-        self.assertEqual(anyfile.FORMS, inputs.FORMS)
+        said = run("--help", command=CONVERT).stdout
+        self.assertIn(f"--from <{'|'.join(anyfile.FORMS)}>", said)
 
     def test_a_key_is_of_the_bytes_and_of_what_was_asked(self) -> None:
         keys = {key(b"a", "a"), key(b"b", "a"), key(b"a", "a", ["dwarf"]), key(b"", "a")}

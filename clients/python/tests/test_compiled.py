@@ -1,4 +1,4 @@
-"""The compiled converter in place of the one in Python: the same answers, by ours alone."""
+"""The compiled converter: by ours alone, wherever it stands."""
 from __future__ import annotations
 
 import os
@@ -9,9 +9,12 @@ import unittest
 from pathlib import Path
 from unittest import mock
 
+import ctfd
 from ctfd.client import trust
-from ctfd.convert.inputs import Options
 from ctfd.files import anyfile, compiled
+from ctfd.files.compiled import Options
+
+from .support import CONVERT, run
 
 CODE = "struct point { int x, y : 3; struct point *next; } first; enum wide { A = 1L << 40 } w;\n"
 
@@ -23,22 +26,23 @@ class Compiled(unittest.TestCase):
         self.folder = Path(made.name)
 
     def program(self, *words: str) -> str:
-        if shutil.which("gcc") is None:
-            self.skipTest("no gcc here")
+        if shutil.which("gcc") is None or compiled.find() is None:
+            self.skipTest("no gcc here, or the compiled commands are not built")
         path = self.folder / "made.o"
         subprocess.run(["gcc", "-g", "-w", *words, "-x", "c", "-c", "-", "-o", path], check=True,
                        input=CODE, text=True)
         return str(path)
 
-    def test_the_same_as_in_python(self) -> None:
-        if compiled.find() is None:
-            self.skipTest("the compiled commands are not built")
-        path = self.program()
+    def test_what_the_command_writes(self) -> None:
+        path, out = self.program(), self.folder / "out"
         kept = compiled.converted(path, Options(form="dwarf"))
-        made, losses = anyfile.converted(path, Options(form="dwarf"))
-        assert kept is not None
-        self.assertEqual((kept.ctf, kept.model, kept.losses), (made.ctf, made.model, losses))
-        self.assertIsNone(compiled.converted(path, Options(form="btf")))
+        self.assertEqual(run(path, str(out), command=CONVERT).returncode, 1)
+        self.assertEqual((kept.ctf, kept.model), (out.read_bytes(), "lp64"))
+        self.assertEqual([line[:24] for line in kept.losses], ["enum wide: its enumerator"[:24]])
+
+    def test_why_nothing_is_made(self) -> None:
+        with self.assertRaisesRegex(ctfd.Unreadable, r"made\.o: it has no section \.BTF .*leave"):
+            compiled.converted(self.program(), Options(form="btf"))
 
     def test_what_is_not_ours(self) -> None:
         script = self.folder / "ctfd-convert"
@@ -63,10 +67,9 @@ class Compiled(unittest.TestCase):
             self.assertIsNone(compiled.find())
 
     def test_without_it(self) -> None:
-        with mock.patch.object(compiled, "find", return_value=None):
-            found = anyfile.read(self.program(), anyfile.Asked())
-        self.assertTrue(found.is_made)
-        self.assertEqual(len(found.losses), 1)
+        with mock.patch.object(compiled, "find", return_value=None), \
+                self.assertRaisesRegex(ctfd.Unreadable, r"made\.o: .*ctfd-convert .*: install it"):
+            anyfile.read(self.program(), anyfile.Asked())
 
 
 if __name__ == "__main__":

@@ -5,22 +5,18 @@ import os
 import shutil
 import struct
 import subprocess
-import sys
 import tempfile
 import unittest
 from pathlib import Path
-from typing import List, Sequence, Tuple
-from unittest import mock
+from typing import List, Tuple
 
 import ctfd
-from ctfd.convert import choose, inputs
-from ctfd.convert.written import MOST_TYPES, written
 from ctfd.layout.records import Part, Record, Table
+from ctfd.layout.written import written
 
-from .support import (EXAMPLES, PROGRAM, TOOLS, WithService, dictionary, integer, object_file,
-                      pointer)
+from .support import (CONVERT, EXAMPLES, TOOLS, WithService, dictionary, integer, object_file,
+                      pointer, run)
 
-COMMAND = Path(__file__).resolve().parents[1] / "ctfd-convert"
 LUA = EXAMPLES / "lua.ctf"
 CODE = """
 #include <stddef.h>
@@ -74,8 +70,7 @@ class WithFiles(WithService):
     def converted(self, *words: str, status: int = 0) -> Tuple[str, str]:
         """Runs the command; where it writes, and what it tells."""
         out = str(self.folder / "out")
-        done = subprocess.run([sys.executable, str(COMMAND), *words[:1], out, *words[1:]],
-                              capture_output=True, text=True, env={**os.environ, "CTFD": PROGRAM})
+        done = run(*words[:1], out, *words[1:], command=CONVERT)
         self.assertEqual(done.returncode, status, done.stderr)
         return out, done.stderr
 
@@ -188,16 +183,6 @@ class Dwarf(WithFiles):
         types.import_parent(self.types(parent))
         self.assertEqual(self.members(types.find("struct own")), [("node", 0, "struct node *")])
 
-    def test_large_debug_information_is_told_before_it_is_read(self) -> None:
-        told: List[str] = []
-        options = inputs.Options(warn=told.append)
-        file = self.compiled("code", CODE)
-        with mock.patch.object(inputs, "LARGE", 10):
-            inputs.read(file, options)
-        inputs.read(file, options)
-        self.assertEqual(len(told), 1)
-        self.assertRegex(told[0], "0 MB of debug information .* takes minutes: pahole -J, and")
-
     def test_older_dwarf_says_the_same(self) -> None:
         told = []
         for version in ("-gdwarf-2", "-gdwarf-3", "-gdwarf-4", "-gdwarf-5"):
@@ -234,7 +219,7 @@ class Sections(WithFiles):
 
     def test_more_types_than_a_dictionary_holds(self) -> None:
         file = self.file("many.btf", btf(20_000))
-        out, told = self.converted(file, status=1)
+        out, told = self.converted(file, "--one", status=1)
         self.assertIn("7236 types are more than the 32766 that a dictionary holds", told)
         self.assertEqual(self.types(out).own, 32_765)
 
@@ -274,38 +259,39 @@ class Sections(WithFiles):
         self.assertEqual(told[0], told[1])
 
 
-class Choosing(unittest.TestCase):
-    def chain(self, count: int) -> Table:
+class Choosing(WithFiles):
+    def chain(self, count: int) -> str:
         """Structs of which each holds the one before it by value."""
         table = Table()
         for number in range(count):
-            parts: Sequence[Part] = [Part("m", number, 0)] if number else []
-            table.add(Record("struct", f"s{number}", 1, members=tuple(parts)))
-        return table
+            parts = (Part("m", number, 0),) if number else ()
+            table.add(Record("struct", f"s{number}", 1, members=parts))
+        return self.file("chain.ctf", written(table))
 
     def test_what_is_held_by_value_comes_along(self) -> None:
-        table = self.chain(5)
-        self.assertEqual(choose.fitting(table, [3]).kept, [1, 2, 3])
-        self.assertEqual(choose.shared(table, [2]), [1, 2])
+        out, _ = self.converted(self.chain(5), "--only", "struct s2")
+        self.assertEqual([t.name for t in self.types(out).types()], ["s0", "s1", "s2"])
 
     def test_nothing_is_cut_in_two(self) -> None:
-        table = self.chain(MOST_TYPES + 2)
-        chosen = choose.fitting(table, [MOST_TYPES + 1, 4])
-        self.assertEqual(chosen.kept, [1, 2, 3, 4])
-        self.assertEqual(len(chosen.left), MOST_TYPES - 2)
+        """Of types that are too many each that is kept has all that it holds by value."""
+        out, _ = self.converted(self.file("many.btf", btf(20_000)), "--one", status=1)
+        types = self.types(out)
+        self.assertEqual(self.members(types.find("struct s16381")),
+                         [("p", 0, "struct s16380 *")])
+        self.assertEqual((types.own, len(types.find_all("struct s16382"))), (32_765, 0))
 
     def test_what_is_wanted_last_comes_last(self) -> None:
-        table = self.chain(MOST_TYPES)
-        for _ in range(2):
-            table.add(Record("pointer", type=1))
-        chosen = choose.fitting(table, range(1, MOST_TYPES), [MOST_TYPES + 2, MOST_TYPES])
-        self.assertEqual(chosen.left, [MOST_TYPES, MOST_TYPES + 1])
+        """Those that come first with what they hold; what is left out is named in its order."""
+        _, told = self.converted(self.file("many.btf", btf(20_000)), "--one", status=1)
+        self.assertIn("point to nothing told: struct s16382, struct s16383, ", told)
 
     def test_the_long_forms(self) -> None:
         table = Table()
         number = table.add(Record("integer", "int", 4))
         table.add(Record("struct", "s", 1 << 33, members=(Part("m", number, 1 << 34),)))
-        self.assertIn(struct.pack("<IHHII", 5, number, 0, 4, 0), written(table))
+        long = self.file("long.ctf", written(table))
+        out, _ = self.converted(long, "--self-contained")
+        self.assertIn(struct.pack("<IHHII", 5, number, 0, 4, 0), Path(out).read_bytes())
 
 
 if __name__ == "__main__":

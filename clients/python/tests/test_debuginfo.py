@@ -8,7 +8,7 @@ from pathlib import Path
 from typing import Dict
 
 import ctfd
-from ctfd.convert import from_ctf
+from ctfd.layout import from_ctf
 from ctfd.debuginfo import command
 from ctfd.debuginfo.arguments import Passing
 from ctfd.debuginfo.units import Producer, UnitWriter

@@ -2,7 +2,6 @@
 from __future__ import annotations
 
 import contextlib
-import random
 import shutil
 import struct
 import subprocess
@@ -11,9 +10,6 @@ from pathlib import Path
 from typing import List
 
 import ctfd
-from ctfd.convert.joining import Joiner
-from ctfd.convert.merge import merged
-from ctfd.layout.records import Part, Record, Table
 from ctfd.values.program import open_program
 from ctfd.view.declare import function
 
@@ -150,14 +146,14 @@ class Forms(WithFiles):
 
     @unittest.skipUnless(shutil.which("clang"), "no clang here")
     def test_what_is_not_read_is_told_by_its_cause(self) -> None:
-        big = self.converted(self.of_clang("powerpc64-linux-gnu"), status=2)[1]
-        self.assertIn("a big-endian ELF file, which is not read", big)
+        out, big = self.converted(self.of_clang("powerpc64-linux-gnu"))
+        self.assertIn("it is of a big-endian machine: its types are read", big)
+        self.assertEqual(self.types(out).find("struct point").size, 24)
         path = self.compiled("code.o", CODE)
         data = bytearray(Path(path).read_bytes())
         data[18:20] = b"\x2b\0"  # SPARC
-        self.assertIn("an object file of machine 43, whose relocations are not known: name the"
-                      " linked program", self.converted(self.file("sparc.o", bytes(data)),
-                                                        status=2)[1])
+        self.assertRegex(self.converted(self.file("sparc.o", bytes(data)), status=2)[1],
+                         r"a relocation of a kind that is not known .*: name the linked program")
         whole = bytearray(Path(self.compiled("packed.o", CODE, "-g", "-gz")).read_bytes())
         at = whole.index(struct.pack("<IIQ", 1, 0, 0)[:8], 64)
         whole[at] = 2
@@ -226,41 +222,6 @@ class Divided(WithFiles):
             with contextlib.suppress(ctfd.NotFound):
                 told.append(function(found.types.function(one.number), "pick"))
         self.assertEqual(told, ["long int pick(long int *)"])
-
-
-class Joined(unittest.TestCase):
-    def table(self, seed: int, units: int) -> List[List[Record]]:
-        """Units of a few types that name each other, of which many are the same."""
-        chance = random.Random(seed)
-        made = []
-        for _ in range(units):
-            count = chance.randrange(2, 12)
-            unit = []
-            for _ in range(count):
-                kind = chance.choice(("struct", "struct", "pointer", "const", "forward", "integer"))
-                one = Record(kind, type=chance.randrange(count + 1))
-                if kind == "struct":
-                    parts = [Part("m", chance.randrange(1, count + 1), 0)
-                             for _ in range(chance.randrange(3))]
-                    one = Record(kind, chance.choice(("", "a", "b")), 8, members=tuple(parts))
-                elif kind in ("forward", "integer"):
-                    one = Record(kind, chance.choice("ab"), tag="struct" * (kind == "forward"))
-                unit.append(one)
-            made.append(unit)
-        return made
-
-    def test_what_is_joined_merges_to_what_merges_by_itself(self) -> None:
-        for seed in range(2000):
-            units = self.table(seed, 4)
-            plain, joined = Table(), Table()
-            joiner = Joiner(joined)
-            for unit in units:
-                for table in (plain, joined):
-                    start = len(table)
-                    for one in unit:
-                        table.add(one.renumbered(lambda n: n and n + start))
-                joiner.join()
-            self.assertEqual(merged(joined).records, merged(plain).records, f"seed {seed}")
 
 
 if __name__ == "__main__":

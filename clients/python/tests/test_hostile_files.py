@@ -7,14 +7,13 @@ import resource
 import shutil
 import struct
 import subprocess
-import sys
 import tempfile
 import unittest
 from pathlib import Path
 from typing import List, Sequence, Tuple
 
-from .support import PROGRAM, TOOLS
-from .test_convert import CODE, COMMAND, WithFiles
+from .support import CONVERT, PROGRAM, TOOLS
+from .test_convert import CODE, WithFiles
 
 SECONDS, MEGABYTES = 20, 1000
 # Abbreviations: the code, the tag, whether it has children, and attributes with their forms.
@@ -149,10 +148,9 @@ class Bounded(WithFiles):
 
     def judged(self, name: str) -> str:
         """Converts a file within bounds; what was told."""
-        command = [sys.executable, str(COMMAND), str(self.folder / name), str(self.folder / "out")]
+        command = [str(CONVERT), str(self.folder / name), str(self.folder / "out")]
         with tempfile.TemporaryFile("w+") as told:
-            child = subprocess.Popen(command, stderr=told, env={**os.environ, "CTFD": PROGRAM},
-                                     preexec_fn=_bounded)
+            child = subprocess.Popen(command, stderr=told, preexec_fn=_bounded)
             _, status, used = os.wait4(child.pid, 0)
             child.returncode = os.WEXITSTATUS(status)
             told.seek(0)
@@ -160,7 +158,7 @@ class Bounded(WithFiles):
         self.assertIn(os.WEXITSTATUS(status), (0, 1, 2), f"{status}: {said}")
         self.assertLess(used.ru_utime + used.ru_stime, SECONDS)
         self.assertLess(used.ru_maxrss // 1024, MEGABYTES)
-        self.assertNotIn("Traceback", said)
+        self.assertNotIn("panicked", said)
         return said
 
 
@@ -193,7 +191,7 @@ class Named(Bounded):
         for place in ((1 << 64) - 1, 1 << 63, len(data) - 1):
             struct.pack_into("<Q", data, 40, place)
             path = self.file("far.o", bytes(data))
-            self.assertIn("section headers are cut off", self.refused(path))
+            self.assertIn("a damaged ELF file", self.refused(path))
 
     def test_what_is_read_is_a_file(self) -> None:
         self.assertIn("/dev/zero: it is no file with contents", self.refused("/dev/zero"))

@@ -12,8 +12,9 @@ import unittest
 from pathlib import Path
 from typing import List, NamedTuple
 
-from .support import (ALONE, COMPILED, EXAMPLES, PROGRAM, TOOLS, dictionary, integer, object_file,
-                      pointer, staged)
+from .support import (EXAMPLES, PROGRAM, TOOLS, dictionary, integer, object_file, pointer,
+                      staged)
+from .tools import RUST
 
 FOLDER = Path(__file__).resolve().parents[1]
 LUA = EXAMPLES / "lua.ctf"
@@ -37,9 +38,9 @@ FILES = [
     Case("no ELF file", "ctfd-convert {}/text {}/out", 2, r"/text: neither an ELF file nor a CTF"),
     Case("big-endian CTF", "ctfd-types {}/big", 1, r"/big: .*the file tells no type of C"),
     Case("big-endian ELF", "ctfd-types {}/bigelf", 1, r"/bigelf: it has no debug information"),
-    Case("big-endian ELF", "ctfd-convert {}/bigelf {}/out", 2, r"/bigelf: a big-endian ELF file"),
+    Case("big-endian ELF", "ctfd-convert {}/bigelf {}/out", 2, r"/bigelf: it has no debug inf"),
     Case("version 3", "ctfd-types {}/three", 1, r"/three: .*the file tells no type of C"),
-    Case("version 3", "ctfd-convert {}/three {}/out", 2, r"/three: CTF version 3"),
+    Case("version 3", "ctfd-convert {}/three {}/out", 2, r"/three: .*the file tells no type of C"),
     Case("GNU's CTF", "ctfd-types {}/gnu", 1, r"/gnu: its GNU CTF is damaged"),
     Case("damaged GNU CTF", "ctfd-convert {}/gnu {}/out", 2, r"/gnu: its GNU CTF is damaged"),
     Case("damaged BTF", "ctfd-convert {}/btf {}/out", 2, r"/btf: its BTF is damaged or cut off"),
@@ -66,7 +67,6 @@ FILES = [
     Case("a folder that is not there", "ctfd-convert {}/lua {}/no/out", 2, r"/no/out: it can't be"),
     Case("no service", "ctfd-explore --service {}/nowhere {}/lua", 1,
          r"/nowhere, named by --service, is no program: name the built ctfd"),
-    Case("no service", "ctfd-convert --service {}/no {}/lua {}/out", 2, r"is no program: name the"),
     Case("another program", "ctfd-explore --service {}/other {}/lua", 1,
          r"/other is no ctfd: it does not print a version"),
     Case("another protocol", "ctfd-explore --service {}/newer {}/lua", 1,
@@ -158,9 +158,9 @@ class Messages(unittest.TestCase):
             name, _, value = words.pop(0).partition("=")
             environment[name] = value
         command = [sys.executable, str(FOLDER / words[0])]
-        if words[0] in ALONE:
-            command = [str(COMPILED / words[0])]
-            if not Path(command[0]).exists():
+        if words[0] in RUST:
+            command = [str(RUST[words[0]])]
+            if not RUST[words[0]].exists():
                 self.skipTest(f"{words[0]} is not compiled")
         command += words[1:]
         done = subprocess.run(command, capture_output=True, text=True, env=environment)

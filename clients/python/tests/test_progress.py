@@ -3,7 +3,7 @@ import io
 import unittest
 from unittest import mock
 
-from ctfd.convert import progress
+from ctfd.layout import progress
 
 
 class Terminal(io.StringIO):

@@ -5,7 +5,7 @@ import os
 import unittest
 from unittest import mock
 
-from ctfd.tools import convert, explore, running
+from ctfd.tools import diff, explore, running
 
 from .support import EXAMPLES, PROGRAM
 
@@ -15,20 +15,20 @@ LUA = str(EXAMPLES / "lua.ctf")
 @unittest.skipUnless(PROGRAM, "CTFD names no built service")
 class Bugs(unittest.TestCase):
     def refusal_text(self, trace: str) -> str:
-        """What `ctfd-convert` and `ctfd-explore` say of an error that nobody thought of."""
+        """What `ctfd-diff` and `ctfd-explore` say of an error that nobody thought of."""
         errors = io.StringIO()
-        with mock.patch("ctfd.convert.inputs._form", side_effect=ZeroDivisionError("one\n two")), \
-                mock.patch("ctfd.files.anyfile.contents", side_effect=KeyError(99)), \
+        found = [ZeroDivisionError("one\n two"), KeyError(99)]
+        with mock.patch("ctfd.files.anyfile.contents", side_effect=found), \
                 mock.patch.dict(os.environ, {running.TRACE: trace}), \
                 contextlib.redirect_stderr(errors):
-            self.assertEqual(convert.main([LUA, "/dev/null"]), convert.FAILED)
+            self.assertEqual(diff.main([LUA, LUA]), diff.TROUBLE)
             self.assertEqual(explore.main([LUA]), explore.FAILED)
         return errors.getvalue()
 
     def test_a_bug_is_ours(self) -> None:
         lines = self.refusal_text("").splitlines()
         self.assertEqual(len(lines), 2)
-        self.assertRegex(lines[0], r"^ctfd-convert: .*lua\.ctf: a bug in ctfd [\d.]+"
+        self.assertRegex(lines[0], r"^ctfd-diff: a bug in ctfd [\d.]+"
                                    r" \(ZeroDivisionError: one two\): please report it "
                                    r".*CTFD_TRACE=1")
         self.assertRegex(lines[1], r"^ctfd-explore: a bug in ctfd [\d.]+ \(KeyError: 99\)")

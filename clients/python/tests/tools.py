@@ -16,9 +16,10 @@ from ctfd.files.opening import Opener
 from ctfd.layout.whole import Whole
 from ctfd.tools import explore
 
-from .support import ALONE, PROGRAM, WithService, run_compiled
+from .support import COMMAND, CONVERT, DIFF, PROGRAM, WithService, run
 
 MAINS = {"ctfd-explore": explore.main}
+RUST = {one.name: one for one in (COMMAND, CONVERT, DIFF)}
 CLIENT = Path(__file__).resolve().parents[1]
 
 
@@ -28,8 +29,8 @@ WHY_NOT = "no service or gcc here"
 
 def command(name: str, *words: str) -> "subprocess.CompletedProcess[str]":
     """A command, run as a user would."""
-    if name in ALONE:
-        return run_compiled(name, *words)
+    if name in RUST:
+        return run(*words, command=RUST[name])
     environment = {**os.environ, "CTFD": PROGRAM}
     return subprocess.run([sys.executable, str(CLIENT / name), *words], capture_output=True,
                           text=True, env=environment)
@@ -37,8 +38,8 @@ def command(name: str, *words: str) -> "subprocess.CompletedProcess[str]":
 
 def within(name: str, *words: str) -> "subprocess.CompletedProcess[str]":
     """The same within this process, which is quicker, where it is one in Python."""
-    if name in ALONE:
-        return run_compiled(name, *words)
+    if name in RUST:
+        return run(*words, command=RUST[name])
     out, err = io.StringIO(), io.StringIO()
     with contextlib.redirect_stdout(out), contextlib.redirect_stderr(err):
         status = MAINS[name](["--service", PROGRAM, *words])

@@ -18,7 +18,7 @@ from ..client.faults import Error
 from ..client.model import Model
 from ..client.types import Encoding, Enumerator
 from ..client.session import Session
-from ..convert.held import held
+from ..layout.held import held
 from ..layout.records import Part, Record, Table
 from . import abi
 from .abi import Shape

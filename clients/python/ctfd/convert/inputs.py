@@ -7,23 +7,21 @@ from typing import Callable, Dict, List, NamedTuple, Optional, Set
 from ..client.faults import Unreadable
 from ..client.model import Model
 from ..files import archives, elf, identity, several, source
+from ..files.compiled import Options
 from ..files.debugfiles import FOLDERS, LINK_IT, has_debug, is_lto, with_debug
 from ..files.elf import Elf
 from ..files.mapped import Mapped, contents
 from ..files.symbols import DYNSYM, NAMES, SYMTAB, Symbols, Wanted, considered, table_of
+from ..layout import from_ctf
+from ..layout.progress import Progress
 from ..layout.records import Record, Table
-from . import from_btf, from_ctf, from_dwarf, from_gnu, gnu_symbols
+from ..layout.sound import judge
+from . import from_btf, from_dwarf, from_gnu, gnu_symbols
 from .dwarf.files import Debug
 from .dwarf.sections import Sections
-from .progress import Progress
-from .sound import judge
 
 FORMS = ("ctf", "btf", "dwarf", "gnu")
 SECTIONS = {"ctf": source.SECTIONS, "btf": (".BTF",), "gnu": (".ctf",)}
-# Debug information of so many bytes takes minutes, and a line says what is faster.
-LARGE = 100 << 20
-SLOW = ("{} MB of debug information are read, which takes minutes: pahole -J, and --from btf here,"
-        " are faster, without objects, _Atomic types and a part of the functions")
 NAMED = {"dwarf": "DWARF", "btf": "BTF", "gnu": "GNU's CTF"}
 DAMAGED = "its debug information is damaged or of a form that is not read"
 LONGS = ("long int", "long", "long unsigned int", "unsigned long")
@@ -40,20 +38,6 @@ class Input(NamedTuple):
     form: str
     symbols: Symbols = Symbols()
     note: str = ""
-
-
-class Options(NamedTuple):
-    """What the caller says of a file: `number` is that of one of several dictionaries in it, and
-    `symbols` names the symbol table that is wanted. `warn` is told what should be known before a
-    file is read."""
-
-    model: Optional[Model] = None
-    form: Optional[str] = None
-    base: Optional[str] = None
-    folders: List[str] = []
-    number: Optional[int] = None
-    symbols: str = SYMTAB
-    warn: Callable[[str], None] = lambda said: None
 
 
 class Held(NamedTuple):
@@ -171,7 +155,7 @@ def _strings(file: Elf, link: int) -> Optional[bytes]:
 
 def _of_dwarf(whole: Elf, options: Options) -> Input:
     _judge_number("dwarf", options)
-    found = with_debug(whole, options.folders)
+    found = with_debug(whole, list(options.folders))
     symbols = considered(whole, options.symbols)
     if options.symbols == DYNSYM and not symbols.listed:
         raise Unreadable("it has no .dynsym with functions or objects, as a program has that"
@@ -241,8 +225,6 @@ def _take(reader: from_dwarf.Reader, found: Elf, options: Options) -> None:
     progress = Progress(f"reading {found.path}")
     try:
         sections = Sections(found, [*options.folders, *FOLDERS])
-        if len(sections.held("info")) > LARGE:
-            options.warn(f"{found.path}: {SLOW.format(len(sections.held('info')) >> 20)}")
         reader.read(Debug(sections, progress.told))
     except Unreadable as error:
         raise Unreadable(f"{found.path}: {error}") from error

@@ -11,7 +11,7 @@ from __future__ import annotations
 import struct
 from typing import Callable, Dict, List, NamedTuple, Optional
 
-from ..convert.held import size_of
+from ..layout.held import size_of
 from ..layout.records import Record, Table
 from .dwarf import At, Attribute, FRAME_PLACE, Form, PIECE, REGISTER, signed, unsigned
 from .relocations import Relocation

@@ -17,14 +17,14 @@ from ..client.faults import Error, Unreadable
 from ..client.model import Model, POINTER_SIZES
 from ..text import printable
 from ..client.session import Session
-from ..convert import from_ctf, outputs
-from ..convert.sound import judge
-from ..files import elf, identity, source
+from ..files import elf, identity, source, writing
 from ..files.mapped import contents
 from ..files.opening import told_of as refusals_of
 from ..files.source import Source
 from ..files.symbols import Handed, handed
+from ..layout import from_ctf
 from ..layout.records import Table
+from ..layout.sound import judge
 from ..tools import running
 from ..tools.running import add_version
 from ..version import VERSION
@@ -105,7 +105,7 @@ def _run(session: Session, said: argparse.Namespace) -> int:
     made = make(session, Wanted(said.input, said.parent, said.program, said.symbols, said.model,
                                 said.arguments))
     output = _in_folder(said.output, made.build_id) if said.folder else said.output
-    outputs.write(output, made.data)
+    writing.write(output, made.data)
     for note in made.notes:
         running.warn(NAME, note)
     print(f"{printable(output)}: {made.counts}")

@@ -6,7 +6,7 @@ from typing import Dict, Iterator, List, Set
 from ..client.aliases import Named, Names, TAGGED, alias, widest
 from ..client.dictionary import OWN_OF_CHILD
 from ..client.model import POINTER_SIZES
-from ..convert.held import size_of
+from ..layout.held import size_of
 from ..layout.records import BOOLEAN, CHARACTER, Part, QUALIFIERS, Record, SIGNED, Table
 from .dwarf import At, Attribute, Encoding, Form, Tag
 from .entries import Entries

@@ -1,14 +1,15 @@
 """What is handed in for any file that `ctfd-convert` takes.
 
-A file that the service reads is taken as it is. Else its types are converted here, and kept in the
-user's cache, so that the next question on the same file is answered at once.
+A file that the service reads is taken as it is. Else the compiled `ctfd-convert` makes a dictionary
+of it, which is kept in the user's cache, so that the next question on the same file is answered at
+once.
 """
 from __future__ import annotations
 
 import argparse
 import os
 import stat
-from typing import TYPE_CHECKING, Callable, List, NamedTuple, Optional, Sequence, Tuple
+from typing import TYPE_CHECKING, Callable, List, NamedTuple, Optional, Sequence
 
 from ..client.faults import Unreadable
 from ..client.model import Model
@@ -22,11 +23,13 @@ if TYPE_CHECKING:
     import tempfile
 
     from .cache import Cache, Kept
-
-    from ..convert.inputs import Options
+    from .compiled import Options
 
 FEW = 3
-FORMS = ("ctf", "btf", "dwarf", "gnu")  # those of `inputs`
+FORMS = ("ctf", "other-ctf", "btf", "dwarf", "gnu")  # those of ctfd-convert
+# How sections begin that are converted: BTF, GNU's CTF, CTF of version 3 and of other machines.
+CONVERTED = (b"\x9f\xeb", b"\xeb\x9f", b"\xf2\xdf", b"\xdf\xf2", source.ARCHIVE, b"\xf1\xcf\3",
+             b"\xcf\xf1")
 
 
 class Asked(NamedTuple):
@@ -97,10 +100,7 @@ def _is_converted(data: Mapped, path: str) -> bool:
     these, and what is wrong with them was told."""
     if data[:4] == elf.MAGIC:
         return not _has_ctf(Elf(data, path))
-    from ..convert import from_btf, from_gnu
-
-    begins = (from_btf.MAGIC, from_btf.BIG_ENDIAN, from_gnu.MAGIC, source.ARCHIVE)
-    return archives.is_archive(data) or any(data[:len(one)] == one for one in begins)
+    return archives.is_archive(data) or data.startswith(CONVERTED)
 
 
 def _has_ctf(file: Elf) -> bool:
@@ -140,14 +140,6 @@ class _Place:
             raise Unreadable(str(error).replace(self.path, self.named)) from error
 
 
-def converted(path: str, options: Options) -> Tuple[Source, List[str]]:
-    """What is handed in for a file that is converted, and what was lost. What converts is imported
-    here, since who has a dictionary waits for nothing else."""
-    from ..convert import conversion
-
-    return conversion.converted(path, options.model, options)
-
-
 def _made(path: str, data: Mapped, asked: Asked, losses: List[str]) -> Source:
     """The dictionary of a file that is converted, or that was; what was lost goes to `losses`."""
     from .cache import key
@@ -162,7 +154,8 @@ def _made(path: str, data: Mapped, asked: Asked, losses: List[str]) -> Source:
         kept = cache.get(named)
         found = _attached(path, data, kept) if kept else None
     if kept is None or found is None:
-        kept, found = _converted(path, data, options_of(path, data, asked))
+        kept = converted(path, options_of(path, data, asked))
+        found = _attached(path, data, kept) or _without_symbols(kept)
         if cache is not None:
             cache.put(named, kept)
     losses += kept.losses
@@ -171,26 +164,20 @@ def _made(path: str, data: Mapped, asked: Asked, losses: List[str]) -> Source:
     return found
 
 
-def _converted(path: str, data: Mapped, options: Options) -> Tuple[Kept, Source]:
-    """What is made of a file, to be kept and handed in: by the compiled converter, where it is."""
+def converted(path: str, options: Options) -> Kept:
+    """What is made of a file. What converts is imported here, since who has a dictionary waits for
+    nothing else. Raises Unreadable."""
     from . import compiled
-    from .cache import Kept
 
-    kept = compiled.converted(path, options)
-    found = _attached(path, data, kept) if kept else None
-    if kept is None or found is None:
-        made, losses = converted(path, options)
-        kept = Kept(made.ctf, made.model, losses)
-        found = _attached(path, data, kept) or made
-    return kept, found
+    return compiled.converted(path, options)
 
 
 def options_of(path: str, data: Mapped, asked: Asked) -> Options:
     """What the converter is told of a file."""
-    from ..convert.inputs import Options  # with all that converts
+    from .compiled import Options
 
-    return Options(asked.model, asked.form, asked.base, list(asked.folders), asked.number,
-                   _table(path, data), asked.warn)
+    return Options(asked.model, asked.form, asked.base, asked.folders, asked.number,
+                   _table(path, data))
 
 
 def _sum_of(path: Optional[str]) -> str:
@@ -223,11 +210,16 @@ def _attached(path: str, data: Mapped, kept: Kept) -> Optional[Source]:
     return Source(kept.ctf, found.table, found.strings, "named" if found.table else "none", model)
 
 
+def _without_symbols(kept: Kept) -> Source:
+    """A new dictionary whose symbols are none of its file: it was changed meanwhile."""
+    return Source(kept.ctf, how="differs", model="ilp32" if kept.model == "ilp32" else "lp64")
+
+
 def _tell(path: str, losses: Sequence[str], asked: Asked) -> None:
     """What CTF can't hold of a file: each where it is little."""
     if not losses:
         return
-    from ..convert.outputs import notice
+    from .losses import notice
 
     for line in notice(losses, FEW, f"`ctfd-convert --report - {path} /dev/null` lists them all"):
         asked.warn(f"{path}: {line}")

@@ -22,7 +22,7 @@ from .mapped import Mapped
 
 MOST_BYTES = 512 << 20
 SUFFIX = ".ctf"
-FORMAT = 2  # of the kept files and of what is made of a program; another number is another name
+FORMAT = 3  # of the kept files and of what is made of a program; another number is another name
 PIECE = 1 << 20
 # Of a file that is larger, and that has a build id, that and its size and time stand for its bytes.
 LARGE = 256 << 20

@@ -1,53 +1,80 @@
-"""The compiled `ctfd-convert`, where it stands with this package: it makes the same dictionaries as
-the converter in Python, in a small part of the time.
+"""The compiled `ctfd-convert`, which reads programs for this package.
 
-It is the one beside the command that runs, in `bin` beside the `lib` that this package is in, or of
-the clone that this package stands in. One of another version does not count, nor one that another
-user could have put there (trust.py).
+It is the one beside the command that runs, in `bin` beside the `lib` that this package is in, of
+the clone that this package stands in, or on the PATH. One of another version does not count, nor
+one that another user could have put there (trust.py).
 """
 from __future__ import annotations
 
+import functools
 import os
 import subprocess
 import tempfile
-from typing import TYPE_CHECKING, Iterator, List, Optional
+from typing import Iterator, List, NamedTuple, Optional, Sequence
 
 from ..client import trust
+from ..client.faults import Unreadable
+from ..client.model import Model
 from ..version import VERSION
 from . import elf
 from .cache import Kept
-from .symbols import DYNSYM
-
-if TYPE_CHECKING:
-    from ..convert.inputs import Options
+from .symbols import DYNSYM, SYMTAB
 
 NAME = "ctfd-convert"
-BUILT = "clients/rust/target/release/ctfd-convert"
+BUILT = "release/ctfd-convert"
+TARGET = "clients/rust/target"
 WRITTEN = (0, 1)
-LOST = "lost: "
+LOST, READ = "lost: ", "read: "
+MISSING = ("its types are read by the compiled command ctfd-convert of version {}, and there is none"
+           " here that no other user could have put there: install it, or build it in the clone by"
+           " `make`")
 
 
-def converted(path: str, options: Options) -> Optional[Kept]:
-    """What the compiled command makes of a file; None where there is no such command, or where it
-    makes nothing: then the converter in Python says why."""
+class Options(NamedTuple):
+    """What the caller says of a file: `number` is that of one of several dictionaries in it, and
+    `symbols` names the symbol table that is wanted."""
+
+    model: Optional[Model] = None
+    form: Optional[str] = None
+    base: Optional[str] = None
+    folders: Sequence[str] = ()
+    number: Optional[int] = None
+    symbols: str = SYMTAB
+
+
+def converted(path: str, options: Options) -> Kept:
+    """What the command makes of a file. Raises Unreadable where that is nothing."""
     command = find()
     if command is None:
-        return None
+        raise Unreadable(f"{path}: {MISSING.format(VERSION)}")
     with tempfile.TemporaryDirectory() as folder:
         made, told = os.path.join(folder, "made"), os.path.join(folder, "told")
         words = [command, *_words(options), "--report", told, "--", path, made]
         try:
             done = subprocess.run(words, stdin=subprocess.DEVNULL, stdout=subprocess.DEVNULL,
-                                  stderr=subprocess.DEVNULL, check=False)
+                                  stderr=subprocess.PIPE, check=False)
             if done.returncode not in WRITTEN:
-                return None
+                raise Unreadable(_why(path, done))
             with open(made, "rb") as ctf, open(told, encoding="utf-8", errors="replace") as report:
                 lines = report.read().split("\n")
-                model = lines[0].rpartition(", ")[2]
                 losses = [line[len(LOST):] for line in lines if line.startswith(LOST)]
-                return Kept(ctf.read(), model, losses)
-        except OSError:
-            return None
+                return Kept(ctf.read(), _model(lines), losses)
+        except OSError as error:
+            raise Unreadable(f"{path}: {command}: {error.strerror}") from error
+
+
+def _model(lines: Sequence[str]) -> Optional[str]:
+    """The data model that a report tells at the end of its first line."""
+    return next((line.rpartition(", ")[2] for line in lines if line.startswith(READ)), None)
+
+
+def _why(path: str, done: "subprocess.CompletedProcess[bytes]") -> str:
+    """Why nothing was made: what the command says last."""
+    lines = done.stderr.decode("utf-8", "replace").splitlines()
+    said = lines[-1] if lines else ""
+    if said.startswith(f"{NAME}: "):
+        return said[len(NAME) + 2:]
+    return f"{path}: {NAME} ended with status {done.returncode}{': ' + said if said else ''}"
 
 
 def _words(options: Options) -> Iterator[str]:
@@ -79,14 +106,17 @@ def _places() -> Iterator[str]:
     if folder:
         yield os.path.join(folder, NAME)
     if clone:
-        yield os.path.join(clone, BUILT)
-        return
+        yield os.path.join(clone, TARGET, BUILT)
     parts: List[str] = trust.HERE.split(os.sep)
-    if "lib" in parts:
+    if "lib" in parts and not clone:
         last = len(parts) - 1 - parts[::-1].index("lib")
         yield os.sep.join([*parts[:last], "bin", NAME])
+    on_path = trust.program(NAME)
+    if on_path:
+        yield on_path
 
 
+@functools.lru_cache(maxsize=8)
 def _is_ours(path: str) -> bool:
     """Whether it is the compiled command, of this package's version."""
     try:

@@ -83,7 +83,7 @@ def told(found: List[bytes]) -> str:
 
 
 def _described(ctf: bytes) -> str:
-    from ..convert.from_ctf import table_of  # it reads by way of this
+    from ..layout.from_ctf import table_of  # it reads by way of this
     from .source import inflate
 
     try:

@@ -1,7 +1,7 @@
 """Types of C as a table of records that name each other by number, before they are a dictionary.
 
-What reads DWARF, BTF or another CTF makes such a table, and so does `ctfd.build`. A table may say
-more than CTF of version 2 holds: `ctfd.convert.held` makes one of it that says no more.
+What reads a dictionary makes such a table, and so does `ctfd.build`. A table may say more than CTF of
+version 2 holds: `held` makes one of it that says no more.
 """
 from __future__ import annotations
 

@@ -9,7 +9,7 @@ import struct
 from typing import Any, Callable, Dict, List, Tuple
 
 from ..client.types import Encoding
-from ..convert.written import KINDS, LONG_MEMBERS, LONG_SIZE
+from .written import KINDS, LONG_MEMBERS, LONG_SIZE
 from ..files import bounded, identity
 from ..files.source import Source
 from .records import AGGREGATES, Part, Record

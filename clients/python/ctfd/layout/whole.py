@@ -7,7 +7,7 @@ from ..client.dictionary import Dictionary
 from ..client.faults import Error
 from ..client.gather import LISTS
 from ..text import printable
-from ..convert.progress import Progress
+from .progress import Progress
 from .catalog import Catalog
 from .naming import Names
 from .sizes import Sizes

@@ -10,10 +10,11 @@ from typing import Optional
 import gdb
 
 import ctfd
-from ..convert.inputs import contents, has_debug
 from ..debuginfo.command import Wanted
 from ..debuginfo.keeping import Writer, has_types
+from ..files.debugfiles import has_debug
 from ..files.elf import Elf
+from ..files.mapped import contents
 
 
 class Given(gdb.Parameter):

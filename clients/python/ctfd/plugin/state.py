@@ -10,7 +10,9 @@ import gdb
 import ctfd
 from ..client.model import Model
 from ..text import printable
-from ..convert.conversion import converted
+from ..files import anyfile
+from ..files.anyfile import Asked
+from ..files.cache import user_cache
 from ..files.source import Source
 from ..values import formats, program, reading
 from ..values.operands import BadExpression
@@ -81,11 +83,11 @@ def _converted(path: str) -> Source:
     """What is made of a program's debug information, and said of that."""
     print(f"Reading types from the debug information of {printable(path)}...")
     gdb.flush()
-    found, losses = converted(path)
-    if losses:
+    found = anyfile.read(path, Asked(cache=user_cache, tells_losses=False))
+    if found.losses:
         print(f"(CTF can't hold all of them: \"ctfd-convert {printable(path)} OUT\" tells the"
-              f" {len(losses)} that it can't)")
-    return found
+              f" {len(found.losses)} that it can't)")
+    return found.source
 
 
 STATE = State()

@@ -1,1 +1,1 @@
-"""The commands on types: ctfd-convert and ctfd-explore."""
+"""The commands on types: ctfd-explore."""

@@ -1,6 +1,6 @@
 //! The dictionary that is made of what was read: alone, as a child of another, or as two.
 
-use crate::ctf::Sections;
+use crate::ctf::{table_of, Sections};
 use crate::error::{refuse, Error, Result};
 use crate::image::Image;
 use crate::inputs::{Form, ProgramTypes, Verifier};
@@ -12,6 +12,7 @@ pub use crate::section::MOST_TYPES;
 use crate::select::{closure_of_all, fitting, left_out, roots, types_named};
 use crate::symbols::{SymbolTable, Symbols};
 use crate::table::{Record, Table};
+use crate::verify::{Extent, Judges};
 use ctfd::Model;
 use std::borrow::Cow;
 use std::collections::HashSet;
@@ -91,6 +92,7 @@ pub fn alone<'a>(mut table: Table<'a>, symbols: Symbols<'a>) -> Dictionary<'a> {
         let chosen = fitting(&table, roots(&table), last);
         let line = left_out(&table, &chosen.left, "a dictionary holds (--split writes two)");
         table.keep(&chosen.kept);
+        table.is_cut = true;
         table.losses.extend(line);
     }
     let symbols = pruned(&mut table, symbols);
@@ -165,6 +167,7 @@ fn over<'a>(
         let left: Vec<u32> = (1..=joined.len()).filter(|n| !known.contains(n)).collect();
         let line = left_out(&joined, &left, "a child holds beside its parent");
         joined.keep(&kept);
+        joined.is_cut = true;
         joined.losses.extend(line);
     }
     joined.bases = bases;
@@ -305,9 +308,23 @@ impl<'a> Dictionary<'a> {
     }
 }
 
-/// Refuses the bytes of a dictionary that does not tell what was read; how many types were compared.
-pub fn verify(bytes: &[u8], verifier: &Verifier<'_>) -> Result<usize> {
-    verifier(&crate::ctf::table_of(&Sections::of(bytes)?, &[], None)?)
+/// The bytes of a dictionary that is written, and those of its parent if it is a child.
+pub type WithParent<'b> = (&'b [u8], Option<&'b [u8]>);
+
+/// Refuses dictionaries that do not tell what was read; how many types were compared.
+pub fn verify(
+    written: &[WithParent<'_>],
+    extent: Extent,
+    verifier: &Verifier<'_>,
+) -> Result<usize> {
+    let tables = written.iter().map(|&one| table_over(one)).collect::<Result<Vec<_>>>()?;
+    verifier(&Judges::new(&tables, extent))
+}
+
+/// The types of a dictionary behind those of its parent.
+fn table_over((bytes, parent): WithParent<'_>) -> Result<Table<'_>> {
+    let parent = parent.map(|parent| table_of(&Sections::of(parent)?, &[], None)).transpose()?;
+    table_of(&Sections::of(bytes)?, &[], parent)
 }
 
 /// Whether a refusal is one of the rules on symbols.

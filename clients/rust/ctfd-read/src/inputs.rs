@@ -13,8 +13,10 @@ use crate::gnu;
 use crate::gnu_symbols::{describe, FileSymbols};
 use crate::image::Image;
 use crate::labels;
+use crate::progress::Listener;
 use crate::symbols::{Symbol, SymbolTable, Symbols};
 use crate::table::{Kind, Record, Table};
+use crate::verify::Judges;
 use ctfd::Model;
 use object::read::archive::ArchiveFile;
 use object::{Object as _, ObjectKind, ObjectSection as _};
@@ -107,6 +109,8 @@ pub struct Options {
     pub symbols: SymbolTable,
     /// Whether what CTF does not hold is wanted beside the dictionary.
     pub is_in_full: bool,
+    /// Who is told how far the reading is.
+    pub listener: Listener,
 }
 
 /// What a file has: its types, those of them that are wanted for themselves, and the number of types
@@ -131,7 +135,7 @@ pub struct ProgramTypes<'a> {
 
 /// Refuses types that were written where they are not those of the units that were read; how many of
 /// the units' types were compared.
-pub type Verifier<'a> = dyn Fn(&Table<'_>) -> Result<usize> + 'a;
+pub type Verifier<'a> = dyn Fn(&Judges<'_>) -> Result<usize> + 'a;
 
 /// A section with types, in its ELF file where it is in one, with the strings that go with it.
 struct Section<'a> {
@@ -364,8 +368,8 @@ fn with_dwarf(image: &Image, options: &Options, run: &mut Use<'_>) -> Result<()>
         sections::Sections::load(debug, &options.folders).map_err(|error| error.of(&debug_path))?;
     let units = Debug::new(&sections).map_err(|error| error.of(&debug_path))?;
     let (read, is_ilp32) = ([(units, debug_path)], !file.is_64());
-    let collector = collect(&read, &symbols.listed, is_ilp32)?;
-    let verifier = |table: &Table<'_>| verify(&read, is_ilp32, table);
+    let collector = collect(&read, &symbols.listed, is_ilp32, &options.listener)?;
+    let verifier = |written: &Judges<'_>| verify(&read, is_ilp32, written);
     let is_linked = file.kind() != ObjectKind::Relocatable;
     let (mut table, roots) =
         collector.finish(&symbols, is_linked, !file.is_64()).map_err(|error| error.of(&path))?;
@@ -449,7 +453,7 @@ fn with_archive(image: &Image, data: &[u8], options: &Options, run: &mut Use<'_>
         let name = member.path().display().to_string();
         files.push((Debug::new(sections).map_err(|error| error.of(&name))?, name));
     }
-    let collector = collect(&files, &[], is_ilp32)?;
+    let collector = collect(&files, &[], is_ilp32, &options.listener)?;
     let symbols = Symbols::default();
     let (table, roots) =
         collector.finish(&symbols, false, is_ilp32).map_err(|error| error.of(path.display()))?;
@@ -462,6 +466,7 @@ fn members(path: &Path, data: &[u8]) -> Result<Vec<Image>> {
     if data.starts_with(THIN) {
         return thin_members(path, data);
     }
+    judge_first(data)?;
     let archive = ArchiveFile::parse(data).map_err(|_| Error("a damaged archive".to_owned()))?;
     let mut found = Vec::new();
     for member in archive.members() {
@@ -473,6 +478,18 @@ fn members(path: &Path, data: &[u8]) -> Result<Vec<Image>> {
     }
     found.retain(Image::is_elf);
     Ok(found)
+}
+
+/// Refuses an archive whose first member, most often its index, is not all there: the crate for
+/// archives takes it for one without members.
+fn judge_first(data: &[u8]) -> Result<()> {
+    let Some(header) = data.get(THIN.len()..THIN.len() + MEMBER) else { return Ok(()) };
+    let size = std::str::from_utf8(&header[48..58]).ok();
+    match size.and_then(|size| size.trim_end().parse::<usize>().ok()) {
+        None => refuse("a damaged archive"),
+        Some(size) if size > data.len() - THIN.len() - MEMBER => refuse("an archive that is cut off"),
+        Some(_) => Ok(()),
+    }
 }
 
 const THIN: &[u8] = b"!<thin>\n";
@@ -497,6 +514,7 @@ fn thin_members(path: &Path, data: &[u8]) -> Result<Vec<Image>> {
             at += size + size % 2;
             continue;
         }
+        let name = name.trim_end_matches(['/', ' ']); // BFD leaves a slash behind the blanks
         let long = name.strip_prefix('/').and_then(|place| place.parse::<usize>().ok());
         let name = match long {
             Some(place) => {

@@ -2,7 +2,7 @@
 //! parent and its children.
 
 use crate::archive::{self, child_name, PARENT};
-use crate::dictionary::{keep_described, Dictionary};
+use crate::dictionary::{keep_described, Dictionary, WithParent};
 use crate::error::Result;
 use crate::image::Image;
 use crate::select::left_out;
@@ -22,6 +22,16 @@ pub struct Written<'a> {
     pub counts: Vec<usize>,
 }
 
+impl Written<'_> {
+    /// The dictionaries, each child with the parent.
+    pub fn dictionaries(&self) -> Result<Vec<WithParent<'_>>> {
+        let members = archive::members(&self.bytes)?;
+        let parent = members.first().map(|(_, bytes)| *bytes);
+        let children = members.iter().skip(1).map(|(_, bytes)| (*bytes, parent));
+        Ok(parent.map(|bytes| (bytes, None)).into_iter().chain(children).collect())
+    }
+}
+
 /// The dictionaries of a table, each checked by the library, in one file.
 pub fn write<'a>(
     mut table: Table<'a>,
@@ -31,6 +41,7 @@ pub fn write<'a>(
 ) -> Result<Written<'a>> {
     let spread = spread(&table);
     let mut losses = std::mem::take(&mut table.losses);
+    table.is_cut = !spread.left.is_empty();
     losses.extend(left_out(&table, &spread.left, "a part of the file holds"));
     let mut parts = Parts { table, symbols, told: Told::default(), losses, image, output };
     let parent = parts.bytes(&spread.parent, &[], None)?;

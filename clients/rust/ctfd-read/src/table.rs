@@ -350,6 +350,8 @@ pub struct Table<'a> {
     pub lacks_parent: bool,
     /// Whether names of it stand in the strings of its ELF file.
     pub has_outer_names: bool,
+    /// Whether types of it were left out, since a dictionary has no room for them.
+    pub is_cut: bool,
 }
 
 impl<'a> Table<'a> {

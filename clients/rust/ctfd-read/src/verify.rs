@@ -10,52 +10,115 @@
 use crate::error::{refuse, Result};
 use crate::table::{Kind, Record, Table};
 use std::collections::{HashMap, HashSet};
+use std::sync::atomic::{AtomicBool, Ordering};
 
 /// Members, enumerators and arguments of more than so many are told otherwise.
 const MOST_PARTS: usize = 1023;
 /// How many pairs are compared for each type of a unit.
 const MOST_PAIRS: usize = 4096;
 
-/// The types of a dictionary by their names.
-pub struct Judge<'t> {
-    table: &'t Table<'t>,
-    by_name: HashMap<(Kind, Vec<u8>), Vec<u32>>,
+/// How much of a program is written.
+#[derive(Clone, Copy, Debug, PartialEq, Eq)]
+pub enum Extent {
+    /// All types that its units have for themselves.
+    All,
+    /// Some of them: then each that is written must be one of a unit.
+    Some,
 }
 
-impl<'t> Judge<'t> {
-    /// Over the types that were written.
-    pub fn new(table: &'t Table<'t>) -> Judge<'t> {
-        let mut by_name: HashMap<_, Vec<u32>> = HashMap::new();
-        for (number, record) in (1..).zip(&table.records) {
-            if !record.name.is_empty() {
-                by_name.entry((record.tag, record.name.to_vec())).or_default().push(number);
-            }
-        }
-        Judge { table, by_name }
+/// The dictionaries that were written of a program.
+pub struct Judges<'t> {
+    listed: Vec<Judge<'t>>,
+    extent: Extent,
+}
+
+impl<'t> Judges<'t> {
+    /// Over the types of each, those of its parent in front.
+    pub fn new(tables: &'t [Table<'t>], extent: Extent) -> Judges<'t> {
+        Judges { listed: tables.iter().map(Judge::new).collect(), extent }
     }
 
-    /// Refuses what a unit has for itself and the dictionary does not tell; how many are told.
+    /// Refuses what a unit has for itself and no dictionary tells, where all is written; how many
+    /// are told.
     pub fn judge(&self, records: &[Record<'_>], roots: &[u32]) -> Result<usize> {
-        let mut walk = Walk { judge: self, records, known: HashSet::new() };
+        let walk = |judge| Walk { judge, records, known: HashSet::new() };
+        let mut walks: Vec<Walk<'_, '_>> = self.listed.iter().map(walk).collect();
         let mut met = HashSet::new();
+        let mut count = 0;
         for &root in roots.iter().filter(|&&root| root != 0) {
             let record = &records[root as usize - 1];
             if record.name.is_empty() || !met.insert(root) {
                 continue;
             }
-            let candidates = self.by_name.get(&(record.tag, record.name.to_vec()));
-            let is_told =
-                candidates.is_some_and(|listed| listed.iter().any(|&n| walk.is_alike(root, n)));
-            if !is_told {
+            let is_told = match self.extent {
+                Extent::All => walks.iter_mut().any(|walk| walk.is_told(root)),
+                Extent::Some => walks.iter_mut().fold(false, |told, walk| walk.mark(root) | told),
+            };
+            if !is_told && self.extent == Extent::All {
                 return refuse(format!(
                     "{} is not told as its debug information has it: please report this, with the \
                      program",
                     record.tagged()
                 ));
             }
+            count += usize::from(is_told);
         }
-        Ok(met.len())
+        Ok(count)
     }
+
+    /// Refuses what is written and no unit has so, where some types are written.
+    pub fn finish(&self) -> Result<()> {
+        let of_none = match self.extent {
+            Extent::All => None,
+            Extent::Some => self.listed.iter().find_map(Judge::of_no_unit),
+        };
+        match of_none {
+            None => Ok(()),
+            Some(record) => refuse(format!(
+                "{} is written, and no unit of the debug information has it so: please report this, \
+                 with the program",
+                record.tagged()
+            )),
+        }
+    }
+}
+
+/// The types of a dictionary by their names.
+struct Judge<'t> {
+    table: &'t Table<'t>,
+    by_name: HashMap<(Kind, Vec<u8>), Vec<u32>>,
+    /// Which of them some unit has.
+    is_of_unit: Vec<AtomicBool>,
+}
+
+impl<'t> Judge<'t> {
+    /// Over the types that were written.
+    fn new(table: &'t Table<'t>) -> Judge<'t> {
+        let mut by_name: HashMap<_, Vec<u32>> = HashMap::new();
+        for (number, record) in (1..).zip(&table.records) {
+            if !record.name.is_empty() {
+                by_name.entry((record.tag, record.name.to_vec())).or_default().push(number);
+            }
+        }
+        let is_of_unit = table.records.iter().map(|_| AtomicBool::new(false)).collect();
+        Judge { table, by_name, is_of_unit }
+    }
+
+    /// A type with a name of its own that no unit has.
+    fn of_no_unit(&self) -> Option<&Record<'t>> {
+        let own = self.table.records.iter().zip(&self.is_of_unit).skip(self.table.bases as usize);
+        let is_of_none = |(record, is_of_unit): &(&Record<'t>, &AtomicBool)| {
+            record.root && is_of_source(record) && !is_of_unit.load(Ordering::Relaxed)
+        };
+        own.into_iter().find(is_of_none).map(|(record, _)| record)
+    }
+}
+
+/// Whether a type is one that a source file names: what CTF needs beside these is made here.
+fn is_of_source(record: &Record<'_>) -> bool {
+    let is_tagged = matches!(record.kind, Kind::Struct | Kind::Union | Kind::Enum);
+    !record.name.is_empty()
+        && (is_tagged || record.kind == Kind::Typedef && !record.name.starts_with(b"_Atomic("))
 }
 
 /// The pairs of a unit's types and the dictionary's that are known to be alike.
@@ -66,6 +129,27 @@ struct Walk<'w, 't> {
 }
 
 impl Walk<'_, '_> {
+    fn candidates(&self, root: u32) -> &[u32] {
+        let record = &self.records[root as usize - 1];
+        self.judge.by_name.get(&(record.tag, record.name.to_vec())).map_or(&[], Vec::as_slice)
+    }
+
+    /// Whether some type of the dictionary tells one of the unit.
+    fn is_told(&mut self, root: u32) -> bool {
+        self.candidates(root).to_vec().into_iter().any(|n| self.is_alike(root, n))
+    }
+
+    /// The same, with each marked that does and is no declaration in either.
+    fn mark(&mut self, root: u32) -> bool {
+        let kind = self.records[root as usize - 1].kind;
+        let alike = self.candidates(root).to_vec();
+        let alike: Vec<u32> = alike.into_iter().filter(|&n| self.is_alike(root, n)).collect();
+        for &number in alike.iter().filter(|&&n| self.judge.table.get(n).kind == kind) {
+            self.judge.is_of_unit[number as usize - 1].store(true, Ordering::Relaxed);
+        }
+        !alike.is_empty()
+    }
+
     fn is_alike(&mut self, x: u32, y: u32) -> bool {
         let mut met = HashSet::new();
         let mut todo = vec![(x, y)];
@@ -195,8 +279,16 @@ mod tests {
     fn is_told(change: impl FnOnce(&mut Vec<Record<'static>>)) -> bool {
         let mut records = unit();
         change(&mut records);
-        let table = Table { records, ..Table::default() };
-        Judge::new(&table).judge(&unit(), &[1, 2]).is_ok()
+        let tables = [Table { records, ..Table::default() }];
+        Judges::new(&tables, Extent::All).judge(&unit(), &[1, 2]).is_ok()
+    }
+
+    fn is_true(change: impl FnOnce(&mut Vec<Record<'static>>)) -> bool {
+        let mut records = unit();
+        change(&mut records);
+        let tables = [Table { records, ..Table::default() }];
+        let judges = Judges::new(&tables, Extent::Some);
+        judges.judge(&unit(), &[1, 2]).is_ok() && judges.finish().is_ok()
     }
 
     fn members(record: &mut Record<'static>, change: impl FnOnce(&mut [Member<'static>])) {
@@ -229,5 +321,17 @@ mod tests {
             members(&mut records[1], |listed| listed[0].name = Cow::Borrowed(b"worth"));
         }));
         assert!(!is_told(|records| records[1] = Record::unknown()));
+    }
+
+    #[test]
+    fn of_some_types_each_is_of_a_unit() {
+        assert!(is_true(|_| {}));
+        assert!(is_true(|records| records[1] = Record::unknown()));
+        assert!(!is_true(|records| records[1].size = 24));
+        assert!(!is_true(|records| {
+            let mut other = records[1].clone();
+            other.size = 24;
+            records.push(other);
+        }));
     }
 }

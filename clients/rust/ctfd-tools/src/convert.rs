@@ -1,25 +1,29 @@
 //! `ctfd-convert`: writes a program's types as a dictionary of CTF version 2.
 
 use crate::messages::{warn, LOSSY, REFUSED};
+use crate::interrupts;
 use crate::output::{self, STANDARD_OUTPUT};
+use crate::progress::Bar;
 use crate::standard;
 use clap::builder::PossibleValuesParser;
 use clap::{value_parser, Arg, ArgAction, ArgMatches, Command};
 use ctfd::Model;
-use ctfd_read::dictionary::{self, Dictionary, Parent};
+use ctfd_read::dictionary::{self, Dictionary, Parent, WithParent};
 use ctfd_read::error::{refuse, Error, Result};
 use ctfd_read::image::Image;
-use ctfd_read::inputs::{plain_bytes, with_types, Form, Options, ProgramTypes};
+use ctfd_read::inputs::{plain_bytes, with_types, Form, Options, ProgramTypes, Verifier};
 use ctfd_read::parts;
+use ctfd_read::progress::Listener;
 use ctfd_read::symbols::SymbolTable;
+use ctfd_read::verify::Extent;
 use std::ffi::OsString;
 use std::path::{Path, PathBuf};
 use std::process::ExitCode;
+use std::sync::Arc;
 
 const NAME: &str = "ctfd-convert";
 /// How many lines tell losses of a user, and how to see all.
 const MOST_LINES: usize = 12;
-const VERIFIED_ALONE: &str = "--verify: its types are more than one dictionary holds: leave it out";
 const ALL_LINES: &str = "--report - lists them all";
 const ABOUT: &str = "\
 Writes a program's types as a dictionary of CTF version 2.
@@ -37,6 +41,7 @@ pub fn main(words: Vec<OsString>) -> ExitCode {
         warn(NAME, standard::CLOSED);
         return ExitCode::from(REFUSED);
     }
+    interrupts::watch();
     match convert(&words) {
         Ok(losses) => {
             let lines = dictionary::notice(&losses, MOST_LINES, ALL_LINES);
@@ -72,8 +77,8 @@ impl Words {
         let path = |name: &str| matches.get_one::<PathBuf>(name).cloned();
         let word = |name: &str| matches.get_one::<String>(name).map(String::as_str);
         let only = matches.get_many::<String>("only").unwrap_or_default();
+        let input = path("IN").unwrap_or_default();
         Words {
-            input: path("IN").unwrap_or_default(),
             output: path("OUT").unwrap_or_default(),
             reading: Options {
                 model: word("model").map(|word| match word {
@@ -90,7 +95,9 @@ impl Words {
                     _ => SymbolTable::Symtab,
                 },
                 is_in_full: false,
+                listener: Listener::new(Arc::new(Bar::new(format!("reading {}", input.display())))),
             },
+            input,
             only: only
                 .flat_map(|listed| listed.split(','))
                 .map(|name| name.trim().to_owned())
@@ -107,6 +114,18 @@ impl Words {
         }
     }
 
+    /// How much of a program is written.
+    fn extent(&self, made: &Made<'_>) -> Extent {
+        let is_cut = match made {
+            Made::One(made) => made.table.is_cut,
+            Made::InParts(made) => made.whole.table.is_cut,
+        };
+        match self.only.is_empty() && !is_cut {
+            true => Extent::All,
+            false => Extent::Some,
+        }
+    }
+
     /// The files that are written.
     fn outputs(&self) -> Vec<&Path> {
         let others = [&self.split, &self.report].into_iter().flatten();
@@ -118,14 +137,6 @@ impl Words {
         if self.parent.is_some() && self.split.is_some() {
             return refuse(
                 "--parent and --split: give one of them, for a parent that is there or one to write",
-            );
-        }
-        let is_of_some =
-            !self.only.is_empty() || self.is_one || self.parent.is_some() || self.split.is_some();
-        if self.is_verified && is_of_some {
-            return refuse(
-                "--verify compares all types of a program in one dictionary: leave --only, --one, \
-                 --parent and --split out",
             );
         }
         if self.is_section && self.split.is_some() {
@@ -249,7 +260,7 @@ fn of_writing() -> [Arg; 9] {
         path("service")
             .long("service")
             .value_name("CTFD")
-            .help("for the command in Python: this one checks OUT by the library in it"),
+            .help("taken as other commands take it: OUT is checked by the library in this one"),
     ]
 }
 
@@ -273,16 +284,18 @@ fn convert(words: &Words) -> Result<Vec<String>> {
         }
         let (form, count, verifier) = (found.form, found.table.len(), found.verifier);
         with_dictionary(words, &image, found, |made| {
+            let extent = words.extent(&made);
             let (made, bytes, counts) = match made {
                 Made::One(mut made) => {
                     let bytes = made.checked_bytes(&image, &words.output)?;
-                    if let Some(verifier) = verifier.filter(|_| words.is_verified) {
-                        dictionary::verify(&bytes, verifier)?;
-                    }
+                    let written = [(bytes.as_slice(), made.parent.as_deref())];
+                    verify(words, &written, extent, verifier)?;
                     (made, bytes, Vec::new())
                 }
-                Made::InParts(_) if words.is_verified => return refuse(VERIFIED_ALONE),
-                Made::InParts(made) => (made.whole, made.bytes, made.counts),
+                Made::InParts(made) => {
+                    verify(words, &made.dictionaries()?, extent, verifier)?;
+                    (made.whole, made.bytes, made.counts)
+                }
             };
             write(words, &made, &bytes)?;
             if let Some(path) = &words.report {
@@ -300,6 +313,19 @@ fn convert(words: &Words) -> Result<Vec<String>> {
             Ok(made.table.losses)
         })
     })
+}
+
+/// Refuses what is not as the units of the program have it, where that is asked.
+fn verify(
+    words: &Words,
+    written: &[WithParent<'_>],
+    extent: Extent,
+    verifier: Option<&Verifier<'_>>,
+) -> Result<()> {
+    match verifier.filter(|_| words.is_verified) {
+        Some(verifier) => dictionary::verify(written, extent, verifier).map(drop),
+        None => Ok(()),
+    }
 }
 
 fn write_report(path: &Path, lines: &[String]) -> Result<()> {

@@ -6,8 +6,10 @@
 
 mod convert;
 mod diff;
+mod interrupts;
 mod messages;
 mod output;
+mod progress;
 mod standard;
 mod types;
 

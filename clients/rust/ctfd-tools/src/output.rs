@@ -1,8 +1,10 @@
 //! Files that a command writes: whole, or not at all.
 
+use crate::interrupts;
 use ctfd_read::error::{reason, refuse, Error, Result};
-use std::fs::{self, OpenOptions};
+use std::fs::{self, DirBuilder, OpenOptions};
 use std::io::{ErrorKind, Write as _};
+use std::os::unix::fs::DirBuilderExt as _;
 use std::path::{Path, PathBuf};
 use std::process::Command;
 
@@ -66,15 +68,16 @@ struct Beside {
 }
 
 impl Beside {
-    fn new(path: &Path) -> Result<Beside> {
-        let folder = path.parent().unwrap_or(Path::new(""));
+    fn new(other: &Path) -> Result<Beside> {
+        let folder = other.parent().unwrap_or(Path::new(""));
         let process = std::process::id();
         for turn in 0..u32::MAX {
             let path = folder.join(format!(".ctfd-{process}-{turn}"));
-            match OpenOptions::new().write(true).create_new(true).open(&path) {
+            let open = |path: &Path| OpenOptions::new().write(true).create_new(true).open(path);
+            match interrupts::make(&path, open) {
                 Ok(_) => return Ok(Beside { path }),
                 Err(error) if error.kind() == ErrorKind::AlreadyExists => {}
-                Err(error) => return Err(error_of(&folder.join(path), &error)),
+                Err(error) => return Err(error_of(other, &error)),
             }
         }
         refuse("no name is left for a file")
@@ -83,22 +86,47 @@ impl Beside {
 
 impl Drop for Beside {
     fn drop(&mut self) {
-        let _ = fs::remove_file(&self.path); // it has taken the other's place, as a rule
+        interrupts::unmake(&self.path); // it has taken the other's place, as a rule
+    }
+}
+
+/// A folder of this process alone, which goes with what is in it.
+struct Folder {
+    path: PathBuf,
+}
+
+impl Folder {
+    fn new() -> Result<Folder> {
+        let process = std::process::id();
+        for turn in 0..u32::MAX {
+            let path = std::env::temp_dir().join(format!(".ctfd-{process}-{turn}"));
+            match interrupts::make(&path, |path| DirBuilder::new().mode(0o700).create(path)) {
+                Ok(()) => return Ok(Folder { path }),
+                Err(error) if error.kind() == ErrorKind::AlreadyExists => {}
+                Err(error) => return Err(error_of(&path, &error)),
+            }
+        }
+        refuse("no name is left for a folder")
+    }
+}
+
+impl Drop for Folder {
+    fn drop(&mut self) {
+        interrupts::unmake(&self.path);
     }
 }
 
 /// Writes a copy of an ELF file with the dictionary in it, in place of one that it has.
 pub fn add_section(input: &Path, bytes: &[u8], output: &Path) -> Result<()> {
-    let folder = std::env::temp_dir();
-    let section = Beside::new(&folder.join("section"))?;
-    let copy = Beside::new(&folder.join("copy"))?;
-    fs::write(&section.path, bytes).map_err(|error| error_of(&section.path, &error))?;
+    let folder = Folder::new()?;
+    let (section, copy) = (folder.path.join("section"), folder.path.join("copy"));
+    fs::write(&section, bytes).map_err(|error| error_of(&section, &error))?;
     let mut said = Vec::new();
     for copier in COPIERS {
-        match copied(copier, input, &section.path, &copy.path) {
+        match copied(copier, input, &section, &copy) {
             None => {}
             Some(Ok(())) => {
-                let whole = fs::read(&copy.path).map_err(|error| error_of(&copy.path, &error))?;
+                let whole = fs::read(&copy).map_err(|error| error_of(&copy, &error))?;
                 write(output, &whole)?;
                 if !is_standard(output) && output.is_file() {
                     let mode = fs::metadata(input)

@@ -1,7 +1,7 @@
 //! Classes of C++ and types of Rust, as far as a struct of C tells them: their sizes, data members
 //! and bases, and where these are. What C has no form for is told as a loss.
 
-use crate::dwarf::types::{location, natural, size, Reader};
+use crate::dwarf::types::{is_of_class, location, natural, size, Reader};
 use crate::dwarf::units::Entry;
 use crate::error::Result;
 use crate::table::{Kind, Member, Parts, Record};
@@ -69,6 +69,7 @@ impl<'d, 'a> Reader<'d, 'a> {
                 dw::DW_TAG_inheritance => made.push(self.base_class(&one)?),
                 dw::DW_TAG_subprogram => lost.push(METHODS),
                 dw::DW_TAG_variant_part => lost.push(VARIANTS),
+                tag if !is_of_class(tag) => self.lost_part(entry, &one)?,
                 _ => {}
             }
         }

@@ -197,6 +197,11 @@ const SPLIT: [SectionId; 13] = [
     SectionId::DebugTypes,
 ];
 
+/// Whether the index of a package lists something: GNU's dwp writes one of no slots too.
+fn has_slots(index: &[u8]) -> bool {
+    index.get(12..16).is_some_and(|slots| slots != [0; 4])
+}
+
 impl Split {
     /// The sections of a file that another names; None where it is not there, or is no ELF file.
     fn load(path: &Path) -> Result<Option<Split>> {
@@ -208,6 +213,7 @@ impl Split {
                 data.insert(name, elf::section(&file, name)?.into_owned());
             }
         }
+        data.retain(|name, bytes| !name.ends_with("_index") || has_slots(bytes));
         let is_package = data.get(".debug_cu_index").is_some_and(|index| !index.is_empty());
         Ok(Some(Split { path: path.to_owned(), data, is_package, endian: elf::endian(&file) }))
     }

@@ -6,9 +6,10 @@ use crate::dwarf::tags::SingleTags;
 use crate::dwarf::units::{scopes, Debug, Entry, Scope, Unit};
 use crate::error::{refuse, Result};
 use crate::join::{Joiner, NumberHasher, Piece};
+use crate::progress::{Listener, Work};
 use crate::symbols::{Symbol, Symbols};
 use crate::table::{Encoding, Enumerator, Kind, Member, Parts, Record, Table};
-use crate::verify::Judge;
+use crate::verify::Judges;
 use gimli::{constants as dw, DwLang, DwTag, Reader as _, RunTimeEndian, UnitOffset};
 use rayon::prelude::*;
 use std::borrow::Cow;
@@ -72,6 +73,7 @@ pub fn collect<'a>(
     files: &[(Debug<'a>, String)],
     wanted: &[Symbol<'a>],
     is_ilp32: bool,
+    listener: &Listener,
 ) -> Result<Collector<'a>> {
     let mut tags = SingleTags::default();
     if files.iter().map(|(debug, _)| debug.entry_bytes()).sum::<usize>() >= WORTH_TAGS {
@@ -79,8 +81,10 @@ pub fn collect<'a>(
     }
     for left in (0..MOST_ROUNDS).rev() {
         let mut collector = Collector::default();
+        let work = listener.begin(files.iter().map(|(debug, _)| debug.units() as u64).sum());
         for (debug, name) in files {
-            collector.read(debug, wanted, is_ilp32, &tags).map_err(|error| error.of(name))?;
+            let read = collector.read(debug, wanted, is_ilp32, &tags, &work);
+            read.map_err(|error| error.of(name))?;
         }
         let conflicts = std::mem::take(collector.joiner.conflicts());
         match left {
@@ -94,21 +98,25 @@ pub fn collect<'a>(
 
 /// Refuses a dictionary that does not tell what the units of some files do; how many types of theirs
 /// were compared.
-pub fn verify(files: &[(Debug<'_>, String)], is_ilp32: bool, written: &Table<'_>) -> Result<usize> {
-    let judge = Judge::new(written);
+pub fn verify(
+    files: &[(Debug<'_>, String)],
+    is_ilp32: bool,
+    written: &Judges<'_>,
+) -> Result<usize> {
     let filter = SymbolFilter::new(&[]);
     let mut count = 0;
     for (debug, name) in files {
         let imports = imports(debug)?;
         let judged = |number: usize| -> Result<usize> {
             match read_unit(debug, number, &filter, &imports, is_ilp32)? {
-                Outcome::OfC(unit) => judge.judge(&unit.records, &unit.roots),
+                Outcome::OfC(unit) => written.judge(&unit.records, &unit.roots),
                 _ => Ok(0),
             }
         };
         let of_file: Result<usize> = (0..debug.units()).into_par_iter().map(judged).sum();
         count += of_file.map_err(|error| error.of(name))?;
     }
+    written.finish()?;
     Ok(count)
 }
 
@@ -120,10 +128,14 @@ impl<'a> Collector<'a> {
         wanted: &[Symbol<'a>],
         is_ilp32: bool,
         tags: &SingleTags,
+        work: &Work<'_>,
     ) -> Result<()> {
         let filter = SymbolFilter::new(wanted);
         let imports = imports(debug)?;
-        let read = |number: usize| read_unit(debug, number, &filter, &imports, is_ilp32);
+        let read = |number: usize| {
+            work.add(1);
+            read_unit(debug, number, &filter, &imports, is_ilp32)
+        };
         let numbers: Vec<usize> = (0..debug.units()).collect();
         let groups: Vec<&[usize]> = numbers.chunks(GROUP).collect();
         let mut ready: Vec<Result<Group>> = Vec::new();
@@ -465,6 +477,8 @@ impl<'d, 'a> Reader<'d, 'a> {
         for one in entry.children()? {
             if one.tag == dw::DW_TAG_member && !one.has(dw::DW_AT_external) {
                 made.push(self.member(entry, &one)?);
+            } else if !is_of_class(one.tag) {
+                self.lost_part(entry, &one)?;
             }
         }
         Ok(made.into())
@@ -595,6 +609,7 @@ impl<'d, 'a> Reader<'d, 'a> {
 
     /// What a function takes, which stands in its parts, and returns.
     fn function(&mut self, parts: &[Entry<'d, 'a>], of: &Entry<'d, 'a>) -> Result<Record<'a>> {
+        self.debug.count_entries(parts.len())?;
         let mut made = Record::new(Kind::Function, Cow::Borrowed(b""));
         made.of = self.of(of)?;
         let mut arguments = Vec::new();
@@ -633,6 +648,24 @@ impl<'d, 'a> Reader<'d, 'a> {
              type stands in its place",
             entry.tag.0
         ));
+    }
+
+    /// What a class has in it that is nothing known.
+    pub(super) fn lost_part(
+        &mut self,
+        whole: &Entry<'d, 'a>,
+        part: &Entry<'d, 'a>,
+    ) -> Result<()> {
+        let name = self.debug.name(whole)?;
+        self.lost(&format!(
+            "an entry of tag 0x{:x} in {}, which is nothing of C or C++: it is left out",
+            part.tag.0,
+            match &*name {
+                b"" => "a struct or union without a name".into(),
+                name => String::from_utf8_lossy(name),
+            }
+        ));
+        Ok(())
     }
 
     pub(super) fn lost(&mut self, line: &str) {
@@ -766,6 +799,32 @@ impl<'d, 'a> Reader<'d, 'a> {
 /// which may lack the length of an array.
 fn type_source<'e, 'd, 'a>(chain: &'e [Entry<'d, 'a>]) -> Option<&'e Entry<'d, 'a>> {
     chain.iter().find(|one| one.has(dw::DW_AT_type))
+}
+
+/// Whether an entry is one that classes have, as a member or beside the members.
+pub(super) fn is_of_class(tag: DwTag) -> bool {
+    let is_type = kind(tag) != Kind::Unknown;
+    is_type
+        || matches!(
+            tag,
+            dw::DW_TAG_member
+                | dw::DW_TAG_variable
+                | dw::DW_TAG_constant
+                | dw::DW_TAG_inheritance
+                | dw::DW_TAG_subprogram
+                | dw::DW_TAG_variant_part
+                | dw::DW_TAG_friend
+                | dw::DW_TAG_access_declaration
+                | dw::DW_TAG_imported_declaration
+                | dw::DW_TAG_imported_module
+                | dw::DW_TAG_template_type_parameter
+                | dw::DW_TAG_template_value_parameter
+                | dw::DW_TAG_GNU_template_template_param
+                | dw::DW_TAG_GNU_template_parameter_pack
+                | dw::DW_TAG_subrange_type
+                | dw::DW_TAG_ptr_to_member_type
+                | dw::DW_TAG_unspecified_type
+        )
 }
 
 fn is_argument(tag: DwTag) -> bool {

@@ -12,6 +12,7 @@ use gimli::{Abbreviation, AttributeValue, EndianSlice, RunTimeEndian, UnitHeader
 use smallvec::SmallVec;
 use std::borrow::Cow;
 use std::collections::{HashMap, HashSet};
+use std::sync::atomic::{AtomicI64, Ordering};
 use std::sync::OnceLock;
 
 pub type Slice<'a> = EndianSlice<'a, RunTimeEndian>;
@@ -23,6 +24,14 @@ const FILE: u32 = 40;
 const TYPES: u64 = 1 << (FILE - 1);
 /// The number of dwz's common file.
 const COMMON: u64 = 1;
+
+/// How many bytes may be looked at again: so many, and so many times each that is there.
+const LEAST_WORK: usize = 16 << 20;
+const TIMES_WORK: usize = 64;
+/// Names that are no longer take no more than the entries that have them.
+const SHORT_NAME: usize = 64;
+/// How many bytes it counts for to look at an entry.
+const STEP: usize = 16;
 
 /// A unit that is not opened yet.
 struct Slot<'a> {
@@ -66,6 +75,8 @@ pub struct Debug<'a> {
     slots: Vec<Slot<'a>>,
     order: Vec<usize>,
     signatures: HashMap<u64, u64>,
+    /// How many bytes may still be looked at again.
+    left: AtomicI64,
 }
 
 impl<'a> Debug<'a> {
@@ -83,8 +94,11 @@ impl<'a> Debug<'a> {
             slots: Vec::new(),
             order: Vec::new(),
             signatures: HashMap::new(),
+            left: AtomicI64::new(0),
         };
         debug.take_units(sections)?;
+        let work = LEAST_WORK.saturating_add(debug.all_bytes().saturating_mul(TIMES_WORK));
+        debug.left = AtomicI64::new(i64::try_from(work).unwrap_or(i64::MAX));
         for slot in &debug.slots {
             if let UnitType::Type { type_signature, type_offset }
             | UnitType::SplitType { type_signature, type_offset } = slot.header.type_()
@@ -194,6 +208,34 @@ impl<'a> Debug<'a> {
         self.files.iter().map(|file| file.debug_info.reader().len()).sum()
     }
 
+    /// How many bytes the sections have that types are read from.
+    fn all_bytes(&self) -> usize {
+        let bytes = |file: &gimli::Dwarf<Slice<'a>>| {
+            file.debug_info.reader().len()
+                + file.debug_types.reader().len()
+                + file.debug_str.reader().len()
+                + file.debug_line_str.reader().len()
+        };
+        self.files.iter().map(bytes).sum()
+    }
+
+    /// Counts entries that may have been looked at before. Refuses more than any program needs.
+    pub fn count_entries(&self, entries: usize) -> Result<()> {
+        self.count_bytes(entries.saturating_mul(STEP))
+    }
+
+    fn count_bytes(&self, bytes: usize) -> Result<()> {
+        let bytes = i64::try_from(bytes).unwrap_or(i64::MAX);
+        if self.left.fetch_sub(bytes, Ordering::Relaxed) < bytes {
+            return refuse(format!(
+                "it takes more work than to look at {} MB and {TIMES_WORK} times at each byte that \
+                 was read: a file is damaged, or made to take long",
+                LEAST_WORK >> 20
+            ));
+        }
+        Ok(())
+    }
+
     /// How many units all files have.
     pub fn slot_count(&self) -> usize {
         self.slots.len()
@@ -273,6 +315,9 @@ impl<'a> Debug<'a> {
             AttributeValue::DebugStrRefSup(at) => self.dwarf(COMMON).string(at)?,
             value => self.dwarf(entry.unit.file()).attr_string(&entry.unit.inner, value)?,
         };
+        if found.len() > SHORT_NAME {
+            self.count_bytes(found.len())?;
+        }
         Ok(Cow::Borrowed(found.slice()))
     }
 

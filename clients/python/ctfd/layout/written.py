@@ -6,7 +6,7 @@ import struct
 from typing import Dict, List, Optional
 
 from ..text import raw
-from ..layout.records import Record, Table
+from .records import Record, Table
 
 KINDS = ("unknown", "integer", "float", "pointer", "array", "function", "struct", "union", "enum",
          "forward", "typedef", "volatile", "const", "restrict")

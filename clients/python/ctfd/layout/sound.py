@@ -4,7 +4,7 @@ from __future__ import annotations
 from typing import Callable, List
 
 from ..client.faults import Unreadable
-from ..layout.records import AGGREGATES, Part, QUALIFIERS, Record, Table
+from .records import AGGREGATES, Part, QUALIFIERS, Record, Table
 from .written import LONG_MEMBERS
 
 DEEPEST = 512  # steps that a chain of types may have

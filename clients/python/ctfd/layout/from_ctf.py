@@ -12,7 +12,7 @@ from ..client.model import Model
 from ..client.types import Encoding, Enumerator
 from ..files.source import HEADER
 from ..files.strings import Strings
-from ..layout.records import Part, Record, Table
+from .records import Part, Record, Table
 from .written import CHILD, KINDS, LONG_MEMBERS, LONG_SIZE
 
 

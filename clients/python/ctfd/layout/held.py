@@ -8,7 +8,7 @@ from typing import Dict, List, Optional, Tuple
 
 from ..client.model import POINTER_SIZES
 from ..client.types import Encoding, Enumerator
-from ..layout.records import AGGREGATES, Part, Record, Table
+from .records import AGGREGATES, Part, Record, Table
 
 MOST_PARTS = 1023
 MOST_COUNT = 0xFFFFFFFF

@@ -1,20 +1,24 @@
 #!/usr/bin/env python3
-"""Compares the compiled ctfd-convert with the one in Python: the same bytes, words and statuses.
+"""Compares what the compiled ctfd-convert writes with sums of what it wrote before.
 
-usage: tests/reader/compare.py PROGRAM [--all]
+usage: tests/reader/sums.py [--all | --write]
 
-PROGRAM is the service. Both convert the same files with the same words: programs, libraries and
-object files of gcc and clang in all forms that these give to types, archives, sections by
-themselves, the BTF of this machine's kernel where it shows one, debug files of Debian where they are
-installed, damaged files, and files of which nothing can be made. Compared are the dictionary, the
-report, the parent of --split, what stands on standard error, and the status. Types of programs that
-were optimised as they were linked may have other numbers: of these the types are compared.
+The sums in sums.txt were made as two readers that know nothing of each other wrote the same bytes
+and the same words. Converted are programs, libraries and object files of gcc and clang in all forms
+that these give to types, archives, sections by themselves, the BTF of this machine's kernel where it
+shows one, debug files of Debian where they are installed, damaged files, and files of which nothing
+can be made. A sum is of the dictionary, the report, the parent of --split, and what stands on
+standard error; beside it stands the status. Each file that is not damaged is converted once more
+with --verify, which compares what is written with the debug information in a way of its own.
 
-Prints each that differs, and counts; the status is 1 where one differs. With --all there are ten
-times as many damaged files. Needs gcc, objcopy and the compiled commands (`make`).
+Prints each that differs, and counts; the status is 1 where one differs. Sums are of the tools that
+sums.txt names, and of files of just those bytes: what others made is only verified. With --all there
+are ten times as many damaged files. --write makes the sums anew: look at each that changes. Needs
+gcc, objcopy and the compiled commands (`make`).
 """
 from __future__ import annotations
 
+import hashlib
 import os
 import random
 import re
@@ -29,17 +33,16 @@ from typing import Iterator, NamedTuple, Optional, Sequence
 TOP = Path(__file__).resolve().parents[2]
 sys.path.insert(0, str(TOP / "scripts"))
 import rust  # noqa: E402
-from type_sets import type_set  # noqa: E402
 
-PYTHON = TOP / "clients" / "python" / "ctfd-convert"
+SUMS = Path(__file__).with_name("sums.txt")
 SOURCE = Path(__file__).with_name("types.c")
 TAGS = Path(__file__).with_name("tags.c")
 LIBC = Path("/lib/x86_64-linux-gnu/libc.so.6")
 KERNEL = Path("/sys/kernel/btf/vmlinux")
 DEBUG = Path("/usr/lib/debug/.build-id")
+TOOLS = ("gcc", "clang", "objcopy", "dwz", "pahole", "dwp", "llvm-dwp")
 SECONDS = 300
 DAMAGED = 40
-# What both say of a damaged file is their library's own: that they refuse it is compared.
 Words = Sequence[str]
 
 
@@ -50,19 +53,34 @@ class Ended(NamedTuple):
     errors: str
     files: dict[str, bytes]
 
+    @property
+    def sum(self) -> str:
+        """The status, and a sum of all else."""
+        made = hashlib.blake2b(self.errors.encode(), digest_size=8)
+        for name in sorted(self.files):
+            made.update(b"%d %s " % (len(self.files[name]), name.encode()) + self.files[name])
+        return f"{self.status} {made.hexdigest()}"
 
-def run(command: Path, words: Words, inputs: Path, service: str) -> Ended:
+
+def run(command: Path, words: Words, inputs: Path) -> Ended:
     """A command with words, in which @OUT stands for a folder of its own."""
     with tempfile.TemporaryDirectory() as folder:
         given = [word.replace("@OUT", f"{folder}/out") for word in words]
         try:
             done = subprocess.run([str(command), *given], capture_output=True, cwd=inputs,
-                                  env={**os.environ, "CTFD": service}, timeout=SECONDS)
+                                  timeout=SECONDS)
         except subprocess.TimeoutExpired:
             return Ended(-99, "it hangs", {})
         files = {path.name: path.read_bytes() for path in Path(folder).iterdir()}
-        errors = done.stderr.decode("utf-8", "backslashreplace").replace(folder, "@")
-        return Ended(done.returncode, errors, files)
+        errors = done.stderr.decode("utf-8", "backslashreplace")
+        return Ended(done.returncode, errors.replace(folder, "@").replace(str(inputs), "@IN"),
+                     files)
+
+
+def plain_words(folder: Path, compiler: str = "gcc") -> Words:
+    """What lets a compiler write the same bytes in any folder."""
+    seed = ("-frandom-seed=7",) if compiler == "gcc" else ()
+    return ("-w", f"-fdebug-prefix-map={folder}=.", f"-fdebug-prefix-map={TOP}=/ctfd", *seed)
 
 
 def compiled_cases(folder: Path) -> Iterator[Words]:
@@ -71,8 +89,11 @@ def compiled_cases(folder: Path) -> Iterator[Words]:
     (folder / "types.c").write_text(code)
     (folder / "other.c").write_text(code.replace("main", "second"))
 
+    # gcc writes GNU's CTF in the order in which its own memory lies.
+    steady = ("setarch", "-R") if shutil.which("setarch") else ()
+
     def gcc(*words: str, compiler: str = "gcc") -> bool:
-        return subprocess.run([compiler, "-w", *words], cwd=folder,
+        return subprocess.run([*steady, compiler, *plain_words(folder, compiler), *words], cwd=folder,
                               capture_output=True).returncode == 0
 
     report = ("@OUT.ctf", "--report", "@OUT.report")
@@ -102,7 +123,8 @@ def compiled_cases(folder: Path) -> Iterator[Words]:
 def split(folder: Path) -> Iterator[Words]:
     """Programs whose debug information is in .dwo files, and in packages of these."""
     for version in ("4", "5"):
-        options = ("-w", "-g", f"-gdwarf-{version}", "-gsplit-dwarf", "-fdebug-types-section")
+        options = (*plain_words(folder), "-g", f"-gdwarf-{version}", "-gsplit-dwarf",
+                   "-fdebug-types-section")
         objects = []
         for name in ("types", "other"):
             made_object = f"{name}{version}.o"
@@ -194,56 +216,95 @@ def damaged(folder: Path, count: int) -> Iterator[Words]:
         yield (path.name, "@OUT.ctf")
 
 
-def difference(words: Words, theirs: Ended, ours: Ended) -> Optional[str]:
-    """How the compiled command ended otherwise."""
-    if words[0].startswith("damaged") and ours.status == 2:
-        # What is said of damage differs by the library that found it, and so may what is refused.
-        return f"it writes {', '.join(ours.files)} all the same" if ours.files else None
-    if theirs.status != ours.status:
-        return f"status {theirs.status} and {ours.status}: {ours.errors.strip()[-300:]}"
-    if theirs.errors != ours.errors:
-        return f"it says:\n{theirs.errors.strip()[:500]}\nand:\n{ours.errors.strip()[:500]}"
-    for name in sorted({*theirs.files, *ours.files}):
-        one, other = theirs.files.get(name), ours.files.get(name)
-        if plain(one) != plain(other) and not (
-                words[0].startswith(f"{DEBUG}/") and name.endswith(".ctf") and one and other
-                and type_set(one) == type_set(other)):
-            return f"{name} has other bytes"
-    return None
+def tools() -> str:
+    """The versions of what makes the files."""
+    found = []
+    for name in TOOLS:
+        said = subprocess.run([name, "--version"], capture_output=True, text=True).stdout \
+            if shutil.which(name) else ""
+        version = re.search(r"\d+\.\d+[.\d]*", said.partition("\n")[0] or said)
+        found.append(f"{name} {version[0] if version else '-'}")
+    return ", ".join(found)
 
 
-def plain(data: Optional[bytes]) -> Optional[bytes]:
-    """A file, without how many types were read before equal ones became one."""
-    return re.sub(rb"\A(read: .*), \d+ types, ", rb"\1, ", data) if data else data
+def called(words: Words) -> str:
+    """A case by its words; by the sum of its bytes too where the file is not made here."""
+    path = Path(words[0])
+    is_here = path.is_absolute() and os.path.isfile(path) and path.stat().st_size
+    of = f"{hashlib.blake2b(path.read_bytes(), digest_size=8).hexdigest()} " if is_here else ""
+    return of + " ".join(words)
+
+
+def known() -> tuple[str, dict[str, str]]:
+    """The tools that sums are of, and the sums by their cases."""
+    made, lines = {}, SUMS.read_text().splitlines() if SUMS.exists() else [""]
+    for line in lines[1:]:
+        status, total, case = line.split(" ", 2)
+        made[case] = f"{status} {total}"
+    return lines[0], made
+
+
+class Counts:
+    """What was compared, and what is wrong with it."""
+
+    def __init__(self, command: Path, folder: Path) -> None:
+        self.command, self.folder = command, folder
+        self.tools, self.sums = known()
+        self.is_same_tools = self.tools == tools()
+        self.made: dict[str, str] = {}
+        self.compared = self.verified = self.unknown = self.wrong = 0
+
+    def judge(self, words: Words, found: Ended, again: Optional[Ended]) -> None:
+        """Compares one with its sum, and with what comes out where it is verified."""
+        case = called(words)
+        self.made[case] = found.sum
+        if again is not None:
+            self.verified += 1
+            self._refuse(words, again.sum != found.sum,
+                         f"with --verify: {again.sum.split()[0]} {again.errors[-300:]}")
+        if self.is_same_tools and case in self.sums:
+            self.compared += 1
+            self._refuse(words, self.sums[case] != found.sum,
+                         f"{found.sum} in place of {self.sums[case]}: {found.errors[-300:]}")
+        else:
+            self.unknown += 1
+
+    def _refuse(self, words: Words, is_wrong: bool, why: str) -> None:
+        if is_wrong:
+            self.wrong += 1
+            print(f"ctfd-convert {' '.join(words)}: {why}")
+
+    def pair(self, words: Words) -> tuple[Words, Ended, Optional[Ended]]:
+        """A case, and the same verified."""
+        found = run(self.command, words, self.folder)
+        is_sound = not words[0].startswith("damaged") and found.status in (0, 1)
+        again = run(self.command, (*words, "--verify"), self.folder) if is_sound else None
+        return words, found, again
 
 
 def main() -> int:
-    service = str(Path(sys.argv[1]).resolve())
     compiled = rust.folder() / "ctfd-convert"
     if not compiled.exists():
         print("not possible here: the compiled commands are not built (scripts/rust.py)"
               if not shutil.which("cargo") else f"skipped: there is no {compiled}, which `make` builds")
         return 0
-    wrong = count = 0
     with tempfile.TemporaryDirectory() as made_in:
         folder = Path(made_in)
+        counts = Counts(compiled, folder)
         cases = [*compiled_cases(folder), *installed()]
-        cases += damaged(folder, DAMAGED * (10 if "--all" in sys.argv else 1))
-
-        def pair(words: Words) -> tuple[Words, Ended, Ended]:
-            # The one in Python knows no parts: what does not fit one dictionary is left out.
-            is_too_much = words[:2] == (str(KERNEL), "@OUT.ctf") and "--split" not in words
-            own = (*words, "--one") if is_too_much else words
-            return (words, run(PYTHON, words, folder, service), run(compiled, own, folder, service))
-
+        is_all = "--all" in sys.argv or "--write" in sys.argv
+        cases += damaged(folder, DAMAGED * (10 if is_all else 1))
         with ThreadPoolExecutor(2) as lanes:
-            for words, theirs, ours in lanes.map(pair, cases):
-                count += 1
-                if differs := difference(words, theirs, ours):
-                    wrong += 1
-                    print(f"ctfd-convert {' '.join(words)}: {differs}")
-    print(f"reader: {count} conversions by both, {wrong} differ")
-    return 1 if wrong else 0
+            for words, found, again in lanes.map(counts.pair, cases):
+                counts.judge(words, found, again)
+    if "--write" in sys.argv:
+        lines = [tools(), *(f"{total} {case}" for case, total in counts.made.items())]
+        SUMS.write_text("\n".join(lines) + "\n")
+    if not counts.is_same_tools:
+        print(f"not possible here: sums are of {counts.tools}, and here is {tools()}")
+    print(f"reader: {counts.compared} conversions compared with their sums, {counts.unknown} of files"
+          f" without, {counts.verified} verified, {counts.wrong} differ")
+    return 1 if counts.wrong or not counts.verified else 0
 
 
 if __name__ == "__main__":

@@ -1,0 +1,53 @@
+//! How far long work is, with an estimate, on standard error where that is a terminal.
+
+use ctfd_read::progress::Progress;
+use indicatif::{ProgressBar, ProgressDrawTarget, ProgressStyle};
+use std::io::{stderr, IsTerminal as _};
+use std::sync::OnceLock;
+use std::time::{Duration, Instant};
+
+/// Nothing is shown of work that takes no longer.
+const PATIENCE: Duration = Duration::from_secs(1);
+const TEMPLATE: &str = "{msg} [{bar:30}] {percent:>3}%, {eta} left";
+
+/// A bar that is there while something is read.
+pub struct Bar {
+    begun: Instant,
+    what: String,
+    is_wanted: bool,
+    shown: OnceLock<ProgressBar>,
+}
+
+impl Bar {
+    /// That of some work.
+    pub fn new(what: String) -> Bar {
+        let is_wanted = stderr().is_terminal();
+        Bar { begun: Instant::now(), what, is_wanted, shown: OnceLock::new() }
+    }
+
+    fn show(&self, total: u64) -> ProgressBar {
+        let bar = ProgressBar::with_draw_target(Some(total), ProgressDrawTarget::stderr())
+            .with_message(self.what.clone())
+            .with_elapsed(self.begun.elapsed());
+        match ProgressStyle::with_template(TEMPLATE) {
+            Ok(style) => bar.with_style(style.progress_chars("=> ")),
+            Err(_) => bar,
+        }
+    }
+}
+
+impl Progress for Bar {
+    fn advance(&self, done: u64, total: u64) {
+        if self.is_wanted && self.begun.elapsed() > PATIENCE {
+            let bar = self.shown.get_or_init(|| self.show(total));
+            bar.set_length(total);
+            bar.set_position(done);
+        }
+    }
+
+    fn end(&self) {
+        if let Some(bar) = self.shown.get() {
+            bar.finish_and_clear();
+        }
+    }
+}
