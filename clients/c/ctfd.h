@@ -384,8 +384,9 @@ enum ctfd_status ctfd_types(struct ctfd *handle, size_t from, struct ctfd_type_r
 
 /* A type in a visit: `type` is that of a member of the struct or union `holder`, which lies in
  * `depth` others and begins `offset` bits behind the beginning of the outermost: UINT64_MAX past 64
- * bits. The lists of its name are those of the dictionary that has the holder. The outermost type
- * comes first, without a name, at depth 0 and as its own holder. */
+ * bits. The lists of its name are those of the dictionary that has the holder. `stands_for` is what
+ * ctfd_resolve gives of the type, and 0 where that is refused. The outermost type comes first,
+ * without a name, at depth 0 and as its own holder. */
 struct ctfd_visit_row {
     uint64_t offset; /* Where it begins, in bits from the beginning of the outermost. */
     uint64_t name_at; /* How many bytes stand in front of its name. */
@@ -393,6 +394,7 @@ struct ctfd_visit_row {
     uint32_t depth; /* How many structs and unions it lies in. */
     uint16_t type; /* The number of its type. */
     uint16_t holder; /* The number of the struct or union that it is a member of. */
+    uint16_t stands_for; /* The type that its type stands for; 0 where that is none. */
 };
 
 /* Fills rows with a type and all that lies in it, as far as they reach: the members of the struct
@@ -482,6 +484,9 @@ struct ctfd_function {
 enum ctfd_status ctfd_function(struct ctfd *handle, uint32_t number, struct ctfd_function *out);
 enum ctfd_status ctfd_function_argument(struct ctfd *handle, uint32_t number, size_t index,
     uint16_t *out);
+
+/* The same of a function type, by its number: CTFD_WRONG_KIND of other kinds. */
+enum ctfd_status ctfd_signature(struct ctfd *handle, uint16_t t, struct ctfd_function *out);
 
 /* Fills rows with the types of the arguments that a function takes, from number `from` on, as
  * ctfd_arguments; `*count` is how many it takes. Refused as ctfd_function. */

@@ -215,8 +215,10 @@ static void visit_by_calls(const struct ctfd_visit_row *rows, size_t count, size
     uint32_t kind = CTFD_UNKNOWN;
     uint16_t holder = 0;
     size_t i;
-    if (ctfd_resolve(&types, at.type, &holder) != CTFD_OK ||
-        ctfd_kind(&types, holder, &kind) != CTFD_OK || (kind != CTFD_STRUCT && kind != CTFD_UNION))
+    enum ctfd_status status = ctfd_resolve(&types, at.type, &holder);
+    if (at.stands_for != (status == CTFD_OK ? holder : 0))
+        printf("visit %u %zu: stands for another type\n", rows->type, *next - 1);
+    if (status != CTFD_OK || ctfd_kind(&types, holder, &kind) != CTFD_OK || (kind != CTFD_STRUCT && kind != CTFD_UNION))
         return;
     for (i = 0; *next < count &&
          ctfd_member(&types, holder, i, room, sizeof room, &one) == CTFD_OK; i++) {

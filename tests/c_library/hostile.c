@@ -14,6 +14,8 @@
 #include "common.h"
 #include "made.h"
 
+/* Where the header has the reference to the parent's name. */
+#define PARNAME 8
 #define ROOT 0x400
 #define INTEGER (CTF_K_INTEGER << 11 | ROOT)
 #define ARRAY (CTF_K_ARRAY << 11 | ROOT)
@@ -239,6 +241,58 @@ static int visit_doubled(unsigned rows_len)
     return wrong != 0;
 }
 
+/* A struct with one member, of a type that is `bytes` long. */
+static void put_around(struct made *made, unsigned t, unsigned bytes)
+{
+    put_head(made, 0, STRUCT | 1, bytes);
+    put32(made, 1);
+    put16(made, t);
+    put16(made, 0);
+}
+
+/* How deep a visit went, and whether each type lay in the one before. */
+static int on_depth(const char *name, ctf_id_t type, ulong_t offset, int depth, void *arg)
+{
+    int *deepest = (int *)arg;
+    CHECK(type != 0 && offset == 0 && depth == *deepest + 1);
+    CHECK(strcmp(name, depth == 0 ? "" : "int") == 0);
+    *deepest = depth;
+    return 0;
+}
+
+/* 512 structs of a child in each other, around 512 of its parent, around an integer. */
+static void visit_deep_pair(void)
+{
+    enum { DEEP = 512 };
+    static const char strings[] = "\0int";
+    struct made parent = { (uint8_t *)malloc(100 + 16 * DEEP), 0, 1 };
+    struct made child = { (uint8_t *)malloc(100 + 16 * DEEP), 0, 1 };
+    ctf_file_t *own, *lent;
+    unsigned i;
+    int deepest = -1;
+    if (parent.at == NULL || child.at == NULL)
+        exit(2);
+    begin_made(&parent);
+    put_integer(&parent, 1);
+    for (i = 0; i < DEEP; i++)
+        put_around(&parent, i + 1, 4);
+    end_made(&parent, strings, sizeof strings);
+    begin_made(&child);
+    for (i = 0; i < DEEP; i++)
+        put_around(&child, i == 0 ? DEEP + 1 : 0x8000 + i, 4);
+    end_made(&child, strings, sizeof strings);
+    child.at[PARNAME] = 1;
+    lent = opened(&parent);
+    own = opened(&child);
+    CHECK(ctf_import(own, lent) == 0);
+    CHECK(ctf_type_visit(own, 0x8000 + DEEP, on_depth, &deepest) == 0);
+    CHECK(deepest == 2 * DEEP);
+    ctf_close(own);
+    ctf_close(lent);
+    free(parent.at);
+    free(child.at);
+}
+
 int main(int argc, char **argv)
 {
     unsigned count = argc > 2 ? (unsigned)strtoul(argv[2], NULL, 10) : 0;
@@ -250,6 +304,7 @@ int main(int argc, char **argv)
     compare_doubled();
     CHECK(compare_circle(32766) == 0);
     CHECK(list_names(51150) == 0);
+    visit_deep_pair();
     CHECK(visit_doubled(1) == 0);
     CHECK(visit_doubled(513) == 0);
     CHECK(visit_doubled(100000) == 0);

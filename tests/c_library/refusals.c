@@ -68,6 +68,7 @@ static void refuse_type(struct ctfd *d, uint16_t t, enum ctfd_status status)
     REFUSED(ctfd_return(d, t, &got.to), status);
     REFUSED(ctfd_argument(d, t, 0, &got.to), status);
     REFUSED(ctfd_arguments(d, t, 0, got.arguments, 2, &got.wide), status);
+    REFUSED(ctfd_signature(d, t, &got.function), status);
     REFUSED(ctfd_resolve(d, t, &got.to), status);
     REFUSED(ctfd_size(d, t, &got.wide), status);
     REFUSED(ctfd_align(d, t, &got.wide), status);
@@ -158,6 +159,8 @@ static void refuse_kinds(struct ctfd *d)
     REFUSED(ctfd_member(d, e, 0, TEXT, &got.member), CTFD_WRONG_KIND);
     REFUSED(ctfd_argument(d, i, 0, &got.to), CTFD_WRONG_KIND);
     REFUSED(ctfd_arguments(d, i, 0, got.arguments, 2, &got.wide), CTFD_WRONG_KIND);
+    REFUSED(ctfd_signature(d, i, &got.function), CTFD_WRONG_KIND);
+    REFUSED(ctfd_signature(d, f, &got.function), CTFD_WRONG_KIND);
     REFUSED(ctfd_return(d, f, &got.to), CTFD_WRONG_KIND);
     REFUSED(ctfd_field(d, i, "x", 1, &got.wide, &got.to), CTFD_NOT_AGGREGATE);
     REFUSED(ctfd_field(d, s, "x", 1, &got.wide, &got.to), CTFD_NO_MEMBER);

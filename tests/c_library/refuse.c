@@ -191,6 +191,7 @@ static void take_none(void)
     struct ctfd_type_row rows[4];
     struct ctfd_symbol_row symbols[4];
     struct ctfd_label_row labels[4];
+    struct ctfd_function function;
     uint16_t arguments[4];
     char text[64];
     calls = 0;
@@ -211,6 +212,7 @@ static void take_none(void)
         (void)ctfd_symbols(&types, (size_t)t, symbols, 4, &wide);
         (void)ctfd_labels(&types, (size_t)t, labels, 4, &wide);
         (void)ctfd_arguments(&types, (uint16_t)t, 0, arguments, 4, &wide);
+        (void)ctfd_signature(&types, (uint16_t)t, &function);
         (void)ctfd_function_arguments(&types, (uint32_t)t, 0, arguments, 4, &wide);
         (void)ctfd_enum_name(&types, (uint16_t)t, 1, text, sizeof text, &wide);
         (void)ctfd_enum_value(&types, (uint16_t)t, "OP_MOVE", 7, &value);

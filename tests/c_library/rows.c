@@ -103,6 +103,24 @@ static void compare_arguments(uint16_t t)
     }
 }
 
+/* What a function type says, as the single calls have it, or its refusal. */
+static void compare_signature(uint16_t t)
+{
+    struct ctfd_function function = { 77, 77, 77 };
+    uint64_t all = 0;
+    uint16_t returned = 0, last = 1;
+    enum ctfd_status status = ctfd_return(&types, t, &returned);
+    if (status != CTFD_OK) {
+        CHECK(ctfd_signature(&types, t, &function) == status && function.arguments == 77 &&
+            function.varargs == 77 && function.ret == 77);
+        return;
+    }
+    CHECK(ctfd_length(&types, t, &all) == CTFD_OK);
+    CHECK(all == 0 || ctfd_argument(&types, t, (size_t)all - 1, &last) == CTFD_OK);
+    CHECK(ctfd_signature(&types, t, &function) == CTFD_OK && function.ret == returned);
+    CHECK(function.varargs == (last == 0) && function.arguments == all - (last == 0));
+}
+
 /* The same of a function of the program. */
 static void compare_function(uint32_t number)
 {
@@ -187,8 +205,10 @@ static void compare_all(const struct bytes *sym)
 {
     uint64_t number;
     compare_types();
-    for (number = 0; number <= 65535; number++)
+    for (number = 0; number <= 65535; number++) {
         compare_arguments((uint16_t)number);
+        compare_signature((uint16_t)number);
+    }
     compare_symbols(sym);
     for (number = 0; number <= sym->len / 24; number++)
         compare_function((uint32_t)number);

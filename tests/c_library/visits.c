@@ -51,6 +51,10 @@ static bool is_visited(uint16_t t, const char *wanted)
         return false;
     for (i = 0; i < count; i++) {
         const uint8_t *lists = rows[i].holder < 32769 ? base.at : child.at;
+        uint16_t to = 0;
+        if (ctfd_resolve(&types, rows[i].type, &to) != CTFD_OK)
+            to = 0;
+        CHECK(rows[i].stands_for == to);
         sprintf(seen + strlen(seen), "%u %llu %s\n", rows[i].depth,
             (unsigned long long)rows[i].offset,
             rows[i].name_list == CTFD_IN_SECTION ? (const char *)lists + rows[i].name_at : "-");

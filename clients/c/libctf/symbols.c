@@ -14,46 +14,34 @@ static bool is_symbol(ctf_file_t *fp, ulong_t symbol)
     return false;
 }
 
-/* How many arguments a function type has, and whether the last of them says that more may follow:
- * that is then not counted. */
-static enum ctfd_status count_arguments(ctf_file_t *fp, uint16_t t, uint64_t *count, bool *more)
+/* What is told of a function, as libctf has it. */
+static void tell_function(ctf_funcinfo_t *info, const struct ctfd_function *out)
 {
-    uint16_t rows[ROWS];
-    enum ctfd_status status = ctfd_arguments(&fp->types, t, 0, rows, ROWS, count);
-    *more = false;
-    if (status != CTFD_OK || *count == 0)
-        return status;
-    if (*count > ROWS)
-        status = ctfd_argument(&fp->types, t, (size_t)*count - 1, rows);
-    *more = rows[*count > ROWS ? 0 : *count - 1] == 0;
-    *count -= *more;
-    return status;
+    info->ctc_return = (ctf_id_t)out->ret;
+    info->ctc_flags = out->varargs != 0 ? CTF_FUNC_VARARG : 0;
+    info->ctc_argc = (uint_t)out->arguments;
 }
 
 int ctf_func_info_by_id(ctf_file_t *fp, ctf_id_t type, ctf_funcinfo_t *info)
 {
-    uint64_t count = 0;
-    uint16_t returned = 0;
-    bool more;
+    struct ctfd_function out;
     if (!ctfd__is_type(fp, type) ||
-        ctfd__done(fp, count_arguments(fp, (uint16_t)type, &count, &more)) != 0 ||
-        ctfd__done(fp, ctfd_return(&fp->types, (uint16_t)type, &returned)) != 0)
+        ctfd__done(fp, ctfd_signature(&fp->types, (uint16_t)type, &out)) != 0)
         return (int)CTF_ERR;
-    info->ctc_return = (ctf_id_t)returned;
-    info->ctc_flags = more ? CTF_FUNC_VARARG : 0;
-    info->ctc_argc = (uint_t)count;
+    tell_function(info, &out);
     return 0;
 }
 
 int ctf_func_args_by_id(ctf_file_t *fp, ctf_id_t type, uint_t argc, ctf_id_t *argv)
 {
     uint16_t rows[ROWS];
-    uint64_t count = 0, all;
+    struct ctfd_function out;
+    uint64_t all, count;
     uint_t i, from;
-    bool more;
     if (!ctfd__is_type(fp, type) ||
-        ctfd__done(fp, count_arguments(fp, (uint16_t)type, &count, &more)) != 0)
+        ctfd__done(fp, ctfd_signature(&fp->types, (uint16_t)type, &out)) != 0)
         return (int)CTF_ERR;
+    count = out.arguments;
     for (from = 0; from < argc && from < count; from += ROWS) {
         if (ctfd__done(fp, ctfd_arguments(&fp->types, (uint16_t)type, from, rows, ROWS, &all)) != 0)
             return (int)CTF_ERR;
@@ -69,9 +57,7 @@ int ctf_func_info(ctf_file_t *fp, ulong_t symbol, ctf_funcinfo_t *info)
     if (!is_symbol(fp, symbol) ||
         ctfd__done(fp, ctfd_function(&fp->types, (uint32_t)symbol, &out)) != 0)
         return (int)CTF_ERR;
-    info->ctc_return = (ctf_id_t)out.ret;
-    info->ctc_argc = (uint_t)out.arguments;
-    info->ctc_flags = out.varargs != 0 ? CTF_FUNC_VARARG : 0;
+    tell_function(info, &out);
     return 0;
 }
 

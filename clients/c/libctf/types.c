@@ -51,12 +51,11 @@ ctf_id_t ctf_type_resolve(ctf_file_t *fp, ctf_id_t type)
 
 ctf_id_t ctf_type_reference(ctf_file_t *fp, ctf_id_t type)
 {
-    uint16_t to = 0;
-    if (!ctfd__is_type(fp, type))
-        return CTF_ERR;
-    if (ctfd__done(fp, ctfd_reference(&fp->types, (uint16_t)type, &to)) != 0)
-        return CTF_ERR;
-    return (ctf_id_t)to;
+    uint16_t to;
+    enum ctfd_status status = CTFD_NO_TYPE;
+    if ((ulong_t)type <= CTF_MAX_TYPE)
+        status = ctfd_reference(&fp->types, (uint16_t)type, &to);
+    return status == CTFD_OK ? (ctf_id_t)to : ctfd__fail(fp, (int)status);
 }
 
 ctf_id_t ctf_type_pointer(ctf_file_t *fp, ctf_id_t type)

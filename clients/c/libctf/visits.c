@@ -2,14 +2,15 @@
 #include "private.h"
 
 #include <stdlib.h>
-#include <string.h>
 
 /* How many rows are asked for first, and at most: no program has a type with so much in it. */
 #define FIRST 128
-#define SEEN 32
 #ifndef MOST
 #define MOST 4194304
 #endif
+
+/* How many types can lie in each other at most: those of a child, and those of its parent. */
+#define DEEPEST 1027
 
 /* A visit: rows that are asked for anew, twice as many, where they don't reach, and where a callback
  * has changed what is open. */
@@ -20,8 +21,8 @@ struct visit {
     size_t rows_len;
     uint64_t count; /* those that are filled, and one more where there are more */
     uint64_t generation; /* of what was open when they were */
-    uint16_t passed[CTFD_DEEPEST + 2]; /* how many members were passed at each depth */
-    uint16_t there[SEEN]; /* types that stand for one that is there, by their last bits */
+    size_t counted; /* how many rows are counted in passed */
+    uint16_t passed[DEEPEST + 2]; /* how many of them are members, at each depth */
     struct ctfd_visit_row first[FIRST];
 };
 
@@ -29,7 +30,7 @@ struct visit {
 static enum ctfd_status fill(struct visit *visit)
 {
     visit->generation = visit->fp->generation;
-    memset(visit->there, 0, sizeof visit->there);
+    visit->counted = 0;
     return ctfd_visit(&visit->fp->types, visit->t, visit->rows, visit->rows_len, &visit->count);
 }
 
@@ -53,10 +54,25 @@ static enum ctfd_status widen(struct visit *visit)
 /* A row by its number; NULL behind the last, and where there is an error. */
 static const struct ctfd_visit_row *row_at(struct visit *visit, size_t i, enum ctfd_status *status)
 {
-    *status = visit->generation == visit->fp->generation ? CTFD_OK : fill(visit);
+    if (visit->generation != visit->fp->generation)
+        *status = fill(visit);
     while (*status == CTFD_OK && i == visit->rows_len && visit->count > visit->rows_len)
         *status = widen(visit);
     return *status == CTFD_OK && i < visit->count ? &visit->rows[i] : NULL;
+}
+
+/* The number of a row's member in its holder: how many rows of its depth came since the last row
+ * above them. */
+static size_t index_of(struct visit *visit, const struct ctfd_visit_row *row)
+{
+    size_t i = visit->counted, end = (size_t)(row - visit->rows);
+    for (; i <= end; i++) {
+        uint32_t depth = visit->rows[i].depth;
+        visit->passed[depth] = (uint16_t)(i == 0 ? 1 : visit->passed[depth] + 1);
+        visit->passed[depth + 1] = 0;
+    }
+    visit->counted = i;
+    return (size_t)visit->passed[row->depth] - 1;
 }
 
 /* The name of a member, by its number in its holder; NULL, and the error, where it can't be kept. */
@@ -73,32 +89,23 @@ static const char *keep_name(ctf_file_t *fp, uint16_t holder, size_t index)
     return NULL;
 }
 
-/* The name of the member that a row is of, which is the next of its holder. */
+/* The name of the member that a row is of. */
 static const char *name_of(struct visit *visit, const struct ctfd_visit_row *row)
 {
     const ctf_file_t *fp = visit->fp;
-    size_t index = visit->passed[row->depth]++;
-    visit->passed[row->depth + 1] = 0;
     if (row->name_list == CTFD_NOWHERE)
         return "";
     if (!ctfd__is_lent(fp, row->holder))
-        return keep_name(visit->fp, row->holder, index);
+        return keep_name(visit->fp, row->holder, index_of(visit, row));
     return (const char *)fp->lists.data[row->name_list == CTFD_IN_SECTION ? 0 : 2] + row->name_at;
 }
 
-/* Whether a type stands for one that is there; else the error. */
-static bool is_there(struct visit *visit, uint16_t t)
+/* Says why a type stands for none that is there. */
+static void tell_missing(ctf_file_t *fp, uint16_t t)
 {
-    ctf_file_t *fp = visit->fp;
     uint16_t resolved = 0;
-    if (visit->there[t % SEEN] == t && t != 0)
-        return true;
-    if (!ctfd__is_type(fp, (ctf_id_t)t) ||
-        ctfd__done(fp, ctfd_resolve(&fp->types, t, &resolved)) != 0 ||
-        !ctfd__is_type(fp, (ctf_id_t)resolved))
-        return false;
-    visit->there[t % SEEN] = t;
-    return true;
+    if (ctfd__done(fp, ctfd_resolve(&fp->types, t, &resolved)) == 0)
+        (void)ctfd__fail(fp, CTFD_NO_TYPE);
 }
 
 int ctf_type_visit(ctf_file_t *fp, ctf_id_t type, ctf_visit_f *each, void *arg)
@@ -114,14 +121,16 @@ int ctf_type_visit(ctf_file_t *fp, ctf_id_t type, ctf_visit_f *each, void *arg)
     visit.t = (uint16_t)type;
     visit.rows = visit.first;
     visit.rows_len = FIRST;
-    visit.passed[0] = 0;
     status = fill(&visit);
-    for (i = 0; status == CTFD_OK && said == 0 && (row = row_at(&visit, i, &status)) != NULL; i++) {
+    for (i = 0; said == 0 && (row = row_at(&visit, i, &status)) != NULL; i++) {
         const char *name = name_of(&visit, row);
-        if (name == NULL || !is_there(&visit, row->type))
-            said = (int)CTF_ERR;
-        else
+        if (name != NULL && row->stands_for != 0) {
             said = each(name, (ctf_id_t)row->type, (ulong_t)row->offset, (int)row->depth, arg);
+            continue;
+        }
+        if (name != NULL)
+            tell_missing(fp, row->type);
+        said = (int)CTF_ERR;
     }
     if (visit.rows != visit.first)
         free(visit.rows);

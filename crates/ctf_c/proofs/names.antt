@@ -6,5 +6,7 @@ pub mod Filled
 pub mod Into
 pub mod Parts
 pub mod Lying
+pub mod Listing
+pub mod Placing
 pub mod LabelRows
 pub mod SymbolRows

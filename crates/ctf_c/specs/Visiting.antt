@@ -1,14 +1,14 @@
 -- Rows that a visit fills. The words are ours.
-use Rattle.std.specs.Prelude.{◌≡◌, ◌<◌, ◌≤◌, ℕ, ◌+◌, min, List, length, slice_get, Option, Some, Result, Ok, Err, option_and_then}
+use Rattle.std.specs.Prelude.{◌≡◌, ◌<◌, ◌≤◌, ℕ, ◌+◌, min, List, length, slice_get, Option, Some, None, Result, Ok, Err, option_and_then}
 use Rattle.ctf_c.specs.Given.{status_of}
 use Rattle.ctf_c.specs.Rowed.{lists_with}
 use Rattle.ctf_c.specs.names.Filling.{Fills}
 use Rattle.ctf_c.specs.names.Places.{text_in}
-use Rattle.ctf_c.specs.names.Visits.{Visited}
+use Rattle.ctf_c.specs.names.Visits.{Visited, stands_for}
 use Rattle.ctf_c.specs.declared.visits.GivenVisitRow.{GivenVisitRow}
 use Rattle.ctf_model.specs.declared.faults.Fault.{Fault}
 use Rattle.ctf_model.specs.format.Lists.{Lists}
-use Rattle.ctf_model.specs.opened.Open.{Open}
+use Rattle.ctf_model.specs.opened.Open.{Open, space_in}
 
 -- a row tells of a member, whose name stands in such lists
 abbrev pub TellsVisited : Option Lists → Visited → GivenVisitRow → Type 0
@@ -17,9 +17,16 @@ TellsVisited lists v row =
     × (row.offset ≡ v.offset) × (row.tnum ≡ v.tnum) × (row.holder ≡ v.holder)
     × (row.depth ≡ v.depth)
 
--- its name stands in the lists of the dictionary that has its struct or union
+-- the type that a type stands for in what is open, 0 where that is none
+abbrev pub stands_in : Option Open → ℕ → ℕ
+stands_in None t = 0
+stands_in (Some s) t = stands_for (space_in s) t
+
+-- its name stands in the lists of the dictionary that has its struct or union, and the row says
+-- what its type stands for
 abbrev pub TellsIn : Option Open → Visited → GivenVisitRow → Type 0
-TellsIn s v row = TellsVisited (lists_with s v.holder) v row
+TellsIn s v row =
+    (TellsVisited (lists_with s v.holder) v row) × (row.stands_for ≡ stands_in s v.tnum)
 
 -- rows from a number on tell of items as far as they reach, the others stay, and the number behind
 -- them is answered, or the one behind the first that has no row

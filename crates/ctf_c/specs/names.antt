@@ -1,5 +1,7 @@
 pub mod Names
 pub mod NamesView
+pub mod MemberPlaces
+pub mod MembersView
 pub mod Places
 pub mod Holders
 pub mod Firsts

@@ -1,14 +1,19 @@
 //! Exports that answer of a program's functions and symbols, and of labels.
 ghost use Rattle.std.specs.Prelude.{◌≡◌, Ok, length};
+ghost use Rattle.std.specs.Result.{result_map_both};
+ghost use Rattle.ctf_check.specs.FactsView.{shape_view};
 ghost use Rattle.ctf_c.specs.Given.{Gives, GivesLabel, GivesText, asked, function_answer};
-ghost use Rattle.ctf_model.specs.opened.Questions.{label_at, named_answered};
-ghost use Rattle.ctf_model.specs.opened.Open.{own_in};
+ghost use Rattle.ctf_model.specs.opened.Questions.{answer_map, label_at, named_answered, on_shape, shape_of, signature_answered};
+ghost use Rattle.ctf_model.specs.opened.Open.{own_in, space_in};
+ghost use Rattle.ctf_model.specs.spaces.Space.{space_type};
 ghost use Rattle.ctf_model.specs.symbols.SymbolQuestions.{function_of, name_of_symbol};
 
 use crate::given::{dictionary_of, flag, give, give_text, give_type, status, write_front};
 use crate::handle::Handle;
-use ctf_open::named_count;
-use ctf_views::is_variadic;
+use ctf_check::Shape;
+use ctf_model::{Fault, TypeNum, placeless};
+use ctf_open::{OpenDictionary, named_count};
+use ctf_views::{Variant, is_variadic};
 
 /// A function of the program: `struct ctfd_function`. A last argument 0 is not counted: it says
 /// that more may follow.
@@ -64,6 +69,59 @@ pub extern "C" fn ctfd_function(handle: &mut Handle, number: u32, out: &mut Give
                 varargs: flag(is_variadic(&function.args)),
                 ret: function.ret.0,
             };
+            0
+        }
+        Err(fault) => status(fault),
+    }
+}
+
+/// What a type is, apart from its name.
+fn shape(dictionary: &OpenDictionary, t: TypeNum) -> Result<Shape<'_>, Fault>
+    ensures { result_map_both shape_view (λ f. f) result
+        ≡ shape_of (space_type (space_in dictionary.now) t.0) }
+{
+    let found = dictionary.space().term(t)?;
+    Ok(found.shape())
+}
+
+/// What a function type returns, and how many arguments it names.
+fn signature(x: Shape<'_>) -> Result<GivenFunction, Fault>
+    ensures { answer_map (λ f. record { arguments = f.arguments; varargs = f.varargs; ret = f.ret })
+        result ≡ function_answer (signature_answered (shape_view x.entry)) }
+{
+    match (x.behind, x.reference) {
+        (Variant::Args(args), Some(ret)) => Ok(GivenFunction {
+            arguments: named_count(&args) as u64,
+            varargs: flag(is_variadic(&args)),
+            ret: ret.0,
+        }),
+        _ => Err(placeless(Fault::WRONG_KIND)),
+    }
+}
+
+/// The same of the type that a number names.
+fn signature_of(dictionary: &OpenDictionary, t: TypeNum) -> Result<GivenFunction, Fault>
+    ensures { answer_map (λ f. record { arguments = f.arguments; varargs = f.varargs; ret = f.ret })
+        result ≡ function_answer (on_shape signature_answered
+        (shape_of (space_type (space_in dictionary.now) t.0))) }
+{
+    signature(shape(dictionary, t)?)
+}
+
+/// What a function type returns, and how many arguments it names, as `ctfd_function` has it of a
+/// program's function.
+#[unsafe(no_mangle)]
+pub extern "C" fn ctfd_signature(handle: &mut Handle, t: u16, out: &mut GivenFunction) -> u32
+    ensures same { handle.new.held.dictionary ≡ handle.old.held.dictionary }
+    ensures answer { Gives (asked handle.old.held.dictionary (λ s.
+        function_answer (on_shape signature_answered (shape_of (space_type (space_in s) t))))) result
+        (record { arguments = out.old.arguments; varargs = out.old.varargs; ret = out.old.ret })
+        (record { arguments = out.new.arguments; varargs = out.new.varargs; ret = out.new.ret }) }
+{
+    let dictionary = dictionary_of!(handle);
+    match signature_of(dictionary, TypeNum(t)) {
+        Ok(function) => {
+            *out = function;
             0
         }
         Err(fault) => status(fault),

@@ -1,16 +1,21 @@
 //! Exports that answer a number of a type.
-ghost use Rattle.std.specs.Prelude.{◌≡◌};
+ghost use Rattle.std.specs.Prelude.{◌≡◌, Some, option_map};
+ghost use Rattle.std.specs.Result.{result_map_both};
 ghost use Rattle.ctf_c.specs.Given.{Gives, asked, flag as flag_of, number_of_kind, number_of_tag};
 ghost use Rattle.ctf_model.specs.opened.Questions.{align_answered, argument_answered, kind_answered, length_answered, pointer_answered, resolved_answered, return_answered, root_answered, on_shape, shape_of, size_answered, tag_answered, answer_map};
 ghost use Rattle.ctf_model.specs.opened.Open.{space_in};
-ghost use Rattle.ctf_model.specs.figures.Figures.{reference as reference_of};
+ghost use Rattle.ctf_model.specs.figures.Figures.{reference as reference_of, referred as referred_of};
+ghost use Rattle.ctf_model.specs.format.Shown.{shape};
+ghost use Rattle.ctf_check.specs.TypedView.{spelled};
 ghost use Rattle.ctf_model.specs.spaces.Space.{space_type};
 
 use crate::given::{
     dictionary_of, flag_result, give, give_short, give_type, kind_result, tag_result,
 };
 use crate::handle::Handle;
-use ctf_model::TypeNum;
+use ctf_check::Typed;
+use ctf_model::{Fault, Kind, TypeNum, placeless};
+use ctf_open::OpenDictionary;
 
 /// The number of a type's kind in sys/ctf.h.
 #[unsafe(no_mangle)]
@@ -94,6 +99,31 @@ pub extern "C" fn ctfd_resolve(handle: &mut Handle, t: u16, out: &mut u16) -> u3
     give_type(dictionary.resolve(TypeNum(t)), out)
 }
 
+/// What a type that was found points to, renames or qualifies.
+#[inline(always)]
+fn referred(found: &Typed<'_>) -> Result<TypeNum, Fault>
+    ensures { option_map (λ x. referred_of (shape x.body)) (spelled found.now)
+        ≡ Some (result_map_both (λ t. t.0) (λ f. f) result) }
+{
+    let Some(to) = found.reference() else {
+        return Err(placeless(Fault::NOT_REFERENCE));
+    };
+    if found.kind() == Kind::KFunction {
+        return Err(placeless(Fault::NOT_REFERENCE));
+    }
+    Ok(to)
+}
+
+/// The same of the type that a number names.
+#[inline(always)]
+fn reference(dictionary: &OpenDictionary, t: TypeNum) -> Result<TypeNum, Fault>
+    ensures { result_map_both (λ t. t.0) (λ f. f) result
+        ≡ reference_of (space_in dictionary.now) t.0 }
+{
+    let found = dictionary.space().term(t)?;
+    referred(&found)
+}
+
 /// The type that a type points to, renames or qualifies.
 #[unsafe(no_mangle)]
 pub extern "C" fn ctfd_reference(handle: &mut Handle, t: u16, out: &mut u16) -> u32
@@ -102,7 +132,7 @@ pub extern "C" fn ctfd_reference(handle: &mut Handle, t: u16, out: &mut u16) -> 
         result out.old out.new }
 {
     let dictionary = dictionary_of!(handle);
-    give_type(dictionary.reference(TypeNum(t)), out)
+    give_type(reference(dictionary, TypeNum(t)), out)
 }
 
 /// The least pointer to a type, or to what it stands for.

@@ -9,7 +9,7 @@ ghost use Rattle.ctf_model.specs.spaces.Space.{space_type};
 
 use crate::given::{dictionary_of, status};
 use crate::handle::Handle;
-use crate::names::{NOWHERE, Standing, held_type, put, visit_inside};
+use crate::names::{NOWHERE, Standing, held_type, put, stands_for, visit_inside};
 use ctf_model::{Fault, TypeNum};
 use ctf_open::OpenDictionary;
 
@@ -18,7 +18,8 @@ const MOST_VALUES: u32 = 1027;
 
 /// A type in a visit: `struct ctfd_visit_row`. The offset is in bits, from the beginning of the
 /// outermost type. The name stands in a list of the dictionary that has the holder, which is the
-/// struct or union whose member this is; the outermost type is its own holder.
+/// struct or union whose member this is; the outermost type is its own holder. `stands_for` is the
+/// type that its type stands for, typedefs and qualifiers followed, and 0 where that is none.
 #[repr(C)]
 #[derive(Clone, Copy)]
 pub struct GivenVisitRow {
@@ -28,6 +29,7 @@ pub struct GivenVisitRow {
     pub depth: u32,
     pub tnum: u16,
     pub holder: u16,
+    pub stands_for: u16,
 }
 
 /// Fills rows with a type and what lies in it, and answers how many there are: one more than there
@@ -38,6 +40,7 @@ fn visit(dictionary: &OpenDictionary, t: TypeNum, rows: &mut [GivenVisitRow]) ->
         (space_type (space_in dictionary.now) t.0)) result rows.old rows.new }
 {
     held_type(&dictionary.space(), t)?;
+    let holder = stands_for(dictionary, t);
     let outermost = GivenVisitRow {
         offset: 0,
         name_at: 0,
@@ -45,6 +48,7 @@ fn visit(dictionary: &OpenDictionary, t: TypeNum, rows: &mut [GivenVisitRow]) ->
         depth: 0,
         tnum: t.0,
         holder: t.0,
+        stands_for: holder.0,
     };
     put(rows, 0, outermost);
     let at = Standing {
@@ -52,7 +56,7 @@ fn visit(dictionary: &OpenDictionary, t: TypeNum, rows: &mut [GivenVisitRow]) ->
         depth: 0,
         left: MOST_VALUES,
     };
-    Ok(visit_inside(dictionary, t, at, rows, 1) as u64)
+    Ok(visit_inside(dictionary, t, holder, at, rows, 1) as u64)
 }
 
 /// A type, and what lies in it: the members of the struct or union that it stands for, each

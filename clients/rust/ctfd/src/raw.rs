@@ -122,8 +122,9 @@ pub struct TypeRow {
 
 /// A type in a visit: `type` is that of a member of the struct or union `holder`, which lies in
 /// `depth` others and begins `offset` bits behind the beginning of the outermost: UINT64_MAX past
-/// 64 bits. The lists of its name are those of the dictionary that has the holder. The outermost
-/// type comes first, without a name, at depth 0 and as its own holder.
+/// 64 bits. The lists of its name are those of the dictionary that has the holder. `stands_for` is
+/// what ctfd_resolve gives of the type, and 0 where that is refused. The outermost type comes
+/// first, without a name, at depth 0 and as its own holder.
 #[repr(C)]
 #[derive(Clone, Copy, Debug, Default, PartialEq, Eq)]
 pub struct VisitRow {
@@ -139,6 +140,8 @@ pub struct VisitRow {
     pub tnum: u16,
     /// The number of the struct or union that it is a member of.
     pub holder: u16,
+    /// The type that its type stands for; 0 where that is none.
+    pub stands_for: u16,
 }
 
 #[repr(C)]
@@ -377,6 +380,7 @@ extern "C" {
         index: usize,
         out: *mut u16,
     ) -> u32;
+    pub fn ctfd_signature(handle: *mut Handle, t: u16, out: *mut Function) -> u32;
     pub fn ctfd_function_arguments(
         handle: *mut Handle,
         number: u32,

@@ -36,6 +36,15 @@ module _ {A R : Type 0} (listed : Shown → Option (List A)) (Tells : A → R �
   into_unnamed none None h a f = absurd cc
   into_unnamed none (Some x) h a f = of_none (listed (shown x.body)) (none (shown x.body) (same_Some _ _ h)) a f
 
+  -- of a type whose list, or that it has none, is known
+  pub into_listed : (o : Option Term) (items : List A) → option_map (λ (x : Term). listed (shown x.body)) o ≡ Some (Some items) → answer ≡ Ok (length items) → Fills Tells items from old new → Into o
+  into_listed None items h a f = absurd cc
+  into_listed (Some x) items h a f = of_list (listed (shown x.body)) items (same_Some _ _ h) a f
+
+  pub into_unlisted : (o : Option Term) → option_map (λ (x : Term). listed (shown x.body)) o ≡ Some None → answer ≡ Err (placeless WRONG_KIND) → new ≡ old → Into o
+  into_unlisted None h a f = absurd cc
+  into_unlisted (Some x) h a f = of_none (listed (shown x.body)) (same_Some _ _ h) a f
+
 pub no_enumerators : (s : Shown) → shown_names s ≡ None → enumerators_in s ≡ None
 no_enumerators (show.members ms) h = refl
 no_enumerators (show.enumerators es) h = absurd cc

@@ -3,7 +3,6 @@ use Rattle.std.proofs.Common.{◌≡◌, ℕ, suc, zero, ◌+◌, ◌-◌, ◌<�
 use Rattle.std.specs.Option.{option_map}
 use Rattle.std.specs.Prelude.{IfSome, IsSome, flat_map, slice_get}
 use Rattle.std.proofs.lemmas.Option.{same_Some}
-use Rattle.ctf_c.proofs.names.Into.{no_members}
 use Rattle.ctf_c.proofs.names.Parts.{all_answered, filled_all, filled_member, one_there}
 use Rattle.ctf_c.specs.Rowed.{lists_with}
 use Rattle.ctf_c.specs.Visiting.{FillsOn, TellsIn, TellsVisited, Visits}
@@ -14,16 +13,12 @@ use Rattle.ctf_check.specs.declared.checked.Checked.{Checked}
 use Rattle.ctf_records.specs.RecordView.{bytes_of}
 use Rattle.ctf_records.specs.declared.record.Record.{Record}
 use Rattle.ctf_model.specs.format.Spelling.{term_of}
-use Rattle.ctf_views.specs.VariantView.{seen}
-use Rattle.ctf_views.specs.declared.shown.Variant.{Variant}
-use Rattle.ctf_views.specs.declared.shown.Variant.TheVariants as lent
 use Rattle.ctf_c.specs.names.Holders.{lists_at}
-use Rattle.ctf_c.specs.names.Names.{shown_names}
 use Rattle.ctf_c.specs.names.Visits.{Visited, inside, members_of, or_nothing, outermost, placed, placed_with, stands_for}
 use Rattle.ctf_model.specs.declared.faults.Fault.{Fault}
 use Rattle.ctf_model.specs.declared.faults.TheConstants.Fault.{WRONG_KIND}
 use Rattle.ctf_model.specs.format.Lists.{Lists}
-use Rattle.ctf_model.specs.format.Shown.{Shown, members_in, shown}
+use Rattle.ctf_model.specs.format.Shown.{members_in, shown}
 use Rattle.ctf_model.specs.format.Term.{Member, Term}
 use Rattle.ctf_model.specs.opened.Open.{Open, space_in}
 use Rattle.ctf_model.specs.opened.Questions.{if_there, members_answered, on_shape, shape_of}
@@ -44,29 +39,16 @@ listed_some o ms e = rw e refl
 listed_none : (o : Option (List Member)) → o ≡ None → or_nothing (or_refused WRONG_KIND o) ≡ []
 listed_none o e = rw e refl
 
-pub behind_listed : (o : Option Term) (s : Shown) (ms : List Member) → option_map (λ (x : Term). shown x.body) o ≡ Some s → members_in s ≡ Some ms → members_behind (or_no_type o) ≡ ms
-behind_listed None s ms h k = absurd cc
-behind_listed (Some x) s ms h k = listed_some (members_in (shown x.body)) ms (ap members_in (same_Some _ _ h) ∙ k)
+pub behind_members : (o : Option Term) (ms : List Member) → option_map (λ (x : Term). members_in (shown x.body)) o ≡ Some (Some ms) → members_behind (or_no_type o) ≡ ms
+behind_members None ms h = absurd cc
+behind_members (Some x) ms h = listed_some (members_in (shown x.body)) ms (same_Some _ _ h)
 
-pub behind_other : (o : Option Term) (s : Shown) → option_map (λ (x : Term). shown x.body) o ≡ Some s → members_in s ≡ None → members_behind (or_no_type o) ≡ []
-behind_other None s h k = absurd cc
-behind_other (Some x) s h k = listed_none (members_in (shown x.body)) (ap members_in (same_Some _ _ h) ∙ k)
-
-pub behind_unnamed : (o : Option Term) → option_map (λ (x : Term). shown_names (shown x.body)) o ≡ Some None → members_behind (or_no_type o) ≡ []
-behind_unnamed None h = absurd cc
-behind_unnamed (Some x) h = listed_none (members_in (shown x.body)) (no_members (shown x.body) (same_Some _ _ h))
+pub behind_unlisted : (o : Option Term) → option_map (λ (x : Term). members_in (shown x.body)) o ≡ Some None → members_behind (or_no_type o) ≡ []
+behind_unlisted None h = absurd cc
+behind_unlisted (Some x) h = listed_none (members_in (shown x.body)) (same_Some _ _ h)
 
 pub behind_refused : (found : Result Term Fault) (fault : Fault) → found ≡ Err fault → members_behind found ≡ []
 behind_refused found fault e = rw e refl
-
-pub other_kind : (v : Variant) → ((ms : List Member) → v ≡ lent.Members ms → ⊥) → members_in (seen v) ≡ None
-other_kind (lent.Members items) h = absurd (h items refl)
-other_kind (lent.Enumerators items) h = refl
-other_kind (lent.Args items) h = refl
-other_kind (lent.Array info) h = refl
-other_kind (lent.Encoding info) h = refl
-other_kind (lent.Tag t) h = refl
-other_kind lent.Nothing h = refl
 
 -- ---- what lies in it
 
@@ -112,11 +94,12 @@ same_inside k s v row a b c = rw (a, b, c) refl
 module _ (d : Open) (k holder offset depth : ℕ) (row : GivenVisitRow) (lists : Lists) (known : lists_with (Some d) holder ≡ Some lists) where
   -- a member and what lies in it
   pub filled_with : (m : Member) (c e : ℕ) (now new : List GivenVisitRow) → c ≤ length now → TellsVisited (Some lists) (placed holder offset depth m) row
+      → row.stands_for ≡ stands_for (space_in d) row.tnum
       → FillsOn (TellsIn (Some d)) (inside k (space_in d) row.offset row.depth row.tnum) (c + 1) e (set now c row) new
       → FillsOn (TellsIn (Some d)) (placed_with (inside k (space_in d)) holder offset depth m) c e now new
-  filled_with m c e now new room tells rest =
+  filled_with m c e now new room tells stands rest =
       let v = placed holder offset depth m in
-      let told : TellsIn (Some d) v row = subst (λ l. TellsVisited l v row) (sym known) tells in
+      let told : TellsIn (Some d) v row = (subst (λ l. TellsVisited l v row) (sym known) tells, stands ∙ ap (stands_for (space_in d)) tells.2) in
       let same = same_inside k (space_in d) v row tells.1 tells.4 tells.2 in
       filled_member (TellsIn (Some d)) v (inside k (space_in d) v.offset v.depth v.tnum) row c e now new room told (subst (λ items. FillsOn (TellsIn (Some d)) items (c + 1) e (set now c row) new) same rest)
 
@@ -136,8 +119,8 @@ most_is = refl
 pub most_inside : (s : spaces.Space) (t : ℕ) → inside 1027 s 0 0 t ≡ inside most_values s 0 0 t
 most_inside s t = ap (λ n. inside n s 0 0 t) (sym most_is)
 
-pub outermost_told : (o : Option Lists) (lists : Lists) (t : ℕ) → o ≡ Some lists → TellsVisited o (outermost t) (record { offset = 0; name_at = 0; name_list = 2; depth = 0; tnum = t; holder = t })
-outermost_told o lists t e = rw e (refl, refl, refl, refl, refl)
+pub outermost_told : (o : Option Lists) (lists : Lists) (t stood : ℕ) → o ≡ Some lists → TellsVisited o (outermost t) (record { offset = 0; name_at = 0; name_list = 2; depth = 0; tnum = t; holder = t; stands_for = stood })
+outermost_told o lists t stood e = rw e (refl, refl, refl, refl, refl)
 
 pub visits : {A R : Type 0} (Tells : A → R → Type 0) (items : List A) (found : Result Term Fault) (answer : ℕ) (old new : List R) → if_there (Ok items) found ≡ Ok items → FillsOn Tells items 0 answer old new → Visits Tells (if_there (Ok items) found) (Ok answer) old new
 visits Tells items found answer old new e h = rw e (ap Ok (all_answered Tells items answer old new h), filled_all Tells items answer old new h)

@@ -1,19 +1,21 @@
 //! Fills rows of a caller with the members or enumerators of a type.
 ghost use Rattle.std.specs.Prelude.{◌≡◌, ◌<◌, length, map, slice_get, Some, IfSome};
 ghost use Rattle.ctf_c.specs.names.Filling.{Fills, FillsFrom, TellsEnumerator, TellsMember};
+ghost use Rattle.ctf_c.specs.names.MembersView.{members_at, tables_behind};
 ghost use Rattle.ctf_c.specs.names.NamesView.{names_in, tables_for};
 ghost use Rattle.ctf_check.specs.CheckedView.{lists_of, tables_of};
 ghost use Rattle.ctf_check.specs.TypedView.{dictionary_in, spelled};
 ghost use Rattle.ctf_model.specs.opened.Questions.{enumerators_answered, members_answered, on_shape, shape_of};
 ghost use Rattle.ctf_model.specs.spaces.TypeNumbers.{or_no_type};
 
-use crate::names::found::name_rows;
+use crate::names::found::{member_rows, name_rows};
+use crate::names::members::MemberRows;
 use crate::names::named::NameRows;
 use crate::names::places::name_position;
 use crate::rows::{GivenEnumeratorRow, GivenMemberRow};
 use ctf_check::{Checked, Typed};
 use ctf_model::{Fault, placeless};
-use ctf_views::{Enumerators, Members, Variant};
+use ctf_views::{Enumerators, Variant};
 
 /// What is told of an enumerator, from 0.
 fn enumerator_row(
@@ -39,18 +41,16 @@ fn enumerator_row(
 /// What is told of a member, from 0.
 pub fn member_row(
     dictionary: &Checked<'_>,
-    names: &NameRows<'_>,
-    members: &Members<'_>,
+    members: &MemberRows<'_>,
     index: usize,
 ) -> GivenMemberRow
-    requires inside { index < length members.now }
-    requires names { names_in names.now ≡ map (λ m. m.name) members.now }
-    requires tables { tables_for names.now ≡ tables_of dictionary.now }
-    ensures { IfSome (slice_get members.now index)
+    requires inside { index < length (members_at members.now) }
+    requires tables { tables_behind members.now ≡ tables_of dictionary.now }
+    ensures { IfSome (slice_get (members_at members.now) index)
         (λ m. TellsMember (Some (lists_of dictionary.now)) m result) }
 {
-    let place = name_position(dictionary, names.reference(index));
-    let member = members.get(index).unwrap();
+    let member = members.get(index);
+    let place = name_position(dictionary, member.reference);
     GivenMemberRow {
         offset: member.offset,
         name_at: place.at,
@@ -82,20 +82,18 @@ fn fill_enumerators(
 /// Fills rows with the members from a number on.
 fn fill_members(
     dictionary: &Checked<'_>,
-    names: &NameRows<'_>,
-    members: &Members<'_>,
+    members: &MemberRows<'_>,
     from: usize,
     rows: &mut [GivenMemberRow],
 )
-    requires names { names_in names.now ≡ map (λ m. m.name) members.now }
-    requires tables { tables_for names.now ≡ tables_of dictionary.now }
-    ensures { Fills (TellsMember (Some (lists_of dictionary.now))) members.now from
+    requires { tables_behind members.now ≡ tables_of dictionary.now }
+    ensures { Fills (TellsMember (Some (lists_of dictionary.now))) (members_at members.now) from
         rows.old rows.new }
 {
     let left = members.len().saturating_sub(from);
     let count = left.min(rows.len());
     for i in 0..count {
-        rows[i] = member_row(dictionary, names, members, from + i);
+        rows[i] = member_row(dictionary, members, from + i);
     }
 }
 
@@ -131,14 +129,9 @@ pub fn members_into(
         (on_shape members_answered (shape_of (or_no_type (spelled found.now)))) from result
         rows.old rows.new }
 {
-    let Some(names) = name_rows(found) else {
+    let Some(members) = member_rows(found) else {
         return Err(placeless(Fault::WRONG_KIND));
     };
-    match found.variant() {
-        Variant::Members(members) => {
-            fill_members(&found.dictionary(), &names, &members, from, rows);
-            Ok(members.len() as u64)
-        }
-        _ => Err(placeless(Fault::WRONG_KIND)),
-    }
+    fill_members(&found.dictionary(), &members, from, rows);
+    Ok(members.len() as u64)
 }

@@ -3,11 +3,13 @@ ghost use Rattle.std.specs.Prelude.{◌≡◌, ◌<◌, length, map, slice_get, 
 ghost use Rattle.std.specs.Ordering.{int_eq};
 ghost use Rattle.ctf_check.specs.CheckedView.{tables_of};
 ghost use Rattle.ctf_check.specs.TypedView.{dictionary_in, spelled};
-ghost use Rattle.ctf_model.specs.format.Shown.{shown};
+ghost use Rattle.ctf_model.specs.format.Shown.{members_in, shown};
 ghost use Rattle.ctf_views.specs.ItemsView.{enumerator as enumerator_view};
 ghost use Rattle.ctf_c.specs.names.Names.{shown_names};
+ghost use Rattle.ctf_c.specs.names.MembersView.{members_at, tables_behind};
 ghost use Rattle.ctf_c.specs.names.NamesView.{names_in, tables_for};
 
+use crate::names::members::MemberRows;
 use crate::names::named::NameRows;
 use ctf_check::Typed;
 use ctf_model::Kind;
@@ -31,6 +33,24 @@ pub fn name_rows<'a>(found: &Typed<'a>) -> Option<NameRows<'a>>
             Some(NameRows::new(rest, width, count, strings))
         }
         Kind::KEnum => Some(NameRows::new(rest, 8, count, strings)),
+        _ => None,
+    }
+}
+
+/// The members of a type, if it is a struct or union.
+pub fn member_rows<'a>(found: &Typed<'a>) -> Option<MemberRows<'a>>
+    ensures members { option_map (λ x. members_in (shown x.body)) (spelled found.now)
+        ≡ Some (option_map members_at result) }
+    ensures tables { IfSome result
+        (λ r. tables_behind r ≡ tables_of (dictionary_in found.now)) }
+{
+    let record = found.record();
+    match record.kind() {
+        Kind::KStruct | Kind::KUnion => {
+            let size = record.size().unwrap();
+            let strings = found.dictionary().strings();
+            Some(MemberRows::new(record.rest(), size, record.vlen(), strings))
+        }
         _ => None,
     }
 }

@@ -22,7 +22,7 @@ pub struct NameRows<'a> {
 }
 
 /// The bytes that a row begins.
-fn row_at(bytes: &[u8], width: usize, index: usize) -> &[u8]
+pub fn row_at(bytes: &[u8], width: usize, index: usize) -> &[u8]
     requires { width * index ≤ length bytes.now }
     ensures { result.now ≡ drop (width * index) bytes.now }
 {

@@ -4,18 +4,17 @@ ghost use Rattle.ctf_check.specs.CheckedView.{lists_of, tables_of};
 ghost use Rattle.ctf_model.specs.opened.Open.{space_in};
 ghost use Rattle.ctf_c.specs.Rowed.{lists_with};
 ghost use Rattle.ctf_c.specs.Visiting.{FillsOn, TellsIn, TellsVisited};
-ghost use Rattle.ctf_c.specs.names.NamesView.{names_in, tables_for};
+ghost use Rattle.ctf_c.specs.names.MembersView.{members_at, tables_behind};
 ghost use Rattle.ctf_c.specs.names.Visits.{inside, placed, placed_with, stands_for as standing_for};
 
 use crate::names::filling::member_row;
-use crate::names::found::name_rows;
+use crate::names::found::member_rows;
 use crate::names::held::held_type;
-use crate::names::named::NameRows;
+use crate::names::members::MemberRows;
 use crate::visits::GivenVisitRow;
 use ctf_check::Checked;
 use ctf_model::TypeNum;
 use ctf_open::OpenDictionary;
-use ctf_views::{Members, Variant};
 
 /// Where a type begins in the outermost one, in bits, how many types it lies in, and how many more
 /// may lie in it.
@@ -28,7 +27,7 @@ pub struct Standing {
 
 /// The number of the type that a type stands for, 0 where that is none.
 #[inline(always)]
-fn stands_for(dictionary: &OpenDictionary, t: TypeNum) -> TypeNum
+pub fn stands_for(dictionary: &OpenDictionary, t: TypeNum) -> TypeNum
     ensures { result.0 ≡ standing_for (space_in dictionary.now) t.0 }
 {
     match dictionary.resolve(t) {
@@ -47,25 +46,25 @@ pub fn put(rows: &mut [GivenVisitRow], at: usize, row: GivenVisitRow)
     }
 }
 
-/// What is told of a member, from 0, of a struct or union with a number.
+/// What is told of a member, from 0, of a struct or union with a number, which is in `of`.
 #[inline(always)]
 fn visit_row(
+    dictionary: &OpenDictionary,
     holder: TypeNum,
-    dictionary: &Checked<'_>,
-    names: &NameRows<'_>,
-    members: &Members<'_>,
+    of: &Checked<'_>,
+    members: &MemberRows<'_>,
     index: usize,
     at: Standing,
 ) -> GivenVisitRow
-    requires inside { index < length members.now }
-    requires names { names_in names.now ≡ map (λ m. m.name) members.now }
-    requires tables { tables_for names.now ≡ tables_of dictionary.now }
+    requires inside { index < length (members_at members.now) }
+    requires tables { tables_behind members.now ≡ tables_of of.now }
     requires deep { at.depth + 1 < 2 ^ 32 }
-    ensures { IfSome (slice_get members.now index)
-        (λ m. TellsVisited (Some (lists_of dictionary.now))
-        (placed holder.0 at.offset at.depth m) result) }
+    ensures told { IfSome (slice_get (members_at members.now) index)
+        (λ m. TellsVisited (Some (lists_of of.now)) (placed holder.0 at.offset at.depth m)
+        result) }
+    ensures stands { result.stands_for ≡ standing_for (space_in dictionary.now) result.tnum }
 {
-    let member = member_row(dictionary, names, members, index);
+    let member = member_row(of, members, index);
     GivenVisitRow {
         offset: at.offset.saturating_add(member.offset),
         name_at: member.name_at,
@@ -73,6 +72,7 @@ fn visit_row(
         depth: at.depth + 1,
         tnum: member.tnum,
         holder: holder.0,
+        stands_for: stands_for(dictionary, TypeNum(member.tnum)).0,
     }
 }
 
@@ -89,6 +89,7 @@ fn visit_member(
 ) -> usize
     requires room { count ≤ length rows.old }
     requires deep { row.depth + left < 2 ^ 32 }
+    requires stands { row.stands_for ≡ standing_for (space_in dictionary.now) row.tnum }
     ensures { FillsOn (TellsIn (Some dictionary.now))
         (inside left (space_in dictionary.now) row.offset row.depth row.tnum)
         (count + 1) result (set rows.old count row) rows.new }
@@ -99,7 +100,7 @@ fn visit_member(
         depth: row.depth,
         left,
     };
-    visit_inside(dictionary, TypeNum(row.tnum), at, rows, count + 1)
+    visit_inside(dictionary, TypeNum(row.tnum), TypeNum(row.stands_for), at, rows, count + 1)
 }
 
 /// The same of all members of a struct or union with a number.
@@ -109,43 +110,43 @@ fn visit_members(
     dictionary: &OpenDictionary,
     holder: TypeNum,
     of: &Checked<'_>,
-    names: &NameRows<'_>,
-    members: &Members<'_>,
+    members: &MemberRows<'_>,
     at: Standing,
     rows: &mut [GivenVisitRow],
     count: usize,
 ) -> usize
-    requires names { names_in names.now ≡ map (λ m. m.name) members.now }
-    requires tables { tables_for names.now ≡ tables_of of.now }
+    requires tables { tables_behind members.now ≡ tables_of of.now }
     requires lists { lists_with (Some dictionary.now) holder.0 ≡ Some (lists_of of.now) }
     requires room { count ≤ length rows.old + 1 }
     requires deep { at.depth + 1 + at.left < 2 ^ 32 }
     ensures { FillsOn (TellsIn (Some dictionary.now))
         (flat_map (placed_with (inside at.left (space_in dictionary.now)) holder.0 at.offset
-        at.depth) members.now) count result rows.old rows.new }
+        at.depth) (members_at members.now)) count result rows.old rows.new }
 {
     let mut count = count;
     for index in 0..members.len() {
         if count > rows.len() {
             return count;
         }
-        let row = visit_row(holder, of, names, members, index, at);
+        let row = visit_row(dictionary, holder, of, members, index, at);
         count = visit_member(dictionary, row, at.left, rows, count);
     }
     count
 }
 
-/// The same of what lies in a type.
+/// The same of what lies in a type, which stands for the struct or union `holder`.
 #[cycle(visits)]
 pub fn visit_inside(
     dictionary: &OpenDictionary,
     t: TypeNum,
+    holder: TypeNum,
     at: Standing,
     rows: &mut [GivenVisitRow],
     count: usize,
 ) -> usize
     requires room { count ≤ length rows.old + 1 }
     requires deep { at.depth + at.left < 2 ^ 32 }
+    requires stands { holder.0 ≡ standing_for (space_in dictionary.now) t.0 }
     ensures { FillsOn (TellsIn (Some dictionary.now))
         (inside at.left (space_in dictionary.now) at.offset at.depth t.0)
         count result rows.old rows.new }
@@ -153,11 +154,10 @@ pub fn visit_inside(
     if at.left == 0 {
         return count;
     }
-    let holder = stands_for(dictionary, t);
     let Ok(found) = held_type(&dictionary.space(), holder) else {
         return count;
     };
-    let Some(names) = name_rows(&found) else {
+    let Some(members) = member_rows(&found) else {
         return count;
     };
     let below = Standing {
@@ -165,19 +165,5 @@ pub fn visit_inside(
         depth: at.depth,
         left: at.left - 1,
     };
-    match found.variant() {
-        Variant::Members(members) => {
-            visit_members(
-                dictionary,
-                holder,
-                &found.dictionary(),
-                &names,
-                &members,
-                below,
-                rows,
-                count,
-            )
-        }
-        _ => count,
-    }
+    visit_members(dictionary, holder, &found.dictionary(), &members, below, rows, count)
 }

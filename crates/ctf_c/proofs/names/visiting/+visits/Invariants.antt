@@ -2,6 +2,7 @@ use Rattle.std.proofs.Common.{◌*◌, ◌+◌, take, Some}
 use Rattle.std.specs.Prelude.{flat_map}
 use Rattle.ctf_model.specs.opened.Open.{space_in}
 use Rattle.ctf_c.specs.Visiting.{FillsOn, TellsIn}
+use Rattle.ctf_c.specs.names.MembersView.{members_at}
 use Rattle.ctf_c.specs.names.Visits.{inside, placed_with}
 use Rattle.ctf_c.proofs.names.visiting.+visits.Given as goal
 
@@ -16,4 +17,4 @@ decreases-visit_members l = 3 * l.at.left + 2
 
 abbrev pub invariant-visit_members-loop-index : goal.invariant-visit_members-loop-index
 invariant-visit_members-loop-index l =
-    FillsOn (TellsIn (Some l.dictionary)) (flat_map (placed_with (inside l.at.left (space_in l.dictionary)) l.holder.0 l.at.offset l.at.depth) (take l.index l.members)) l.fn.count l.count l.fn.rows l.rows
+    FillsOn (TellsIn (Some l.dictionary)) (flat_map (placed_with (inside l.at.left (space_in l.dictionary)) l.holder.0 l.at.offset l.at.depth) (take l.index (members_at l.members))) l.fn.count l.count l.fn.rows l.rows
