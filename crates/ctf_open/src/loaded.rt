@@ -109,11 +109,14 @@ impl Loaded {
     }
 
     /// The dictionary of lists that are lent, for programs of a data model, or its first fault.
-    /// Nothing of the lists is copied.
+    /// Nothing of the lists is copied. Where memory is refused, the rules before those of chains are
+    /// kept.
     pub fn lent(alloc: Global, lists: LentLists<'static>, model: DataModel) -> Result<Loaded, Fault>
         ensures ok { IfOk result (λ l. l ≡ record { lists = lists_in lists.entry; model = model }) }
         ensures exact_ok { OnOk result (first_fault (lists_in lists.entry) ≡ None) }
         ensures exact_err { IfErr result (λ f. (f ≡ out_of_memory)
+            ⊎ (first_fault (lists_in lists.entry) ≡ Some f)) }
+        ensures late { IfErr result (λ f. (fault_before_chains (lists_in lists.entry) ≡ None)
             ⊎ (first_fault (lists_in lists.entry) ≡ Some f)) }
     {
         let dictionary = Judged::lent(alloc, lists, model)?;

@@ -4,6 +4,8 @@ ghost use Rattle.std.specs.Option.{ForSome};
 ghost use Rattle.ctf_model.specs.opened.Steps.{Refuses};
 ghost use Rattle.ctf_model.specs.opened.Open.{own_in, pending_in, space_in};
 ghost use Rattle.ctf_check.specs.CheckedView.{dictionary_of, lists_of};
+ghost use Rattle.ctf_check.specs.ListsView.{lists_in};
+ghost use Rattle.ctf_check.specs.Stages.{fault_before_chains};
 ghost use Rattle.ctf_open.specs.Drafting.{IsUnder};
 ghost use Rattle.ctf_open.specs.Fitting.{AreTablesOf};
 ghost use Rattle.ctf_model.specs.format.OwnedLists.{lists_owned};
@@ -16,7 +18,7 @@ ghost use Rattle.ctf_symbols.specs.Fitting.{Fits};
 use crate::imports::Imported;
 use crate::loaded::Loaded;
 use crate::tables::Tables;
-use ctf_check::{Checked, LentLists};
+use ctf_check::{Checked, LentLists, check};
 use ctf_draft::Draft;
 use ctf_model::{Bytes, DataModel, Fault, Parts, placeless};
 use ctf_space::Space;
@@ -88,8 +90,22 @@ pub fn parts_of(
     })
 }
 
+/// Why lists are not opened of which no copy could be made: for their first fault, or else for want
+/// of memory.
+fn fault_uncopied(alloc: Global, lists: LentLists<'_>) -> Fault
+    ensures fault { Refuses (first_fault (lists_in lists.entry)) result }
+    ensures late { (fault_before_chains (lists_in lists.entry) ≡ None)
+        ⊎ (first_fault (lists_in lists.entry) ≡ Some result) }
+{
+    let Err(fault) = check(alloc, lists.ctf, lists.sym, lists.strs) else {
+        return placeless(Fault::MEMORY);
+    };
+    fault
+}
+
 impl OpenDictionary {
-    /// Judges copies of the lists, and keeps them, or tells their first fault.
+    /// Judges copies of the lists, and keeps them, or tells their first fault. Where memory is
+    /// refused, the rules before those of chains are kept; so it is where lists are lent.
     pub fn open(
         alloc: Global,
         ctf: &[u8],
@@ -119,8 +135,19 @@ impl OpenDictionary {
           sym = option_copied sym.entry;
           strs = option_copied strs.entry;
         })) f) }
+        ensures late { IfErr result (λ f. (fault_before_chains (record {
+          ctf = ctf.now;
+          sym = option_copied sym.entry;
+          strs = option_copied strs.entry;
+        }) ≡ None) ⊎ (first_fault (record {
+          ctf = ctf.now;
+          sym = option_copied sym.entry;
+          strs = option_copied strs.entry;
+        }) ≡ Some f)) }
     {
-        let parts = parts_of(alloc, ctf, sym, strs)?;
+        let Ok(parts) = parts_of(alloc, ctf, sym, strs) else {
+            return Err(fault_uncopied(alloc, LentLists { ctf, sym, strs }));
+        };
         match Loaded::build(alloc, parts, model) {
             Ok(own) => Ok(OpenDictionary::of(own)),
             Err((fault, _)) => Err(fault),
@@ -157,6 +184,15 @@ impl OpenDictionary {
           sym = option_copied sym.entry;
           strs = option_copied strs.entry;
         })) f) }
+        ensures late { IfErr result (λ f. (fault_before_chains (record {
+          ctf = ctf.now;
+          sym = option_copied sym.entry;
+          strs = option_copied strs.entry;
+        }) ≡ None) ⊎ (first_fault (record {
+          ctf = ctf.now;
+          sym = option_copied sym.entry;
+          strs = option_copied strs.entry;
+        }) ≡ Some f)) }
     {
         let own = Loaded::lent(alloc, LentLists { ctf, sym, strs }, model)?;
         Ok(OpenDictionary::of(own))

@@ -5,7 +5,6 @@ ghost use Rattle.ctf_model.specs.opened.Questions.{align_answered, argument_answ
 ghost use Rattle.ctf_model.specs.opened.Open.{own_in, space_in};
 ghost use Rattle.ctf_check.specs.FactsView.{shape_view};
 ghost use Rattle.ctf_entries.specs.FunctionView.{signature};
-ghost use Rattle.ctf_layout.specs.Extents.{amount as amount_of, target as target_of};
 ghost use Rattle.ctf_layout.specs.Reached.{position_of};
 ghost use Rattle.ctf_model.specs.figures.Figures.{reference as reference_of};
 ghost use Rattle.ctf_model.specs.names.Found.{found};
@@ -20,7 +19,7 @@ ghost use Rattle.ctf_views.specs.PartsView.{array_info, encoding_info};
 use crate::opened::OpenDictionary;
 use ctf_check::Shape;
 use ctf_entries::Signature;
-use ctf_layout::{Extent, Refusal, path, reference, refused};
+use ctf_layout::{path, reference};
 use ctf_model::{Bytes, Fault, Kind, TypeNum, placeless};
 use ctf_names::{find, pointer_resolved, pointer_to, spell};
 use ctf_print::show;
@@ -286,20 +285,6 @@ impl OpenDictionary {
             return Err(placeless(Fault::NO_TYPE));
         }
         self.tables().layout.resolve(t)
-    }
-
-    /// The size and the alignment of a type, and the type that it stands for, by one look-up: each
-    /// as the question for it alone is answered.
-    #[inline(always)]
-    pub fn figures(&self, t: TypeNum) -> Extent
-        ensures size { amount_of result.size ≡ size_answered (space_in self.now) t.0 }
-        ensures align { amount_of result.align ≡ align_answered (space_in self.now) t.0 }
-        ensures target { target_of result.target ≡ resolved_answered (space_in self.now) t.0 }
-    {
-        if t.0 == 0 {
-            return refused(Refusal::NoType);
-        }
-        self.tables().layout.figures(t)
     }
 
     /// The type that a type points to, renames or qualifies.
