@@ -1,9 +1,10 @@
 #!/usr/bin/env python3
 """Builds the compiled commands in Rust, over the library that is built.
 
-usage: scripts/rust.py [--quiet | --packages] [CARGO-WORD..]
+usage: scripts/rust.py [--quiet | --packages | --ahead] [CARGO-WORD..]
 
-`--packages` prints the names of Debian's packages with the crates. Without words it builds
+`--packages` prints the names of Debian's packages with the crates. `--ahead` compiles the crates
+that others made, which need no library, and says nothing where that can't be done. Without words it builds
 clients/rust/target/release/ctfd-tools, and beside it a link for each command that it is. With words
 it runs cargo with these: `scripts/rust.py test`.
 
@@ -99,11 +100,24 @@ def build(*words: str) -> Path:
     return folder()
 
 
+def compile_ahead() -> None:
+    """Compiles the crates that others made."""
+    text = (WORKSPACE / "Cargo.toml").read_text("utf-8")
+    crates = re.findall(r"^([a-z][\w-]*) = (?!.*path)", text.split("dependencies]")[1].split("\n[")[0],
+                        re.MULTILINE)
+    subprocess.run([cargo(), "build", *sources(), "--release", "--quiet",
+                    *(word for name in crates for word in ("--package", name))],
+                   cwd=WORKSPACE, check=False, stderr=subprocess.DEVNULL)
+
+
 def main() -> int:
     words = sys.argv[1:]
     try:
-        if words and words[0] not in ("--quiet", "--packages", "-h", "--help"):
+        if words and words[0] not in ("--quiet", "--packages", "--ahead", "-h", "--help"):
             return run(words)
+        if words[:1] == ["--ahead"]:
+            compile_ahead()
+            return 0
         if words[:1] == ["--packages"]:
             print(*PACKAGES, sep="\n")
             return 0
@@ -112,6 +126,8 @@ def main() -> int:
             return 0
         print(f"{build(*words)}: the compiled commands, {', '.join(COMMANDS)}")
     except NotBuilt as why:
+        if words[:1] == ["--ahead"]:
+            return 0
         print(f"without the compiled commands: {why}", file=sys.stderr)
     return 0
 

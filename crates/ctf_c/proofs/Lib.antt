@@ -5,3 +5,4 @@ pub mod TypeRows
 pub mod ArgumentRows
 pub mod ListedRows
 pub mod RowLaws
+pub mod Shapes

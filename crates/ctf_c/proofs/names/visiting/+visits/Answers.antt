@@ -46,14 +46,14 @@ visit_members-returns-then-count-rows t c =
 
 pub visit_members-visit_member-count-requires : goal.visit_members-visit_member-count-requires
 visit_members-visit_member-count-requires t c =
-    let inside_list = rw c.len-index-end.ensures.value at c.loop-index-test.true in
+    let inside_list = rw c.len-index-end.ensures at c.loop-index-test.true in
     let deeper = row_deeper (Some (lists_of c.args.of.now)) c.args.holder.0 c.args.at.offset c.args.at.depth c.visit_row-row.result (members_at c.args.members.now) c.loop-index.index inside_list c.visit_row-row.ensures.told in
     (omega (arith, c.decreases), (omega (arith, c.if-count-rows.false), (omega (arith, deeper, c.requires.deep), c.visit_row-row.ensures.stands)))
 
 pub visit_members-loop-index-preserved : goal.visit_members-loop-index-preserved
 visit_members-loop-index-preserved t c =
     let each = placed_with (inside c.args.at.left (space_in c.args.dictionary.now)) c.args.holder.0 c.args.at.offset c.args.at.depth in
-    let inside_list = rw c.len-index-end.ensures.value at c.loop-index-test.true in
+    let inside_list = rw c.len-index-end.ensures at c.loop-index-test.true in
     let one = one_there (members_at c.args.members.now) c.loop-index.index inside_list in
     let tells = told_one (Some (lists_of c.args.of.now)) (placed c.args.holder.0 c.args.at.offset c.args.at.depth) c.visit_row-row.result _ one.0 one.1 c.visit_row-row.ensures.told in
     let more = filled_with c.args.dictionary.now c.args.at.left c.args.holder.0 c.args.at.offset c.args.at.depth c.visit_row-row.result (lists_of c.args.of.now) c.requires.lists one.0 c.loop-index.count c.visit_member-count.result c.loop-index.rows c.visit_member-count.new.rows (omega (arith, c.if-count-rows.false)) tells c.visit_row-row.ensures.stands c.visit_member-count.ensures in
