@@ -1,12 +1,12 @@
 -- What rows are filled with is said of a type.
-use Rattle.std.proofs.Common.{◌≡◌, ℕ, List, map, length, Option, Some, None, Result, Ok, Err, refl, sym, ap, ◌∙◌}
+use Rattle.std.proofs.Common.{◌≡◌, ℕ, List, length, Option, Some, None, Result, Ok, Err, refl, ap, ◌∙◌}
 use Rattle.std.specs.Option.{option_map}
 use Rattle.std.proofs.lemmas.Option.{same_Some}
 use Rattle.ctf_model.specs.declared.faults.Fault.{Fault}
 use Rattle.ctf_model.specs.declared.faults.TheConstants.Fault.{WRONG_KIND}
 use Rattle.ctf_model.specs.format.Shown.{Shown, enumerators_in, members_in, shown}
 use Rattle.ctf_model.specs.format.Shown as show
-use Rattle.ctf_model.specs.format.Term.{Member, Term}
+use Rattle.ctf_model.specs.format.Term.{Term}
 use Rattle.ctf_model.specs.opened.Questions.{on_shape, shape_of}
 use Rattle.ctf_model.specs.rules.Refusals.{placeless}
 use Rattle.ctf_model.specs.spaces.TypeNumbers.{or_no_type}
@@ -53,18 +53,3 @@ no_enumerators (show.array parts) h = refl
 no_enumerators (show.encoding parts) h = refl
 no_enumerators (show.tag tag) h = refl
 no_enumerators show.nothing h = refl
-
-pub no_members : (s : Shown) → shown_names s ≡ None → members_in s ≡ None
-no_members (show.members ms) h = absurd cc
-no_members (show.enumerators es) h = refl
-no_members (show.arguments args) h = refl
-no_members (show.array parts) h = refl
-no_members (show.encoding parts) h = refl
-no_members (show.tag tag) h = refl
-no_members show.nothing h = refl
-
--- the names are those of the members
-pub names_of_struct : (o : Option Term) (ms : List Member) (names : List (List ℕ)) → option_map (λ (x : Term). shown x.body) o ≡ Some (show.members ms) → option_map (λ (x : Term). shown_names (shown x.body)) o ≡ Some (Some names)
-    → names ≡ map (λ (m : Member). m.name) ms
-names_of_struct None ms names h k = absurd cc
-names_of_struct (Some x) ms names h k = same_Some _ _ (same_Some _ _ (sym k ∙ ap (option_map shown_names) h))

@@ -1,12 +1,11 @@
 -- Members in their rows.
-use Rattle.std.proofs.Common.{◌≡◌, ℕ, ◌+◌, ◌*◌, ◌^◌, ◌<◌, ◌≤◌, List, length, drop, Option, Some, None, refl, sym, ap, ◌∙◌, arith, Bool, true, false, cond}
+use Rattle.std.proofs.Common.{◌≡◌, ℕ, ◌+◌, ◌*◌, ◌^◌, ◌<◌, ◌≤◌, List, length, drop, Option, Some, None, refl, ap, ◌∙◌, arith, Bool, true, false, cond}
 use Rattle.std.specs.Prelude.{IfSome, slice_get, nat_lt}
 use Rattle.ctf_model.proofs.Items.{items_at}
 use Rattle.ctf_model.specs.format.Bytes.{u16_at, u32_at}
 use Rattle.ctf_model.specs.format.Name.{Tables, name}
 use Rattle.ctf_model.specs.format.Record.{member_len}
 use Rattle.ctf_model.specs.format.Spelling.{narrow_member, wide_member, member_of}
-use Rattle.ctf_model.specs.format.Term.{Member}
 use Rattle.ctf_views.proofs.Items.{row, items_in_is, items_in_length}
 use Rattle.ctf_views.specs.Lists.{AreGood, items_in}
 use Rattle.ctf_c.specs.declared.names.members.MemberRow.{MemberRow}

@@ -1,4 +1,4 @@
-use Rattle.std.proofs.Common.{◌*◌, List, ap, drop, subst, ◌∙◌, arith, ℕ}
+use Rattle.std.proofs.Common.{◌*◌, ap, drop, subst, ◌∙◌, arith, ℕ}
 use Rattle.std.specs.Prelude.{IfSome}
 use Rattle.ctf_sections.specs.StringsView.{tables}
 use Rattle.ctf_c.specs.names.MemberPlaces.{IsMember}
