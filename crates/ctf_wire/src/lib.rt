@@ -2,6 +2,7 @@
 #![tactic(auto)]
 
 mod batch;
+mod counted;
 mod engine;
 mod feeding;
 mod history;
