@@ -30,7 +30,7 @@ COMMANDS = ("ctfd-convert", "ctfd-diff", "ctfd-types")
 DEBIAN = Path("/usr/share/cargo/registry")
 # The packages of Debian with what the crates name, which bring what these name themselves.
 PACKAGES = tuple(f"librust-{name}-dev" for name in ("ahash-0.7", "clap", "flate2", "gimli",
-                                                    "object", "rayon", "smallvec"))
+                                                    "object", "rayon", "regex", "smallvec"))
 LEAST = (1, 82)
 
 

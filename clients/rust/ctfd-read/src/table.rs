@@ -1,5 +1,6 @@
 //! Types of C as records that name each other by number, before they are a dictionary.
 
+use crate::declared::SourceFiles;
 use ahash::AHasher;
 use std::borrow::Cow;
 use std::hash::{Hash, Hasher};
@@ -350,6 +351,8 @@ pub struct Table<'a> {
     pub lacks_parent: bool,
     /// Whether names of it stand in the strings of its ELF file.
     pub has_outer_names: bool,
+    /// In which source files its types are defined, where that was asked for.
+    pub sources: SourceFiles,
 }
 
 impl<'a> Table<'a> {

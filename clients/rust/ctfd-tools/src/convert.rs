@@ -90,6 +90,7 @@ impl Words {
                     _ => SymbolTable::Symtab,
                 },
                 is_in_full: false,
+                has_sources: false,
             },
             only: only
                 .flat_map(|listed| listed.split(','))
