@@ -31,7 +31,7 @@ COMMANDS = ("ctfd-convert", "ctfd-diff", "ctfd-types")
 DEBIAN = Path("/usr/share/cargo/registry")
 # The packages of Debian with what the crates name, which bring what these name themselves.
 PACKAGES = tuple(f"librust-{name}-dev" for name in ("ahash-0.7", "clap", "flate2", "gimli",
-                                                    "indicatif", "object", "rayon",
+                                                    "indicatif", "object", "rayon", "regex",
                                                     "signal-hook", "smallvec"))
 LEAST = (1, 82)
 

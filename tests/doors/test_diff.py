@@ -1,11 +1,12 @@
 """What `ctfd-diff` answers beside abidiff: a change that breaks is never status 0 or 1."""
 from __future__ import annotations
 
+import json
 import struct
 import subprocess
 import unittest
 from pathlib import Path
-from typing import Callable, List
+from typing import Callable, Dict, List, Tuple
 
 from . import writers as w
 from .support import Case, Outcome, run, tool
@@ -65,6 +66,148 @@ class BesideAbidiff(Diff):
                 self.assertEqual(self.peer(old, new).returncode, 0, what)
                 done = self.asked(old, new)
                 self.assertEqual((done.status, done.output), (SAME, ""), (what, done.text))
+
+
+HEADER = """
+struct inner;
+struct pub { int a; struct inner *in; };
+typedef struct { int b; } named;
+int get(struct pub *p, named *n);
+int gone(void);
+"""
+BODY = """
+#include "pub.h"
+struct inner { int x; int y; };
+int get(struct pub *p, named *n) { return p->a + p->in->x + n->b; }
+"""
+GONE = "int gone(void) { return 1; }\n"
+# Sections of suppressions: what they say, how the library changes, and the status: abidiff's is 0
+# where that is 0, and has 4 where that is 4.
+SECTIONS = (
+    ("[suppress_type]\nname = inner\n", ("int x; int y;", "int y; int x;"), SAME),
+    ("[suppress_type]\nname_regexp = ^inn\ntype_kind = struct\n",
+     ("int x; int y;", "int y; int x;"), SAME),
+    ("[suppress_type]\nname = inner\ntype_kind = union\n",
+     ("int x; int y;", "int y; int x;"), BREAKING),
+    ("[suppress_type]\nsource_location_not_in = pub.h\n", ("int x; int y;", "int y; int x;"), SAME),
+    ("[suppress_type]\nsource_location_not_in = pub.h, body.c\n",
+     ("int x; int y;", "int y; int x;"), BREAKING),
+    ("[suppress_function]\nname = gone\n", (GONE, ""), SAME),
+    ("[suppress_function]\nname_regexp = go.e\nchange_kind = deleted-function\n", (GONE, ""),
+     SAME),
+    ("[suppress_function]\nname = gone\nchange_kind = added-function\n", (GONE, ""), BREAKING),
+    ("[suppress_variable]\nname = gone\n", (GONE, ""), BREAKING),
+    ("[suppress_file]\nfile_name_regexp = new\n", (GONE, ""), SAME),
+    ("[suppress_function]\nname = gone\nfile_name_regexp = other\n", (GONE, ""), BREAKING),
+)
+
+
+class ForUsersOfAbidiff(Diff):
+    """What abidiff has: public headers, sections of suppressions, a verdict, types in full."""
+
+    def made(self, name: str, body: str = BODY + GONE, header: str = HEADER) -> Path:
+        """A library of `body.c`, and its header in a folder beside it."""
+        folder = self.folder / name
+        (folder / "include").mkdir(parents=True)
+        (folder / "include" / "pub.h").write_text(header)
+        (folder / "body.c").write_text(body)
+        made = folder / f"{name}.so"
+        subprocess.run(["gcc", "-g", "-shared", "-fPIC", "-Iinclude", "body.c", "-o", made],
+                       check=True, cwd=folder)
+        return made
+
+    def both(self, old: Path, new: Path) -> List[str]:
+        return ["--headers-dir1", str(old.parent / "include"), "--headers-dir2",
+                str(new.parent / "include")]
+
+    def test_types_that_are_not_in_public_headers_are_opaque(self) -> None:
+        self.needs("abidiff", "gcc")
+        old = self.made("old")
+        private = self.made("private", BODY.replace("int x; int y;", "int y; int x;") + GONE)
+        public = self.made("public", header=HEADER.replace("int a;", "long a;"))
+        unnamed = self.made("unnamed", header=HEADER.replace("int b;", "long b;"))
+        self.assertEqual(self.asked(old, private).status, BREAKING)
+        for new, status in ((private, SAME), (public, BREAKING), (unnamed, BREAKING)):
+            words = self.both(old, new)
+            peer = subprocess.run(["abidiff", *words, old, new], capture_output=True, text=True)
+            self.assertEqual(peer.returncode & 4, status & 4, peer.stdout)
+            for more in ((), ("--all",)):
+                done = self.asked(old, new, *words, *more)
+                self.assertEqual(done.status, status, (new.name, more, done.text))
+        done = self.asked(old, private, "--headers-dir2", str(private.parent / "include"))
+        self.assertEqual(done.status, SAME, done.text)
+        done = self.asked(old, private, "--headers-dir1", str(self.folder / "nowhere"))
+        self.assertEqual((done.status, done.errors.count("\n")), (TROUBLE, 1), done.text)
+
+    def test_headers_want_debug_information(self) -> None:
+        path = self.folder / "a.ctf"
+        path.write_bytes(doubled(3))
+        other = self.folder / "b.ctf"
+        other.write_bytes(doubled(3) + b"\0")
+        done = self.asked(path, other, "--headers-dir1", str(self.folder))
+        self.assertEqual(done.status, TROUBLE, done.text)
+        self.assertRegex(done.errors, "does not say in which source files")
+
+    def test_sections_of_suppressions(self) -> None:
+        self.needs("abidiff", "gcc")
+        old = self.made("old")
+        listed = self.folder / "known.abignore"
+        made: Dict[Tuple[str, str], Path] = {}
+        for text, change, status in SECTIONS:
+            if change not in made:
+                made[change] = self.made(f"new{len(made)}", (BODY + GONE).replace(*change))
+            listed.write_text(text)
+            with self.subTest(text):
+                peer = subprocess.run(["abidiff", "--suppressions", listed, old, made[change]],
+                                      capture_output=True, text=True)
+                self.assertEqual(peer.returncode & 4, status & 4, peer.stdout)
+                done = self.asked(old, made[change], "--suppress", str(listed))
+                self.assertEqual(done.status, status, done.text)
+
+    def test_a_range_of_members(self) -> None:
+        old = self.library("struct s { int a; char rest[60]; }; struct s s;", "old.so")
+        new = self.library("struct s { int a; int b; char rest[56]; }; struct s s;", "new.so")
+        listed = self.folder / "known.abignore"
+        for text, status in (("{32, end}", BREAKING), ("{0, 31}", BREAKING)):
+            listed.write_text("[suppress_type]\nname = s\n"
+                              f"has_data_member_inserted_between = {text}\n")
+            done = self.asked(old, new, "--suppress", str(listed))
+            self.assertEqual(done.status, status, done.text)
+            self.assertEqual("b added" in done.output, text == "{0, 31}", done.text)
+
+    def test_sections_that_are_not_read_are_refused(self) -> None:
+        old, new = self.made("old"), self.made("new", BODY)
+        listed = self.folder / "known.abignore"
+        for text in ("[suppress_type]\naccessed_through = pointer\n", "[suppress_type]\n",
+                     "[suppress_type]\nname_regexp = (\n", "[suppress_all]\nname = a\n",
+                     "[suppress_type]\nname = a\n[suppress_function]\nlabel = b\n"):
+            listed.write_text(text)
+            done = self.asked(old, new, "--suppress", str(listed))
+            self.assertEqual((done.status, done.output), (TROUBLE, ""), text)
+            self.assertRegex(done.errors, r"\Actfd-diff: \S*known.abignore.*\n\Z")
+
+    def test_a_verdict(self) -> None:
+        old = self.library("struct s { char a; int b; }; struct s s; int two;", "old.so")
+        new = self.library("struct s { char a; char c; int b; }; struct s s;", "new.so")
+        done = self.asked(old, new, "--verdict")
+        self.assertEqual((done.status, done.output.splitlines()), (BREAKING, [
+            "compatible: struct s: c added at 1", "    s: is struct s",
+            "breaks: object two: removed",
+            "verdict: 1 break, 1 compatible: programs built for the old break with the new"]))
+        self.assertEqual(self.asked(old, old, "--verdict").output, "verdict: nothing differs\n")
+        done = self.asked(old, new, "--verdict", "--json")
+        self.assertEqual(json.loads(done.output.splitlines()[-1]), {
+            "verdict": "breaking", "breaking": 1, "compatible": 1, "uncompared": 0})
+
+    def test_types_in_full(self) -> None:
+        old = self.library("struct s { int a; }; struct s s;", "old.so")
+        new = self.library("struct s { long a; }; struct s s;", "new.so")
+        done = self.asked(old, new, "--full")
+        for line in ("    - \tint                        a;                    /*     0     4 */",
+                     "    + \tlong int                   a;                    /*     0     8 */"):
+            self.assertIn(line, done.output)
+        told = json.loads(self.asked(old, new, "--full", "--json").output)
+        self.assertIn("int                        a;", told["old"])
 
 
 class Uncompared(Diff):

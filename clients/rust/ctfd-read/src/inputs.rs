@@ -3,6 +3,7 @@
 use crate::btf;
 use crate::bytes::Names;
 use crate::ctf::{self, Layout, Sections};
+use crate::declared::SourceFiles;
 use crate::dictionary::keep_described;
 use crate::dwarf::sections;
 use crate::dwarf::types::{collect, verify};
@@ -111,6 +112,8 @@ pub struct Options {
     pub is_in_full: bool,
     /// Who is told how far the reading is.
     pub listener: Listener,
+    /// Whether the files in which types are defined are wanted.
+    pub has_sources: bool,
 }
 
 /// What a file has: its types, those of them that are wanted for themselves, and the number of types
@@ -373,6 +376,9 @@ fn with_dwarf(image: &Image, options: &Options, run: &mut Use<'_>) -> Result<()>
     let is_linked = file.kind() != ObjectKind::Relocatable;
     let (mut table, roots) =
         collector.finish(&symbols, is_linked, !file.is_64()).map_err(|error| error.of(&path))?;
+    if options.has_sources {
+        table.sources = sources_of(&read)?;
+    }
     let symbols = match symbols.table {
         SymbolTable::Names => keep_described(&mut table, symbols),
         _ => symbols,
@@ -380,6 +386,15 @@ fn with_dwarf(image: &Image, options: &Options, run: &mut Use<'_>) -> Result<()>
     let note = note(image, &symbols, debug)?;
     let verifier: Option<&Verifier<'_>> = Some(&verifier);
     run(ProgramTypes { table, roots, bases: 0, form: Form::Dwarf, symbols, note, verifier })
+}
+
+/// The files in which the types of some debug information are defined.
+fn sources_of(files: &[(Debug<'_>, String)]) -> Result<SourceFiles> {
+    let mut made = SourceFiles::default();
+    for (debug, name) in files {
+        made = made.combined(SourceFiles::of(debug).map_err(|error| error.of(name))?);
+    }
+    Ok(made)
 }
 
 /// What is to be known of the symbols of a program.
@@ -455,8 +470,11 @@ fn with_archive(image: &Image, data: &[u8], options: &Options, run: &mut Use<'_>
     }
     let collector = collect(&files, &[], is_ilp32, &options.listener)?;
     let symbols = Symbols::default();
-    let (table, roots) =
+    let (mut table, roots) =
         collector.finish(&symbols, false, is_ilp32).map_err(|error| error.of(path.display()))?;
+    if options.has_sources {
+        table.sources = sources_of(&files)?;
+    }
     let note = String::new();
     run(ProgramTypes { table, roots, bases: 0, form: Form::Dwarf, symbols, note, verifier: None })
 }

@@ -12,6 +12,7 @@ mod btf;
 mod bytes;
 pub mod collection;
 mod ctf;
+pub mod declared;
 mod descriptions;
 pub mod dictionary;
 mod dwarf;

@@ -3,6 +3,7 @@
 
 use crate::beyond::Beyond;
 use crate::ctf::{self, Sections};
+use crate::declared::SourceFiles;
 use crate::dictionary::{alone, select, select_in_full};
 use crate::elf;
 use crate::error::{refuse, Error, Result};
@@ -94,6 +95,8 @@ pub struct Handed<'a> {
     pub losses: Vec<String>,
     /// The same as far as it can be said, where that was asked for.
     pub beyond: Option<Beyond>,
+    /// In which source files its types are defined, where that was asked for.
+    pub sources: SourceFiles,
 }
 
 impl<'a> Handed<'a> {
@@ -107,6 +110,7 @@ impl<'a> Handed<'a> {
             is_made: false,
             losses: Vec::new(),
             beyond: None,
+            sources: SourceFiles::default(),
         }
     }
 
@@ -329,6 +333,7 @@ fn converted<'a>(image: &'a Image, options: &Options) -> Result<Handed<'a>> {
             model: Some(dictionary.table.model()),
             is_made: true,
             beyond: full.and_then(|full| Beyond::of_written(&full, &dictionary.table)),
+            sources: std::mem::take(&mut dictionary.table.sources),
             losses: std::mem::take(&mut dictionary.table.losses),
             ..Handed::plain(Cow::Owned(ctf))
         };

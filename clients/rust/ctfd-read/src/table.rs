@@ -1,5 +1,6 @@
 //! Types of C as records that name each other by number, before they are a dictionary.
 
+use crate::declared::SourceFiles;
 use ahash::AHasher;
 use std::borrow::Cow;
 use std::hash::{Hash, Hasher};
@@ -352,6 +353,8 @@ pub struct Table<'a> {
     pub has_outer_names: bool,
     /// Whether types of it were left out, since a dictionary has no room for them.
     pub is_cut: bool,
+    /// In which source files its types are defined, where that was asked for.
+    pub sources: SourceFiles,
 }
 
 impl<'a> Table<'a> {

@@ -96,6 +96,7 @@ impl Words {
                 },
                 is_in_full: false,
                 listener: Listener::new(Arc::new(Bar::new(format!("reading {}", input.display())))),
+                has_sources: false,
             },
             input,
             only: only

@@ -4,8 +4,10 @@
 //! both. A link may have any name: then that of the file counts, and else the first word is the
 //! command's.
 
+mod arguments;
 mod convert;
 mod diff;
+mod explore;
 mod interrupts;
 mod messages;
 mod output;
@@ -20,8 +22,12 @@ use std::process::ExitCode;
 /// A command: from its words, the program's name first, to its exit status.
 type Command = fn(Vec<OsString>) -> ExitCode;
 
-const COMMANDS: [(&str, Command); 3] =
-    [("ctfd-convert", convert::main), ("ctfd-diff", diff::main), ("ctfd-types", types::main)];
+const COMMANDS: [(&str, Command); 4] = [
+    ("ctfd-convert", convert::main),
+    ("ctfd-diff", diff::main),
+    ("ctfd-explore", explore::main),
+    ("ctfd-types", types::main),
+];
 
 fn main() -> ExitCode {
     let mut words: Vec<OsString> = std::env::args_os().collect();

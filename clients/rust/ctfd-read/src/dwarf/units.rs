@@ -321,6 +321,17 @@ impl<'a> Debug<'a> {
         Ok(Cow::Borrowed(found.slice()))
     }
 
+    /// The name of a source file that a unit's entries have a number of, without folders; empty
+    /// where it has none.
+    pub fn file_name(&self, unit: &Unit<'a>, number: i128) -> Result<&'a [u8]> {
+        let file = unit.inner.line_program.as_ref().zip(u64::try_from(number).ok());
+        let file = file.and_then(|(program, number)| program.header().file(number));
+        let Some(file) = file else { return Ok(&[]) };
+        let path = self.dwarf(unit.file()).attr_string(&unit.inner, file.path_name())?.slice();
+        let folder = path.iter().rposition(|&byte| byte == b'/').map_or(0, |slash| slash + 1);
+        Ok(&path[folder..])
+    }
+
     /// An address of the program.
     pub fn address(&self, entry: &Entry<'_, 'a>, value: AttributeValue<Slice<'a>>) -> Option<u64> {
         let dwarf = self.dwarf(entry.unit.file());
@@ -433,6 +444,11 @@ impl<'d, 'a> Entry<'d, 'a> {
     /// The same with the line of its declaration too.
     pub fn read_with_line(unit: &'d Unit<'a>, offset: UnitOffset) -> Result<Entry<'d, 'a>> {
         Entry::read_kept(unit, offset, |name| is_kept(name) || name == dw::DW_AT_decl_line)
+    }
+
+    /// The same with the file of its declaration too.
+    pub fn read_with_file(unit: &'d Unit<'a>, offset: UnitOffset) -> Result<Entry<'d, 'a>> {
+        Entry::read_kept(unit, offset, |name| is_kept(name) || name == dw::DW_AT_decl_file)
     }
 
     fn read_kept(

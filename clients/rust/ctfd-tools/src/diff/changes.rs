@@ -58,11 +58,12 @@ impl Sides<'_, '_, '_> {
             return Vec::new(); // of several of one name some are gone: what was there still is
         }
         let changed = |number: u16| {
-            let (fate, said) = match left.next() {
-                Some(other) => (Fate::Changed, self.differences(number, other)),
-                None => (Fate::Removed, vec![Said::breaking("removed", "removed")]),
+            let (fate, said, other) = match left.next() {
+                Some(other) => (Fate::Changed, self.differences(number, other), other),
+                None => (Fate::Removed, vec![Said::breaking("removed", "removed")], 0),
             };
-            Change::new(key.1.clone(), word_of(key.0), fate, said)
+            let change = Change::new(key.1.clone(), word_of(key.0), fate, said);
+            Change { pair: Some((number, other)), ..change }
         };
         rest.into_iter().map(changed).collect()
     }
@@ -153,7 +154,8 @@ fn addition(side: &Side<'_, '_>, key: &Key, number: u16) -> Change {
     let size = side.catalog.size(number);
     let text = size.map_or("added".to_owned(), |size| format!("added, size {size}"));
     let said = Said::harmless("added", text).from(Datum::Nothing, Datum::size(size));
-    Change::new(key.1.clone(), word_of(key.0), Fate::Added, vec![said])
+    let change = Change::new(key.1.clone(), word_of(key.0), Fate::Added, vec![said]);
+    Change { pair: Some((0, number)), ..change }
 }
 
 /// A forward on one side, or a name that has changed its kind.

@@ -1,51 +1,138 @@
 //! Which types and symbols are told: those of some names, without those that are left out.
 
+use super::changes::Sides;
+use super::headers::Headers;
+use super::options::Words;
+use super::said::Said;
+use super::structure::Pair;
+use super::suppressions::{has_sections, FileNames, Suppressions, SymbolChange, SymbolNamed};
 use crate::types::failure::Outcome;
 use crate::types::open::shown;
 use crate::types::text::{patterns_of, Meaning};
+use ctfd_read::declared::SourceFiles;
 use ctfd_read::error::{reason, Error};
-use std::path::{Path, PathBuf};
+use ctfd_read::exports::{Export, ExportKind};
+use std::path::Path;
 
 /// What a command line says of that.
 pub struct Chosen {
     wanted: Option<Meaning>,
     left_out: Meaning,
+    suppressions: Suppressions,
+    headers: [Option<Headers>; 2],
 }
 
 impl Chosen {
-    /// The names or patterns that are wanted, all where there are none, but those in some files.
-    pub fn new(names: &[Vec<u8>], files: &[PathBuf]) -> Outcome<Chosen> {
-        let wanted = Meaning::of(names.iter().flat_map(|name| patterns_of(name)));
+    /// The names or patterns that are wanted, all where there are none, but those in some files, and
+    /// what public headers do not define.
+    pub fn new(words: &Words) -> Outcome<Chosen> {
+        let wanted = Meaning::of(words.names.iter().flat_map(|name| patterns_of(name)));
         let mut left_out = Vec::new();
-        for path in files {
-            left_out.extend(listed(path)?);
+        let mut suppressions = Suppressions::default();
+        for path in &words.suppressed {
+            let refused = |error| Error(format!("{}: {}", shown(path), reason(&error)));
+            let bytes = std::fs::read(path).map_err(refused)?;
+            match has_sections(&bytes) {
+                true => suppressions.add(path, &bytes)?,
+                false => left_out.extend(listed(&bytes)),
+            }
         }
-        let wanted = (!names.is_empty()).then_some(wanted);
-        Ok(Chosen { wanted, left_out: Meaning::of(left_out) })
+        let wanted = (!words.names.is_empty()).then_some(wanted);
+        let headers = [Headers::of(&words.headers[0])?, Headers::of(&words.headers[1])?];
+        Ok(Chosen { wanted, left_out: Meaning::of(left_out), suppressions, headers })
     }
 
-    /// Whether a type or symbol is left out.
-    pub fn leaves_out(&self, label: &[u8]) -> bool {
+    /// Whether it has to be known in which files types are defined.
+    pub fn has_sources(&self) -> bool {
+        self.headers.iter().any(Option::is_some) || self.suppressions.has_sources()
+    }
+
+    /// Whether that of the old file has to be known.
+    pub fn needs_old(&self) -> bool {
+        self.headers[0].is_some() || self.suppressions.has_sources()
+    }
+
+    /// Whether that of the new file has to be.
+    pub fn needs_new(&self) -> bool {
+        self.headers[0].is_none() && self.headers[1].is_some()
+    }
+
+    /// Whether a type or symbol is left out by its name.
+    fn leaves_out(&self, label: &[u8]) -> bool {
         is_meant(label, &self.left_out)
+    }
+}
+
+/// The same of two files.
+pub struct Choice<'c> {
+    chosen: &'c Chosen,
+    names: FileNames,
+    sources: [&'c SourceFiles; 2],
+}
+
+impl<'c> Choice<'c> {
+    /// What is said of two files of some paths and sonames, whose types are defined in some files.
+    pub fn new(
+        chosen: &'c Chosen,
+        paths: [&Path; 2],
+        sonames: [&[u8]; 2],
+        sources: [&'c SourceFiles; 2],
+    ) -> Choice<'c> {
+        Choice { chosen, names: FileNames::new(paths, sonames), sources }
+    }
+
+    /// Whether nothing of the two is told.
+    pub fn leaves_out_all(&self) -> bool {
+        self.names.are_left_out(&self.chosen.suppressions)
+    }
+
+    /// Whether a symbol is left out, which has changed so.
+    pub fn leaves_out_symbol(&self, label: &[u8], one: &Export<'_>, change: SymbolChange) -> bool {
+        let is_function = one.kind == ExportKind::Function;
+        let named = SymbolNamed { name: one.name, version: one.version, is_function, change };
+        self.chosen.leaves_out(label)
+            || self.chosen.suppressions.leaves_out_symbol(&named, &self.names)
+    }
+
+    /// The same of one whose version is not known.
+    pub fn leaves_out_named(&self, named: &SymbolNamed<'_>) -> bool {
+        self.chosen.suppressions.leaves_out_symbol(named, &self.names)
+    }
+
+    /// Whether a pair of types is left out, with all that it alone leads to.
+    pub fn leaves_out_pair(&self, sides: &Sides<'_, '_, '_>, label: &str, pair: Pair) -> bool {
+        let is_hidden = match &self.chosen.headers {
+            [Some(headers), _] => headers.hide(sides.before, pair.0, self.sources[0]),
+            [None, Some(headers)] => headers.hide(sides.after, pair.1, self.sources[1]),
+            [None, None] => false,
+        };
+        let suppressions = &self.chosen.suppressions;
+        is_hidden
+            || self.chosen.leaves_out(label.as_bytes())
+            || suppressions.leaves_out_type(sides.before, pair.0, self.sources[0], &self.names)
+    }
+
+    /// Leaves differences of a pair of types out that are not told.
+    pub fn prune(&self, sides: &Sides<'_, '_, '_>, pair: Pair, said: &mut Vec<Said>) {
+        let suppressions = &self.chosen.suppressions;
+        suppressions.prune(sides.before, pair.0, self.sources[0], &self.names, said);
     }
 
     /// Whether a type or symbol is told.
     pub fn has(&self, label: &[u8]) -> bool {
-        let is_wanted = self.wanted.as_ref().is_none_or(|wanted| is_meant(label, wanted));
-        is_wanted && !self.leaves_out(label)
+        let is_wanted = self.chosen.wanted.as_ref().is_none_or(|wanted| is_meant(label, wanted));
+        is_wanted && !self.chosen.leaves_out(label)
     }
 }
 
 /// The patterns of a file, a name or pattern on each line. `#` begins a comment.
-fn listed(path: &Path) -> Outcome<Vec<Vec<u8>>> {
-    let bytes = std::fs::read(path)
-        .map_err(|error| Error(format!("{}: {}", shown(path), reason(&error))))?;
+fn listed(bytes: &[u8]) -> Vec<Vec<u8>> {
     let without_comment = |line: &'_ [u8]| {
         let end = line.iter().position(|&byte| byte == b'#').unwrap_or(line.len());
         line[..end].trim_ascii().to_vec()
     };
     let lines = bytes.split(|&byte| matches!(byte, b'\n' | b'\r')).map(without_comment);
-    Ok(lines.filter(|line| !line.is_empty()).flat_map(|line| patterns_of(&line)).collect())
+    lines.filter(|line| !line.is_empty()).flat_map(|line| patterns_of(&line)).collect()
 }
 
 /// Whether a type or symbol is meant, by its name with the word in front or without.

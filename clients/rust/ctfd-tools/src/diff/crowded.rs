@@ -8,6 +8,10 @@ use ctfd::{Dictionary, EnumeratorRow, Kind, MemberRow, TypeRow};
 const TIMES: u64 = 16;
 const AT_LEAST: u64 = 1 << 20;
 const AT_ONCE: usize = 256;
+/// What is said of such a file.
+pub const CROWDED: &str =
+    "its names share their bytes, and are too large each by itself: no compiler \
+                       writes that, so it is damaged or made to be slow";
 const ENUM: u32 = Kind::Enum as u32;
 const STRUCT: u32 = Kind::Struct as u32;
 const UNION: u32 = Kind::Union as u32;

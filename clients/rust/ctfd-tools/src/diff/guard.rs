@@ -5,11 +5,12 @@
 //! that reach it, and by which way.
 
 use super::changes::Sides;
-use super::chosen::Chosen;
+use super::chosen::Choice;
 use super::exported;
 use super::said::{kind_word, Change, Fate, Reach};
 use super::structure::{Found, Pair};
-use ctfd_read::exports::Exports;
+use super::suppressions::SymbolChange;
+use ctfd_read::exports::{Export, Exports};
 use std::collections::hash_map::Entry;
 use std::collections::{HashMap, VecDeque};
 use std::rc::Rc;
@@ -42,12 +43,14 @@ struct Node {
     to: Option<Step>,
     /// That change.
     end: usize,
+    /// The types, of such a pair.
+    pair: Option<Pair>,
 }
 
 impl Node {
     fn new(label: String, kind: &'static str, found: Found) -> Node {
         let (leads, way, to) = (Vec::new(), None, None);
-        Node { label, kind, found, leads, way, root: 0, to, end: 0 }
+        Node { label, kind, found, leads, way, root: 0, to, end: 0, pair: None }
     }
 
     /// Whether something differs, or breaks.
@@ -61,7 +64,7 @@ struct Guard<'g, 'o, 'n> {
     sides: Sides<'g, 'o, 'n>,
     old: &'g Exports<'g>,
     new: &'g Exports<'g>,
-    chosen: &'g Chosen,
+    choice: &'g Choice<'g>,
     /// Symbols, which come first, then pairs of types.
     nodes: Vec<Node>,
     /// How many are symbols.
@@ -78,14 +81,14 @@ pub fn changes(
     sides: Sides<'_, '_, '_>,
     old: &Exports<'_>,
     new: &Exports<'_>,
-    chosen: &Chosen,
+    choice: &Choice<'_>,
 ) -> (Vec<Change>, Option<&'static str>) {
     let bytes = sides.before.bytes() + sides.after.bytes();
     let mut guard = Guard {
         sides,
         old,
         new,
-        chosen,
+        choice,
         nodes: Vec::new(),
         symbols: 0,
         numbers: HashMap::new(),
@@ -107,27 +110,30 @@ impl Guard<'_, '_, '_> {
         for node in self.nodes.drain(..self.symbols).filter(|node| !node.found.said.is_empty()) {
             made.push(Change::new(node.label, node.kind, Fate::Changed, node.found.said));
         }
-        let is_told = |label: &[u8]| !self.chosen.leaves_out(label);
         let come = self.new.listed.iter().filter(|one| self.old.matching(one).is_none());
-        let come = come.filter(|one| is_told(&exported::plain_label(one)));
+        let come = come.filter(|one| self.is_told(one, SymbolChange::Added));
         made.extend(come.map(exported::addition));
         made
     }
 
     fn compare_symbols(&mut self) {
         for one in &self.old.listed {
-            if self.chosen.leaves_out(&exported::plain_label(one)) {
-                continue;
-            }
             match self.new.matching(one) {
-                None => self.removed.push(exported::removal(one)),
-                Some(other) => {
+                None if self.is_told(one, SymbolChange::Deleted) => {
+                    self.removed.push(exported::removal(one));
+                }
+                Some(other) if self.is_told(one, SymbolChange::OfType) => {
                     let found = exported::difference(&self.sides, one, other);
                     self.nodes.push(Node::new(exported::label(one), one.kind.word(), found));
                 }
+                _ => {}
             }
         }
         self.symbols = self.nodes.len();
+    }
+
+    fn is_told(&self, one: &Export<'_>, change: SymbolChange) -> bool {
+        !self.choice.leaves_out_symbol(&exported::plain_label(one), one, change)
     }
 
     /// All pairs of types that symbols lead to, the nearest first.
@@ -161,14 +167,16 @@ impl Guard<'_, '_, '_> {
         let label = self.sides.before.names.label(pair.0);
         let work = label.len() + self.sides.before.length(pair.0) + self.sides.after.length(pair.1);
         self.left = self.left.saturating_sub(work + 1);
-        if self.chosen.leaves_out(label.as_bytes()) {
+        if self.choice.leaves_out_pair(&self.sides, &label, pair) {
             entry.insert(None);
             return (None, false);
         }
         let number = self.nodes.len();
         entry.insert(Some(number));
         let kind = kind_word(self.sides.before.kind(pair.0));
-        self.nodes.push(Node::new(label, kind, self.sides.found(pair)));
+        let mut found = self.sides.found(pair);
+        self.choice.prune(&self.sides, pair, &mut found.said);
+        self.nodes.push(Node { pair: Some(pair), ..Node::new(label, kind, found) });
         (Some(number), true)
     }
 
@@ -219,7 +227,7 @@ impl Guard<'_, '_, '_> {
             let ways = hit.remove(&number).unwrap_or_else(|| vec![self.first(number)]);
             let said = node.found.said.clone();
             let change = Change::new(node.label.clone(), node.kind, Fate::Changed, said);
-            made.push(Change { reached: self.reaches(ways), ..change });
+            made.push(Change { reached: self.reaches(ways), pair: node.pair, ..change });
         }
         made
     }

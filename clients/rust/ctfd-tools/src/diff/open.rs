@@ -1,14 +1,14 @@
 //! Opens the two files, each over its parent.
 
-use super::crowded::is_crowded;
+use super::crowded::{is_crowded, CROWDED};
 use super::options::{Words, NAME};
 use super::symbol_changes::is_told;
 use crate::types::catalog::Catalog;
 use crate::types::failure::{Failure, Outcome};
 use crate::types::names::Names;
-use crate::types::open::{judge_model, shown, with_catalog, Parents};
-use crate::types::text::printable;
+use crate::types::open::{judge_model, shown, with_catalog, without_parent, Parents};
 use ctfd_read::beyond::Beyond;
+use ctfd_read::declared::SourceFiles;
 use ctfd_read::exports::{exports, Exports};
 use ctfd_read::image::Image;
 use ctfd_read::opening::{self, Handed};
@@ -18,9 +18,6 @@ use std::path::Path;
 const ALONE: &str = "a parent goes with a dictionary, and this file's types are converted first: \
                      leave the parent out, or make the dictionary by ctfd-convert (--parent makes \
                      a child)";
-
-const CROWDED: &str = "its names share their bytes, and are too large each by itself: no compiler \
-                       writes that, so it is damaged or made to be slow";
 
 /// A file that is open.
 pub struct Opened<'o, 'd> {
@@ -32,6 +29,8 @@ pub struct Opened<'o, 'd> {
     pub handed: &'o Handed<'o>,
     losses: &'o [String],
     beyond: Option<&'o Beyond>,
+    /// In which source files its types are defined, where that was asked for.
+    pub sources: &'o SourceFiles,
 }
 
 impl<'o, 'd> Opened<'o, 'd> {
@@ -96,19 +95,7 @@ pub fn with_file<T>(
             return Err(Failure::Refused(format!("{}: {CROWDED}", shown(path))));
         }
         let names = Names::new(catalog);
-        let (losses, beyond) = (&found.losses, found.beyond.as_ref());
-        run(&Opened { image: &image, names: &names, handed, losses, beyond })
+        let (losses, beyond, sources) = (&found.losses, found.beyond.as_ref(), &found.sources);
+        run(&Opened { image: &image, names: &names, handed, losses, beyond, sources })
     })
-}
-
-fn without_parent(path: &Path, catalog: &Catalog<'_>) -> Failure {
-    let name = catalog.types.parent_name();
-    let name = match name.is_empty() {
-        true => Cow::Borrowed("a parent without a name"),
-        false => printable(&name),
-    };
-    Failure::Refused(format!(
-        "{} is a child of {name}, whose types it names: name the parent's file by --parent",
-        shown(path)
-    ))
 }

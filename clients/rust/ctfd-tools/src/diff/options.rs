@@ -1,9 +1,8 @@
 //! The words of `ctfd-diff`: the two files, and what is wanted of their differences.
 
-use clap::builder::PossibleValuesParser;
+use crate::arguments::{self, file, flag};
 use clap::{value_parser, Arg, ArgAction, ArgMatches, Command};
-use ctfd::Model;
-use ctfd_read::inputs::{Form, Options};
+use ctfd_read::inputs::Options;
 use std::ffi::OsString;
 use std::os::unix::ffi::OsStringExt as _;
 use std::path::{Path, PathBuf};
@@ -35,8 +34,14 @@ pub struct Words {
     pub names: Vec<Vec<u8>>,
     /// Files with those that are not.
     pub suppressed: Vec<PathBuf>,
+    /// Folders of the public headers of the old file, and of the new.
+    pub headers: [Vec<PathBuf>; 2],
     /// Whether objects of JSON are printed.
     pub is_json: bool,
+    /// Whether each line says whether it breaks, and the last what comes of all.
+    pub has_verdict: bool,
+    /// Whether types are told in full, as they were and as they are.
+    pub is_in_full: bool,
     /// How files are read.
     pub reading: Options,
     parent: Option<PathBuf>,
@@ -52,7 +57,6 @@ impl Words {
 
     fn of(matches: &ArgMatches) -> Words {
         let path = |name: &str| matches.get_one::<PathBuf>(name).cloned();
-        let word = |name: &str| matches.get_one::<String>(name).map(String::as_str);
         let many = |name: &str| matches.get_many(name).unwrap_or_default().cloned().collect();
         let names = matches.get_many::<OsString>("name").unwrap_or_default();
         Words {
@@ -62,19 +66,11 @@ impl Words {
             is_all: matches.get_flag("all"),
             names: names.cloned().map(OsString::into_vec).collect(),
             suppressed: many("suppress"),
+            headers: [many("headers-dir1"), many("headers-dir2")],
             is_json: matches.get_flag("json"),
-            reading: Options {
-                model: word("model").map(|word| match word {
-                    "ilp32" => Model::Ilp32,
-                    _ => Model::Lp64,
-                }),
-                form: word("from")
-                    .and_then(|word| Form::ALL.into_iter().find(|form| form.word() == word)),
-                base: path("base"),
-                folders: many("debug-folder"),
-                is_in_full: true,
-                ..Options::default()
-            },
+            has_verdict: matches.get_flag("verdict"),
+            is_in_full: matches.get_flag("full"),
+            reading: Options { is_in_full: true, ..arguments::reading(matches) },
             parent: path("parent"),
             old_parent: path("old-parent"),
             new_parent: path("new-parent"),
@@ -92,38 +88,26 @@ impl Words {
     }
 }
 
-fn file(name: &'static str, help: &'static str) -> Arg {
-    Arg::new(name).long(name).value_name("FILE").value_parser(value_parser!(PathBuf)).help(help)
-}
-
-fn flag(name: &'static str, help: &'static str) -> Arg {
-    Arg::new(name).long(name).action(ArgAction::SetTrue).help(help)
-}
-
-/// An option of one of some words, which stand apart by `|`.
-fn word(name: &'static str, listed: &'static str, help: &'static str) -> Arg {
-    let words = PossibleValuesParser::new(listed.split('|'));
-    let made = Arg::new(name).long(name).value_name(listed).value_parser(words);
-    made.hide_possible_values(true).help(help)
+fn headers(name: &'static str, help: &'static str) -> Arg {
+    file(name, help).value_name("FOLDER").action(ArgAction::Append)
 }
 
 fn options() -> Command {
     let of_file =
         |name: &'static str| Arg::new(name).required(true).value_parser(value_parser!(PathBuf));
-    let columns = std::env::var("COLUMNS").ok().and_then(|columns| columns.parse().ok());
-    Command::new(NAME)
-        .version(env!("CARGO_PKG_VERSION"))
-        .about(ABOUT)
-        .term_width(columns.filter(|&columns| columns >= 40).unwrap_or(100))
-        .max_term_width(100)
-        .infer_long_args(true)
+    arguments::command(NAME, ABOUT)
         .args([of_file("OLD"), of_file("NEW")])
         .args(of_answers())
-        .args(of_files())
+        .args([
+            file("parent", "the parent of both"),
+            file("old-parent", "the parent of OLD"),
+            file("new-parent", "the parent of NEW"),
+        ])
+        .args(arguments::of_reading())
 }
 
 /// What is told, and how.
-fn of_answers() -> [Arg; 5] {
+fn of_answers() -> [Arg; 9] {
     [
         flag("breaking", "only what breaks programs built for OLD; the status is then 0 or 4"),
         flag("all", "all types and symbols, static and hidden ones too"),
@@ -137,30 +121,13 @@ fn of_answers() -> [Arg; 5] {
         file(
             "suppress",
             "a file with types and symbols to leave out, a name or pattern on each line; # begins \
-             a comment",
+             a comment; or sections as abidiff's",
         )
         .action(ArgAction::Append),
+        headers("headers-dir1", "the public headers of OLD: types that others define are left out"),
+        headers("headers-dir2", "the same of NEW, which counts without --headers-dir1"),
+        flag("verdict", "each line says whether it breaks, and the last what comes of all"),
+        flag("full", "each changed type in full, as it was and as it is"),
         flag("json", "a JSON object on each line"),
-    ]
-}
-
-/// What is read.
-fn of_files() -> [Arg; 9] {
-    [
-        file("parent", "the parent of both"),
-        file("old-parent", "the parent of OLD"),
-        file("new-parent", "the parent of NEW"),
-        word(
-            "model",
-            "lp64|ilp32",
-            "whether pointers have 8 bytes or 4; an ELF file says so itself",
-        ),
-        word("from", "ctf|btf|dwarf|gnu", "the form to read; by default the first that a file has"),
-        file("base", "the BTF of a module's kernel"),
-        file("debug-folder", "where to look for debug files, before /usr/lib/debug")
-            .value_name("FOLDER")
-            .action(ArgAction::Append),
-        flag("no-cache", "for older scripts: nothing is kept, so nothing changes").hide(true),
-        file("service", "for older scripts: the library in this command answers").hide(true),
     ]
 }

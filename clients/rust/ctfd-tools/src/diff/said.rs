@@ -1,5 +1,6 @@
 //! What is told of a difference: of each type or symbol what differs, and who reaches it.
 
+use super::structure::Pair;
 use crate::types::json::{list, text, Object};
 use crate::types::text::printable;
 use ctfd::Kind;
@@ -98,6 +99,21 @@ impl Said {
         Said { old, new, ..self }
     }
 
+    /// Whether it is of members that are new, gone or moved between two bits. Members that move
+    /// together are told by the first: where they end is not known.
+    pub fn is_between(&self, from: u128, to: u128) -> bool {
+        let is_within = |datum: &Datum| match datum {
+            Datum::Number(bit) => u128::try_from(*bit).is_ok_and(|bit| (from..=to).contains(&bit)),
+            _ => false,
+        };
+        match self.what {
+            "added member" => is_within(&self.new),
+            "removed member" => is_within(&self.old),
+            "moved" => to == u128::MAX && is_within(&self.old) && is_within(&self.new),
+            _ => false,
+        }
+    }
+
     fn json(&self) -> String {
         Object::default()
             .text("what", self.what.as_bytes())
@@ -175,12 +191,14 @@ pub struct Change {
     pub said: Vec<Said>,
     /// Which exported symbols lead to a type.
     pub reached: Vec<Reach>,
+    /// The old and the new type, where it is one of both.
+    pub pair: Option<Pair>,
 }
 
 impl Change {
     /// One of which nothing leads to it.
     pub fn new(label: String, kind: &'static str, fate: Fate, said: Vec<Said>) -> Change {
-        Change { label, kind, fate, said, reached: Vec::new() }
+        Change { label, kind, fate, said, reached: Vec::new(), pair: None }
     }
 
     /// Whether programs break by it.
@@ -203,17 +221,26 @@ impl Change {
         made
     }
 
-    /// The same as an object of JSON.
-    pub fn json(&self) -> String {
-        Object::default()
-            .text("label", self.label.as_bytes())
+    /// The same, with a word in front that says whether it breaks.
+    pub fn judged(&self) -> String {
+        let word = if self.breaks() { "breaks" } else { "compatible" };
+        format!("{word}: {}", self.lines())
+    }
+
+    /// The same as an object of JSON, with both types in full where they are given.
+    pub fn json(&self, full: Option<&[String; 2]>) -> String {
+        let mut made = Object::default();
+        made.text("label", self.label.as_bytes())
             .text("kind", self.kind.as_bytes())
             .text("change", self.fate.word().as_bytes())
             .field("breaking", self.breaks())
             .field("said", list(self.said.iter().map(Said::json)))
             .text("text", self.to_string().as_bytes())
-            .field("reached", list(self.reached.iter().map(Reach::json)))
-            .end()
+            .field("reached", list(self.reached.iter().map(Reach::json)));
+        match full {
+            Some([was, is]) => made.text("old", was.as_bytes()).text("new", is.as_bytes()).end(),
+            None => made.end(),
+        }
     }
 }
 

@@ -9,7 +9,7 @@ mod figures;
 mod header;
 pub mod json;
 mod layout;
-mod listing;
+pub mod listing;
 mod lookup;
 mod members;
 pub mod names;

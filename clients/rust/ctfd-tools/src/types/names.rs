@@ -34,6 +34,11 @@ impl<'c, 'd> Names<'c, 'd> {
         !self.catalog.record(number).name.is_empty() || self.typedefs.contains_key(&number)
     }
 
+    /// The typedefs of a type that has a tag, or may have one.
+    pub fn typedefs(&self, number: u16) -> &[u16] {
+        self.typedefs.get(&number).map(Vec::as_slice).unwrap_or_default()
+    }
+
     /// The name by which it is told.
     pub fn label(&self, number: u16) -> String {
         let record = self.catalog.record(number);

@@ -2,10 +2,11 @@
 
 use super::catalog::{Catalog, Lists};
 use super::failure::{told, Failure, Outcome};
-use super::options::Words;
+use super::options::{Words, NAME};
 use super::text::printable;
-use super::{warn, warn_by};
+use super::warn_by;
 use ctfd::{Dictionary, Fault, Model, Refusal};
+use ctfd_read::declared::SourceFiles;
 use ctfd_read::dictionary::notice;
 use ctfd_read::image::Image;
 use ctfd_read::opening::{self, Handed, Origin};
@@ -59,16 +60,26 @@ impl<'w> Parents<'w> {
 
 /// What is given for a file, with what the command line says of it.
 pub fn handed<'i>(image: &'i Image, words: &Words) -> Outcome<Handed<'i>> {
-    let path = image.path();
-    let mut found = opening::handed(image, &words.reading)?;
-    for line in losses(&found, path) {
-        warn(&format!("{}: {line}", shown(path)));
-    }
     let is_given = words.parent.is_some() || words.symbols.is_some() || words.strings.is_some();
+    handed_by(NAME, image, &words.reading, is_given)
+}
+
+/// The same by a command, where something may be given that goes with a dictionary alone.
+pub fn handed_by<'i>(
+    command: &str,
+    image: &'i Image,
+    reading: &ctfd_read::inputs::Options,
+    is_given: bool,
+) -> Outcome<Handed<'i>> {
+    let path = image.path();
+    let mut found = opening::handed(image, reading)?;
+    for line in losses(&found, path) {
+        warn_by(command, &format!("{}: {line}", shown(path)));
+    }
     if found.is_made && is_given {
         return Err(Failure::Refused(format!("{}: {ALONE}", shown(path))));
     }
-    judge_model(&mut found, words.reading.model, path)?;
+    judge_model(&mut found, reading.model, path)?;
     Ok(found)
 }
 
@@ -177,6 +188,7 @@ pub fn with_catalog<T>(
         is_made: handed.is_made,
         losses: Vec::new(),
         beyond: None,
+        sources: SourceFiles::default(),
     };
     let types = Dictionary::open_lent(&bare.ctf, bare.options())
         .map_err(|refusal| Failure::of_library(shown(path), refusal))?;
@@ -213,4 +225,17 @@ fn over_parent<T>(
 
 fn lists<'h>(handed: &'h Handed<'_>) -> Lists<'h> {
     Lists { ctf: &handed.ctf, strings: handed.strings.as_deref().unwrap_or_default() }
+}
+
+/// That a file is a child whose parent is not named.
+pub fn without_parent(path: &Path, catalog: &Catalog<'_>) -> Failure {
+    let name = catalog.types.parent_name();
+    let name = match name.is_empty() {
+        true => Cow::Borrowed("a parent without a name"),
+        false => printable(&name),
+    };
+    Failure::Refused(format!(
+        "{} is a child of {name}, whose types it names: name the parent's file by --parent",
+        shown(path)
+    ))
 }

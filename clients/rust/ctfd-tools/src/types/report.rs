@@ -12,6 +12,7 @@ use super::options::{Question, Words};
 use super::text::{is_pattern, printable, without_tag, TAGS};
 use super::whole::Whole;
 use super::{declare, header, json, members, picture, records, reorganize, symbols, treemap, warn};
+use ctfd_read::declared::SourceFiles;
 use ctfd_read::image::Image;
 use ctfd_read::nearest::suggestion;
 use ctfd_read::opening::{Handed, Origin};
@@ -337,6 +338,7 @@ impl<'a, 'd> Answer<'a, 'd> {
                 is_made: handed.is_made,
                 losses: Vec::new(),
                 beyond: None,
+                sources: SourceFiles::default(),
             };
             whole.add_names();
             return with_catalog(self.path, &whole, self.parents, |opened| {

@@ -1,0 +1,122 @@
+//! In which source files the types of debug information are defined.
+
+use crate::dwarf::names::{Language, Prefixes};
+use crate::dwarf::units::{scopes, Debug, Entry, Unit};
+use crate::error::Result;
+use crate::table::Kind;
+use gimli::constants as dw;
+use gimli::DwTag;
+use rayon::prelude::*;
+use std::collections::{BTreeSet, HashMap};
+
+/// The names of the files, without folders, in which types are defined, by what these are and by
+/// their names. One that several units define may have several.
+#[derive(Clone, Debug, Default)]
+pub struct SourceFiles {
+    names: Vec<Vec<u8>>,
+    numbers: HashMap<Vec<u8>, u32>,
+    types: HashMap<(Kind, Vec<u8>), BTreeSet<u32>>,
+}
+
+impl SourceFiles {
+    /// Those of all units of some debug information.
+    pub fn of(debug: &Debug<'_>) -> Result<SourceFiles> {
+        let of_unit = |place: usize| -> Result<SourceFiles> {
+            let mut made = SourceFiles::default();
+            made.add_unit(debug, &debug.open_place(place)?)?;
+            Ok(made)
+        };
+        let combined = |one: SourceFiles, other: SourceFiles| Ok(one.combined(other));
+        let units = (0..debug.slot_count()).into_par_iter().map(of_unit);
+        units.try_reduce(SourceFiles::default, combined)
+    }
+
+    /// The files in which a type is defined; none where nothing says that.
+    pub fn of_type(&self, kind: Kind, name: &[u8]) -> impl Iterator<Item = &[u8]> {
+        let numbers = self.types.get(&(kind, name.to_vec())).into_iter().flatten();
+        numbers.map(|&number| self.names[number as usize].as_slice())
+    }
+
+    /// Whether nothing is said of any type.
+    pub fn is_empty(&self) -> bool {
+        self.types.is_empty()
+    }
+
+    /// Each type with the files in which it is defined, in the order of their names.
+    pub fn each(&self) -> Vec<(Kind, &[u8], Vec<&[u8]>)> {
+        let file = |&number: &u32| self.names[number as usize].as_slice();
+        let each = self.types.iter();
+        let mut made: Vec<_> = each
+            .map(|((kind, name), files)| (*kind, name.as_slice(), files.iter().map(file).collect()))
+            .collect();
+        made.sort_unstable_by_key(|(kind, name, _): &(Kind, &[u8], Vec<&[u8]>)| {
+            (*name, *kind as u8)
+        });
+        made
+    }
+
+    /// Says that a type is defined in a file.
+    pub fn add(&mut self, kind: Kind, name: &[u8], file: &[u8]) {
+        let number = self.number(file);
+        self.types.entry((kind, name.to_vec())).or_default().insert(number);
+    }
+
+    fn number(&mut self, file: &[u8]) -> u32 {
+        if let Some(&number) = self.numbers.get(file) {
+            return number;
+        }
+        let number = self.names.len() as u32;
+        self.names.push(file.to_vec());
+        self.numbers.insert(file.to_vec(), number);
+        number
+    }
+
+    /// The same with what others say.
+    pub fn combined(mut self, other: SourceFiles) -> SourceFiles {
+        if self.types.len() < other.types.len() {
+            return other.combined(self);
+        }
+        let to: Vec<u32> = other.names.iter().map(|name| self.number(name)).collect();
+        for (key, files) in other.types {
+            let files = files.into_iter().map(|number| to[number as usize]);
+            self.types.entry(key).or_default().extend(files);
+        }
+        self
+    }
+
+    fn add_unit<'a>(&mut self, debug: &Debug<'a>, unit: &Unit<'a>) -> Result<()> {
+        let Some(language) = Language::of_unit(unit)? else { return Ok(()) };
+        let prefixes = match language {
+            Language::C => Prefixes::default(),
+            Language::Scoped => Prefixes::of(debug, unit)?,
+        };
+        let mut files = HashMap::new();
+        for scope in scopes(unit, language)? {
+            for (offset, tag) in scope.entries {
+                let Some(kind) = kind_of(tag) else { continue };
+                let entry = Entry::read_with_file(unit, offset)?;
+                let file = entry.constant(dw::DW_AT_decl_file);
+                let (Some(file), false) = (file, entry.has(dw::DW_AT_declaration)) else {
+                    continue;
+                };
+                let name = prefixes.full_name(debug, &entry)?;
+                if !files.contains_key(&file) {
+                    files.insert(file, self.number(debug.file_name(unit, file)?));
+                }
+                self.types.entry((kind, name.into_owned())).or_default().insert(files[&file]);
+            }
+        }
+        Ok(())
+    }
+}
+
+/// What an entry of a tag defines.
+fn kind_of(tag: DwTag) -> Option<Kind> {
+    match tag {
+        dw::DW_TAG_structure_type | dw::DW_TAG_class_type => Some(Kind::Struct),
+        dw::DW_TAG_union_type => Some(Kind::Union),
+        dw::DW_TAG_enumeration_type => Some(Kind::Enum),
+        dw::DW_TAG_typedef | dw::DW_TAG_template_alias => Some(Kind::Typedef),
+        _ => None,
+    }
+}

@@ -1,0 +1,69 @@
+//! What the words of several commands have in common: how options are made, and how files are read.
+
+use clap::builder::PossibleValuesParser;
+use clap::{value_parser, Arg, ArgAction, ArgMatches, Command};
+use ctfd::Model;
+use ctfd_read::inputs::{Form, Options};
+use std::path::PathBuf;
+
+/// A command of a name, with what its help says of it.
+pub fn command(name: &'static str, about: &'static str) -> Command {
+    let columns = std::env::var("COLUMNS").ok().and_then(|columns| columns.parse().ok());
+    Command::new(name)
+        .version(env!("CARGO_PKG_VERSION"))
+        .about(about)
+        .term_width(columns.filter(|&columns| columns >= 40).unwrap_or(100))
+        .max_term_width(100)
+        .infer_long_args(true)
+}
+
+/// An option that names a file.
+pub fn file(name: &'static str, help: &'static str) -> Arg {
+    Arg::new(name).long(name).value_name("FILE").value_parser(value_parser!(PathBuf)).help(help)
+}
+
+/// An option that is given or not.
+pub fn flag(name: &'static str, help: &'static str) -> Arg {
+    Arg::new(name).long(name).action(ArgAction::SetTrue).help(help)
+}
+
+/// An option of one of some words, which stand apart by `|`.
+pub fn word(name: &'static str, listed: &'static str, help: &'static str) -> Arg {
+    let words = PossibleValuesParser::new(listed.split('|'));
+    let made = Arg::new(name).long(name).value_name(listed).value_parser(words);
+    made.hide_possible_values(true).help(help)
+}
+
+/// How files are read.
+pub fn of_reading() -> [Arg; 6] {
+    [
+        word(
+            "model",
+            "lp64|ilp32",
+            "whether pointers have 8 bytes or 4; an ELF file says so itself",
+        ),
+        word("from", "ctf|btf|dwarf|gnu", "the form to read; by default the first that a file has"),
+        file("base", "the BTF of a module's kernel"),
+        file("debug-folder", "where to look for debug files, before /usr/lib/debug")
+            .value_name("FOLDER")
+            .action(ArgAction::Append),
+        flag("no-cache", "for older scripts: nothing is kept, so nothing changes").hide(true),
+        file("service", "for older scripts: the library in this command answers").hide(true),
+    ]
+}
+
+/// What these say.
+pub fn reading(matches: &ArgMatches) -> Options {
+    let word = |name: &str| matches.get_one::<String>(name).map(String::as_str);
+    let model = word("model").map(|word| match word {
+        "ilp32" => Model::Ilp32,
+        _ => Model::Lp64,
+    });
+    Options {
+        model,
+        form: word("from").and_then(|word| Form::ALL.into_iter().find(|form| form.word() == word)),
+        base: matches.get_one::<PathBuf>("base").cloned(),
+        folders: matches.get_many("debug-folder").unwrap_or_default().cloned().collect(),
+        ..Options::default()
+    }
+}

@@ -1,0 +1,264 @@
+//! What is told of two files, and what comes of it.
+
+use super::changes::Sides;
+use super::chosen::{Choice, Chosen};
+use super::complete::incomparable;
+use super::guard;
+use super::open::Opened;
+use super::options::{Words, NAME};
+use super::said::{Change, Said};
+use super::side::Side;
+use super::suppressions::{SymbolChange, SymbolNamed};
+use super::symbol_changes::{self, Symbols};
+use super::{BREAKING, COMPATIBLE, SAME, TROUBLE, UNCOMPARED, UNTOLD};
+use crate::types::failure::{Failure, Outcome};
+use crate::types::json::Object;
+use crate::types::listing::{definition, Manner};
+use crate::types::output::Output;
+use crate::types::warn_by;
+use ctfd_read::exports::Exports;
+use ctfd_read::opening::Origin;
+use std::io::Write as _;
+
+const NO_SOURCES: &str =
+    "it does not say in which source files its types are defined, by which some \
+                          are left out: name a file with debug information";
+
+/// How many changes were told, and the status that comes of them.
+#[derive(Clone, Copy, Debug, Default)]
+pub struct Tally {
+    breaking: usize,
+    compatible: usize,
+    /// How many lines said that something was not compared.
+    uncompared: usize,
+    /// The exit status.
+    pub status: u8,
+}
+
+impl Tally {
+    fn add(&mut self, change: &Change) {
+        match change.breaks() {
+            true => self.breaking += 1,
+            false => self.compatible += 1,
+        }
+        let is_untold = change.said.iter().any(|one| one.what == UNTOLD);
+        self.uncompared += usize::from(is_untold);
+        let status = if change.breaks() { BREAKING } else { COMPATIBLE };
+        self.status = self.status.max(status).max(if is_untold { TROUBLE } else { SAME });
+    }
+
+    /// The verdict in one line.
+    pub fn text(&self) -> String {
+        let sum = match (self.breaking, self.compatible) {
+            (0, 0) => "nothing differs".to_owned(),
+            (0, count) => {
+                format!("{count} compatible: programs built for the old run with the new")
+            }
+            (count, 0) => format!("{count} break: programs built for the old break with the new"),
+            (breaking, compatible) => format!(
+                "{breaking} break, {compatible} compatible: programs built for the old break with \
+                 the new"
+            ),
+        };
+        let rest = match self.uncompared {
+            0 => String::new(),
+            count => format!(", as far as was compared: {count} could not be"),
+        };
+        format!("verdict: {sum}{rest}")
+    }
+
+    /// The same as an object of JSON.
+    pub fn json(&self) -> String {
+        let word = match self.status {
+            SAME => "same",
+            COMPATIBLE => "compatible",
+            BREAKING => "breaking",
+            _ => "unknown",
+        };
+        Object::default()
+            .text("verdict", word.as_bytes())
+            .field("breaking", self.breaking)
+            .field("compatible", self.compatible)
+            .field("uncompared", self.uncompared)
+            .end()
+    }
+}
+
+/// Tells what differs in two files.
+pub fn tell(
+    words: &Words,
+    chosen: &Chosen,
+    output: &mut Output,
+    tally: &mut Tally,
+    (old, new): (&Opened<'_, '_>, &Opened<'_, '_>),
+) -> Outcome<()> {
+    let exports = match words.is_all {
+        true => (None, None),
+        false => (old.exports()?, new.exports()?),
+    };
+    let soname = |one: &Option<Exports<'_>>| one.as_ref().map_or(Vec::new(), |e| e.soname.to_vec());
+    let sonames = (soname(&exports.0), soname(&exports.1));
+    let lacks_old = chosen.needs_old() && old.sources.is_empty();
+    let lacks_new = chosen.needs_new() && new.sources.is_empty();
+    if lacks_old || lacks_new {
+        let path = if lacks_old { old.path() } else { new.path() };
+        return Err(Failure::Refused(format!("{path}: {NO_SOURCES}")));
+    }
+    let paths = [old.image.path(), new.image.path()];
+    let sources = [old.sources, new.sources];
+    let choice = Choice::new(chosen, paths, [&sonames.0, &sonames.1], sources);
+    if choice.leaves_out_all() {
+        return Ok(());
+    }
+    let report = Report { words, choice: &choice, output, tally, left: Vec::new() };
+    report.on(old, new, exports)
+}
+
+/// What is told of two files.
+struct Report<'r> {
+    words: &'r Words,
+    choice: &'r Choice<'r>,
+    output: &'r mut Output,
+    tally: &'r mut Tally,
+    /// Lines on what is not compared.
+    left: Vec<String>,
+}
+
+impl Report<'_> {
+    fn on(
+        mut self,
+        old: &Opened<'_, '_>,
+        new: &Opened<'_, '_>,
+        exports: (Option<Exports<'_>>, Option<Exports<'_>>),
+    ) -> Outcome<()> {
+        if old.catalog().is_ilp32() != new.catalog().is_ilp32() {
+            self.left.push("the pointers of the two differ in size".to_owned());
+        }
+        for (path, origin) in [(old.path(), old.handed.origin), (new.path(), new.handed.origin)] {
+            let is_told = !origin.warning().is_empty() && origin != Origin::Guessed;
+            self.left.extend(is_told.then(|| format!("{path}: {}", origin.warning())));
+        }
+        let (beyond_old, beyond_new) = (old.beyond(), new.beyond());
+        let (old_path, new_path) = (old.path(), new.path());
+        let lost = ((&*old_path, &*beyond_old.losses), (&*new_path, &*beyond_new.losses));
+        self.left.extend(incomparable(lost.0, lost.1));
+        let before = Side::new(old.names, &beyond_old, old.handed.ctf.len());
+        let after = Side::new(new.names, &beyond_new, new.handed.ctf.len());
+        let sides = Sides { before: &before, after: &after };
+        match exports {
+            (Some(were), Some(are)) => {
+                let (found, cut) = guard::changes(sides, &were, &are, self.choice);
+                self.left.extend(cut.map(str::to_owned));
+                found.into_iter().try_for_each(|change| self.tell(&sides, change))?;
+            }
+            (None, None) => self.all(&sides, old, new)?,
+            (were, _) => {
+                let path = if were.is_some() { &new_path } else { &old_path };
+                let line = "it exports no function with known types: all types are compared";
+                warn_by(NAME, &format!("{path}: {line}"));
+                self.all(&sides, old, new)?;
+            }
+        }
+        for (path, cuts) in [(old_path, before.cut()), (new_path, after.cut())] {
+            self.left.extend(cuts.iter().map(|cut| format!("{path}: {cut}")));
+        }
+        self.end()
+    }
+
+    /// Tells what was not compared.
+    fn end(self) -> Outcome<()> {
+        for line in &self.left {
+            self.output.flush()?;
+            warn_by(NAME, line);
+        }
+        if !self.left.is_empty() {
+            self.tally.uncompared += self.left.len();
+            self.tally.status = self.tally.status.max(TROUBLE);
+        }
+        Ok(())
+    }
+
+    /// Compares all types, then all symbols.
+    fn all(
+        &mut self,
+        sides: &Sides<'_, '_, '_>,
+        old: &Opened<'_, '_>,
+        new: &Opened<'_, '_>,
+    ) -> Outcome<()> {
+        for mut change in sides.changes() {
+            let pair = change.pair.unwrap_or_default();
+            if !self.choice.leaves_out_pair(sides, &change.label, pair) {
+                self.choice.prune(sides, pair, &mut change.said);
+                self.tell(sides, change)?;
+            }
+        }
+        let were = Symbols::of(old.catalog(), old.handed);
+        let are = Symbols::of(new.catalog(), new.handed);
+        if were.is_empty() != are.is_empty() {
+            let path = if were.is_empty() { old.path() } else { new.path() };
+            self.left.push(format!(
+                "{path}: nothing is told of its functions and objects, and they are not compared"
+            ));
+        }
+        for change in symbol_changes::changes(&were, &are) {
+            if !self.choice.leaves_out_named(&named(&change)) {
+                self.tell(sides, change)?;
+            }
+        }
+        Ok(())
+    }
+
+    /// Tells a change, where it is wanted.
+    fn tell(&mut self, sides: &Sides<'_, '_, '_>, mut change: Change) -> Outcome<()> {
+        if !self.choice.has(change.label.as_bytes()) {
+            return Ok(());
+        }
+        if self.words.is_breaking {
+            let is_left = |one: &&Said| UNCOMPARED.contains(&one.what) && !one.breaks;
+            let left = change.said.iter().filter(is_left);
+            self.left.extend(left.map(|one| format!("{}: {}", change.label, one.text)));
+            change = change.breaking();
+        }
+        if change.said.is_empty() {
+            return Ok(());
+        }
+        self.tally.add(&change);
+        let full = change.pair.filter(|_| self.words.is_in_full).map(|pair| both(sides, pair));
+        match (self.words.is_json, self.words.has_verdict) {
+            (true, _) => writeln!(self.output, "{}", change.json(full.as_ref()))?,
+            (false, true) => writeln!(self.output, "{}", change.judged())?,
+            (false, false) => writeln!(self.output, "{}", change.lines())?,
+        }
+        if let (Some([was, is]), false) = (full, self.words.is_json) {
+            write!(self.output, "{}{}", marked('-', &was), marked('+', &is))?;
+        }
+        Ok(())
+    }
+}
+
+/// A symbol of which a change tells without its version.
+fn named(change: &Change) -> SymbolNamed<'_> {
+    let name = change.said.first().map_or(&[][..], |one| one.name.as_slice());
+    let change_kind = match change.fate {
+        super::said::Fate::Added => SymbolChange::Added,
+        super::said::Fate::Removed => SymbolChange::Deleted,
+        super::said::Fate::Changed => SymbolChange::OfType,
+    };
+    let is_function = change.kind == "function";
+    SymbolNamed { name, version: &[], is_function, change: change_kind }
+}
+
+/// Both types of a pair in full; nothing for one that is not there.
+fn both(sides: &Sides<'_, '_, '_>, (old, new): (u16, u16)) -> [String; 2] {
+    let manner = Manner { has_places: true, ..Manner::PLAIN };
+    let written = |side: &Side<'_, '_>, number: u16| match number {
+        0 => String::new(),
+        _ => definition(side.catalog, number, manner),
+    };
+    [written(sides.before, old), written(sides.after, new)]
+}
+
+/// Lines with a sign in front, below a change.
+fn marked(sign: char, text: &str) -> String {
+    text.lines().map(|line| format!("    {sign} {line}").trim_end().to_owned() + "\n").collect()
+}

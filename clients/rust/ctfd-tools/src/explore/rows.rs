@@ -1,0 +1,142 @@
+//! All types of some files as rows of JSON, which name each other by their places; row 0 is void.
+
+use crate::types::catalog::{Catalog, Record};
+use crate::types::json::{list, text, word_of};
+use crate::types::open::shown;
+use crate::types::text::printable;
+use ctfd::Kind;
+use std::collections::HashMap;
+use std::path::Path;
+
+/// The kinds that rows name by their places here.
+const KINDS: [Kind; 14] = [
+    Kind::Integer,
+    Kind::Float,
+    Kind::Pointer,
+    Kind::Array,
+    Kind::Function,
+    Kind::Struct,
+    Kind::Union,
+    Kind::Enum,
+    Kind::Forward,
+    Kind::Typedef,
+    Kind::Volatile,
+    Kind::Const,
+    Kind::Restrict,
+    Kind::Unknown,
+];
+const VOID: &str = "[0,\"\"]";
+
+/// Where types stand among the rows, by their numbers.
+type Places = HashMap<u16, usize>;
+
+/// The rows. A parent's types are there once, in front of those of its children.
+pub struct Rows {
+    parent: String,
+    /// Each row, empty where it is not made yet.
+    rows: Vec<String>,
+    files: Vec<String>,
+    copies: Vec<usize>,
+    parents: Places,
+}
+
+impl Rows {
+    /// None but void's; those of a parent stand under its name.
+    pub fn new(parent: Option<&Path>) -> Rows {
+        Rows {
+            parent: parent.map_or("the parent".to_owned(), shown),
+            rows: vec![VOID.to_owned()],
+            files: Vec::new(),
+            copies: Vec::new(),
+            parents: Places::new(),
+        }
+    }
+
+    /// Adds the types of a file.
+    pub fn add(&mut self, path: &Path, catalog: &Catalog<'_>) {
+        let above: Vec<u16> = catalog.all().filter(|&number| !catalog.is_own(number)).collect();
+        if !above.is_empty() && self.parents.is_empty() {
+            self.parents = self.numbered(catalog, &above, &self.parent.clone());
+        }
+        let own: Vec<u16> = catalog.own().collect();
+        let mut places = self.parents.clone();
+        places.extend(self.numbered(catalog, &own, &shown(path)));
+        for number in catalog.all() {
+            let place = places[&number];
+            if catalog.is_own(number) || self.rows[place].is_empty() {
+                self.rows[place] = row(catalog, number, &places);
+                if is_copy(catalog, number) {
+                    self.copies.push(place);
+                }
+            }
+        }
+    }
+
+    /// Makes room for some types.
+    fn numbered(&mut self, catalog: &Catalog<'_>, numbers: &[u16], path: &str) -> Places {
+        let first = self.rows.len();
+        let begins = numbers.first().copied().unwrap_or(0);
+        let pointer = if catalog.is_ilp32() { 4 } else { 8 };
+        self.files.push(format!("[{},{first},{begins},{pointer}]", text(path.as_bytes())));
+        self.rows.resize(first + numbers.len(), String::new());
+        numbers.iter().enumerate().map(|(place, &number)| (number, first + place)).collect()
+    }
+
+    /// All as an object of JSON that may stand in a page.
+    pub fn json(self) -> String {
+        let kinds = std::iter::once("void").chain(KINDS.into_iter().map(word_of));
+        let kinds = list(kinds.map(|word| text(word.as_bytes())));
+        let copies = list(self.copies.iter().map(usize::to_string));
+        let (files, rows) = (self.files.join(","), self.rows.join(","));
+        let made = format!(
+            "{{\"kinds\":{kinds},\"files\":[{files}],\"types\":[{rows}],\"copies\":{copies}}}"
+        );
+        made.replace('<', "\\u003c") // so that no name ends the script
+    }
+}
+
+/// `kind, name, size`, and what the kind has behind that.
+fn row(catalog: &Catalog<'_>, number: u16, places: &Places) -> String {
+    let record = catalog.record(number);
+    let kind = 1 + KINDS.iter().position(|&kind| kind == record.kind).unwrap_or(KINDS.len() - 1);
+    let size = catalog.size(number).map_or("null".to_owned(), |size| size.to_string());
+    format!("[{kind},{},{size},{}]", name(&record.name), behind(catalog, number, record, places))
+}
+
+fn name(bytes: &[u8]) -> String {
+    text(printable(bytes).as_bytes())
+}
+
+fn behind(catalog: &Catalog<'_>, number: u16, record: &Record<'_>, places: &Places) -> String {
+    let place = |number: u16| places.get(&number).copied().unwrap_or(0);
+    match record.kind {
+        Kind::Integer | Kind::Float => {
+            let (bits, offset) = record.encoding.map_or((0, 0), |lies| (lies.bits, lies.offset));
+            format!("{bits},{offset},{}", u8::from(catalog.span(number).width.is_some()))
+        }
+        Kind::Struct | Kind::Union => list(
+            catalog
+                .members(number)
+                .iter()
+                .map(|part| format!("[{},{},{}]", name(part.name), place(part.of), part.offset)),
+        ),
+        Kind::Enum => {
+            let values = catalog.values(number).iter();
+            list(values.map(|one| format!("[{},{}]", name(&one.name), one.value)))
+        }
+        Kind::Array => format!("{},{}", place(record.of), record.elements),
+        Kind::Function => {
+            let signature = catalog.signature(number);
+            let arguments = list(signature.arguments.iter().map(|&one| place(one).to_string()));
+            format!("{},{arguments},{}", place(record.of), u8::from(signature.is_open))
+        }
+        Kind::Forward => text(word_of(record.tag).as_bytes()),
+        _ => place(record.of).to_string(),
+    }
+}
+
+/// Whether it is a hidden copy of a type, which only bit-fields have.
+fn is_copy(catalog: &Catalog<'_>, number: u16) -> bool {
+    let end = catalog.record(catalog.resolved(number));
+    !catalog.record(number).is_root && end.kind == Kind::Integer && !end.is_root
+}
