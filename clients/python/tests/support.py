@@ -18,7 +18,7 @@ EXAMPLES = Path(__file__).resolve().parents[3] / "examples"
 COMPILED = Path(os.environ.get("CARGO_TARGET_DIR")
                 or Path(__file__).resolve().parents[2] / "rust/target") / "release"
 COMMAND = COMPILED / "ctfd-types"
-ALONE = ("ctfd-diff", "ctfd-types")  # commands that are compiled alone
+ALONE = ("ctfd-diff", "ctfd-explore", "ctfd-types")  # commands that are compiled alone
 PROGRAM = os.environ.get("CTFD", "")
 LIBRARY = os.environ.get("CTFD_LIBRARY", "")  # asked in place of the program, where it is named
 TOOLS = all(shutil.which(tool) for tool in ("gcc", "objcopy"))

@@ -5,7 +5,8 @@ import os
 import unittest
 from unittest import mock
 
-from ctfd.tools import convert, explore, running
+from ctfd.client.session import Session
+from ctfd.tools import convert, running
 
 from .support import EXAMPLES, PROGRAM
 
@@ -15,14 +16,16 @@ LUA = str(EXAMPLES / "lua.ctf")
 @unittest.skipUnless(PROGRAM, "CTFD names no built service")
 class Bugs(unittest.TestCase):
     def refusal_text(self, trace: str) -> str:
-        """What `ctfd-convert` and `ctfd-explore` say of an error that nobody thought of."""
+        """What `ctfd-convert` and another command say of an error that nobody thought of."""
+        def work(session: Session) -> int:
+            raise KeyError(99)
+
         errors = io.StringIO()
         with mock.patch("ctfd.convert.inputs._form", side_effect=ZeroDivisionError("one\n two")), \
-                mock.patch("ctfd.files.anyfile.contents", side_effect=KeyError(99)), \
                 mock.patch.dict(os.environ, {running.TRACE: trace}), \
                 contextlib.redirect_stderr(errors):
             self.assertEqual(convert.main([LUA, "/dev/null"]), convert.FAILED)
-            self.assertEqual(explore.main([LUA]), explore.FAILED)
+            self.assertEqual(running.run("ctfd-own", PROGRAM, work, 3), 3)
         return errors.getvalue()
 
     def test_a_bug_is_ours(self) -> None:
@@ -31,7 +34,7 @@ class Bugs(unittest.TestCase):
         self.assertRegex(lines[0], r"^ctfd-convert: .*lua\.ctf: a bug in ctfd [\d.]+"
                                    r" \(ZeroDivisionError: one two\): please report it "
                                    r".*CTFD_TRACE=1")
-        self.assertRegex(lines[1], r"^ctfd-explore: a bug in ctfd [\d.]+ \(KeyError: 99\)")
+        self.assertRegex(lines[1], r"^ctfd-own: a bug in ctfd [\d.]+ \(KeyError: 99\)")
         self.assertNotIn("damaged", "".join(lines))
 
     def test_where_it_is_can_be_seen(self) -> None:

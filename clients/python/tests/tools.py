@@ -1,8 +1,6 @@
 """What the tests of the tools share: dictionaries of C files, and whole types of them."""
 from __future__ import annotations
 
-import contextlib
-import io
 import os
 import shutil
 import subprocess
@@ -14,11 +12,9 @@ from typing import Dict, Iterable, Optional
 from ctfd.client.gather import ALL_LISTS
 from ctfd.files.opening import Opener
 from ctfd.layout.whole import Whole
-from ctfd.tools import explore
 
 from .support import ALONE, PROGRAM, WithService, run_compiled
 
-MAINS = {"ctfd-explore": explore.main}
 CLIENT = Path(__file__).resolve().parents[1]
 
 
@@ -33,16 +29,6 @@ def command(name: str, *words: str) -> "subprocess.CompletedProcess[str]":
     environment = {**os.environ, "CTFD": PROGRAM}
     return subprocess.run([sys.executable, str(CLIENT / name), *words], capture_output=True,
                           text=True, env=environment)
-
-
-def within(name: str, *words: str) -> "subprocess.CompletedProcess[str]":
-    """The same within this process, which is quicker, where it is one in Python."""
-    if name in ALONE:
-        return run_compiled(name, *words)
-    out, err = io.StringIO(), io.StringIO()
-    with contextlib.redirect_stdout(out), contextlib.redirect_stderr(err):
-        status = MAINS[name](["--service", PROGRAM, *words])
-    return subprocess.CompletedProcess([name, *words], status, out.getvalue(), err.getvalue())
 
 
 def compiled(folder: str, name: str, code: str, *options: str) -> str:

@@ -1,1 +1,1 @@
-"""The commands on types: ctfd-convert and ctfd-explore."""
+"""The command on types that is in Python: ctfd-convert."""
