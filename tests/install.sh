@@ -88,16 +88,19 @@ used() {
         count "${command##*/}" "$below/bin/${command##*/}" --help
     done
     if [ -f "$compiled" ]; then
-        for command in ctfd-convert ctfd-diff ctfd-types; do
+        for command in ctfd-convert ctfd-diff ctfd-explore ctfd-types; do
             count "$command, compiled" cmp "$compiled" "$below/bin/$command"
         done
     fi
     count "a conversion" env -u CTFD PATH="/usr/bin:/bin" "$below/bin/ctfd-convert" "$lua" \
         "$work/converted"
-    # It finds the program beside it, under each Python that is here.
+    # The package finds the library beside it, under each Python that is here.
+    local packages
+    packages=$(dirname "$(find "$below" -type d -path '*-packages/ctfd')")
     for python in python3 /usr/bin/python3; do
-        count "a page by ctfd-explore" env -u CTFD PATH="/usr/bin:/bin" "$(command -v $python)" \
-            "$below/bin/ctfd-explore" "$lua" -o "$work/page.html"
+        count "types by the package" env -u CTFD PATH="/usr/bin:/bin" PYTHONPATH="$packages" \
+            "$(command -v $python)" -c 'import ctfd, sys
+with ctfd.open(sys.argv[1]) as types: types["struct luaL_Reg"]' "$lua"
     done
     [ ! -f "$compiled" ] || count "a type by ctfd-types" env -i "$below/bin/ctfd-types" "$lua" \
         "struct luaL_Reg"
@@ -135,9 +138,8 @@ count "install" made install PREFIX="$work/prefix"
 )
 read -r checks wrong < "$work/counts"
 cd /
-ln -s "$work/prefix/bin/ctfd-explore" "$work/linked"
-count "a command by a link" env -u CTFD PATH="/usr/bin:/bin" \
-    "$work/linked" "$top/examples/lua.ctf" -o "$work/page.html"
+ln -s "$work/prefix/bin/ctfd-front" "$work/linked"
+count "a command by a link" env -u CTFD PATH="/usr/bin:/bin" "$work/linked" --help
 ln -s "$work/prefix/bin/ctfd-convert" "$work/to_ctf"
 count "ctfd-convert by a link" env -u CTFD PATH="/usr/bin:/bin" \
     "$work/to_ctf" "$top/examples/lua.ctf" "$work/converted"

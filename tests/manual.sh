@@ -5,9 +5,9 @@
 set -u
 cd "$(dirname "$0")/../docs/man" || exit 1
 compiled=${CARGO_TARGET_DIR:-../../clients/rust/target}/release
-for command in ctfd-convert ctfd-diff ctfd-types; do
+for command in ctfd-convert ctfd-diff ctfd-explore ctfd-types; do
     [ -x "$compiled/$command" ] || { echo "skipped: $command is not compiled"; continue; }
-    for option in $("$compiled/$command" --help | grep -oE -e '--[a-z][a-z-]+[a-z]|--c\>' | sort -u); do
+    for option in $("$compiled/$command" --help | grep -oE -e '--[a-z][a-z0-9-]+[a-z0-9]|--c\>' | sort -u); do
         [ "$option" = --help ] || grep -qE "Fl ${option#-}( |\$)" "$command.1" ||
             { echo "$command.1 does not have $option"; exit 1; }
     done

@@ -64,7 +64,7 @@ used() {
     count "ctfd-convert in $below" env PATH=/usr/bin:/bin "$below/bin/ctfd-convert" \
         "$work/own" "$work/own.ctf"
     if [ -f "$compiled" ]; then
-        for command in ctfd-convert ctfd-diff ctfd-types; do
+        for command in ctfd-convert ctfd-diff ctfd-explore ctfd-types; do
             count "$command, compiled, in $below" cmp "$compiled" "$below/bin/$command"
         done
         env -i "$below/bin/ctfd-types" "$work/own.ctf" "struct point" > "$work/types" 2>&1 || true

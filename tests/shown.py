@@ -54,7 +54,7 @@ COPIED = ("README.md", "Makefile", "HANDLES", "crates.txt", "crates", "clients",
 RECIPE = "/tmp/recipe"
 ARCHIVE = "crates/ctf_c/out/libctfd.a"
 COMPILED = "clients/rust/target/release"
-COMPILED_ALONE = ("ctfd-convert", "ctfd-diff", "ctfd-types")
+COMPILED_ALONE = ("ctfd-convert", "ctfd-diff", "ctfd-explore", "ctfd-types")
 TOOLS = ("cc", "gcc", "gdb", "objcopy", "llvm-objcopy", "jq", "man", "rt")
 # What of the client takes which package of Python.
 LIBRARIES = {"build.declare": "pycparser"}

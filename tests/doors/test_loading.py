@@ -34,6 +34,14 @@ LUA = EXAMPLES / "lua.ctf"
 ASKED = "struct luaL_Reg"
 ANSWER = "size: 16"
 PAGE = "luaL_Reg"
+# Prints the names of a file's types, by the package of a folder.
+NAMES = """import sys
+sys.path.insert(0, "{package}")
+import ctfd
+with ctfd.connect() as client:
+    types = ctfd.open_file(client.session(), sys.argv[1])
+    print(*(one.name for one in types.types()))
+"""
 CODE = f"""import sys
 sys.path.insert(0, {str(PACKAGE)!r})
 import ctfd
@@ -262,9 +270,15 @@ class Others(Hostile):
         self.open.mkdir()
         self.program(self.open / "ctfd")
 
+    def script(self, package: Path) -> Path:
+        """A program over the package of a folder."""
+        made = self.folder / "names.py"
+        made.write_text(NAMES.format(package=package))
+        return made
+
     def asked(self, kind: str, path: str) -> Outcome:
-        return self.door(self.clone / "clients/python/ctfd-explore", LUA, looks_for=kind,
-                         environment={"PATH": path})
+        return self.door(sys.executable, self.script(self.clone / "clients/python"), LUA,
+                         looks_for=kind, environment={"PATH": path})
 
     def test_a_folder_that_all_may_write_to(self) -> None:
         whole = f"{Path(SERVICE).parent}:{os.environ['PATH']}"
@@ -313,7 +327,7 @@ class Others(Hostile):
         made = self.folder / "shared/mine"
         shutil.copytree(self.clone / "clients/python", made / "tools")
         shutil.copytree(self.clone / "crates", self.folder / "shared/crates")
-        done = self.door(made / "tools/ctfd-explore", LUA,
+        done = self.door(sys.executable, self.script(made / "tools"), LUA,
                          environment={"PATH": f"{Path(SERVICE).parent}:{os.environ['PATH']}"})
         self.assert_unmarked(done, "the library", PAGE)
 

@@ -22,31 +22,37 @@ FILE = str(TOP / "examples" / "lua.ctf")
 OLDER = str(TOP / "examples" / "zlib.ctf")
 
 
-def run(words: "list[str]", **more: str) -> "tuple[int, str, str]":
-    """How a command ends in an environment, and what it prints."""
+# Prints the names and sizes of a file's types; what is refused in a line.
+NAMES = f"""import sys
+sys.path.insert(0, "{CLIENT}")
+import ctfd
+try:
+    with ctfd.connect() as client:
+        types = ctfd.open_file(client.session(), sys.argv[1])
+        print(*((one.name, one.number) for one in types.types()))
+except ctfd.Error as error:
+    sys.exit(str(error))
+"""
+
+
+def run(path: str, **more: str) -> "tuple[int, str, str]":
+    """How a program over the client ends in an environment, and what it prints of a file."""
     environment = {**os.environ, **more}
     environment.pop("CTFD" if "CTFD_SOCKET" in more else "CTFD_SOCKET", None)
-    ended = subprocess.run([sys.executable, str(CLIENT / words[0]), *words[1:]],
-                           capture_output=True, text=True, env=environment)
+    ended = subprocess.run([sys.executable, "-c", NAMES, path], capture_output=True, text=True,
+                           env=environment)
     return ended.returncode, ended.stdout, ended.stderr
 
 
 class OverSocket(WithFront):
-    def test_tools_print_the_same(self) -> None:
+    def test_programs_print_the_same(self) -> None:
         front = self.front().started()
-        page = os.path.join(self.folder, "page.html")
-        for words in (["ctfd-explore", FILE, "-o", "-"], ["ctfd-explore", OLDER, "-o", "-"],
-                      ["ctfd-explore", "/dev/null"]):
-            self.assertEqual(run(words, CTFD_SOCKET=front.path), run(words), words)
-        self.assertFalse(os.path.exists(page))
+        for path in (FILE, OLDER, "/dev/null"):
+            self.assertEqual(run(path, CTFD_SOCKET=front.path), run(path), path)
         self.assertNotIn("lines 0", front.tell())
 
-    def test_program_that_is_named_comes_first(self) -> None:
-        words = ["ctfd-explore", "--service", PROGRAM, FILE]
-        self.assertEqual(run(words, CTFD_SOCKET="/nowhere"), run(words))
-
     def test_nobody_listens(self) -> None:
-        status, _, said = run(["ctfd-explore", FILE], CTFD_SOCKET=f"{self.folder}/none")
+        status, _, said = run(FILE, CTFD_SOCKET=f"{self.folder}/none")
         self.assertNotEqual(status, 0)
         self.assertIn("start ctfd-front there", said)
         self.assertEqual(len(said.splitlines()), 1)

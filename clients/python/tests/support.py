@@ -20,6 +20,7 @@ COMPILED = Path(os.environ.get("CARGO_TARGET_DIR")
 COMMAND = COMPILED / "ctfd-types"
 CONVERT = COMPILED / "ctfd-convert"
 DIFF = COMPILED / "ctfd-diff"
+EXPLORE = COMPILED / "ctfd-explore"
 PROGRAM = os.environ.get("CTFD", "")
 LIBRARY = os.environ.get("CTFD_LIBRARY", "")  # asked in place of the program, where it is named
 TOOLS = all(shutil.which(tool) for tool in ("gcc", "objcopy"))

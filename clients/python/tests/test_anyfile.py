@@ -5,11 +5,15 @@ import subprocess
 import tempfile
 import unittest
 from pathlib import Path
+from typing import List
 from unittest import mock
 
+import ctfd
+from ctfd.client.gather import ALL_LISTS
 from ctfd.files import anyfile
 from ctfd.files.anyfile import Asked
 from ctfd.files.cache import Cache, Kept, key, user_cache
+from ctfd.files.opening import Opener
 
 from .support import CONVERT, EXAMPLES, compiles, run
 from .tools import CONVERTS, WHY_NOT, command, compiled
@@ -33,11 +37,14 @@ class Folder(unittest.TestCase):
         self.addCleanup(told.stop)
         self.cache = Path(self.folder, "cache", "ctfd")
 
-    def page(self, *words: str) -> str:
-        """The page of ctfd-explore, which keeps what it converts."""
-        done = command("ctfd-explore", *words)
-        self.assertEqual((done.returncode, done.stderr), (0, ""))
-        return done.stdout
+    def names(self, path: str, keeps: bool = True) -> List[str]:
+        """The names of all types, and of members, read by the package, which keeps what it
+        converts."""
+        with ctfd.connect() as client:
+            opener = Opener(client.session(), Asked(cache=user_cache if keeps else None))
+            catalog = opener.whole(path, lists=ALL_LISTS).catalog
+            return [name for number in catalog.numbers for name in (
+                catalog[number].name, *(one.name for one in catalog[number].members))]
 
     def told(self, *words: str) -> str:
         done = command("ctfd-types", *words)
@@ -59,28 +66,28 @@ class Programs(Folder):
         self.assertEqual(self.told(made, "moved"), "int moved(struct point *, long int);\n")
         self.assertFalse(self.cache.exists())
         for _ in range(2):
-            self.assertIn('"point"', self.page(made))
+            self.assertIn("point", self.names(made))
             self.assertEqual(len(list(self.cache.iterdir())), 1)
 
     def test_a_kept_one_is_taken(self) -> None:
         made = self.program()
-        self.page(made)
+        self.names(made)
         with mock.patch.object(anyfile, "converted", side_effect=AssertionError):
             kept = anyfile.read(made, Asked(cache=user_cache))
         self.assertTrue(kept.is_made and kept.source.sym)
         self.assertEqual(kept.source.how, "named")
 
     def test_nothing_is_kept_where_nothing_is_to_be(self) -> None:
-        self.page("--no-cache", self.program())
+        self.names(self.program(), keeps=False)
         self.assertFalse(self.cache.exists())
 
     def test_another_program_by_the_same_build_id_is_another(self) -> None:
         made = self.program("-Wl,--build-id=0x1234")
-        self.page(made)
+        self.names(made)
         Path(self.folder, "code.c").write_text(CODE.replace("int x, y;", "int x, y, zeta;"))
         subprocess.run(["gcc", "-g", "-Wl,--build-id=0x1234", f"{self.folder}/code.c", "-o", made],
                        check=True)
-        self.assertIn('"zeta"', self.page(made))
+        self.assertIn("zeta", self.names(made))
 
     def test_one_that_was_stripped_tells_what_it_exports(self) -> None:
         made = self.program("-shared", "-fPIC")

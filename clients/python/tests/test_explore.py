@@ -9,10 +9,9 @@ import unittest
 from pathlib import Path
 from typing import Any, Dict, List, Optional, Type
 
-from ctfd.view.page import Rows, page
-
 from .browser import CHROMIUM, Browser
-from .support import EXAMPLES, PROGRAM, STRUCT, WithService, dictionary, integer, member, record
+from .support import (EXAMPLES, PROGRAM, STRUCT, WithService, dictionary, integer, member, record,
+                      run_compiled)
 from .tools import command, converted, whole_of, written
 
 LUA = str(EXAMPLES / "lua.ctf")
@@ -20,26 +19,65 @@ BITS = "typedef unsigned word; struct s { word a : 3, b : 5; char c : 8; char d;
 EVIL = b"<script>window.bad=1</script></script><img src=x onerror=bad=1>\"'&"
 
 
+CODE = """
+struct point { int x, y; }; typedef struct point *where;
+int count; struct point first; const char *const names[4];
+int move(struct point *p, where to, ...) { return p == to; }
+void none(void) { }
+"""
+
+
+def page(*words: str) -> str:
+    """What the command writes."""
+    done = run_compiled("ctfd-explore", *words)
+    assert (done.returncode, done.stderr) == (0, ""), done.stderr
+    return done.stdout
+
+
+def told_in(made: str) -> Dict[str, Any]:
+    """The types and symbols that a page has."""
+    told = json.loads(re.findall(r"json\">(.*?)</script>", made)[0])
+    assert isinstance(told, dict)
+    return told
+
+
 class Page(WithService):
     def test_what_stands_in_the_page_is_escaped(self) -> None:
-        path = written(self, evil())
-        made = page([whole_of(self, path)])
+        made = page(written(self, evil()))
         self.assertEqual(made.count("<script"), 2)
         self.assertEqual(made.count("</script>"), 2)
         self.assertEqual(re.findall(r"(?:src|href)\s*=\s*[\"'](?!data:,)\w+:", made), [])
-        told = json.loads(re.findall(r"json\">(.*?)</script>", made)[0])
+        told = told_in(made)
         self.assertIn(EVIL.decode(), [row[1] for row in told["types"]])
 
     def test_a_parent_is_there_once(self) -> None:
-        whole = whole_of(self, LUA)
-        rows = Rows([whole, whole], None)
-        self.assertEqual(len(rows.rows), 2 * 526 + 1)
-        self.assertTrue(all(rows.rows))
+        told = told_in(page(LUA, LUA))
+        self.assertEqual(len(told["types"]), 2 * 526 + 1)
+        self.assertTrue(all(told["types"]))
+        with tempfile.TemporaryDirectory() as folder:
+            own = converted(folder, "own", "struct own { struct lua_State *p; } own;")
+            child = f"{folder}/child.ctf"
+            done = command("ctfd-convert", "--lossy", "--parent", LUA, own, child)
+            self.assertEqual(done.returncode, 0, done.stderr)
+            told = told_in(page("--parent", LUA, child, child))
+        self.assertEqual([file[0] for file in told["files"]], [LUA, child, child])
+        self.assertEqual([file[2] for file in told["files"]], [1, 0x8001, 0x8001])
+        self.assertTrue(all(told["types"]))
+
+    def test_functions_and_variables(self) -> None:
+        told = told_in(page(converted(self.folder_of_files(), "symbols", CODE)))
+        names = [row[1] for row in told["types"]]
+        kinds = [told["kinds"][row[0]] for row in told["types"]]
+        self.assertEqual({row[0] for row in told["objects"]}, {"count", "first", "names"})
+        by_name = {row[0]: row[1:] for row in told["functions"]}
+        returns, takes, is_open, file = by_name["move"]
+        self.assertEqual((names[returns], is_open, file), ("int", 1, 0))
+        self.assertEqual([kinds[one] for one in takes], ["pointer", "typedef"])
+        self.assertEqual(by_name["none"], [0, [], 0, 0])
 
     def test_hidden_copies_of_bit_fields_are_known(self) -> None:
         path = converted(self.folder_of_files(), "bits.c", BITS)
-        rows = Rows([whole_of(self, path)], None)
-        told = rows.told()
+        told = told_in(page(path))
         by_name = [row[1] for row in told["types"]]
         self.assertEqual({by_name[one] for one in told["copies"]}, {"unsigned int", "word", "char"})
         self.assertEqual(by_name.count("word") - 1, sum(by_name[one] == "word"
@@ -82,7 +120,7 @@ class InBrowser(WithService):
     def opened(self, path: str) -> Browser:  # type: ignore[override]
         """The page of a file."""
         place = Path(self.folder) / "page.html"
-        place.write_text(page([whole_of(self, path)]))
+        place.write_text(page(path))
         self.browser.errors.clear()
         self.browser.open(str(place))
         return self.browser
@@ -127,6 +165,24 @@ class InBrowser(WithService):
         hashes = page.value("[...document.querySelectorAll('#declaration a')].map(a => a.hash)")
         self.assertIn("#lua_KFunction", hashes)
         self.assertEqual([one for one in hashes if one[:2] == "#t" and one[2:].isdecimal()], [])
+        self.assertEqual(page.errors, [])
+
+    def test_functions_variables_and_near_names(self) -> None:
+        page = self.opened(converted(self.folder, "symbols", CODE))
+        page.press("/")
+        page.write("mov")
+        page.until("document.querySelectorAll('#found a').length === 1")
+        page.press("Enter")
+        page.until("document.title === 'move'")
+        self.assertEqual(page.value("document.querySelector('#declaration').textContent"),
+                         "int move(struct point *, where, ...);")
+        page.value("location.hash = '#struct%20point'")
+        page.until("document.title === 'struct point'")
+        self.assertIn("first", page.value("document.querySelector('#taken').textContent"))
+        page.press("/")
+        page.write("poimt")
+        page.until("document.querySelectorAll('#found .more').length === 1")
+        self.assertIn("struct point", page.value("document.querySelector('#found').textContent"))
         self.assertEqual(page.errors, [])
 
     def test_boxes_are_where_members_are(self) -> None:

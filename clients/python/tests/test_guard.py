@@ -15,7 +15,7 @@ from typing import List, NamedTuple
 from ctfd.files.elf import Elf
 
 from .support import compiles
-from .tools import CONVERTS, WHY_NOT, within
+from .tools import CONVERTS, WHY_NOT, command
 
 CODE = """
 typedef unsigned int word;
@@ -125,7 +125,7 @@ class Guard(unittest.TestCase):
         return made
 
     def told(self, *words: str, status: int) -> List[str]:
-        done = within("ctfd-diff", "--no-cache", *words)
+        done = command("ctfd-diff", "--no-cache", *words)
         self.assertEqual((done.returncode, done.stderr), (status, ""), done.stdout)
         return done.stdout.splitlines()
 
@@ -181,7 +181,7 @@ class Guard(unittest.TestCase):
                          ["object total: it is long int, was int"])
         listed.write_text("total # an object\nfunction walk\n")
         self.told("--suppress", str(listed), self.old, new, status=0)
-        done = within("ctfd-diff", "--suppress", "/nowhere", self.old, new)
+        done = command("ctfd-diff", "--suppress", "/nowhere", self.old, new)
         self.assertEqual((done.returncode, done.stderr),
                          (2, "ctfd-diff: /nowhere: No such file or directory\n"))
 
@@ -226,7 +226,7 @@ class Guard(unittest.TestCase):
                 data[section.offset + chance.randrange(section.size)] = chance.choice((
                     0, 1, 4, 127, 128, 255))
             damaged.write_bytes(data)
-            done = within("ctfd-diff", self.old, str(damaged))
+            done = command("ctfd-diff", self.old, str(damaged))
             self.assertIn(done.returncode, (0, 1, 2, 4), done.stderr)
             self.assertLessEqual(done.stderr.count("\n"), 4, done.stderr)
             self.assertNotIn("panicked", done.stderr)

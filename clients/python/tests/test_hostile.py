@@ -6,7 +6,7 @@ from typing import Dict, Tuple
 
 from .support import (FUNCTION, POINTER, PROGRAM, STRUCT, UNION, WithService, dictionary, integer,
                       member, record)
-from .tools import within, written
+from .tools import command, written
 
 EVIL = b"<script>alert(1)</script>\"'&\x1b[2J\r\n*/"
 
@@ -73,7 +73,7 @@ class Hostile(WithService):
     def ended(self, name: str, *words: str) -> str:
         """What a command printed, once it is judged how it ended: of `ctfd-diff` 4 is of what
         breaks, and 2 of what could not be compared, which is told."""
-        done = within(name, *words)
+        done = command(name, *words)
         statuses = (0, 1, 2, 4) if name == "ctfd-diff" else (0, 1)
         if name == "ctfd-diff" and done.returncode == 2:
             self.assertRegex(done.stderr, "than are compared|more work than")
@@ -97,9 +97,9 @@ class Hostile(WithService):
                 self.assertEqual(name, "doubles")
 
     def test_what_is_cut_is_told(self) -> None:
-        told = within("ctfd-types", "--svg", "union u", self.paths["many"]).stdout
+        told = command("ctfd-types", "--svg", "union u", self.paths["many"]).stdout
         self.assertIn("left out: ", told)
-        done = within("ctfd-types", "--contains", "int", self.paths["doubles"])
+        done = command("ctfd-types", "--contains", "int", self.paths["doubles"])
         self.assertIn("has more members of members than are walked", done.stderr)
 
     def test_ctfd_diff(self) -> None:

@@ -5,7 +5,8 @@ import os
 import unittest
 from unittest import mock
 
-from ctfd.tools import diff, explore, running
+from ctfd.client.session import Session
+from ctfd.tools import running
 
 from .support import EXAMPLES, PROGRAM
 
@@ -15,23 +16,27 @@ LUA = str(EXAMPLES / "lua.ctf")
 @unittest.skipUnless(PROGRAM, "CTFD names no built service")
 class Bugs(unittest.TestCase):
     def refusal_text(self, trace: str) -> str:
-        """What `ctfd-diff` and `ctfd-explore` say of an error that nobody thought of."""
+        """What two commands say of errors that nobody thought of."""
+        def divide(session: Session) -> int:
+            raise ZeroDivisionError("one\n two")
+
+        def look(session: Session) -> int:
+            raise KeyError(99)
+
         errors = io.StringIO()
-        found = [ZeroDivisionError("one\n two"), KeyError(99)]
-        with mock.patch("ctfd.files.anyfile.contents", side_effect=found), \
-                mock.patch.dict(os.environ, {running.TRACE: trace}), \
+        with mock.patch.dict(os.environ, {running.TRACE: trace}), \
                 contextlib.redirect_stderr(errors):
-            self.assertEqual(diff.main([LUA, LUA]), diff.TROUBLE)
-            self.assertEqual(explore.main([LUA]), explore.FAILED)
+            self.assertEqual(running.run("ctfd-first", PROGRAM, divide, 3), 3)
+            self.assertEqual(running.run("ctfd-own", PROGRAM, look, 3), 3)
         return errors.getvalue()
 
     def test_a_bug_is_ours(self) -> None:
         lines = self.refusal_text("").splitlines()
         self.assertEqual(len(lines), 2)
-        self.assertRegex(lines[0], r"^ctfd-diff: a bug in ctfd [\d.]+"
+        self.assertRegex(lines[0], r"^ctfd-first: a bug in ctfd [\d.]+"
                                    r" \(ZeroDivisionError: one two\): please report it "
                                    r".*CTFD_TRACE=1")
-        self.assertRegex(lines[1], r"^ctfd-explore: a bug in ctfd [\d.]+ \(KeyError: 99\)")
+        self.assertRegex(lines[1], r"^ctfd-own: a bug in ctfd [\d.]+ \(KeyError: 99\)")
         self.assertNotIn("damaged", "".join(lines))
 
     def test_where_it_is_can_be_seen(self) -> None:

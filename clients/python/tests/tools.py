@@ -1,8 +1,6 @@
 """What the tests of the tools share: dictionaries of C files, and whole types of them."""
 from __future__ import annotations
 
-import contextlib
-import io
 import os
 import shutil
 import subprocess
@@ -14,12 +12,10 @@ from typing import Dict, Iterable, Optional
 from ctfd.client.gather import ALL_LISTS
 from ctfd.files.opening import Opener
 from ctfd.layout.whole import Whole
-from ctfd.tools import explore
 
-from .support import COMMAND, CONVERT, DIFF, PROGRAM, WithService, run
+from .support import COMMAND, CONVERT, DIFF, EXPLORE, PROGRAM, WithService, run
 
-MAINS = {"ctfd-explore": explore.main}
-RUST = {one.name: one for one in (COMMAND, CONVERT, DIFF)}
+RUST = {one.name: one for one in (COMMAND, CONVERT, DIFF, EXPLORE)}
 CLIENT = Path(__file__).resolve().parents[1]
 
 
@@ -34,16 +30,6 @@ def command(name: str, *words: str) -> "subprocess.CompletedProcess[str]":
     environment = {**os.environ, "CTFD": PROGRAM}
     return subprocess.run([sys.executable, str(CLIENT / name), *words], capture_output=True,
                           text=True, env=environment)
-
-
-def within(name: str, *words: str) -> "subprocess.CompletedProcess[str]":
-    """The same within this process, which is quicker, where it is one in Python."""
-    if name in RUST:
-        return run(*words, command=RUST[name])
-    out, err = io.StringIO(), io.StringIO()
-    with contextlib.redirect_stdout(out), contextlib.redirect_stderr(err):
-        status = MAINS[name](["--service", PROGRAM, *words])
-    return subprocess.CompletedProcess([name, *words], status, out.getvalue(), err.getvalue())
 
 
 def compiled(folder: str, name: str, code: str, *options: str) -> str:

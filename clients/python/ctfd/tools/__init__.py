@@ -1,1 +1,1 @@
-"""The commands on types: ctfd-explore."""
+"""What the commands in Python share."""

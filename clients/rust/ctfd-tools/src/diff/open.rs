@@ -2,11 +2,11 @@
 
 use super::crowded::{is_crowded, CROWDED};
 use super::options::{Words, NAME};
-use super::symbol_changes::is_told;
 use crate::types::catalog::Catalog;
 use crate::types::failure::{Failure, Outcome};
 use crate::types::names::Names;
 use crate::types::open::{judge_model, shown, with_catalog, without_parent, Parents};
+use crate::types::told::is_told;
 use ctfd_read::beyond::Beyond;
 use ctfd_read::declared::SourceFiles;
 use ctfd_read::exports::{exports, Exports};

@@ -1,28 +1,29 @@
 //! What differs in the functions and objects of two programs.
 
 use super::said::{Change, Datum, Fate, Said};
-use crate::types::catalog::{number_of, Catalog};
+use crate::types::catalog::Catalog;
 use crate::types::declare;
-use crate::types::symbols::signature_of;
 use crate::types::text::{printable, shortened, usual};
-use ctfd_read::opening::{Handed, Origin};
+use crate::types::told::{told_symbols, Told, ToldSymbol};
+use ctfd_read::opening::Handed;
 use std::collections::HashMap;
-
-/// Bytes of a symbol of ELF64, and of its name at most.
-const ENTRY: usize = 24;
-const LONGEST_NAME: usize = 4096;
-const OBJECT: u8 = 1;
-const FUNCTION: u8 = 2;
-
-/// Whether something is told of symbols that were found so.
-pub fn is_told(origin: Origin) -> bool {
-    matches!(origin, Origin::Named | Origin::Linked | Origin::Guessed | Origin::Given)
-}
 
 /// How C declares a symbol, and the word for its kind.
 struct Declared {
     kind: &'static str,
     text: String,
+}
+
+impl Declared {
+    fn of(catalog: &Catalog<'_>, one: &ToldSymbol) -> Declared {
+        let (kind, text) = match &one.told {
+            Told::Function(signature) => {
+                ("function", declare::function(catalog, signature, &one.name))
+            }
+            Told::Object(of) => ("object", declare::declaration(catalog, *of, &one.name)),
+        };
+        Declared { kind, text: shortened(with_usual_names(&text)) }
+    }
 }
 
 /// How C declares each symbol of which something is told, by name.
@@ -36,28 +37,10 @@ impl Symbols {
     /// Those of a dictionary that was given these.
     pub fn of(catalog: &Catalog<'_>, handed: &Handed<'_>) -> Symbols {
         let mut made = Symbols::default();
-        let (Some(table), Some(strings)) = (&handed.symbols, &handed.strings) else {
-            return made;
-        };
-        if !is_told(handed.origin) {
-            return made;
-        }
-        for (number, entry) in table.chunks_exact(ENTRY).enumerate() {
-            let at = u32::from_le_bytes([entry[0], entry[1], entry[2], entry[3]]);
-            let kind = entry[4] & 15;
-            let is_nowhere = entry[6..8] == [0, 0];
-            if at == 0 || is_nowhere || !matches!(kind, OBJECT | FUNCTION) {
-                continue;
-            }
-            let name = shown(strings, at as usize);
-            if made.declared.contains_key(&name) {
-                continue;
-            }
-            if let Some(declared) = declaration_of(catalog, number as u32, kind == FUNCTION, &name)
-            {
-                made.names.push(name.clone());
-                made.declared.insert(name, declared);
-            }
+        for one in told_symbols(catalog, handed) {
+            let declared = Declared::of(catalog, &one);
+            made.names.push(one.name.clone());
+            made.declared.insert(one.name, declared);
         }
         made
     }
@@ -70,38 +53,6 @@ impl Symbols {
     fn iter(&self) -> impl Iterator<Item = (&Vec<u8>, &Declared)> {
         self.names.iter().map(|name| (name, &self.declared[name]))
     }
-}
-
-/// A name in the strings of a table, of what is no UTF-8 the escapes.
-fn shown(strings: &[u8], at: usize) -> Vec<u8> {
-    let rest = strings.get(at..).unwrap_or_default();
-    let rest = &rest[..rest.len().min(LONGEST_NAME)];
-    let end = rest.iter().position(|&byte| byte == 0).unwrap_or(rest.len());
-    let mut made = Vec::with_capacity(end);
-    for chunk in rest[..end].utf8_chunks() {
-        made.extend(chunk.valid().bytes());
-        chunk.invalid().iter().for_each(|byte| made.extend(format!("\\x{byte:02x}").bytes()));
-    }
-    made
-}
-
-fn declaration_of(
-    catalog: &Catalog<'_>,
-    number: u32,
-    is_function: bool,
-    name: &[u8],
-) -> Option<Declared> {
-    let (kind, text) = match is_function {
-        true => {
-            let found = catalog.types.function(number).ok()?;
-            ("function", declare::function(catalog, &signature_of(&found), name))
-        }
-        false => {
-            let of = catalog.types.object(number).ok()?;
-            ("object", declare::declaration(catalog, number_of(of), name))
-        }
-    };
-    Some(Declared { kind, text: shortened(with_usual_names(&text)) })
 }
 
 /// A declaration with the names that gcc gives to integers.

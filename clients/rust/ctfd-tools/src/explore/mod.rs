@@ -1,4 +1,4 @@
-//! `ctfd-explore`: one page with all types of some files.
+//! `ctfd-explore`: one page with all types, functions and variables of some files.
 
 mod options;
 mod rows;
@@ -68,7 +68,10 @@ fn run(words: &Words) -> Outcome<()> {
 /// Adds the types of a file.
 fn add(words: &Words, parents: &Parents<'_>, path: &Path, rows: &mut Rows) -> Outcome<()> {
     let image = Image::open(path)?;
-    let found = handed_by(NAME, &image, &words.reading, words.parent.is_some())?;
+    let mut found = handed_by(NAME, &image, &words.reading, words.parent.is_some())?;
+    if found.has_more_names() {
+        found.add_names();
+    }
     with_catalog(path, &found, parents, |opened| {
         let catalog = opened.catalog;
         if catalog.types.is_child() && words.parent.is_none() {
@@ -78,7 +81,7 @@ fn add(words: &Words, parents: &Parents<'_>, path: &Path, rows: &mut Rows) -> Ou
         if is_crowded(catalog.types, opened.handed.ctf.len() + strings.len()) {
             return Err(Failure::Refused(format!("{}: {CROWDED}", shown(path))));
         }
-        rows.add(path, catalog);
+        rows.add(path, catalog, opened.handed);
         Ok(())
     })
 }

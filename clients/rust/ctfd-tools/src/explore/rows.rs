@@ -1,10 +1,13 @@
 //! All types of some files as rows of JSON, which name each other by their places; row 0 is void.
+//! Functions and variables are rows of their own.
 
 use crate::types::catalog::{Catalog, Record};
-use crate::types::json::{list, text, word_of};
+use crate::types::json::{list, text, word_of, Object};
 use crate::types::open::shown;
 use crate::types::text::printable;
+use crate::types::told::{told_symbols, Told};
 use ctfd::Kind;
+use ctfd_read::opening::Handed;
 use std::collections::HashMap;
 use std::path::Path;
 
@@ -38,6 +41,8 @@ pub struct Rows {
     files: Vec<String>,
     copies: Vec<usize>,
     parents: Places,
+    objects: Vec<String>,
+    functions: Vec<String>,
 }
 
 impl Rows {
@@ -49,11 +54,13 @@ impl Rows {
             files: Vec::new(),
             copies: Vec::new(),
             parents: Places::new(),
+            objects: Vec::new(),
+            functions: Vec::new(),
         }
     }
 
-    /// Adds the types of a file.
-    pub fn add(&mut self, path: &Path, catalog: &Catalog<'_>) {
+    /// Adds the types of a file, and its functions and variables.
+    pub fn add(&mut self, path: &Path, catalog: &Catalog<'_>, handed: &Handed<'_>) {
         let above: Vec<u16> = catalog.all().filter(|&number| !catalog.is_own(number)).collect();
         if !above.is_empty() && self.parents.is_empty() {
             self.parents = self.numbered(catalog, &above, &self.parent.clone());
@@ -67,6 +74,24 @@ impl Rows {
                 self.rows[place] = row(catalog, number, &places);
                 if is_copy(catalog, number) {
                     self.copies.push(place);
+                }
+            }
+        }
+        self.add_symbols(catalog, handed, &places);
+    }
+
+    fn add_symbols(&mut self, catalog: &Catalog<'_>, handed: &Handed<'_>, places: &Places) {
+        let place = |number: u16| places.get(&number).copied().unwrap_or(0);
+        let file = self.files.len() - 1;
+        for one in told_symbols(catalog, handed) {
+            let name = text(printable(&one.name).as_bytes());
+            match one.told {
+                Told::Object(of) => self.objects.push(format!("[{name},{},{file}]", place(of))),
+                Told::Function(signature) => {
+                    let takes = signature.arguments.iter().map(|&one| place(one).to_string());
+                    let (takes, returns) = (list(takes), place(signature.returns));
+                    let is_open = u8::from(signature.is_open);
+                    self.functions.push(format!("[{name},{returns},{takes},{is_open},{file}]"));
                 }
             }
         }
@@ -87,11 +112,15 @@ impl Rows {
         let kinds = std::iter::once("void").chain(KINDS.into_iter().map(word_of));
         let kinds = list(kinds.map(|word| text(word.as_bytes())));
         let copies = list(self.copies.iter().map(usize::to_string));
-        let (files, rows) = (self.files.join(","), self.rows.join(","));
-        let made = format!(
-            "{{\"kinds\":{kinds},\"files\":[{files}],\"types\":[{rows}],\"copies\":{copies}}}"
-        );
-        made.replace('<', "\\u003c") // so that no name ends the script
+        let rows = |rows: Vec<String>| list(rows.into_iter());
+        let mut made = Object::default();
+        made.field("kinds", kinds)
+            .field("files", rows(self.files))
+            .field("types", rows(self.rows))
+            .field("copies", copies)
+            .field("objects", rows(self.objects))
+            .field("functions", rows(self.functions));
+        made.end().replace('<', "\\u003c") // so that no name ends the script
     }
 }
 

@@ -22,6 +22,7 @@ mod reorganize;
 mod report;
 pub mod symbols;
 pub mod text;
+pub mod told;
 mod treemap;
 mod whole;
 
