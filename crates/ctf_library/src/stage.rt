@@ -1,5 +1,6 @@
 //! The stage of a session, which takes memory of its own from the first part on.
 ghost use Rattle.std.specs.Prelude.{true, ◌≡◌, ◌≤◌, ◌⊎◌, ◌++◌, length, Some, None, OnOk, OnErr, IfOk, IfErr, IfSome};
+ghost use Rattle.ctf_check.specs.Stages.{fault_before_chains};
 ghost use Rattle.ctf_model.specs.rules.Faults.{first_fault as fault_of};
 ghost use Rattle.ctf_model.specs.format.Lists.{no_lists};
 ghost use Rattle.ctf_model.specs.opened.Sizes.{lists_bytes};
@@ -96,6 +97,8 @@ impl Stage {
     pub fn check(&mut self, alloc: Global) -> Result<(), Fault>
         ensures ok { OnOk result (fault_of self.old ≡ None) }
         ensures err { IfErr result (λ f. (f ≡ out_of_memory) ⊎ (fault_of self.old ≡ Some f)) }
+        ensures late { IfErr result (λ f. (fault_before_chains self.old ≡ None)
+            ⊎ (fault_of self.old ≡ Some f)) }
         ensures kept { self.new ≡ self.old }
     {
         match &mut self.staged {
@@ -115,6 +118,8 @@ impl Stage {
         ensures exact_ok { OnOk result (fault_of self.old ≡ None) }
         ensures empty { OnOk result (self.new ≡ no_lists) }
         ensures exact_err { IfErr result (λ f. (f ≡ out_of_memory)
+            ⊎ (fault_of self.old ≡ Some f)) }
+        ensures late { IfErr result (λ f. (fault_before_chains self.old ≡ None)
             ⊎ (fault_of self.old ≡ Some f)) }
         ensures kept { OnErr result (self.new ≡ self.old) }
     {

@@ -1,5 +1,6 @@
 //! Staged lists, and what is known of them.
 ghost use Rattle.std.specs.Prelude.{true, ◌≡◌, ◌≢◌, ◌≤◌, ◌<◌, ◌⊎◌, ◌++◌, length, [], Some, None, OnOk, OnErr, IfOk, IfErr, IfSome, unwrap_or};
+ghost use Rattle.ctf_check.specs.Stages.{fault_before_chains};
 ghost use Rattle.ctf_model.specs.rules.Faults.{first_fault as fault_of};
 ghost use Rattle.ctf_model.specs.format.Lists.{no_lists};
 ghost use Rattle.ctf_model.specs.format.OwnedLists.{lists_owned};
@@ -12,7 +13,7 @@ ghost use Rattle.ctf_model.specs.declared.faults.TheConstants.Fault.{STAGE_FULL}
 use ctf_check::{check, lent};
 use ctf_open::owned_bytes;
 use ctf_protocol::{Bytes, Fault, ListName, Parts, no_parts, placeless};
-use std::alloc::{AllocError, Global};
+use std::alloc::Global;
 use std::marker::Model;
 use std::mem;
 
@@ -89,14 +90,18 @@ fn stage_piece(
     }
 }
 
-/// The first fault of lists, if they have one.
-fn first_fault(alloc: Global, lists: &Parts) -> Result<Option<Fault>, AllocError>
-    ensures { IfOk result (λ fault. fault ≡ fault_of (lists_owned lists.now)) }
+/// The first fault of lists, if they have one. It is an error that memory was refused.
+fn first_fault(alloc: Global, lists: &Parts) -> Result<Option<Fault>, Fault>
+    ensures fault { IfOk result (λ fault. fault ≡ fault_of (lists_owned lists.now)) }
+    ensures refused { IfErr result (λ f. (f ≡ out_of_memory)
+        ⊎ (fault_of (lists_owned lists.now) ≡ Some f)) }
+    ensures late { IfErr result (λ f. (fault_before_chains (lists_owned lists.now) ≡ None)
+        ⊎ (fault_of (lists_owned lists.now) ≡ Some f)) }
 {
     let lists = lent(lists);
     match check(alloc, lists.ctf, lists.sym, lists.strs) {
         Ok(_) => Ok(None),
-        Err(fault) if fault.code == Fault::MEMORY => Err(AllocError),
+        Err(fault) if fault.code == Fault::MEMORY => Err(fault),
         Err(fault) => Ok(Some(fault)),
     }
 }
@@ -195,6 +200,8 @@ impl Staged {
     pub fn check(&mut self, alloc: Global) -> Result<(), Fault>
         ensures ok { OnOk result (fault_of self.old ≡ None) }
         ensures err { IfErr result (λ f. (f ≡ out_of_memory) ⊎ (fault_of self.old ≡ Some f)) }
+        ensures late { IfErr result (λ f. (fault_before_chains self.old ≡ None)
+            ⊎ (fault_of self.old ≡ Some f)) }
         ensures kept { self.new ≡ self.old }
     {
         let fault = match self.known {
