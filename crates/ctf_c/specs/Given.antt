@@ -1,5 +1,6 @@
 -- What calls from C are given. The words are ours; the answers are those of libctf(3LIB).
 use Rattle.std.specs.Prelude.{◌≡◌, ◌⊎◌, ◌+◌, ◌++◌, ℕ, ℤ, Bool, true, false, List, take, drop, length, Option, None, Some, Result, Ok, Err, slice_get, is_some, option_map, option_and_then, if◌then◌else◌}
+use Rattle.ctf_check.specs.Stages.{fault_before_chains}
 use Rattle.ctf_model.specs.declared.data_model.DataModel.{DataModel}
 use Rattle.ctf_model.specs.declared.data_model.DataModel.TheVariants.{Lp64, Ilp32}
 use Rattle.ctf_model.specs.declared.faults.Fault.{Fault}
@@ -193,11 +194,17 @@ abbrev pub open_alone : Lists → DataModel → Open
 open_alone lists model =
     record { own = record { lists = lists; model = model }; parent = None; draft = None }
 
+-- want of memory hides no rule before those of chains
+abbrev pub IsLate : Lists → Fault → Type 0
+IsLate lists f = (fault_before_chains lists ≡ None) ⊎ (first_fault lists ≡ Some f)
+
 -- a dictionary was opened in place of what was open
 abbrev pub Opens : Kept → ℕ → ℕ → ℕ → Option Open → Option Open → Type 0
 Opens kept status was place old new =
-    Changes (first_fault kept.lists) status was place old
-    (Some (record { own = kept; parent = None; draft = None })) new
+    ((status ≡ 0) × (first_fault kept.lists ≡ None) × (place ≡ was)
+    × (new ≡ Some (record { own = kept; parent = None; draft = None })))
+    ⊎ ((f : Fault) × (Refuses (first_fault kept.lists) f × IsLate kept.lists f
+    × (status ≡ status_of f) × (place ≡ f.place) × (new ≡ old)))
 
 -- a parent was imported
 abbrev pub Imports : Option Open → Option Open → ℕ → ℕ → ℕ → Option Open → Type 0

@@ -1,6 +1,6 @@
 //! Exports that open, close and import.
 ghost use Rattle.std.specs.Prelude.{◌≡◌, None, IfOk, IfErr, OnOk, option_copied};
-ghost use Rattle.ctf_c.specs.Given.{Imports, Opens, list_if as list_there, model_if, open_alone};
+ghost use Rattle.ctf_c.specs.Given.{Imports, IsLate, Opens, list_if as list_there, model_if, open_alone};
 ghost use Rattle.ctf_check.specs.ListsView.{given};
 ghost use Rattle.ctf_model.specs.opened.Steps.{Refuses};
 ghost use Rattle.ctf_model.specs.rules.Faults.{first_fault};
@@ -26,6 +26,8 @@ fn opened(
         (given ctf.now (option_copied sym.entry) (option_copied strs.entry)) ≡ None) }
     ensures exact_err { IfErr result (λ f. Refuses (first_fault
         (given ctf.now (option_copied sym.entry) (option_copied strs.entry))) f) }
+    ensures late { IfErr result (λ f. IsLate
+        (given ctf.now (option_copied sym.entry) (option_copied strs.entry)) f) }
 {
     let dictionary = OpenDictionary::open(alloc, ctf, sym, strs, model)?;
     Ok(boxed(alloc, dictionary)?)
@@ -45,6 +47,8 @@ fn opened_lent(
         (given ctf.now (option_copied sym.entry) (option_copied strs.entry)) ≡ None) }
     ensures exact_err { IfErr result (λ f. Refuses (first_fault
         (given ctf.now (option_copied sym.entry) (option_copied strs.entry))) f) }
+    ensures late { IfErr result (λ f. IsLate
+        (given ctf.now (option_copied sym.entry) (option_copied strs.entry)) f) }
 {
     let dictionary = OpenDictionary::open_lent(alloc, ctf, sym, strs, model)?;
     Ok(boxed(alloc, dictionary)?)
