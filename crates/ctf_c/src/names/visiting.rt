@@ -100,7 +100,14 @@ fn visit_member(
         depth: row.depth,
         left,
     };
-    visit_inside(dictionary, TypeNum(row.tnum), TypeNum(row.stands_for), at, rows, count + 1)
+    visit_inside(
+        dictionary,
+        TypeNum(row.tnum),
+        TypeNum(row.stands_for),
+        at,
+        rows,
+        count + 1,
+    )
 }
 
 /// The same of all members of a struct or union with a number.
@@ -165,5 +172,13 @@ pub fn visit_inside(
         depth: at.depth,
         left: at.left - 1,
     };
-    visit_members(dictionary, holder, &found.dictionary(), &members, below, rows, count)
+    visit_members(
+        dictionary,
+        holder,
+        &found.dictionary(),
+        &members,
+        below,
+        rows,
+        count,
+    )
 }
