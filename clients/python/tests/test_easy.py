@@ -1,15 +1,18 @@
 """The package for people: `ctfd.open`, and dictionaries as Python's own containers."""
 import gc
+import struct
 import subprocess
 import tempfile
 import unittest
 from pathlib import Path
 
 import ctfd
+from ctfd.files import compiled as compiled_command
 
-from .support import EXAMPLES, PROGRAM
+from .support import CONVERT, EXAMPLES, PROGRAM, run
 from .tools import CONVERTS, WHY_NOT, compiled
 
+MANY = 40_000
 LUA = str(EXAMPLES / "lua.ctf")
 CODE = """
 struct inner { short a, b; };
@@ -18,8 +21,36 @@ struct outer { char first; struct inner in; union { int number; float real; }; u
 """
 
 
+def many_structs() -> bytes:
+    """BTF of more structs than a dictionary holds, each with an int."""
+    names = b"\0int\0m\0" + b"".join(b"s%d\0" % n for n in range(MANY))
+    types = struct.pack("<IIII", 1, 1 << 24, 4, 1 << 24 | 32)
+    at = names.index(b"s0\0")
+    for _ in range(MANY):
+        types += struct.pack("<IIIIII", at, 4 << 24 | 1, 4, 5, 1, 0)
+        at = names.index(b"\0", at) + 1
+    header = struct.pack("<HBBIIIII", 0xEB9F, 1, 0, 24, 0, len(types), len(types), len(names))
+    return header + types + names
+
+
 @unittest.skipUnless(PROGRAM, "CTFD names no built service")
 class Easy(unittest.TestCase):
+    def test_a_program_in_parts_is_asked_as_one(self) -> None:
+        """The program itself, where ctfd-convert is there, and what that writes of it."""
+        if compiled_command.find() is None:
+            self.skipTest("the compiled commands are not built")
+        with tempfile.TemporaryDirectory() as folder:
+            path, written = Path(folder, "many.btf"), Path(folder, "many.ctf")
+            path.write_bytes(many_structs())
+            self.assertEqual(run(str(path), str(written), command=CONVERT).returncode, 0)
+            for one in (path, written):
+                with ctfd.open(str(one), is_kept=False) as types:
+                    self.assertEqual((len(types), "s0" in types), (MANY + 1, False))
+                    for number in (0, MANY - 1):
+                        self.assertEqual(types[f"struct s{number}"].members[0].type.name, "int")
+                    with self.assertRaisesRegex(ctfd.NoSuchType, "in parts .* ask by name"):
+                        types[1]
+
     def test_a_dictionary_is_a_container(self) -> None:
         with ctfd.open(LUA) as types:
             self.assertEqual(repr(types), "<Dictionary of 526 types, lp64>")

@@ -17,9 +17,9 @@ def open_path(path: str, model: Optional[Model] = None, base: Optional[str] = No
     `base` is the kernel's BTF under that of a module, `parent` the dictionary of which the file is
     a child. Without a client a service of its own is started, which ends with `close`, with the
     `with` that it is opened in, or with the dictionary. What is converted is kept in the user's
-    cache, unless `is_kept` is false. What CTF can't hold of the file is logged. A file in parts, as
-    ctfd-convert writes it of a program with more types than a dictionary holds, gives Parts, which
-    asks all of them as one. Raises Error.
+    cache, unless `is_kept` is false. What CTF can't hold of the file is logged. A program with more
+    types than a dictionary holds, or a file that ctfd-convert wrote of such, gives Parts, which asks
+    several dictionaries as one. Raises Error.
     """
     import logging
     import weakref
@@ -27,17 +27,16 @@ def open_path(path: str, model: Optional[Model] = None, base: Optional[str] = No
     from ..files.anyfile import Asked  # here: who has a session of his own needs none of these
     from ..files.cache import user_cache
     from ..files.opening import Opener
-    from .parts import Parts, is_in_parts
+    from .parts import Parts
 
     asked = Asked(model, None, base, cache=user_cache if is_kept else None,
-                  warn=logging.getLogger(__name__).warning)
+                  warn=logging.getLogger(__name__).warning, takes_parts=parent is None)
     mine = client or connect()
     try:
         opener = Opener(mine.session(), asked)
-        if parent is None and is_in_parts(path):
-            types = cast(Dictionary, Parts(opener, path))  # it answers what is asked by name
-        else:
-            types = opener.open(path, parent)
+        parts = [opener.open(path, parent)] if parent else opener.open_all(path)
+        # Parts answers what is asked of a dictionary by name.
+        types = parts[0] if len(parts) == 1 else cast(Dictionary, Parts(parts))
     except BaseException:
         if client is None:
             mine.close()

@@ -5,65 +5,23 @@ parent. A type that several children need stands in each of these, under a numbe
 """
 from __future__ import annotations
 
-import os
-import tempfile
-from typing import Iterator, List, Optional, Tuple, Union
+from typing import Iterator, List, Optional, Sequence, Union
 
 from .. import text
-from ..files.opening import Opener
 from ..text import Name
 from .dictionary import OWN_OF_CHILD, Dictionary
-from .faults import NoSuchType, NotFound, Refused, Unreadable
+from .faults import NoSuchType, NotFound, Refused
 from .model import Model
 from .nearest import offered
 from .types import Signature, Type
 
-MAGIC = b"!<arch>\n"
-HEADER = 60
-PARENT = ".ctf"
-
-
-def is_in_parts(path: str) -> bool:
-    """Whether a file has a parent and its children."""
-    try:
-        with open(path, "rb") as file:
-            begin = file.read(len(MAGIC) + 16)
-    except OSError:
-        return False
-    return begin[:len(MAGIC)] == MAGIC and _name(begin[len(MAGIC):]) == PARENT
-
-
-def _name(header: bytes) -> str:
-    return header[:16].decode("latin-1").rstrip().rstrip("/")
-
-
-def members(data: bytes) -> Iterator[Tuple[str, bytes]]:
-    """The members of an archive, each with its name. Raises Unreadable."""
-    at = len(MAGIC)
-    while at < len(data):
-        header = data[at:at + HEADER]
-        length = header[48:58].decode("latin-1").strip()
-        if len(header) < HEADER or not length.isdecimal() or at + HEADER + int(length) > len(data):
-            raise Unreadable("a damaged archive: let ctfd-convert make it anew")
-        at += HEADER
-        yield _name(header), data[at:at + int(length)]
-        at += int(length) + int(length) % 2
-
 
 class Parts:
-    """The dictionaries of one file: `parts` has them, the parent first."""
+    """The dictionaries of one program: `parts` has them, the parent first."""
 
-    def __init__(self, opener: Opener, path: str) -> None:
-        self.parts: List[Dictionary] = []
+    def __init__(self, parts: Sequence[Dictionary]) -> None:
+        self.parts = list(parts)
         self.ends: Optional[object] = None
-        with open(path, "rb") as file, tempfile.TemporaryDirectory() as folder:
-            parent: Optional[str] = None
-            for number, (_, ctf) in enumerate(members(file.read())):
-                part = os.path.join(folder, f"{number}.ctf")
-                with open(part, "wb") as made:
-                    made.write(ctf)
-                self.parts.append(opener.open(part, parent))
-                parent = parent or part
 
     @property
     def model(self) -> Model:

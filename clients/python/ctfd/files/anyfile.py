@@ -26,6 +26,7 @@ if TYPE_CHECKING:
     from .compiled import Options
 
 FEW = 3
+PARTS = "parts"  # how an archive of dictionaries is told from a dictionary
 FORMS = ("ctf", "other-ctf", "btf", "dwarf", "gnu")  # those of ctfd-convert
 # How sections begin that are converted: BTF, GNU's CTF, CTF of version 3 and of other machines.
 CONVERTED = (b"\x9f\xeb", b"\xeb\x9f", b"\xf2\xdf", b"\xdf\xf2", source.ARCHIVE, b"\xf1\xcf\3",
@@ -34,7 +35,8 @@ CONVERTED = (b"\x9f\xeb", b"\xeb\x9f", b"\xf2\xdf", b"\xdf\xf2", source.ARCHIVE,
 
 class Asked(NamedTuple):
     """What a user says of the files, as `ctfd-convert` takes it. `warn` is told what was lost and
-    what takes long; `cache` finds where to keep what was made, None where that is not wanted."""
+    what takes long; `cache` finds where to keep what was made, None where that is not wanted. Who
+    `takes_parts` gets a program of more types than a dictionary holds as an archive of several."""
 
     model: Optional[Model] = None
     form: Optional[str] = None
@@ -44,6 +46,7 @@ class Asked(NamedTuple):
     cache: Optional[Callable[[], Optional[Cache]]] = None
     warn: Callable[[str], None] = lambda said: None
     tells_losses: bool = True
+    takes_parts: bool = False
 
 
 class Read(NamedTuple):
@@ -78,6 +81,13 @@ def add_words(parser: argparse.ArgumentParser) -> None:
                        default=[], help="where to look for debug files, before /usr/lib/debug")
     group.add_argument("--no-cache", action="store_true", help="convert again, without the"
                        " cache ($XDG_CACHE_HOME/ctfd, or ~/.cache/ctfd)")
+
+
+def is_in_parts(data: Mapped) -> bool:
+    """Whether a file has a parent and its children, as ctfd-convert writes it of a program with more
+    types than a dictionary holds."""
+    begin = archives.MAGIC + b".ctf/"
+    return data[:len(begin)] == begin
 
 
 def read(path: str, asked: Asked) -> Read:
@@ -144,7 +154,8 @@ def _made(path: str, data: Mapped, asked: Asked, losses: List[str]) -> Source:
     """The dictionary of a file that is converted, or that was; what was lost goes to `losses`."""
     from .cache import key
 
-    said = (asked.model, asked.form, list(asked.folders), asked.number, _table(path, data))
+    said = (asked.model, asked.form, list(asked.folders), asked.number, _table(path, data),
+            asked.takes_parts)
     is_thin = data[:len(archives.THIN)] == archives.THIN
     cache = asked.cache() if asked.cache and not is_thin else None
     kept: Optional[Kept] = None
@@ -152,10 +163,10 @@ def _made(path: str, data: Mapped, asked: Asked, losses: List[str]) -> Source:
     if cache is not None:
         named = key(data, path, (*said, _sum_of(asked.base)))
         kept = cache.get(named)
-        found = _attached(path, data, kept) if kept else None
+        found = attached(path, data, kept) if kept else None
     if kept is None or found is None:
         kept = converted(path, options_of(path, data, asked))
-        found = _attached(path, data, kept) or _without_symbols(kept)
+        found = attached(path, data, kept) or _without_symbols(kept)
         if cache is not None:
             cache.put(named, kept)
     losses += kept.losses
@@ -177,7 +188,7 @@ def options_of(path: str, data: Mapped, asked: Asked) -> Options:
     from .compiled import Options
 
     return Options(asked.model, asked.form, asked.base, asked.folders, asked.number,
-                   _table(path, data))
+                   _table(path, data), not asked.takes_parts)
 
 
 def _sum_of(path: Optional[str]) -> str:
@@ -195,10 +206,13 @@ def _table(path: str, data: Mapped) -> str:
     return SYMTAB if considered(file).listed or not considered(file, DYNSYM).listed else DYNSYM
 
 
-def _attached(path: str, data: Mapped, kept: Kept) -> Optional[Source]:
-    """A kept dictionary with the symbols of its file; None where they are others."""
-    file = Elf(data, path) if data[:4] == elf.MAGIC else None
+def attached(path: str, data: Mapped, kept: Kept) -> Optional[Source]:
+    """A kept dictionary with the symbols of its file; None where they are others. Those of an archive
+    are its parts'."""
     model: Model = "ilp32" if kept.model == "ilp32" else "lp64"
+    if is_in_parts(kept.ctf):
+        return Source(kept.ctf, how=PARTS, model=model)
+    file = Elf(data, path) if data[:4] == elf.MAGIC else None
     wanted = identity.symbols(kept.ctf)
     if wanted is not None and wanted.table == NAMES:
         return Source(kept.ctf, how=source.LATER, model=model)

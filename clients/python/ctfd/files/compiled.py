@@ -40,6 +40,7 @@ class Options(NamedTuple):
     folders: Sequence[str] = ()
     number: Optional[int] = None
     symbols: str = SYMTAB
+    is_one: bool = True  # else more types than a dictionary holds become several in an archive
 
 
 def converted(path: str, options: Options) -> Kept:
@@ -79,7 +80,8 @@ def _why(path: str, done: "subprocess.CompletedProcess[bytes]") -> str:
 
 def _words(options: Options) -> Iterator[str]:
     """The options of the command, each a word."""
-    yield "--one"
+    if options.is_one:
+        yield "--one"
     if options.model:
         yield f"--model={options.model}"
     if options.form:

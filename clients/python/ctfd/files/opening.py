@@ -2,14 +2,16 @@
 from __future__ import annotations
 
 import contextlib
-from typing import TYPE_CHECKING, Dict, Iterable, Iterator, Optional
+from typing import TYPE_CHECKING, Dict, Iterable, Iterator, List, Optional
 
 from ..client.dictionary import Dictionary, open_file, open_found, open_source
 from ..client.faults import BadSymbols, Error, Refused, Unreadable
 from ..client.gather import LISTS
 from ..client.session import Session
-from . import anyfile, source
+from . import anyfile, archives, source
 from .anyfile import Asked, Read
+from .cache import Kept
+from .mapped import Mapped, contents
 
 if TYPE_CHECKING:
     from ..layout.whole import Whole
@@ -43,6 +45,33 @@ class Opener:
             with told_of(f"{parent}, as the parent of {path}"):
                 types.import_parent(self._parents[parent])
         return types
+
+    def open_all(self, path: str) -> List[Dictionary]:
+        """The dictionaries of a file: one, or a parent and its children where it is in parts."""
+        with told_of(path):
+            data = contents(path)
+            if anyfile.is_in_parts(data):
+                return self._parts(path, data, None)
+            found = anyfile.read(path, self.asked)
+            self.read[path] = found
+            if found.source.how == anyfile.PARTS:
+                return self._parts(path, found.source.ctf, found)
+            return [self._opened(found, path)]
+
+    def _parts(self, path: str, archive: Mapped, of: Optional[Read]) -> List[Dictionary]:
+        """The dictionaries in an archive, each with the symbols of the program that it is of."""
+        made: List[Dictionary] = []
+        for member in archives.members(path, archive):
+            name = f"{path}({member.name})"
+            handed = None
+            if of is not None:
+                handed = anyfile.attached(path, of.data, Kept(member.data, of.source.model))
+            handed = handed or source.of_bytes(member.data, name)
+            part = self._opened(Read(source.with_symbols(handed), member.data, True), name)
+            if made:
+                part.import_parent(made[0])
+            made.append(part)
+        return made
 
     def _opened(self, found: Read, path: str) -> Dictionary:
         """The dictionary of a file; one that was converted without what does not fit its symbols.
