@@ -1,5 +1,6 @@
 -- How a file is read. Source: ours.
-use Rattle.std.specs.Prelude.{◌≡◌, ℕ, List, ⊤}
+use Rattle.std.specs.Prelude.{◌≡◌, ℕ, List, ⊤, Result, Ok, Err, Vec}
+use Rattle.std.specs.declared.alloc.Global.{Global}
 use Rattle.std.specs.Borrow.{Bor}
 use Rattle.ctf_model.specs.rules.Refusals.{placeless}
 use Rattle.ctf_model.specs.declared.faults.TheConstants.Fault.{STAGE_FULL}
@@ -9,6 +10,15 @@ use Rattle.ctf_dump.specs.declared.ends.DumpEnd.TheVariants.{Unread, Refused, Me
 -- the greatest length of a file, in bytes
 abbrev pub longest_file : ℕ
 longest_file = 67108864
+
+-- which file gave which bytes, or why none
+abbrev pub Readings : Type 1
+Readings = List ℕ → Result (List ℕ) DumpEnd → Type 0
+
+-- what a file gave: its bytes, or why none
+abbrev pub bytes_given : Result (Vec ℕ Global) DumpEnd → Result (List ℕ) DumpEnd
+bytes_given (Ok bytes) = Ok bytes.items
+bytes_given (Err end) = Err end
 
 -- why the file of this name was not read: it is too long, and then that holds; or it can't be
 -- opened or read; or memory was refused

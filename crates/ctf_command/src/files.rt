@@ -1,6 +1,7 @@
 //! Files that are read whole.
-ghost use Rattle.std.specs.Prelude.{◌≡◌, ◌<◌, ◌≤◌, IfOk, IfErr, IfSome, IsOk, length, vec_len, ⊤};
-ghost use Rattle.ctf_command.specs.Files.{IsUnread, longest_file};
+ghost use Rattle.std.specs.Prelude.{◌≡◌, ◌≢◌, ◌<◌, ◌≤◌, IfOk, IfErr, IfSome, IsOk, Err, length, vec_len, ⊤};
+ghost use Rattle.ctf_command.specs.Files.{IsUnread, Readings, bytes_given, longest_file};
+ghost use Rattle.std.specs.IoError.{error_kind};
 
 use ctf_dump::DumpEnd;
 use ctf_protocol::{Fault, placeless};
@@ -49,11 +50,36 @@ pub fn read_opened<R: Read + Drop>(
     ensures short { IfOk result (λ v. vec_len v ≤ longest_file) }
     ensures refused { IfErr result (λ e. IsUnread name.entry (IfOk opened (λ reader.
         IfSome (R.remaining reader) (λ bytes. longest_file < length bytes))) e) }
+    ensures unopened { IfErr opened (λ error. error_kind error ≢ ErrorKind.OutOfMemory
+        → result ≡ Err (DumpEnd.Unread name.entry)) }
+    ensures memory { IfErr opened (λ error. error_kind error ≡ ErrorKind.OutOfMemory
+        → result ≡ Err DumpEnd.Memory) }
 {
     match opened {
         Ok(reader) => read_whole(alloc, name, reader, LONGEST_FILE),
         Err(error) if error.kind() == ErrorKind::OutOfMemory => Err(DumpEnd::Memory),
         Err(_) => Err(DumpEnd::Unread(name)),
+    }
+}
+
+/// What reads files whole. Which bytes a file has is not known: that these are its bytes, or that
+/// it has none for this reason, is a fact that no other call gives.
+pub trait FileReader {
+    /// Which file gave which bytes, or why none.
+    ghost gave: { Self → Readings };
+
+    /// The bytes of the file with a name.
+    fn read<'a>(&self, name: &'a str) -> Result<Vec<u8>, DumpEnd<'a>>
+        ensures given { gave self.now name.now (bytes_given result) }
+        ensures short { IfOk result (λ v. vec_len v ≤ longest_file) }
+        ensures refused { IfErr result (λ e. IsUnread name.entry ⊤ e) };
+}
+
+impl FileReader for HostRuntime {
+    ghost gave = { λ files name outcome. ⊤ };
+
+    fn read<'a>(&self, name: &'a str) -> Result<Vec<u8>, DumpEnd<'a>> {
+        read_file(self, name)
     }
 }
 

@@ -13,7 +13,7 @@ pub use ctf_dump::{DumpEnd, InputFile, Inputs, dump_lists};
 pub use ctf_model::{Bytes, DataModel};
 pub use ctf_protocol::model_named;
 pub use ctf_wire::{Broker, FromReader, RunFault, ToWriter};
-pub use files::read_file;
+pub use files::{FileReader, read_file};
 pub use publishing::start;
 pub use serving::serve_lines;
 pub use starts::NotStarted;

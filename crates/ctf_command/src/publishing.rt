@@ -1,15 +1,17 @@
 //! What is published before any line is read.
-ghost use Rattle.std.specs.Prelude.{◌≡◌, ◌≢◌, IfOk, IfErr, IsOk, None, map};
+ghost use Rattle.std.specs.Prelude.{◌≡◌, IfOk, IfErr, IsOk, map};
 ghost use Rattle.ctf_broker.specs.Table.{library_at};
 ghost use Rattle.ctf_laws.specs.Good.{AreGood};
-ghost use Rattle.ctf_command.specs.Asked.{all_asked};
-ghost use Rattle.ctf_command.specs.Started.{IsPublished, IsPublishedSome, IsStarted};
+ghost use Rattle.ctf_command.specs.Asked.{asked_of};
+ghost use Rattle.ctf_command.specs.Files.{bytes_given};
+ghost use Rattle.ctf_command.specs.Started.{IsPublished, IsPublishedFile, IsStarted, IsUnpublished, IsUnpublishedFile, IsUnstarted};
 
-use crate::files::read_file;
+use crate::files::FileReader;
 use crate::starts::NotStarted;
-use crate::wanted::{Wanted, all_wanted};
+use crate::wanted::{Wanted, all_wanted, are_wanted};
 use ctf_dump::DumpEnd;
 use ctf_wire::Broker;
+use std::alloc::Global;
 
 /// Publishes what was read of a file for the operator.
 fn publish_read<'a>(
@@ -21,7 +23,8 @@ fn publish_read<'a>(
     ensures read { IfOk result (λ done. IsOk read.entry) }
     ensures published { IfOk result (λ done. IfOk read.entry (λ bytes.
         IsPublished wanted.now.name bytes.items broker.old broker.new)) }
-    ensures begun { IfErr result (λ why. why ≢ NotStarted.Misused) }
+    ensures refused { IfErr result (λ why. IsUnpublished broker.old (asked_of wanted.now)
+        (bytes_given read.entry) why) }
 {
     let bytes = read.map_err(NotStarted::File)?;
     match broker.load_section(&wanted.name, bytes) {
@@ -31,36 +34,42 @@ fn publish_read<'a>(
 }
 
 /// Publishes a file for the operator.
-fn publish<'a>(
-    rt: &HostRuntime,
+fn publish<'a, F: FileReader>(
+    files: &F,
     broker: &mut Broker,
     wanted: &Wanted<'a>,
 ) -> Result<(), NotStarted<'a>>
     ensures good { AreGood (library_at broker.old) → AreGood (library_at broker.new) }
-    ensures published { IfOk result (λ done.
-        IsPublishedSome wanted.now.name broker.old broker.new) }
-    ensures begun { IfErr result (λ why. why ≢ NotStarted.Misused) }
+    ensures published { IfOk result (λ done. IsPublishedFile (F.gave files.now)
+        (asked_of wanted.now) broker.old broker.new) }
+    ensures refused { IfErr result (λ why. IsUnpublishedFile (F.gave files.now)
+        (asked_of wanted.now) broker.old why) }
 {
-    publish_read(broker, wanted, read_file(rt, wanted.file))
+    publish_read(broker, wanted, files.read(wanted.file))
 }
 
 /// A broker that has published what the words ask for, in their order. All words are judged before
 /// a file is read.
-pub fn start<'a>(rt: &HostRuntime, words: &[&'a str]) -> Result<Broker, NotStarted<'a>>
+pub fn start<'a, F: FileReader>(
+    alloc: Global,
+    files: &F,
+    words: &[&'a str],
+) -> Result<Broker, NotStarted<'a>>
     ensures good { IfOk result (λ broker. AreGood (library_at broker)) }
-    ensures started { IfOk result (λ broker. IsStarted (map (λ w. w.now) words.now) broker) }
-    ensures misused { IfErr result (λ why. why ≡ NotStarted.Misused
-        → all_asked (map (λ w. w.now) words.now) ≡ None) }
+    ensures started { IfOk result (λ broker. IsStarted (F.gave files.now)
+        (map (λ w. w.now) words.now) broker) }
+    ensures unstarted { IfErr result (λ why. IsUnstarted (F.gave files.now)
+        (map (λ w. w.now) words.now) why) }
 {
-    let mut broker = Broker::new(rt.alloc());
-    let Ok(wanted) = all_wanted(rt.alloc(), words) else {
+    if !are_wanted(words) {
+        return Err(NotStarted::Misused);
+    }
+    let Ok(Some(all)) = all_wanted(alloc, words) else {
         return Err(NotStarted::File(DumpEnd::Memory));
     };
-    let Some(all) = wanted else {
-        return Err(NotStarted::Misused);
-    };
+    let mut broker = Broker::new(alloc);
     for wanted in &all {
-        publish(rt, &mut broker, wanted)?;
+        publish(files, &mut broker, wanted)?;
     }
     Ok(broker)
 }

@@ -1,5 +1,7 @@
 //! What is to be published before any line is read: words NAME=FILE of the command line.
-ghost use Rattle.std.specs.Prelude.{◌≡◌, IfOk, option_map, map};
+ghost use Rattle.std.specs.Prelude.{◌≡◌, IfOk, is_some, option_map, map};
+ghost use Rattle.std.specs.List.{list_all};
+ghost use Rattle.ctf_protocol.specs.sessions.Publications.{is_name_byte, is_publication_name};
 ghost use Rattle.ctf_command.specs.Asked.{all_asked, asked_by, asked_of};
 
 use ctf_protocol::PublicationName;
@@ -10,6 +12,50 @@ use std::alloc::{AllocError, Global};
 pub struct Wanted<'a> {
     pub name: PublicationName,
     pub file: &'a str,
+}
+
+/// The greatest length of a publication's name, in bytes.
+const LONGEST_NAME: usize = 64;
+
+fn is_name_letter(byte: u8) -> bool
+    ensures { result ≡ is_name_byte byte }
+{
+    byte.is_ascii_alphanumeric() || byte == b'.' || byte == b'_' || byte == b'-'
+}
+
+fn are_name_letters(bytes: &[u8]) -> bool
+    ensures { result ≡ list_all is_name_byte bytes.now }
+{
+    bytes.iter().all(|byte| is_name_letter(*byte))
+}
+
+/// Whether a publication may have a name. `PublicationName::new` says so too, and takes memory.
+fn is_name(bytes: &[u8]) -> bool
+    ensures { result ≡ is_publication_name bytes.now }
+{
+    !bytes.is_empty() && bytes.len() <= LONGEST_NAME && are_name_letters(bytes)
+}
+
+/// Whether a word asks for something.
+fn is_wanted(word: &str) -> bool
+    ensures { result ≡ is_some (asked_by word.now) }
+{
+    match word.split_once('=') {
+        Some((name, _)) => is_name(name.as_bytes()),
+        None => false,
+    }
+}
+
+/// Whether all words do. Takes no memory.
+pub fn are_wanted(words: &[&str]) -> bool
+    ensures { result ≡ is_some (all_asked (map (λ w. w.now) words.now)) }
+{
+    for text in words {
+        if !is_wanted(text) {
+            return false;
+        }
+    }
+    true
 }
 
 /// What a word asks for, if it is NAME=FILE. It is cut at its first `=`.

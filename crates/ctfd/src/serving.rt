@@ -8,7 +8,7 @@ use std::io;
 /// Publishes the files that the words name, serves standard input, and answers the exit status.
 pub fn run(rt: &HostRuntime, words: &ArgMatches<'_>) -> u8 {
     let publications = words.get_strs("publications").unwrap_or(&[]);
-    match start(rt, publications) {
+    match start(rt.alloc(), rt, publications) {
         Ok(mut broker) => {
             let mut source = FromReader::new(rt.reader());
             let mut sink = ToWriter::new(io::writer(rt));
