@@ -67,9 +67,10 @@ class Compiled(unittest.TestCase):
             self.assertIsNone(compiled.find())
 
     def test_without_it(self) -> None:
+        path = self.program()
         with mock.patch.object(compiled, "find", return_value=None), \
                 self.assertRaisesRegex(ctfd.Unreadable, r"made\.o: .*ctfd-convert .*: install it"):
-            anyfile.read(self.program(), anyfile.Asked())
+            anyfile.read(path, anyfile.Asked())
 
 
 if __name__ == "__main__":

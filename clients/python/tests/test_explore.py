@@ -10,8 +10,7 @@ from pathlib import Path
 from typing import Any, Dict, List, Optional, Type
 
 from .browser import CHROMIUM, Browser
-from .support import (EXAMPLES, PROGRAM, STRUCT, WithService, dictionary, integer, member, record,
-                      run_compiled)
+from .support import EXAMPLES, PROGRAM, STRUCT, WithService, dictionary, integer, member, record
 from .tools import command, converted, whole_of, written
 
 LUA = str(EXAMPLES / "lua.ctf")
@@ -29,7 +28,7 @@ void none(void) { }
 
 def page(*words: str) -> str:
     """What the command writes."""
-    done = run_compiled("ctfd-explore", *words)
+    done = command("ctfd-explore", *words)
     assert (done.returncode, done.stderr) == (0, ""), done.stderr
     return done.stdout
 
