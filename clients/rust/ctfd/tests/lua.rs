@@ -217,6 +217,11 @@ fn rows_of_symbols_say_what_each_call_says() {
     }
 }
 
+/// The number of the type that a type stands for, 0 where that is none.
+fn stands_for(t: Option<Type<'_>>) -> u16 {
+    t.and_then(|t| t.resolve().ok().flatten()).map_or(0, Type::number)
+}
+
 /// What lies in a type, by the single calls, without where names stand.
 fn lying_in(t: Type<'_>, offset: u64, depth: u32, rows: &mut Vec<VisitRow>) {
     let Ok(Some(holder)) = t.resolve() else {
@@ -228,6 +233,7 @@ fn lying_in(t: Type<'_>, offset: u64, depth: u32, rows: &mut Vec<VisitRow>) {
             depth: depth + 1,
             tnum: member.of_type.map_or(0, Type::number),
             holder: holder.number(),
+            stands_for: stands_for(member.of_type),
             ..VisitRow::default()
         };
         rows.push(row);
@@ -241,8 +247,13 @@ fn lying_in(t: Type<'_>, offset: u64, depth: u32, rows: &mut Vec<VisitRow>) {
 fn a_visit_fills_rows_with_all_that_lies_in_a_type() {
     let types = lua();
     for t in types.types() {
-        let outermost =
-            VisitRow { name_list: 2, tnum: t.number(), holder: t.number(), ..VisitRow::default() };
+        let outermost = VisitRow {
+            name_list: 2,
+            tnum: t.number(),
+            holder: t.number(),
+            stands_for: stands_for(Some(t)),
+            ..VisitRow::default()
+        };
         let mut wanted = vec![outermost];
         lying_in(t, 0, 0, &mut wanted);
         let mut rows = vec![VisitRow::default(); wanted.len()];
@@ -254,7 +265,8 @@ fn a_visit_fills_rows_with_all_that_lies_in_a_type() {
             holder: in_it.holder.number(),
             ..VisitRow::default()
         });
-        assert!(visited.eq(wanted.iter().map(|one| VisitRow { name_list: 0, ..*one })));
+        let listed = wanted.iter().map(|one| VisitRow { name_list: 0, stands_for: 0, ..*one });
+        assert!(visited.eq(listed));
         let shown = rows.iter().zip(&wanted).map(|(row, one)| VisitRow {
             name_at: one.name_at,
             name_list: one.name_list,

@@ -479,6 +479,6 @@ mod tests {
     fn ranges_are_pairs_of_places() {
         assert!(matches!(ranges("{ 8, end }").as_deref(), Ok([(Bound::Bit(8), Bound::End)])));
         let several = ranges("{{0, 7}, {offset_of(a), offset_after(b)}}");
-        assert!(matches!(several.as_deref(), Ok([_, (Bound::Member(_), Bound::Member(_))])));
+        assert!(matches!(several.as_deref(), Ok([_, (Bound::Member(_), Bound::Behind(_))])));
     }
 }
