@@ -42,8 +42,10 @@ class Pipelines(WithService):
         self.addCleanup(signal.signal, signal.SIGALRM, before)
         for number in range(40):
             with self.assertRaises(Interrupted):
-                signal.setitimer(signal.ITIMER_REAL, 0.001 + 0.0007 * number)
+                # Once more where it came in a destructor, which lets no exception out.
+                signal.setitimer(signal.ITIMER_REAL, 0.001 + 0.0007 * number, 1)
                 self.ask_for_ever(slot)
+            signal.setitimer(signal.ITIMER_REAL, 0)
             try:
                 told = self.session.ask("kind", d=slot, t=30)
             except ctfd.Gone:
