@@ -2,9 +2,10 @@
 
 use crate::interrupts;
 use ctfd_read::error::{reason, refuse, Error, Result};
+use std::env;
 use std::fs::{self, DirBuilder, OpenOptions};
 use std::io::{ErrorKind, Write as _};
-use std::os::unix::fs::DirBuilderExt as _;
+use std::os::unix::fs::{DirBuilderExt as _, MetadataExt as _};
 use std::path::{Path, PathBuf};
 use std::process::Command;
 
@@ -144,6 +145,18 @@ pub fn add_section(input: &Path, bytes: &[u8], output: &Path) -> Result<()> {
     }
 }
 
+/// A program on the PATH, of whose folders those count that are named from the root on: another user
+/// may have put a file into the folder that this one stands in.
+fn on_path(name: &str) -> Option<PathBuf> {
+    let is_program = |path: &PathBuf| {
+        fs::metadata(path).is_ok_and(|about| about.is_file() && about.mode() & 0o111 != 0)
+    };
+    env::split_paths(&env::var_os("PATH")?)
+        .filter(|folder| folder.is_absolute())
+        .map(|folder| folder.join(name))
+        .find(is_program)
+}
+
 /// Copies a file with a section in it; what the tool said in vain. None where it is not there.
 fn copied(
     copier: &str,
@@ -152,7 +165,7 @@ fn copied(
     copy: &Path,
 ) -> Option<std::result::Result<(), String>> {
     let input = input.canonicalize().unwrap_or_else(|_| input.to_owned());
-    let done = Command::new(copier)
+    let done = Command::new(on_path(copier)?)
         .args(["--remove-section", SECTION, "--add-section"])
         .arg(format!("{SECTION}={}", section.display()))
         .args([input.as_path(), copy])

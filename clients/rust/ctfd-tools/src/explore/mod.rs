@@ -28,8 +28,7 @@ const PLACE: &str = "\"{types}\"";
 /// The command; its exit status.
 pub fn main(words: Vec<OsString>) -> ExitCode {
     let words = Words::parsed(words);
-    let is_printed = words.output.as_os_str() == "-";
-    if is_printed && standard::is_output_closed() {
+    if standard::is_output_closed() {
         warn_by(NAME, standard::CLOSED);
         return ExitCode::from(FAILED);
     }
