@@ -103,7 +103,7 @@ def describe(stage: Path, made: Made) -> None:
     compiled = made.compiled.values()
     control = (DEBIAN / "control").read_text(encoding="utf-8").format(
         version=version(), size=size, libc=libc(made.program, *made.shared, *compiled),
-        gcc="libgcc-s1, " if compiled else "", how=how_built(made))
+        gcc=", libgcc-s1" if compiled else "", how=how_built(made))
     sums = "".join(f"{hashlib.md5(path.read_bytes()).hexdigest()}  {path.relative_to(stage)}\n"
                    for path in listed)
     write(stage / "DEBIAN" / "control", control.encode())

@@ -27,12 +27,14 @@ TOP = Path(__file__).resolve().parents[1]
 WORKSPACE = TOP / "clients" / "rust"
 ARCHIVE = TOP / "crates" / "ctf_c" / "out" / "libctfd.a"
 PROGRAM = "ctfd-tools"
-COMMANDS = ("ctfd-convert", "ctfd-diff", "ctfd-explore", "ctfd-types")
+COMMANDS = ("ctfd-convert", "ctfd-debuginfo", "ctfd-diff", "ctfd-explore", "ctfd-show",
+            "ctfd-types")
 DEBIAN = Path("/usr/share/cargo/registry")
 # The packages of Debian with what the crates name, which bring what these name themselves.
-PACKAGES = tuple(f"librust-{name}-dev" for name in ("ahash-0.7", "clap", "flate2", "gimli",
-                                                    "indicatif", "object", "rayon", "regex",
-                                                    "signal-hook", "smallvec"))
+PACKAGES = tuple(f"librust-{name}-dev" for name in ("ahash-0.7", "clap", "crc32fast", "flate2",
+                                                    "gimli", "indicatif", "libc", "memchr", "mio",
+                                                    "object", "rayon", "regex", "rustix",
+                                                    "signal-hook", "smallvec", "tar"))
 LEAST = (1, 82)
 
 

@@ -8,9 +8,11 @@ PROGRAM it is that one. As many parts run side by side as there are processors, 
 parts only these run; `tests/all.py no_such_part` lists them. With --whole those that otherwise try
 a share of their cases (growths, front and convert) try all.
 
-With --prove, `rt ci` comes first, and prints as it goes. What the kit built by it is then what is
-built, and the parts run over that. One more part, `quick`, builds the program and the library
-without their proofs and compares the two (tests/quick.sh). With --prove-only no part follows.
+With --prove, `rt ci` comes first, and prints as it goes; a line tells the processor time it took.
+Each mutant that it refused at a written proof alone is named behind it, since that may say nothing
+(tests/emptied.py). What the kit built by it is then what is built, and the parts run over that. One
+more part, `quick`, builds the program and the library without their proofs and compares the two
+(tests/quick.sh). With --prove-only no part follows.
 
 What a part prints goes to a file, and is shown where it fails. A part that lacks something here
 (gdb, say) prints a line that begins with `skipped: `, which is shown; with STRICT=1 in the
@@ -25,6 +27,7 @@ from __future__ import annotations
 import argparse
 import os
 import re
+import resource
 import signal
 import subprocess
 import sys
@@ -33,6 +36,7 @@ from dataclasses import dataclass
 from pathlib import Path
 from typing import Optional
 
+from emptied import refused_at_a_proof
 from lanes import Lanes
 from parts import TOP, Part, archive, parts, quick, whole
 
@@ -63,9 +67,16 @@ def sources() -> Optional[str]:
         return None
 
 
+def processor_minutes() -> float:
+    """What the commands that have ended took of the processors."""
+    taken = resource.getrusage(resource.RUSAGE_CHILDREN)
+    return (taken.ru_utime + taken.ru_stime) / 60
+
+
 def prove(tally: Tally) -> bool:
     """Runs the gate of proofs, takes over what it counts, and answers whether all passed."""
-    last = ""
+    last, before = "", processor_minutes()
+    weak: list[str] = []
     with subprocess.Popen(["rt", "ci"], cwd=TOP, stdout=subprocess.PIPE,
                           stderr=subprocess.STDOUT, text=True, errors="replace",
                           env={**os.environ, "PYTHONUNBUFFERED": "1"}) as gate:
@@ -73,6 +84,10 @@ def prove(tally: Tally) -> bool:
         for line in gate.stdout:
             print(line, end="", flush=True)
             last = line.strip() or last
+            weak += refused_at_a_proof(line)
+    print(f"rt ci took {processor_minutes() - before:.0f} processor minutes")
+    for mutant in weak:
+        print(f"weak  {mutant}: refused at a written proof alone (tests/emptied.py)")
     counts = COUNTS.fullmatch(last)
     if counts:
         tally.passed += int(counts[1])

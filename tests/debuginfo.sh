@@ -11,7 +11,8 @@
 # information, its types are converted to CTF, and the debug information is taken away. Then all
 # structs, unions, enums, typedefs, global variables and functions are asked of gdb, running, by
 # both (debuginfo/dump.py, compare.py); what differs is named in debuginfo/known.txt.
-# llvm-dwarfdump verifies what was written, and converted back it has the same types. A process is
+# llvm-dwarfdump verifies what was written, and converted back it has the same types. Arguments of all
+# classes have the values that a program hands in (debuginfo/passing.c, passing.txt). A process is
 # attached to, and its core file read. `ctf load` of the plug-in gives gdb the same, by a file that
 # it keeps.
 # Prints what was wrong, and counts; the status is 1 where something was wrong.
@@ -45,13 +46,9 @@ count() {
     head -n 40 said
 }
 
-# client COMMAND WORD..: a command, in Python or compiled.
+# client COMMAND WORD..: a command.
 client() {
-    if [ -e "$top/clients/python/$1" ]; then
-        python3 "$top/clients/python/$1" "${@:2}"
-    else
-        "$compiled/$1" "${@:2}"
-    fi
+    "$compiled/$1" "${@:2}"
 }
 
 # made NAME WORD..: NAME.g with debug information, NAME without it, and NAME.debug, of what gcc
@@ -133,12 +130,26 @@ compared_as_is() {
     "$tests/compare.py" "$tests/known.txt" first again ours
 }
 
+# taken NAME: the values of arguments, as each function begins, are those that the program hands in.
+taken() {
+    local name=$1
+    rm -f names
+    asked first "$name.g"
+    NAMES=names OUT=ours gdb -batch -nx -iex 'set debug-file-directory /none' \
+        -ex "$(added "$name")" -ex 'break *main' -ex run -ex delete -x "$tests/arguments.py" \
+        "$name" > log 2>&1
+    sed -nE 's/\\"/"/g; s/0x[0-9a-f]+ //; s/^ *"(.* [0-9]+)": "(.*)",?$/\1: \2/p' ours |
+        sed 's/\\\\/\\/g' | diff "$tests/passing.txt" -
+}
+
 made stb "$tests/stb.c" -lm
 count "stb" compared stb
 grep same said
 made png -no-pie -fno-pie /usr/share/doc/libpng-dev/examples/pngtest.c -lpng
 count "png" compared png
 grep same said
+made passing "$tests/passing.c"
+count "arguments of all classes" taken passing
 if echo 'int main(void) { return 0; }' | gcc -m32 -x c - -o none 2> said; then
     model=ilp32 made stb32 -m32 "$tests/stb.c" -lm
     if ./none; then
@@ -299,6 +310,28 @@ else
     echo "not possible here: Debian's Python has no drgn"
 fi
 
+# What is not compressed has the same entries, and pahole the compiler's sizes.
+entries() {
+    llvm-dwarfdump --debug-info "$1" | sed 1d
+}
+count "--compress-debug-sections=none" client ctfd-debuginfo --compress-debug-sections=none stb \
+    plain.debug
+count "the same entries" diff <(entries stb.debug) <(entries plain.debug)
+count "in more bytes" [ "$(stat -c %s plain.debug)" -gt "$(stat -c %s stb.debug)" ]
+if command -v pahole > /dev/null; then
+    for name in stb.g stb.debug plain.debug; do pahole --sizes $name | sort > sizes.$name; done
+    count "sizes in pahole" diff sizes.stb.g sizes.stb.debug
+    count "sizes in pahole, not compressed" diff sizes.stb.g sizes.plain.debug
+fi
+if [ -r /sys/kernel/btf/vmlinux ] &&
+        client ctfd-convert --lossy /sys/kernel/btf/vmlinux parts 2> said &&
+        [ "$(head -c 7 parts)" = '!<arch>' ]; then
+    count "a program in parts" client ctfd-debuginfo parts parts.debug
+    count "which is right" llvm-dwarfdump --verify parts.debug
+    gdb -batch -nx -ex 'print sizeof(struct list_head)' parts.debug > seen 2>&1
+    count "a type of it" grep -q '^\$1 = 16$' seen
+fi
+
 # A process that waits, and its core file.
 made waits "$tests/waits.c"
 ./waits &
@@ -444,7 +477,7 @@ fi
 client ctfd-convert --lossy statics.g parent.types > said 2>&1 || true
 client ctfd-convert --lossy --parent parent.types --section stb.g child.ctf > said 2>&1 || true
 objcopy --strip-debug child.ctf child
-count "a child without its parent" says 'child is a child of parent: name .* by --parent' \
+count "a child without its parent" says 'child is a child of parent, .*: name .* by --parent' \
     child x.debug
 count "of another parent" says 'stb.types, as its parent|its types are not those that the child' \
     child --parent stb.types x.debug

@@ -2,6 +2,7 @@
 """Tries mutants again without the written proofs that no longer fit them.
 
 usage: tests/emptied.py [--libraries FOLDER] CRATE[/EDIT]..
+       tests/emptied.py --log FILE
 
 A mutant that the gate refuses because a written proof no longer fits may still mean what the
 contract says: another proof might exist. Here each mutant of a crate's must-fail/ is put into a
@@ -15,6 +16,10 @@ none is left or the mutant is accepted. What the check says then is printed:
 
 The status is 1 where a mutant is accepted, or where nothing of it was tried. The copy begins with
 what is built here, so `rt check` in the crate first makes this quick.
+
+With `--log` nothing is tried: FILE is what `rt ci` or `rt must-fail` printed, and each mutant that
+was refused first at a written proof is named; the status is then 1. Such a mutant is to take the
+answers that no longer fit it out as well, between `{-` and `-}`, so that the goal is left open.
 
 With `--libraries` the crates below are not proved first. They are taken as built in FOLDER, which
 has crates/NAME/out/rlib of each as `rt ci` leaves them, made of the same files as are here. The
@@ -38,6 +43,8 @@ from further_edits import CRATES, TOP, Edit, of_the_gate
 ERROR = re.compile(r"^(?:\./)?(proofs/\S+\.antt):(\d+):\d+: error", re.MULTILINE)
 GOAL = re.compile(r"^note: (src/\S+: it is not proved that .*)$", re.MULTILINE)
 VALUES = re.compile(r"may be false: (.*)$", re.MULTILINE)
+AT_A_PROOF = re.compile(r"must-fail (\S+): refused, as it must be"
+                        r"(?: \(only because a proof file|: (?:note: )?(?:\./)?proofs/)")
 SIGNATURE = re.compile(r"^(?:abbrev |unfoldable )?(?:pub )?([\w-]+) :")
 MOST_TRIES = 12
 
@@ -52,6 +59,11 @@ class Found:
     @property
     def is_well(self) -> bool:
         return self.kind in ("false", "open")
+
+
+def refused_at_a_proof(said: str) -> list[str]:
+    """The mutants that `rt` says were refused at a written proof, where no goal was told first."""
+    return AT_A_PROOF.findall(said)
 
 
 def link_or_copy(one: str, other: str) -> None:
@@ -193,8 +205,15 @@ def main() -> int:
     assert __doc__
     options = argparse.ArgumentParser(usage=__doc__.split("usage: ")[1].split("\n")[0])
     options.add_argument("--libraries", type=with_libraries)
-    options.add_argument("crates", nargs="+", metavar="CRATE[/EDIT]")
+    options.add_argument("--log", type=Path)
+    options.add_argument("crates", nargs="*", metavar="CRATE[/EDIT]")
     given = options.parse_args()
+    if bool(given.log) == bool(given.crates):
+        options.error("name a log, or crates")
+    if given.log:
+        weak = refused_at_a_proof(given.log.read_text(encoding="utf-8", errors="replace"))
+        print(*weak, sep="\n", end="\n" if weak else "")
+        return 1 if weak else 0
     wrong = 0
     with tempfile.TemporaryDirectory() as copy:
         copy_tree(Path(copy))

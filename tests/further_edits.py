@@ -5,8 +5,9 @@ usage: tests/further_edits.py [--only NAME] CRATE..
        tests/further_edits.py --apply
 
 crates/NAME/further-edits has the edits of a crate, a blank line between two: a line `name: NAME`,
-then lines as a file of must-fail/ has them. They are tried in a copy by `rt must-fail`, whatever is
-built there; what is not built yet is proved first. `--only` tries one.
+then lines as a file of must-fail/ has them. A line `false: VALUES` says for which values a goal is
+false that the edit leaves open. They are tried in a copy by `rt must-fail`, whatever is built
+there; what is not built yet is proved first. `--only` tries one.
 
 With `--apply` nothing is tried: each text that an edit replaces has to stand once in its file, in
 these edits and in those of must-fail/. Prints what does not, and counts; the status is then 1.

@@ -88,7 +88,7 @@ used() {
         count "${command##*/}" "$below/bin/${command##*/}" --help
     done
     if [ -f "$compiled" ]; then
-        for command in ctfd-convert ctfd-diff ctfd-explore ctfd-types; do
+        for command in ctfd-convert ctfd-debuginfo ctfd-diff ctfd-explore ctfd-show ctfd-types; do
             count "$command, compiled" cmp "$compiled" "$below/bin/$command"
         done
     fi

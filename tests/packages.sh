@@ -64,7 +64,7 @@ used() {
     count "ctfd-convert in $below" env PATH=/usr/bin:/bin "$below/bin/ctfd-convert" \
         "$work/own" "$work/own.ctf"
     if [ -f "$compiled" ]; then
-        for command in ctfd-convert ctfd-diff ctfd-explore ctfd-types; do
+        for command in ctfd-convert ctfd-debuginfo ctfd-diff ctfd-explore ctfd-show ctfd-types; do
             count "$command, compiled, in $below" cmp "$compiled" "$below/bin/$command"
         done
         env -i "$below/bin/ctfd-types" "$work/own.ctf" "struct point" > "$work/types" 2>&1 || true
@@ -116,8 +116,33 @@ count "dpkg-deb -x" dpkg-deb -x "$deb" "$work/unpacked"
 used "$work/unpacked/usr" "$work/unpacked/usr/lib/x86_64-linux-gnu"
 count "the deb's version" says "$version" dpkg-deb -f "$deb" Version
 count "the deb's dependencies" sh -c \
-    "dpkg-deb -f '$deb' Depends | grep -Eq '^libc6 \(>= 2\.[0-9]+\), (libgcc-s1, )?python3 \(>= 3\.9\)$'"
+    "dpkg-deb -f '$deb' Depends | grep -Eq '^libc6 \(>= 2\.[0-9]+\)(, libgcc-s1)?$'"
 count "all of it is root's" says "" sh -c "dpkg-deb -c '$deb' | grep -v ' root/root ' || true"
+
+# What README shows first, where there is nothing but the C library and the package: no Python.
+without_python() {
+    local bare=$work/bare library
+    mkdir -p "$bare"
+    cp -R "$work/unpacked/usr" "$bare/usr"
+    for library in $(ldd "$compiled" | grep -oE '/[^ ]+'); do
+        mkdir -p "$bare$(dirname "$library")"
+        cp -L "$library" "$bare$library"
+    done
+    cp "$work/own" "$bare/own"
+    chroot "$bare" /usr/bin/ctfd-types /own "struct point" > "$work/types" &&
+        grep -q 'size: 32, cachelines: 1, members: 4' "$work/types" &&
+        chroot "$bare" /usr/bin/ctfd-types --svg "struct point" /own | grep -q '</svg>' &&
+        chroot "$bare" /usr/bin/ctfd-convert /own /own.ctf &&
+        chroot "$bare" /usr/bin/ctfd-diff --all /own.ctf /own.ctf &&
+        chroot "$bare" /usr/bin/ctfd-debuginfo /own.ctf /own.debug &&
+        chroot "$bare" /usr/bin/ctfd-explore /own.ctf -o /types.html &&
+        test -s "$bare/types.html" && test -z "$(find "$bare" -name 'python*' -type f -perm -100)"
+}
+if [ "$(id -u)" = 0 ] && [ -f "$compiled" ]; then
+    count "without Python" without_python
+else
+    echo "not possible here: chroot takes root, and the compiled commands"
+fi
 
 # The scripts in the package are run outside the root, which has no shell.
 root=$work/root

@@ -84,7 +84,7 @@ def parts(program: str) -> list[Part]:
         Part("drgn", [with_package("drgn"), "-m", "unittest", "-v", "tests.test_drgn"],
              CLIENT, over, ("compiled",)),
         Part("debuginfo", ["tests/debuginfo.sh", program], after=("compiled",)),
-        Part("show", ["tests/show.sh", program], after=("compiled",)),
+        Part("show", ["tests/show.sh"], after=("compiled",)),
         Part("convert", ["tests/convert.sh", program], after=("compiled",)),
         # The compiled commands, over the library.
         Part("compiled", ["scripts/rust.py", "--quiet"], after=of_library),

@@ -1,18 +1,19 @@
 #!/usr/bin/env bash
 # Compares what ctfd-show prints of a process and of its core file with what gdb prints by the
 # compiler's debug information.
-# usage: tests/show.sh PROGRAM
-# PROGRAM is a built ctfd. Needs gdb with Python, gcc and objcopy, and a machine on which a process
-# may be attached to; says so and ends with status 0 where one is missing.
+# usage: tests/show.sh
+# Needs gdb with Python, gcc and objcopy, and a machine on which a process may be attached to; says
+# so and ends with status 0 where one is missing.
 #
 # show/table.c is compiled with debug information, its types are converted to CTF, and the debug
 # information is taken away. It runs, and each line of show/expressions.txt is asked: of gdb, which
 # is attached and has the file with debug information, and of ctfd-show, by the process and by the
-# core file that gdb leaves; so it is for a program of 32 bits, where gcc and the machine have such.
-# Then what can't be read is asked for: one line each, and status 2.
+# core file that gdb leaves; so it is for a program of 32 bits, where gcc and the machine have such,
+# and for one with debug information, which ctfd-show converts. show/kinds.c has values of every
+# kind, which show/kinds.txt asks for. Then what can't be read is asked for: one line each, and
+# status 2.
 # Prints what was wrong, and counts; the status is 1 where something was wrong.
 set -eu
-program=$(realpath "$1")
 top=$(realpath "$(dirname "$0")/..")
 tests=$top/tests/show
 for tool in gdb gcc objcopy; do
@@ -22,7 +23,7 @@ work=$(mktemp -d)
 pid=
 trap '[ -z "$pid" ] || kill $pid; rm -r "$work"' EXIT
 cd "$work"
-export CTFD=$program LC_ALL=C
+export LC_ALL=C
 checks=0 wrong=0
 
 # count WHAT COMMAND..: runs it, and shows what it said where it failed.
@@ -36,13 +37,9 @@ count() {
     head -n 40 said
 }
 
-# client COMMAND WORD..: a command, in Python or compiled.
+# client COMMAND WORD..: a compiled command.
 client() {
-    if [ -e "$top/clients/python/$1" ]; then
-        python3 "$top/clients/python/$1" "${@:2}"
-    else
-        "${CARGO_TARGET_DIR:-$top/clients/rust/target}/release/$1" "${@:2}"
-    fi
+    "${CARGO_TARGET_DIR:-$top/clients/rust/target}/release/$1" "${@:2}"
 }
 
 shows() {
@@ -51,7 +48,7 @@ shows() {
 
 # nobody COMMAND..: runs a command as a user who owns nothing.
 nobody() {
-    CTFD=open/$(basename "$program") setpriv --reuid 65534 --regid 65534 --clear-groups "$@"
+    setpriv --reuid 65534 --regid 65534 --clear-groups "$@"
 }
 
 # refused TEXT COMMAND WORD..: ctfd-show with these words says a text, in one line, and has status
@@ -88,7 +85,7 @@ made() {
 # leaves a core file.
 asks() {
     gdb -batch -nx -iex 'set debug-file-directory /none' -ex 'set width 0' "${questions[@]}" \
-        -ex 'generate-core-file core' -p $pid "$1.g" > seen 2>&1 < /dev/null || true
+        -ex 'generate-core-file core' -p $pid "${1%.g}.g" > seen 2>&1 < /dev/null || true
     sed -n 's/^\$[0-9]* = //p' seen > gdbs
     [ "$(wc -l < gdbs)" = ${#asked[@]} ]
 }
@@ -106,7 +103,26 @@ fi
 
 # same WORD..: ctfd-show with these words prints what gdb does.
 same() {
-    client ctfd-show "$@" "${asked[@]}" > ours && diff gdbs ours
+    client ctfd-show "$@" -- "${asked[@]}" > ours && diff gdbs ours
+}
+
+# beside NAME: a program that runs, and its core file, by gdb and by ctfd-show.
+beside() {
+    waits "$1"
+    count "$1, which gdb reads" asks "$1"
+    count "its process" same --pid $pid
+    count "its core file" same --core core
+    kill $pid
+    pid=
+}
+
+# told TEXT WORD..: ctfd-show with these words prints a text, and has status 0.
+told() {
+    local text=$1
+    shift
+    shows "$@" > ours && [ "$(cat ours)" = "$text" ] && return
+    cat ours
+    return 1
 }
 
 count "a process" same --pid $pid
@@ -118,9 +134,19 @@ count "a list of links" \
     eval "client ctfd-show --core core --list in --of 'struct node' all > ours"
 count "of two nodes" [ "$(cut -d' ' -f1,3-5 ours | tr -d '\n')" = \
     "[0] {number = 10,[1] {number = 20," ]
+count "a sum in hexadecimal" told 0x14 --pid $pid --hex 'head->number * 2'
+count "few elements" told '{7, 8...}' --pid $pid --elements 2 fixed
+count "an enumerator" told 'GREEN' --pid $pid GREEN
+count "two looks at what does not change" told 'head->number = 10' \
+    --pid $pid --watch 0.01 --count 2 'head->number'
+count "the other expressions" eval \
+    "! shows --pid $pid --keep-going nothing 'head->number' > ours && [ \$(cat ours) = 10 ]"
+while IFS='~' read -r expression text; do
+    count "$expression" refused "$text" shows --pid $pid "$expression"
+done < "$tests/refused.txt"
 count "no such name" refused 'nothing: no file of process .* has a function or variable nothing$' \
     shows --pid $pid nothing
-count "no such type" refused 'there is no type struct nod$' shows --pid $pid '*(struct nod *) 4096'
+count "no such type" refused 'there is no type struct nod; did you mean struct node,' shows --pid $pid '*(struct nod *) 4096'
 count "no memory" refused 'no memory at 0x10 that can be read$' \
     shows --pid $pid '*(struct node *) 16'
 count "a register" refused '[$]rip: registers are not read' shows --pid $pid '$rip'
@@ -129,19 +155,15 @@ count "no core file" refused 'table: an ELF file that is no core file$' shows --
 head -c 9000 core > cut
 count "a core file that is cut off" refused 'cut' shows --core cut first
 
-# Another user may not read it. The package and the service are copies that all users may read.
-python=
-for one in python3 /usr/bin/python3; do
-    [ "$(id -u)" != 0 ] || ! nobody "$one" -c '' 2> /dev/null || python=$one
-done
-if [ -n "$python" ]; then
+# Another user may not read it. The command is a copy that all users may run.
+if [ "$(id -u)" = 0 ] && command -v setpriv > told; then
     mkdir open
-    cp -r "$top/clients/python" "$program" open
+    cp "${CARGO_TARGET_DIR:-$top/clients/rust/target}/release/ctfd-show" open
     chmod -R a+rX .
     count "another user's process" refused "process $pid may not be read: .* by its owner" \
-        nobody "$python" open/python/ctfd-show --pid $pid first
+        nobody open/ctfd-show --pid $pid first
 else
-    echo "not possible here: root alone is another user, and it takes setpriv and a Python for all"
+    echo "not possible here: root alone is another user, by setpriv"
 fi
 
 # The program was replaced while it ran: what runs is read, and a core file's program is refused.
@@ -175,6 +197,14 @@ else
     kill $pid
     pid=
 fi
+
+# A program with debug information, which is converted as it is asked, and values of every kind.
+beside table.g
+mapfile -t asked < "$tests/kinds.txt"
+questions=()
+for one in "${asked[@]}"; do questions+=(-ex "print $one"); done
+gcc -g -w -o kinds.g "$tests/kinds.c"
+beside kinds.g
 
 # Types in a file of their own, beside a program that has none.
 strip -o table table.g

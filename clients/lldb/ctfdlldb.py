@@ -18,8 +18,7 @@ sys.path.insert(0, str(pathlib.Path(__file__).resolve().parents[1] / "python"))
 
 import ctfd  # noqa: E402
 from ctfd.client import aliases  # noqa: E402
-from ctfd.debuginfo.command import Wanted  # noqa: E402
-from ctfd.debuginfo.keeping import Writer  # noqa: E402
+from ctfd.plugin.debug_files import Writer  # noqa: E402
 from ctfd.text import printable  # noqa: E402
 
 WRITER = Writer(print)
@@ -36,8 +35,8 @@ def load(debugger: lldb.SBDebugger, words: str, result: lldb.SBCommandReturnObje
         return
     try:
         refuse_object_file(path)
+        made = WRITER.debug_file(path)
         with ctfd.connect() as client:
-            made = WRITER.written(client, Wanted(path))
             names = aliases.of_dictionary(ctfd.open_file(client.session(), path)).told()
     except ctfd.Error as error:
         result.SetError(printable(str(error)))

@@ -30,17 +30,17 @@ from typing import Dict, List, NamedTuple, Tuple
 import headers  # noqa: E402  it knows where the client is
 
 import ctfd
-from ctfd.files.debugfiles import with_debug
-from ctfd.files.elf import Elf, MAGIC
-from ctfd.files.mapped import contents
+from command import COMMAND
 
 MOST = 20
+MAGIC = b"\x7fELF"
+DEBUG = "/usr/lib/debug/.build-id"
 ERROR = "<ERROR("
 TOO_MANY = "that a dictionary holds"
-_BLOCK = re.compile(r"^(struct|union) (\w+) \{\n(.*?)^\};?", re.MULTILINE | re.DOTALL)
+_BLOCK = re.compile(r"^(struct|union|class) (\w+)(?: : [^{\n]*)? \{\n(.*?)^\};?", re.MULTILINE | re.DOTALL)
 # A type that is declared in a struct, which pahole lists a second time in front of its member where
 # clang has it there: it has no place.
-_INNER = re.compile(r"^\t(?:struct|union)(?: \w+)? \{\n(?:\t\t.*\n|\n)*\t\};\n", re.MULTILINE)
+_INNER = re.compile(r"^(\t+)(?:struct|union)(?: \w+)? \{\n(?:\1\t.*\n|\n)*\1\};\n", re.MULTILINE)
 # What a note under a struct says in bytes or bits, and how many bits one of these is.
 _NOTES = {
     "holes": ((re.compile(r"[ ,] holes: \d+, sum holes: (\d+)"), 8),
@@ -75,7 +75,7 @@ def parsed(text: str) -> Listed:
     """The structs and unions of a listing, by their names."""
     found: Listed = defaultdict(list)
     for block in _BLOCK.finditer(text):
-        name = f"{block[1]} {block[2]}"
+        name = f"{'union' if block[1] == 'union' else 'struct'} {block[2]}"
         own = _INNER.sub("", block[3])
         places = headers.parsed(f"{name} {{\n{own}}}\n").get(name, ())
         found[name].append(Struct(places, _bits("holes", own), _bits("padding", own),
@@ -119,13 +119,20 @@ def listed(service: str, made: str, parent: str) -> Listed:
 
 def shown(path: str) -> Listed:
     """What pahole lists."""
-    data = contents(path)
     form = ["-F", "btf"]
-    if data[:4] == MAGIC:
-        path, form = with_debug(Elf(data, path), []).path, ["-F", "dwarf"]
+    if Path(path).read_bytes()[:4] == MAGIC:
+        path, form = with_debug(path), ["-F", "dwarf"]
     done = subprocess.run(["pahole", *form, path], capture_output=True, text=True,
                           errors="replace")
-    return parsed(done.stdout)
+    return parsed(re.sub(r"\bclass \{", "struct {", done.stdout))  # C++: one without a name
+
+
+def with_debug(path: str) -> str:
+    """The file with the debug information of a program: its own, or that of its package."""
+    sections = subprocess.run(["readelf", "-SWn", path], capture_output=True, text=True).stdout
+    found = re.search(r"Build ID: (\w\w)(\w+)", sections)
+    debug = Path(DEBUG, found[1], f"{found[2]}.debug") if found else Path(DEBUG)
+    return path if ".debug_info" in sections or not debug.is_file() else str(debug)
 
 
 def compare(service: str, path: str) -> int:

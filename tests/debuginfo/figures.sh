@@ -10,7 +10,7 @@
 set -eu
 export CTFD=$(realpath "$1") LC_ALL=C
 tests=$(realpath "$(dirname "$0")")
-client=$(realpath "$tests/../../clients/python")
+compiled=${CARGO_TARGET_DIR:-$(realpath "$tests/../../clients/rust/target")}/release
 program=$(realpath "$2")
 shift 2
 work=$(mktemp -d)
@@ -37,9 +37,9 @@ by() {
 printf -v words '%q ' "$@"
 cd "$work"
 cp "$program" full  # by a path as long as the other's, so that the stack is at the same place
-"$client/../rust/target/release/ctfd-convert" --lossy --section full with.ctf 2> /dev/null
+"$compiled/ctfd-convert" --lossy --section full with.ctf 2> /dev/null
 objcopy --strip-debug with.ctf bare
-echo "ctfd-debuginfo: $(spent "$client/ctfd-debuginfo" bare it.debug)"
+echo "ctfd-debuginfo: $(spent "$compiled/ctfd-debuginfo" bare it.debug)"
 debug=$(size -A -d full | awk '/^\.debug_/ { n += $2 } END { print n }')
 echo "bytes: $(stat -c %s it.debug), of the compiler's debug sections $debug"
 given="python gdb.objfiles()[0].add_separate_debug_file('$PWD/it.debug')"

@@ -8,18 +8,18 @@
 set -eu
 export CTFD=$(realpath "$1") LC_ALL=C
 tests=$(realpath "$(dirname "$0")")
-client=$(realpath "$tests/../../clients/python")
+compiled=${CARGO_TARGET_DIR:-$(realpath "$tests/../../clients/rust/target")}/release
 module=$(realpath "$2") kernel=${3:+$(realpath "$3")}
 work=$(mktemp -d)
 trap 'rm -r "$work"' EXIT
 cd "$work"
 parent=()
 if [ -n "$kernel" ]; then
-    "$client/../rust/target/release/ctfd-convert" --lossy --from btf "$kernel" kernel.ctf 2> /dev/null
+    "$compiled/ctfd-convert" --lossy --from btf "$kernel" kernel.ctf 2> /dev/null
     parent=(--parent kernel.ctf)
 fi
-"$client/../rust/target/release/ctfd-convert" --lossy --from dwarf "${parent[@]}" --section "$module" with.ko 2> /dev/null
-"$client/ctfd-debuginfo" "${parent[@]}" --symbols "$module" with.ko it.debug
+"$compiled/ctfd-convert" --lossy --from dwarf "${parent[@]}" --section "$module" with.ko 2> /dev/null
+"$compiled/ctfd-debuginfo" "${parent[@]}" --symbols "$module" with.ko it.debug
 llvm-dwarfdump --verify it.debug | tail -n 1
 placed=$("$tests/placed.py" "$module")
 for one in "first $module" "ours it.debug"; do

@@ -46,6 +46,50 @@ abbreviations:
 	.uleb128 0, 0
 	.byte 0
 """
+# A class of C++ with a member and an entry of the tag 0x4321, which no compiler writes.
+FOREIGN_PART = """
+	.section .debug_info,"",@progbits
+	.long 3f-0f
+0:	.value 4
+	.long abbreviations
+	.byte 8
+	.uleb128 1
+	.byte 4
+	.asciz "made.cc"
+	.uleb128 2
+	.asciz "strange"
+	.byte 4
+	.uleb128 3
+	.asciz "number"
+	.long 4f-0b+4
+	.byte 0
+	.uleb128 5
+	.asciz "odd"
+	.byte 0
+4:	.uleb128 4
+	.byte 4, 5
+	.asciz "int"
+	.byte 0
+3:
+	.section .debug_abbrev,"",@progbits
+abbreviations:
+	.uleb128 1, 0x11
+	.byte 1
+	.uleb128 0x13, 0x0b, 0x03, 0x08, 0, 0
+	.uleb128 2, 0x02
+	.byte 1
+	.uleb128 0x03, 0x08, 0x0b, 0x0b, 0, 0
+	.uleb128 3, 0x0d
+	.byte 0
+	.uleb128 0x03, 0x08, 0x49, 0x13, 0x38, 0x0b, 0, 0
+	.uleb128 4, 0x24
+	.byte 0
+	.uleb128 0x0b, 0x0b, 0x3e, 0x0b, 0x03, 0x08, 0, 0
+	.uleb128 5, 0x4321
+	.byte 0
+	.uleb128 0x03, 0x08, 0, 0
+	.byte 0
+"""
 # Two files of which each has a struct of one name, and symbols that others see or not.
 ONE = """
 struct pair { int a; char *b; };
@@ -99,12 +143,26 @@ class Tags(Conversion):
         self.assertEqual(shown.output, "void sum._omp_fn.0(struct {...} *restrict);\n")
         self.assertRegex(self.dumped(), r'restrict "" root to=(\d+) .*bytes=8')
 
-    def test_a_tag_that_is_not_known_is_a_loss(self) -> None:
+    def assembled(self, text: str) -> Path:
         self.needs("gcc")
-        source = self.folder / "made.s"
-        source.write_text(FOREIGN_TAG)
-        made = self.folder / "made.o"
+        source, made = self.folder / "made.s", self.folder / "made.o"
+        source.write_text(text)
         subprocess.run(["gcc", "-c", "-o", made, source], check=True)
+        return made
+
+    def test_a_tag_that_is_not_known_is_a_loss_in_a_class(self) -> None:
+        self.needs("llvm-dwarfdump")
+        made = self.assembled(FOREIGN_PART)
+        peer = subprocess.run(["llvm-dwarfdump", made], capture_output=True, text=True).stdout
+        self.assertIn("DW_TAG_unknown_4321", peer)
+        done = self.converted(made)
+        self.assertEqual(done.status, 1, done.text)
+        self.assertIn("an entry of tag 0x4321 in strange, ", done.errors)
+        shown = run(tool("types"), "--plain", self.folder / "out.ctf", "strange")
+        self.assertEqual(shown.output, "struct strange {\n\tint number;\n};\n")
+
+    def test_a_tag_that_is_not_known_is_a_loss(self) -> None:
+        made = self.assembled(FOREIGN_TAG)
         done = self.converted(made)
         self.assertEqual(done.status, 1, done.text)
         self.assertRegex(done.errors, "tag 0x44.*unknown")

@@ -24,7 +24,7 @@ class Names(Case):
 
     def test_control_characters(self) -> None:
         out = self.folder / "out.debug"
-        done = run(tool("debuginfo"), self.hostile(), out)
+        done = run(tool("debuginfo"), "--compress-debug-sections=none", self.hostile(), out)
         self.assert_tame(done)
         self.assertEqual(done.status, 0, done.text)
         data = out.read_bytes()

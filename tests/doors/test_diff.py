@@ -326,3 +326,180 @@ def doubled(levels: int) -> bytes:
 
 if __name__ == "__main__":
     unittest.main()
+
+
+class Opaque(Diff):
+    def test_an_object_of_an_opaque_type_has_another_size(self) -> None:
+        """Programs that were linked with the old library copy so many bytes."""
+        self.needs("abidiff")
+        headers = self.folder / "public"
+        headers.mkdir()
+        (headers / "public.h").write_text("struct known { int a; };")
+        old, new = (self.library(f"struct s {{ int a{more}; }}; struct s s;", name)
+                    for more, name in (("", "old.so"), (", b", "new.so")))
+        words = ["--headers-dir1", str(headers), "--headers-dir2", str(headers)]
+        peer = subprocess.run(["abidiff", *words, old, new], capture_output=True, text=True)
+        self.assertTrue(peer.returncode & 4, peer.stdout)
+        done = self.asked(old, new, *words)
+        self.assertEqual((done.status, done.output), (BREAKING, "object s: size 4 -> 8\n"), done.text)
+
+
+class Baseline(Diff):
+    """A kept baseline answers as the library that it was made of."""
+
+    def test_it_answers_as_the_library(self) -> None:
+        self.needs("objcopy")
+        for what, (before, after) in BREAKS.items():
+            with self.subTest(what):
+                old, new = self.library(before, "old.so"), self.library(after, "new.so")
+                kept = self.write_baseline(old)
+                done = run(tool("diff"), "--baseline", kept, new)
+                whole = self.asked(old, new)
+                self.assertEqual((done.status, done.output), (whole.status, whole.output), what)
+                self.assertEqual(run(tool("diff"), "--baseline", kept, old).status, SAME)
+
+    def write_baseline(self, library: Path) -> Path:
+        kept = library.with_suffix(".baseline")
+        kept.unlink(missing_ok=True)
+        done = run(tool("diff"), "--baseline", kept, "--update", library)
+        self.assertEqual((done.status, done.output, done.errors), (SAME, "", ""))
+        return kept
+
+    def test_of_a_debug_file_with_versions_and_headers(self) -> None:
+        self.needs("objcopy")
+        script = self.folder / "map"
+        script.write_text("ONE_1.0 { global: take; get; local: *; };")
+        (self.folder / "public").mkdir()
+        (self.folder / "public" / "public.h").write_text("struct known { int a; };")
+        code = ('#include "public/public.h"\nstruct hidden { int %s; };'
+                " int take(struct known *k, struct hidden *h) { return k->a + h->x; }")
+        words = ("-Wl,--version-script=" + str(script), "-I", str(self.folder))
+        both = []
+        for name, members in (("old.so", "x"), ("new.so", "y, x")):
+            made = self.compiled(EXPORTED + code % members, "-g", "-shared", "-fPIC", *words,
+                                 name=name)
+            debug = made.with_suffix(".debug")
+            subprocess.run(["objcopy", "--only-keep-debug", made, debug], check=True)
+            subprocess.run(["objcopy", "--strip-all", f"--add-gnu-debuglink={debug}", made],
+                           check=True)
+            both.append(made)
+        kept = self.write_baseline(both[0])
+        both[0].with_suffix(".debug").unlink()
+        done = run(tool("diff"), "--baseline", kept, both[1])
+        self.assertEqual(done.status, BREAKING, done.text)
+        self.assertIn("take@ONE_1.0: takes struct hidden *", done.output)
+        for number in "12":
+            done = run(tool("diff"), "--baseline", kept, f"--headers-dir{number}",
+                       self.folder / "public", both[1])
+            self.assertEqual((done.status, done.output), (SAME, ""), done.text)
+
+    def test_nothing_else_is_written_over(self) -> None:
+        self.needs("objcopy")
+        old, new = self.library("int x;", "old.so"), self.library("long x;", "new.so")
+        before = old.read_bytes(), new.read_bytes()
+        kept = self.folder / "kept"
+        for words in (["--baseline", kept, new], ["--update", old, new],
+                      ["--baseline", old, "--update", new], ["--baseline", new, "--update", new],
+                      ["--baseline", kept, "--update", self.folder / "none"],
+                      ["--baseline", self.folder, "--update", new]):
+            done = run(tool("diff"), *words)
+            self.assertEqual((done.status, done.output), (TROUBLE, ""), words)
+            self.assertEqual(len(done.errors.splitlines()), 1, done.errors)
+        self.assertFalse(kept.exists())
+        self.assertEqual((old.read_bytes(), new.read_bytes()), before)
+        self.write_baseline(old).rename(kept)
+        done = run(tool("diff"), "--baseline", kept, "--update", "--verdict", new)
+        self.assertEqual(done.status, BREAKING, done.text)
+        self.assertEqual(run(tool("diff"), "--baseline", kept, new).status, SAME)
+
+
+class Packages(Diff):
+    """Packages and folders: each library with that of its name, beside abipkgdiff."""
+
+    OLD = {"libsame.so.1": "int x;", "libbroken.so.1": "struct s { int a; }; struct s s;",
+           "libgone.so.1": "int y;", "libgrown.so.1": "int z;"}
+    NEW = {"libsame.so.1": "int x;", "libbroken.so.2": "struct s { long a; }; struct s s;",
+           "libnew.so.1": "int y;", "libgrown.so.1": "int z; int more;"}
+
+    def folder_of(self, name: str, libraries: Dict[str, str], is_apart: bool) -> Path:
+        """A folder with libraries as a package has them, their debug information apart."""
+        folder = self.folder / name
+        place = folder / "usr" / "lib"
+        place.mkdir(parents=True)
+        for soname, code in libraries.items():
+            made = self.compiled(EXPORTED + code, "-g", "-shared", "-fPIC",
+                                 f"-Wl,-soname,{soname}", "-Wl,--build-id", name=soname)
+            made.rename(place / f"{soname}.0")
+            (place / soname).symlink_to(f"{soname}.0")
+            if is_apart:
+                self.take_debug_out(place / f"{soname}.0", self.folder / f"{name}-dbg")
+        return folder
+
+    def take_debug_out(self, library: Path, package: Path) -> None:
+        told = subprocess.run(["readelf", "-n", library], capture_output=True, text=True).stdout
+        build = told.split("Build ID: ")[1].split()[0]
+        debug = package / "usr/lib/debug/.build-id" / build[:2] / f"{build[2:]}.debug"
+        debug.parent.mkdir(parents=True, exist_ok=True)
+        subprocess.run(["objcopy", "--only-keep-debug", library, debug], check=True)
+        subprocess.run(["strip", "-s", library], check=True)
+
+    def packed(self, folder: Path) -> Path:
+        control = folder / "DEBIAN" / "control"
+        control.parent.mkdir(parents=True, exist_ok=True)
+        control.write_text(f"Package: {folder.name}\nVersion: 1\nArchitecture: amd64\n"
+                           "Maintainer: nobody <nobody@example.org>\nDescription: none\n")
+        subprocess.run(["dpkg-deb", "--root-owner-group", "--build", folder, f"{folder}.deb"],
+                       check=True, capture_output=True)
+        return Path(f"{folder}.deb")
+
+    def assert_told(self, done: Outcome) -> None:
+        self.assertEqual(done.status, BREAKING, done.text)
+        lines = done.output.splitlines()
+        titles = [line for line in lines if line.endswith(":") or line.startswith("library ")]
+        self.assertEqual(titles, ["libbroken.so.1:", "library libgone.so.1: removed",
+                                  "libgrown.so.1:", "library libnew.so.1: added"])
+        self.assertIn("struct s: size 4 -> 8; a is long int, was int", lines)
+        self.assertIn("object more: added", lines)
+        self.assertTrue(any("soname libbroken.so.1 -> libbroken.so.2" in line
+                            for line in lines), lines)
+
+    def test_folders(self) -> None:
+        old = self.folder_of("old", self.OLD, False)
+        self.assert_told(self.asked(old, self.folder_of("new", self.NEW, False)))
+        done = self.asked(old, old)
+        self.assertEqual((done.status, done.output), (SAME, ""), done.text)
+
+    def test_packages_with_debug_packages(self) -> None:
+        self.needs("dpkg-deb", "abipkgdiff")
+        folders = [self.folder_of("old", self.OLD, True), self.folder_of("new", self.NEW, True)]
+        old, new = map(self.packed, folders)
+        debug = [self.packed(self.folder / f"{name}-dbg") for name in ("old", "new")]
+        words = ["--debug-package1", str(debug[0]), "--debug-package2", str(debug[1])]
+        done = self.asked(old, new, *words)
+        self.assert_told(done)
+        self.assertEqual(done.errors, "")
+        peer = subprocess.run(["abipkgdiff", "--d1", debug[0], "--d2", debug[1], old, new],
+                              capture_output=True, text=True)
+        for name in ("libgone.so.1", "libnew.so.1", "libbroken.so"):
+            self.assertIn(name, peer.stdout)
+        done = self.asked(old, new)
+        self.assertEqual(done.status, BREAKING, done.text)  # one is gone, the rest is not known
+        self.assertIn("libsame.so.1: not compared: ", done.errors)
+        self.assertNotIn(".ctfd-", done.errors)
+        verdict = json.loads(self.asked(old, new, *words, "--json", "--verdict")
+                             .output.splitlines()[-1])
+        self.assertEqual((verdict["verdict"], verdict["uncompared"]), ("breaking", 0))
+
+    def test_damaged_packages(self) -> None:
+        self.needs("dpkg-deb")
+        old = self.packed(self.folder_of("old", {"libsame.so.1": "int x;"}, False))
+        whole = old.read_bytes()
+        cut = self.folder / "cut.deb"
+        for length in (30, 100, 200, len(whole) // 2, len(whole) - 10):
+            cut.write_bytes(whole[:length])
+            done = self.asked(old, cut)
+            self.assertEqual((done.status, done.output), (TROUBLE, ""), (length, done.text))
+            self.assertEqual(len(done.errors.splitlines()), 1, done.errors)
+        (self.folder / "empty").mkdir()
+        for other in (self.folder / "empty", self.folder / "none", Path("/dev/null")):
+            self.assertEqual(self.asked(old, other).status, TROUBLE)

@@ -13,7 +13,7 @@ import unittest
 from pathlib import Path
 from typing import Dict, List, Optional
 
-from .support import CLIENTS, EXAMPLES, SERVICE, TOOLS, Case, Outcome, run, tool
+from .support import CLIENTS, EXAMPLES, SERVICE, Case, Outcome, run, tool
 
 FIRST = """
 struct dict { long used[7]; };
@@ -182,7 +182,7 @@ with ctfd.open({str(self.program)!r}) as types:
 
     def test_a_debug_file(self) -> None:
         """`ctfd-debuginfo` says the names too, and any debugger takes the visible types of it."""
-        done = run(TOOLS / "ctfd-debuginfo", self.program, self.folder / "out.debug")
+        done = run(tool("debuginfo"), self.program, self.folder / "out.debug")
         self.assertEqual(done.status, 0, done.text)
         self.assertRegex(done.output, r"struct dict \(also dict__\d+\)")
         if shutil.which("gdb"):

@@ -128,7 +128,8 @@ class Run:
 
     def _end(self, services: Sequence[int]) -> Sequence[int]:
         """Ends something; the statuses that are right then."""
-        way = self.chance.choice(("SIGTERM", "SIGINT", "kill", "kill and SIGTERM"))
+        ways = ("SIGTERM", "SIGINT", "kill", "kill and SIGTERM")
+        way = self.chance.choice(ways if services else ways[:2])
         if way.startswith("kill"):
             with contextlib.suppress(OSError):
                 os.kill(self.chance.choice(services), signal.SIGKILL)

@@ -16,7 +16,11 @@ from typing import Any, Callable, Dict, List, Sequence
 
 TOP = Path(__file__).resolve().parents[2]
 PROGRAM = os.environ.get("CTFD", "")
-COMMAND = TOP / "clients" / "python" / "ctfd-front"
+# A front that is judged in the place of this one has its service in its own process.
+IS_COMPILED = "CTFD_FRONT" in os.environ
+IN_PROCESS = "no process of a service is there to be killed"
+COMMAND = (Path(__file__).parent / "compiled.py" if IS_COMPILED
+           else TOP / "clients" / "python" / "ctfd-front")
 LUA = f"lua={TOP / 'examples' / 'lua.ctf'}"
 INT = ("f1cf0200" + 24 * "00" + "0c00000005000000" "01000000000c040020000001" "00696e7400")
 PATIENCE = float(os.environ.get("PATIENCE", "60"))
@@ -108,6 +112,8 @@ class Front:
 
     def service(self) -> int:
         """The process of its service."""
+        if IS_COMPILED:
+            return self.process.pid
         found = children(self.process.pid)
         assert len(found) == 1, found
         return found[0]

@@ -3,13 +3,14 @@ from __future__ import annotations
 
 import contextlib
 import json
+import resource
 import socket
 import threading
 import time
 import unittest
 from typing import List
 
-from support import HAND_IN, Front, Talker, WithFront, ask, memory, until
+from support import HAND_IN, IS_COMPILED, Front, Talker, WithFront, ask, memory, until
 
 KIND = ask("kind", d=1, t=1)
 INTEGER = b'{"ok":{"kind":"integer"},"s":1}'
@@ -167,6 +168,26 @@ class Patience(WithFront):
                 talker.send(900_000 * b" ")
         until(lambda: "memory " in front.tell())
         self.assertLess(memory(front.process.pid)["VmHWM"], 64 * 1024)
+
+    @unittest.skipUnless(IS_COMPILED, "of the compiled front")
+    def test_memory_that_the_system_refuses(self) -> None:
+        """It ends nothing: who asked for more is told so, and others are answered."""
+        front = self.front("--memory", str(1 << 30), "--user-memory", str(1 << 30)).started()
+        honest = self.talker(front)
+        honest.ask(HAND_IN)
+        resource.prlimit(front.process.pid, resource.RLIMIT_AS, 2 * (64 * MEBIBYTE,))
+        others = [self.talker(front) for _ in range(107)]
+        for other in others:
+            with contextlib.suppress(OSError):
+                other.send(1_000_000 * b" ")
+        self.assertEqual(honest.ask(KIND), INTEGER)
+        for other in others:
+            other.socket.shutdown(socket.SHUT_WR)
+        told = [other.line() for other in others]
+        self.assertIn(b'"name":"HeldFull"', b"".join(told))
+        self.assertIn(b'"name":"NotJson"', b"".join(told))
+        self.assertEqual(honest.ask(KIND), INTEGER)
+        self.assertEqual(front.end(), 0)
 
     def test_turns(self) -> None:
         """One line of each in turn: who has a thousand waiting does not come before who has one."""

@@ -14,7 +14,8 @@ import unittest
 from pathlib import Path
 from typing import List
 
-from support import COMMAND, HAND_IN, LUA, PATIENCE, Front, Talker, WithFront, ask, until
+from support import (COMMAND, HAND_IN, IN_PROCESS, IS_COMPILED, LUA, PATIENCE, Front, Talker,
+                     WithFront, ask, until)
 
 TAKE = ask("take", owner=0, name="lua")
 KIND = ask("kind", d=1, t=1)
@@ -52,6 +53,7 @@ class Load:
 class Kills(WithFront):
     """A process is killed in the middle of a load."""
 
+    @unittest.skipIf(IS_COMPILED, IN_PROCESS)
     def test_service(self) -> None:
         front = self.front().started()
         load = Load(front)
@@ -63,6 +65,7 @@ class Kills(WithFront):
         self.assertFalse(os.path.exists(front.path))
         self.assertTrue(self.front().started().end() == 0)
 
+    @unittest.skipIf(IS_COMPILED, IN_PROCESS)
     def test_service_with_restart(self) -> None:
         front = self.front("--restart").started()
         load = Load(front)

@@ -1,17 +1,18 @@
 #!/usr/bin/env python3
-"""How the compiled ctfd-convert works for a person: a bar on a terminal, and an interrupt that leaves
+"""How the compiled commands work for a person: a bar on a terminal, and an interrupt that leaves
 nothing behind.
 
 usage: tests/reader/ending.py
 
 A program comes out of a pipe after more than a second: a bar is then shown where standard error is a
 terminal, and nothing where it is a file; the bar is gone at the end. SIGINT, SIGTERM and SIGHUP end
-the command while it waits for its input, and while it waits for objcopy: the command ends by the
-signal, OUT is as it was, and no other file is left. Prints what is wrong, and counts; the status is
+ctfd-convert while it waits for its input, and while it waits for objcopy, and ctfd-diff while it
+waits for dpkg-deb: the command ends by the signal, OUT is as it was, and no other file is left. Prints what is wrong, and counts; the status is
 1 where something is. Needs gcc and the compiled commands (`make`).
 """
 from __future__ import annotations
 
+import itertools
 import os
 import pty
 import shutil
@@ -41,36 +42,37 @@ class Case:
 
     def __init__(self, folder: Path) -> None:
         self.folder = folder
-        self.command = rust.folder() / "ctfd-convert"
         self.program, self.out = folder / "program", folder / "out"
         self.temporary = folder / "temporary"
         self.temporary.mkdir()
         (folder / "code.c").write_text(CODE)
         subprocess.run(["gcc", "-g", folder / "code.c", "-o", self.program], check=True)
 
-    def begun(self, *words: object, errors: Optional[int] = None, path: str = ""
-              ) -> subprocess.Popen[bytes]:
-        """The command, as it runs."""
+    def begun(self, *words: object, errors: Optional[int] = None, path: str = "",
+              command: str = "ctfd-convert") -> subprocess.Popen[bytes]:
+        """A command, as it runs."""
         environment = {**os.environ, "TMPDIR": str(self.temporary),
                        "PATH": f"{path}{os.environ['PATH']}", "TERM": "xterm"}
-        return subprocess.Popen([str(self.command), *map(str, words)], env=environment,
-                                stderr=errors if errors is not None else subprocess.PIPE)
+        return subprocess.Popen([str(rust.folder() / command), *map(str, words)], env=environment,
+                                stderr=errors if errors is not None else subprocess.PIPE,
+                                stdout=subprocess.DEVNULL)
 
 
 def shown(case: Case) -> Iterator[str]:
     """What is wrong with the bar."""
-    for is_terminal in (True, False):
-        pipe = case.folder / f"pipe{is_terminal}"
+    asked = [("ctfd-convert", [case.out]), ("ctfd-types", []), ("ctfd-diff", [case.program])]
+    for is_terminal, (command, words) in itertools.product((True, False), asked):
+        pipe = case.folder / f"pipe-{command}{is_terminal}"
         os.mkfifo(pipe)
         ours, theirs = pty.openpty() if is_terminal else os.pipe()
-        child = case.begun(pipe, case.out, errors=theirs)
+        child = case.begun(pipe, *words, errors=theirs, command=command)
         os.close(theirs)
         with pipe.open("wb") as file:
             time.sleep(PATIENCE)
             file.write(case.program.read_bytes())
         status, said = child.wait(LIMIT), read(ours)
         if status != 0:
-            yield f"bar: status {status}: {said}"
+            yield f"bar of {command}: status {status}: {said}"
         if is_terminal and ("reading" not in said or "100%" not in said):
             yield f"bar: a terminal has {said!r}"
         if is_terminal and not said.endswith("\x1b[2K"):
@@ -103,23 +105,36 @@ def waiting_for_input(case: Case) -> subprocess.Popen[bytes]:
 
 def waiting_for_objcopy(case: Case) -> subprocess.Popen[bytes]:
     """The command as it waits for objcopy."""
+    return begun_with(case, "objcopy", "--section", case.program, case.out)
+
+
+def begun_with(case: Case, tool: str, *words: object, command: str = "ctfd-convert"
+               ) -> subprocess.Popen[bytes]:
+    """A command that has begun a tool which takes its time."""
     tools = case.folder / "tools"
     tools.mkdir(exist_ok=True)
     (tools / "begun").unlink(missing_ok=True)
-    (tools / "objcopy").write_text(SLOW.format(tools))
-    (tools / "objcopy").chmod(0o755)
-    child = case.begun("--section", case.program, case.out, path=f"{tools}:")
+    (tools / tool).write_text(SLOW.format(tools))
+    (tools / tool).chmod(0o755)
+    child = case.begun(*words, path=f"{tools}:", command=command)
     last = time.monotonic() + LIMIT
     while not (tools / "begun").exists() and time.monotonic() < last:
         time.sleep(0.02)
     return child
 
 
+def waiting_for_dpkg(case: Case) -> subprocess.Popen[bytes]:
+    """ctfd-diff as it waits for dpkg-deb."""
+    package = case.folder / "package.deb"
+    package.write_bytes(b"!<arch>\ndebian-binary   ")
+    return begun_with(case, "dpkg-deb", package, package, command="ctfd-diff")
+
+
 def interrupted(case: Case, begin: Callable[[Case], subprocess.Popen[bytes]]) -> Iterator[str]:
     """What is wrong with how it ends by each signal."""
     for one in SIGNALS:
         case.out.write_bytes(BEFORE)
-        there = {path.name for path in case.folder.iterdir()} | {"tools", "input"}
+        there = {path.name for path in case.folder.iterdir()} | {"tools", "input", "package.deb"}
         child = begin(case)
         time.sleep(0.2)
         child.send_signal(one)
@@ -140,9 +155,9 @@ def main() -> int:
     with tempfile.TemporaryDirectory() as folder:
         case = Case(Path(folder))
         wrong = [*shown(case), *interrupted(case, waiting_for_input),
-                 *interrupted(case, waiting_for_objcopy)]
+                 *interrupted(case, waiting_for_objcopy), *interrupted(case, waiting_for_dpkg)]
     print(*wrong, sep="\n", end="\n" if wrong else "")
-    print(f"ending: a bar, and {2 * len(SIGNALS)} interrupts, {len(wrong)} wrong")
+    print(f"ending: a bar, and {3 * len(SIGNALS)} interrupts, {len(wrong)} wrong")
     return 1 if wrong else 0
 
 

@@ -4,19 +4,22 @@
 usage: tests/reader/mutants.py [--count N] [--seed N] [PROGRAM..]
 
 Bytes of a program's debug information, of its types and of its headers are changed, sections are cut
-and parts of them are moved, as a seed says. Under a limit of memory the command ends within 5 s with
-status 0, 1 or 2, without a panic or a signal. Without programs some are compiled: C, C++ and Rust,
+and parts of them are moved, as a seed says. The command ends within 5 s with status 0, 1 or 2,
+without a panic or a signal, and takes no more memory than 64 MiB and 64 times the file. Without programs some are compiled: C, C++ and Rust,
 type units, old DWARF, GNU's CTF, BTF, big-endian. Needs gcc and the compiled commands.
 """
 from __future__ import annotations
 
 import argparse
+import os
 import random
 import resource
 import shutil
+import signal
 import subprocess
 import sys
 import tempfile
+import threading
 from collections import Counter
 from concurrent.futures import ThreadPoolExecutor
 from pathlib import Path
@@ -27,7 +30,9 @@ sys.path.insert(0, str(TOP / "scripts"))
 import rust  # noqa: E402
 
 HERE = Path(__file__).parent
-MEMORY = 1 << 30
+ADDRESSES = 1 << 30
+# The first are those of Python, which a child of it has until it begins.
+MEMORY, TIMES = 64 << 20, 64
 SECONDS = 5
 COUNT = 150
 ENDED = (0, 1, 2)
@@ -36,7 +41,7 @@ LONGEST = 64
 
 
 def limit() -> None:
-    resource.setrlimit(resource.RLIMIT_AS, (MEMORY, MEMORY))
+    resource.setrlimit(resource.RLIMIT_AS, (ADDRESSES, ADDRESSES))
 
 
 def compiled(folder: Path) -> Iterator[Path]:
@@ -96,22 +101,36 @@ def ended(number: int, path: Path, whole: bytes, places: list[tuple[int, int]], 
     damaged, out = folder / f"{path.name}{number}", folder / f"{path.name}{number}.out"
     damaged.write_bytes(mutant(whole, places, chance))
     name = f"{path.name}, mutant {number} of seed {seed}"
-    try:
-        done = subprocess.run([str(rust.folder() / "ctfd-convert"), str(damaged), str(out)],
-                              capture_output=True, timeout=SECONDS, preexec_fn=limit,
-                              env={"RAYON_NUM_THREADS": "2", "PATH": "/usr/bin:/bin"})
-    except subprocess.TimeoutExpired:
-        return "late", f"{name}: it takes more than {SECONDS} s"
-    finally:
-        damaged.unlink()
+    status, memory, said = run(damaged, out)
+    size = damaged.stat().st_size
+    damaged.unlink()
     is_written = out.exists()
     out.unlink(missing_ok=True)
-    if done.returncode not in ENDED or b"panicked" in done.stderr:
-        said = done.stderr.decode(errors="replace").strip()
-        return "failed", f"{name}: status {done.returncode}: {said[:300]}"
-    if is_written != (done.returncode < 2):
-        return "failed", f"{name}: status {done.returncode}, and a file is written: {is_written}"
+    if status == -signal.SIGKILL:
+        return "late", f"{name}: it takes more than {SECONDS} s"
+    if status not in ENDED or "panicked" in said:
+        return "failed", f"{name}: status {status}: {said[:300]}"
+    if is_written != (status < 2):
+        return "failed", f"{name}: status {status}, and a file is written: {is_written}"
+    if memory > MEMORY + TIMES * size:
+        return "large", f"{name}: it takes {memory} bytes, of {size}"
     return ("written" if is_written else "refused"), ""
+
+
+def run(damaged: Path, out: Path) -> tuple[int, int, str]:
+    """Converts a file: the status, the most bytes of memory, and what is said."""
+    with tempfile.TemporaryFile() as errors:
+        process = subprocess.Popen([str(rust.folder() / "ctfd-convert"), str(damaged), str(out)],
+                                   stdout=subprocess.DEVNULL, stderr=errors, preexec_fn=limit,
+                                   env={"RAYON_NUM_THREADS": "2", "PATH": "/usr/bin:/bin"})
+        timer = threading.Timer(SECONDS, process.kill)
+        timer.start()
+        _, status, usage = os.wait4(process.pid, 0)
+        timer.cancel()
+        process.returncode = os.waitstatus_to_exitcode(status)
+        errors.seek(0)
+        said = errors.read().decode(errors="replace").strip()
+    return process.returncode, usage.ru_maxrss << 10, said
 
 
 def main() -> int:
@@ -131,16 +150,16 @@ def main() -> int:
         for path in programs:
             whole, places = path.read_bytes(), ranges(path)
 
-            def run(number: int) -> tuple[str, str]:
+            def judged(number: int) -> tuple[str, str]:
                 return ended(number, path, whole, places, words.seed, folder)
 
-            for word, wrong in lanes.map(run, range(each)):
+            for word, wrong in lanes.map(judged, range(each)):
                 counts[word] += 1
                 if wrong:
                     print(wrong)
     told = ", ".join(f"{count} {word}" for word, count in sorted(counts.items()))
     print(f"mutants: {sum(counts.values())}: {told}")
-    return 1 if counts["late"] or counts["failed"] else 0
+    return 1 if counts["late"] or counts["failed"] or counts["large"] else 0
 
 
 if __name__ == "__main__":

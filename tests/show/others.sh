@@ -1,29 +1,34 @@
 #!/usr/bin/env bash
 # Compares what ctfd-show prints of a program that others wrote with what gdb prints by the
 # compiler's debug information.
-# usage: tests/show/others.sh CTFD PROGRAM [WORD]..
-# CTFD is a built ctfd. PROGRAM has debug information, and waits where it is run with the WORDs, for
-# its input or for clients. Its types are converted to CTF and the debug information is taken away;
-# it runs in a folder of its own, and is stopped, so that nothing changes between two answers. gdb
-# is asked for each variable and what is in it (ask.py), and so is ctfd-show, of the process and of
-# a core file (beside.py). A server must not end by itself, nor become a daemon:
-#   tests/show/others.sh CTFD redis-server --port 0 --unixsocket redis.sock
-#   tests/show/others.sh CTFD nginx -p . -e stderr -c /tmp/nginx.conf
+# usage: tests/show/others.sh PROGRAM [WORD]..
+# PROGRAM has debug information, and waits where it is run with the WORDs, for its input or for
+# clients. Its types are converted to CTF and the debug information is taken away; it runs in a
+# folder of its own, and is stopped, so that nothing changes between two answers. gdb is asked for
+# each variable and what is in it (ask.py), and so is ctfd-show, of the process and of a core file
+# (beside.py). With RAW=1 the program runs as it is, and ctfd-show converts it by itself. A server
+# must not end by itself, nor become a daemon:
+#   tests/show/others.sh redis-server --port 0 --unixsocket redis.sock
+#   tests/show/others.sh nginx -p . -e stderr -c /tmp/nginx.conf
 # where /tmp/nginx.conf is
 #   daemon off; master_process off; pid nginx.pid; error_log stderr;
 #   events {} http { access_log off; server { listen unix:nginx.sock; } }
 set -eu
-export CTFD=$(realpath "$1") LC_ALL=C
+export LC_ALL=C
 tests=$(realpath "$(dirname "$0")")
-client=$(realpath "$tests/../../clients/python")
-program=$(realpath "$2")
-shift 2
+compiled=${CARGO_TARGET_DIR:-$(realpath "$tests/../../clients/rust/target")}/release
+program=$(realpath "$1")
+shift
 work=$(mktemp -d)
 pids=
 trap 'kill -CONT $pids 2> /dev/null; kill $pids 2> /dev/null; rm -r "$work"' EXIT
 cd "$work"
-"$client/../rust/target/release/ctfd-convert" --lossy --section "$program" with.ctf 2> /dev/null
-objcopy --strip-debug with.ctf runs
+if [ -n "${RAW:-}" ]; then
+    cp "$program" runs
+else
+    "$compiled/ctfd-convert" --lossy --section "$program" with.ctf 2> /dev/null
+    objcopy --strip-debug with.ctf runs
+fi
 mkfifo input
 sleep 1000 > input &
 pids=$!
@@ -31,9 +36,10 @@ pids=$!
 pids="$! $pids"
 sleep 3
 kill -STOP $! || { echo "$program ended, so there is nothing to ask:"; tail output; exit 1; }
-OUT=asked gdb -batch -nx -iex 'set debug-file-directory /none' -p $! -x "$tests/ask.py" \
+OUT=asked gdb -batch -nx -iex 'set debug-file-directory /none' \
+    -iex 'set auto-load python-scripts off' -p $! -x "$tests/ask.py" \
     -ex 'generate-core-file core' "$program" > log 2>&1 || { cat log; exit 1; }
 echo "the process:"
-"$tests/beside.py" "$client" asked --pid $!
+"$tests/beside.py" "$compiled/ctfd-show" asked --pid $!
 echo "its core file:"
-"$tests/beside.py" "$client" asked --core core | tail -n 1
+"$tests/beside.py" "$compiled/ctfd-show" asked --core core | tail -n 1

@@ -19,6 +19,7 @@ COMPILED = Path(os.environ.get("CARGO_TARGET_DIR")
                 or Path(__file__).resolve().parents[2] / "rust/target") / "release"
 COMMAND = COMPILED / "ctfd-types"
 CONVERT = COMPILED / "ctfd-convert"
+DEBUGINFO = COMPILED / "ctfd-debuginfo"
 DIFF = COMPILED / "ctfd-diff"
 EXPLORE = COMPILED / "ctfd-explore"
 PROGRAM = os.environ.get("CTFD", "")

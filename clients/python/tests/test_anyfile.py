@@ -15,8 +15,9 @@ from ctfd.files.anyfile import Asked
 from ctfd.files.cache import Cache, Kept, key, user_cache
 from ctfd.files.opening import Opener
 
-from .support import CONVERT, EXAMPLES, compiles, run
+from .support import EXAMPLES, compiles, run
 from .tools import CONVERTS, WHY_NOT, command, compiled
+from .whole.catalog import Catalog
 
 CODE = """
 struct point { int x, y; struct point *next; } first;
@@ -42,7 +43,7 @@ class Folder(unittest.TestCase):
         converts."""
         with ctfd.connect() as client:
             opener = Opener(client.session(), Asked(cache=user_cache if keeps else None))
-            catalog = opener.whole(path, lists=ALL_LISTS).catalog
+            catalog = Catalog(opener.open(path), ALL_LISTS)
             return [name for number in catalog.numbers for name in (
                 catalog[number].name, *(one.name for one in catalog[number].members))]
 
@@ -155,10 +156,6 @@ class Caches(Folder):
         self.assertEqual(list(self.cache.iterdir()), [])
         self.assertIsNone(Cache(Path("/proc/nowhere")).get("name"))
         Cache(Path("/proc/nowhere")).put("name", Kept(b"x"))
-
-    def test_the_forms_are_those_of_the_converter(self) -> None:
-        said = run("--help", command=CONVERT).stdout
-        self.assertIn(f"--from <{'|'.join(anyfile.FORMS)}>", said)
 
     def test_a_key_is_of_the_bytes_and_of_what_was_asked(self) -> None:
         keys = {key(b"a", "a"), key(b"b", "a"), key(b"a", "a", ["dwarf"]), key(b"", "a")}

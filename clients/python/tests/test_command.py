@@ -99,7 +99,7 @@ class Command(unittest.TestCase):
             self.assertIn("    60        8  struct lua_State *\n",
                           self.told("--model", "lp64", made))
             said = self.refused(made, "closepaux")
-            self.assertIn("closepaux: no type, and no symbol with a type, has this name", said)
+            self.assertIn("no type or symbol is called closepaux", said)
             self.assertIn("symbol table has 32 bits, which is not read", said)
             self.assertIn("ModelDiffers", self.refused("--parent", LUA, self.child_of_32(folder)))
 
@@ -108,7 +108,7 @@ class Command(unittest.TestCase):
         return str(object_file(folder, staged("parent.jsonl")[1], options=["-m32"]))
 
     def test_what_is_refused(self) -> None:
-        self.assertIn("nothing: no type, and no symbol with a type", self.refused(LUA, "nothing"))
+        self.assertIn("no type or symbol is called nothing", self.refused(LUA, "nothing"))
         self.assertIn("neither an ELF file nor a CTF section", self.refused(__file__))
         self.assertIn("No such file", self.refused("/nowhere"))
         with tempfile.NamedTemporaryFile() as file:

@@ -8,11 +8,11 @@ import unittest
 from typing import Iterator
 
 from ctfd.layout.records import AGGREGATES
-from ctfd.layout.whole import Whole
 
 from .support import (CONST, EXAMPLES, STRUCT, WithService, array, dictionary, integer, member,
                       pointer, record, run, staged)
 from .tools import CONVERTS, WHY_NOT, converted, whole_of, written
+from .whole import Whole
 
 
 FORMS = """

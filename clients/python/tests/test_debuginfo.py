@@ -1,77 +1,107 @@
 """Debug files of hostile dictionaries and damaged files: an end in time, or one line."""
 import random
+import struct
 import subprocess
 import tempfile
 import time
 import unittest
 from pathlib import Path
-from typing import Dict
+from typing import Callable, Dict
 
-import ctfd
-from ctfd.layout import from_ctf
-from ctfd.debuginfo import command
-from ctfd.debuginfo.arguments import Passing
-from ctfd.debuginfo.units import Producer, UnitWriter
-from ctfd.layout.records import Record
-
-from .support import STRUCT, WithService, dictionary, integer, member, object_file, record
+from .support import (DEBUGINFO, FUNCTION, POINTER, STRUCT, TOOLS, dictionary, integer, member,
+                      object_file, record)
 from .test_hostile import cycles, deep, doubles, many
+from .tools import command
 
-SECONDS = 20
+SECONDS = 5
 DAMAGES = 150
+NAME = "ctfd-debuginfo"
 
 
-class HostileDictionaries(unittest.TestCase):
+@unittest.skipUnless(DEBUGINFO.exists(), "ctfd-debuginfo is not compiled")
+class WithFolder(unittest.TestCase):
+    def setUp(self) -> None:
+        made = tempfile.TemporaryDirectory()
+        self.addCleanup(made.cleanup)
+        self.folder = Path(made.name)
+
+    def written(self, path: Path, *words: str) -> bytes:
+        """What the command writes of a file; b"" where it refuses it, in one line."""
+        out = self.folder / "out.debug"
+        out.unlink(missing_ok=True)
+        began = time.monotonic()
+        done = command(NAME, str(path), str(out), *words)
+        self.assertLess(time.monotonic() - began, SECONDS, path)
+        if done.returncode == 0:
+            return out.read_bytes()
+        self.assertEqual(done.returncode, 2, done.stderr)
+        self.assertRegex(done.stderr, rf"\A{NAME}: [^\n]+\n\Z")
+        self.assertFalse(out.exists())
+        return b""
+
+    def types(self, data: bytes) -> Path:
+        path = self.folder / "types.ctf"
+        path.write_bytes(data)
+        return path
+
+
+class HostileDictionaries(WithFolder):
     def test_all_end(self) -> None:
         for make in (cycles, deep, doubles, many):
-            began = time.monotonic()
-            table = from_ctf.table_of(make())
-            made = UnitWriter(table, Producer("test", "test.c")).sections()
-            self.assertTrue(made[".debug_info"])
-            self.assertLess(time.monotonic() - began, SECONDS, make.__name__)
+            self.assertTrue(self.written(self.types(make())), make.__name__)
 
+    @unittest.skipUnless(TOOLS, "no gcc or objcopy here")
     def test_arguments_that_hold_each_other(self) -> None:
+        """A function that takes each type of a dictionary."""
         for make in (cycles, deep, doubles, many):
-            table = from_ctf.table_of(make())
-            began = time.monotonic()
-            listed = Passing(table).places(Record("function", arguments=tuple(table.numbers())))
-            self.assertEqual(len(listed), len(table))
-            self.assertLess(time.monotonic() - began, SECONDS, make.__name__)
+            path = object_file(str(self.folder), taking_all(make), code="int f(void) { return 1; }")
+            self.assertTrue(self.written(path), make.__name__)
+
+    def test_the_same_bytes_each_time(self) -> None:
+        path = self.types(cycles())
+        self.assertEqual(self.written(path), self.written(path))
 
 
-class DamagedFiles(WithService):
+def taking_all(make: Callable[[], bytes]) -> bytes:
+    """A dictionary with a function, of which the one symbol tells, that takes all its types."""
+    data = make()
+    types, strings = struct.unpack_from("<II", data, 24)
+    count = {cycles: 7, deep: 500, doubles: 99, many: 3}[make]
+    entry = struct.pack(f"<HH{count}H", FUNCTION << 11 | 1 << 10 | count, 1, *range(1, count + 1))
+    entry += bytes(-len(entry) % 4)
+    head = data[:4] + struct.pack("<8I", 0, 0, 0, 0, 0, types + len(entry), strings + len(entry),
+                                  *struct.unpack_from("<I", data, 32))
+    return head + entry + data[36:]
+
+
+@unittest.skipUnless(TOOLS, "no gcc or objcopy here")
+class DamagedFiles(WithFolder):
     def test_damage_is_told(self) -> None:
-        """Each damaged file is written as a debug file, or refused by an error of the package."""
+        """Each damaged file is written as a debug file, or refused by a line."""
         luck = random.Random(1)
-        types = dictionary([integer(1), record(STRUCT, 1, 4, 5, member(7, 1, 0))],
-                           b"\0int\0s\0x\0")
-        with tempfile.TemporaryDirectory() as folder:
-            whole = object_file(folder, types, code="int x; int f(int a) { return a + x; }",
-                                options=["-fPIC"])
-            linked = Path(folder, "linked")
-            subprocess.run(["gcc", "-shared", "-o", str(linked), str(whole)], check=True)
-            for place in range(64):
-                self.judged(folder, linked.read_bytes(), {place: 255})
-            for number in range(DAMAGES):
-                data = (linked if number % 2 else whole).read_bytes()
-                data = data[:luck.choice((len(data), 1 + luck.randrange(len(data) - 1)))]
-                # Headers stand at the end.
-                places = [luck.randrange(len(data)), max(0, len(data) - luck.randrange(2200) - 1)]
-                self.judged(folder, data, {at: luck.choice((0, 1, 255)) for at in places})
+        types = dictionary([integer(1), record(STRUCT, 1, 4, 5, member(7, 1, 0)),
+                            record(POINTER, 0, 2)], b"\0int\0s\0x\0")
+        whole = object_file(str(self.folder), types, code="int x; int f(int a) { return a + x; }",
+                            options=["-fPIC"])
+        linked = self.folder / "linked"
+        subprocess.run(["gcc", "-shared", "-o", str(linked), str(whole)], check=True)
+        for place in range(64):
+            self.judged(linked.read_bytes(), {place: 255})
+        for number in range(DAMAGES):
+            data = (linked if number % 2 else whole).read_bytes()
+            data = data[:luck.choice((len(data), 1 + luck.randrange(len(data) - 1)))]
+            # Headers stand at the end.
+            places = [luck.randrange(len(data)), max(0, len(data) - luck.randrange(2200) - 1)]
+            self.judged(data, {at: luck.choice((0, 1, 255)) for at in places})
 
-    def judged(self, folder: str, data: bytes, turned: Dict[int, int]) -> None:
+    def judged(self, data: bytes, turned: Dict[int, int]) -> None:
         """A file with some bytes turned is written as a debug file, or refused."""
         damaged = bytearray(data)
         for place, byte in turned.items():
             damaged[place] = byte
-        path = Path(folder, "damaged")
+        path = self.folder / "damaged"
         path.write_bytes(damaged)
-        session = self.client.session()
-        try:
-            self.assertTrue(command.make(session, command.Wanted(str(path))).data)
-        except ctfd.Error:
-            pass
-        session.ask("reset")
+        self.written(path)
 
 
 if __name__ == "__main__":

@@ -64,12 +64,12 @@ class Easy(unittest.TestCase):
 
     def test_what_is_not_there_is_told_with_what_is_near(self) -> None:
         with ctfd.open(LUA) as types:
-            with self.assertRaisesRegex(ctfd.NoSuchType, "no type is called luaL_reg; the nearest"):
+            with self.assertRaisesRegex(ctfd.NoSuchType, "no type is called luaL_reg; did you mean"):
                 types["luaL_reg"]
             with self.assertRaisesRegex(KeyError, "no type has the number 527"):
                 types[527]
             with self.assertRaisesRegex(ctfd.NoSuchType,
-                                        "lua_State has no member statis; the near"):
+                                        "lua_State has no member statis; did you"):
                 types["struct lua_State"].offsetof("statis")
             with self.assertRaisesRegex(ctfd.Error, "int has no members"):
                 types["int"].offsetof("a")

@@ -261,7 +261,7 @@ class Statuses(WithFiles):
         for out in (str(self.folder), "/nowhere/out"):
             done = command("ctfd-convert", "/no/such/input", out)
             self.assertEqual(done.returncode, 2)
-            self.assertRegex(done.stderr, r"\Actfd-convert: \S+: it can't be written: .*\n\Z")
+            self.assertRegex(done.stderr, r"\Actfd-convert: cannot write \S+: .*\n\Z")
 
     @unittest.skipUnless(TOOLS, "no gcc or objcopy here")
     def test_standard_output(self) -> None:

@@ -8,13 +8,13 @@ import unittest
 from typing import Dict, List, Set, Tuple
 
 import ctfd
-from ctfd.layout.embeds import Embeds
 from ctfd.layout.records import AGGREGATES
-from ctfd.layout.whole import Whole
 
 from .support import COMMAND, EXAMPLES, PROGRAM, TOOLS, WithService, object_file, run, staged
 from .test_listing import OTHERS
 from .tools import whole_of, written
+from .whole import Whole
+from .whole.embeds import Embeds
 
 LUA, ZLIB = str(EXAMPLES / "lua.ctf"), str(EXAMPLES / "zlib.ctf")
 HELD = ("Table", "stringtable", "Value", "UpVal", "GCObject", "lua_State", "CallInfo", "TString")
@@ -166,7 +166,7 @@ class Told(WithService):
         for words in (("--contains", "lua_Sate"), ("-C", "lua_Sate", "--sizes")):
             done = run(*words, LUA)
             self.assertEqual(done.returncode, 1)
-            self.assertIn("no type is called lua_Sate; the nearest", done.stderr)
+            self.assertIn("no type is called lua_Sate; did you mean ", done.stderr)
 
     def test_a_pipe_that_closes(self) -> None:
         done = subprocess.run(["bash", "-c", f"{COMMAND} --json {LUA} | head -1"],

@@ -11,11 +11,11 @@ from typing import Dict, Iterable, Optional
 
 from ctfd.client.gather import ALL_LISTS
 from ctfd.files.opening import Opener
-from ctfd.layout.whole import Whole
 
-from .support import COMMAND, CONVERT, DIFF, EXPLORE, PROGRAM, WithService, run
+from .support import (COMMAND, CONVERT, DEBUGINFO, DIFF, EXPLORE, PROGRAM, WithService, run)
+from .whole import Whole, whole
 
-RUST = {one.name: one for one in (COMMAND, CONVERT, DIFF, EXPLORE)}
+RUST = {one.name: one for one in (COMMAND, CONVERT, DEBUGINFO, DIFF, EXPLORE)}
 CLIENT = Path(__file__).resolve().parents[1]
 
 
@@ -59,7 +59,7 @@ def written(case: WithService, ctf: bytes, name: str = "types.ctf") -> str:
 
 def whole_of(case: WithService, path: str, lists: Optional[Iterable[str]] = None) -> Whole:
     """All types of a file."""
-    return Opener(case.session).whole(path, lists=lists or ALL_LISTS)
+    return whole(Opener(case.session).open(path), path, lists or ALL_LISTS)
 
 
 def by_label(whole: Whole) -> Dict[str, int]:

@@ -24,8 +24,8 @@ def nearest(name: str, names: Iterable[str]) -> List[str]:
 
 
 def offered(name: str, names: Iterable[str]) -> str:
-    """Words for a message: `; the nearest are a, b`, or "" where nothing is near."""
-    found = nearest(name, names)
-    if not found:
+    """Words for a message: `; did you mean a, b or c?`, or "" where nothing is near."""
+    *others, last = nearest(name, names) or [""]
+    if not last:
         return ""
-    return f"; the nearest {'is' if len(found) == 1 else 'are'} {', '.join(found)}"
+    return f"; did you mean {', '.join(others)}{' or ' if others else ''}{last}?"

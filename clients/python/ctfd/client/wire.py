@@ -107,7 +107,7 @@ class Client(Service):
     def replies(self, session: int, requests: Iterable[Request]) -> List[Answer]:
         """The whole reply to each request, in order: all are written while replies are read."""
         if self._torn and not self._gone:
-            self._gone = "an interrupt came where replies can't be told apart: start a new client"
+            self._gone = "interrupted in the middle of a request; replies are out of step: create a new Client"
         if self._gone:
             raise Gone(self._gone)
         lines = [request_line(session, op, fields) for op, fields in requests]
@@ -202,7 +202,7 @@ class Client(Service):
             self._torn = False
         while self._lines:
             if not self._owed:
-                self._end("the service said more than was asked")
+                self._end("unexpected extra reply from the service")
             reply = _DECODED(self._lines[0].decode("utf-8"))
             self._torn = True
             self._owed[0].reply = reply

@@ -6,7 +6,6 @@ once.
 """
 from __future__ import annotations
 
-import argparse
 import os
 import stat
 from typing import TYPE_CHECKING, Callable, List, NamedTuple, Optional, Sequence
@@ -27,7 +26,6 @@ if TYPE_CHECKING:
 
 FEW = 3
 PARTS = "parts"  # how an archive of dictionaries is told from a dictionary
-FORMS = ("ctf", "other-ctf", "btf", "dwarf", "gnu")  # those of ctfd-convert
 # How sections begin that are converted: BTF, GNU's CTF, CTF of version 3 and of other machines.
 CONVERTED = (b"\x9f\xeb", b"\xeb\x9f", b"\xf2\xdf", b"\xdf\xf2", source.ARCHIVE, b"\xf1\xcf\3",
              b"\xcf\xf1")
@@ -57,30 +55,6 @@ class Read(NamedTuple):
     data: Mapped
     is_made: bool = False
     losses: Sequence[str] = ()
-
-
-def asked(words: argparse.Namespace, warn: Callable[[str], None]) -> Asked:
-    """What the words of a command line say of the files."""
-    return Asked(words.model, words.form, words.base, words.folders,
-                 getattr(words, "dictionary", None), None if words.no_cache else _user_cache, warn)
-
-
-def _user_cache() -> Optional[Cache]:
-    from .cache import user_cache  # here and below: who has a dictionary keeps nothing
-
-    return user_cache()
-
-
-def add_words(parser: argparse.ArgumentParser) -> None:
-    """The options on files that are converted."""
-    group = parser.add_argument_group("files that are converted first")
-    group.add_argument("--from", dest="form", choices=FORMS, help="the form to read; by default"
-                       " the first that a file has")
-    group.add_argument("--base", metavar="FILE", help="the BTF of a module's kernel")
-    group.add_argument("--debug-folder", metavar="FOLDER", dest="folders", action="append",
-                       default=[], help="where to look for debug files, before /usr/lib/debug")
-    group.add_argument("--no-cache", action="store_true", help="convert again, without the"
-                       " cache ($XDG_CACHE_HOME/ctfd, or ~/.cache/ctfd)")
 
 
 def is_in_parts(data: Mapped) -> bool:

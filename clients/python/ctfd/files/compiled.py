@@ -1,6 +1,6 @@
-"""The compiled `ctfd-convert`, which reads programs for this package.
+"""The compiled commands that this package runs: `ctfd-convert`, which reads programs for it.
 
-It is the one beside the command that runs, in `bin` beside the `lib` that this package is in, of
+A command is the one beside the command that runs, in `bin` beside the `lib` that this package is in, of
 the clone that this package stands in, or on the PATH. One of another version does not count, nor
 one that another user could have put there (trust.py).
 """
@@ -21,13 +21,9 @@ from .cache import Kept
 from .symbols import DYNSYM, SYMTAB
 
 NAME = "ctfd-convert"
-BUILT = "release/ctfd-convert"
-TARGET = "clients/rust/target"
+BUILT = "clients/rust/target/release"
 WRITTEN = (0, 1)
 LOST, READ = "lost: ", "read: "
-MISSING = ("its types are read by the compiled command ctfd-convert of version {}, and there is none"
-           " here that no other user could have put there: install it, or build it in the clone by"
-           " `make`")
 
 
 class Options(NamedTuple):
@@ -47,7 +43,7 @@ def converted(path: str, options: Options) -> Kept:
     """What the command makes of a file. Raises Unreadable where that is nothing."""
     command = find()
     if command is None:
-        raise Unreadable(f"{path}: {MISSING.format(VERSION)}")
+        raise Unreadable(f"{path}: {missing(NAME, 'its types are read')}")
     with tempfile.TemporaryDirectory() as folder:
         made, told = os.path.join(folder, "made"), os.path.join(folder, "told")
         words = [command, *_words(options), "--report", told, "--", path, made]
@@ -55,7 +51,7 @@ def converted(path: str, options: Options) -> Kept:
             done = subprocess.run(words, stdin=subprocess.DEVNULL, stdout=subprocess.DEVNULL,
                                   stderr=subprocess.PIPE, check=False)
             if done.returncode not in WRITTEN:
-                raise Unreadable(_why(path, done))
+                raise Unreadable(reason(path, done, NAME))
             with open(made, "rb") as ctf, open(told, encoding="utf-8", errors="replace") as report:
                 lines = report.read().split("\n")
                 losses = [line[len(LOST):] for line in lines if line.startswith(LOST)]
@@ -69,13 +65,19 @@ def _model(lines: Sequence[str]) -> Optional[str]:
     return next((line.rpartition(", ")[2] for line in lines if line.startswith(READ)), None)
 
 
-def _why(path: str, done: "subprocess.CompletedProcess[bytes]") -> str:
-    """Why nothing was made: what the command says last."""
+def missing(name: str, what: str) -> str:
+    """That there is no such command, and what that means."""
+    return (f"{what} by the compiled command {name} of version {VERSION}, and there is none here that"
+            " no other user could have put there: install it, or build it in the clone by `make`")
+
+
+def reason(path: str, done: "subprocess.CompletedProcess[bytes]", name: str) -> str:
+    """Why a command has made nothing of a file: what it says last."""
     lines = done.stderr.decode("utf-8", "replace").splitlines()
     said = lines[-1] if lines else ""
-    if said.startswith(f"{NAME}: "):
-        return said[len(NAME) + 2:]
-    return f"{path}: {NAME} ended with status {done.returncode}{': ' + said if said else ''}"
+    if said.startswith(f"{name}: "):
+        return said[len(name) + 2:]
+    return f"{path}: {name} ended with status {done.returncode}{': ' + said if said else ''}"
 
 
 def _words(options: Options) -> Iterator[str]:
@@ -95,32 +97,32 @@ def _words(options: Options) -> Iterator[str]:
         yield "--symbols=dynsym"
 
 
-def find() -> Optional[str]:
-    """The compiled command, or None."""
-    for path in _places():
-        if os.access(path, os.X_OK) and trust.is_trusted(path) and _is_ours(path):
+def find(name: str = NAME) -> Optional[str]:
+    """A compiled command, or None."""
+    for path in _places(name):
+        if os.access(path, os.X_OK) and trust.is_trusted(path) and _is_ours(path, name):
             return path
     return None
 
 
-def _places() -> Iterator[str]:
+def _places(name: str) -> Iterator[str]:
     folder, clone = trust.folder_of_command(), trust.folder_of_clone()
     if folder:
-        yield os.path.join(folder, NAME)
+        yield os.path.join(folder, name)
     if clone:
-        yield os.path.join(clone, TARGET, BUILT)
+        yield os.path.join(clone, BUILT, name)
     parts: List[str] = trust.HERE.split(os.sep)
     if "lib" in parts and not clone:
         last = len(parts) - 1 - parts[::-1].index("lib")
-        yield os.sep.join([*parts[:last], "bin", NAME])
-    on_path = trust.program(NAME)
+        yield os.sep.join([*parts[:last], "bin", name])
+    on_path = trust.program(name)
     if on_path:
         yield on_path
 
 
 @functools.lru_cache(maxsize=8)
-def _is_ours(path: str) -> bool:
-    """Whether it is the compiled command, of this package's version."""
+def _is_ours(path: str, name: str) -> bool:
+    """Whether it is the compiled command of a name, of this package's version."""
     try:
         with open(path, "rb") as file:
             if file.read(len(elf.MAGIC)) != elf.MAGIC:
@@ -129,4 +131,4 @@ def _is_ours(path: str) -> bool:
                               capture_output=True).stdout
     except OSError:
         return False
-    return said.decode("ascii", "replace").split() == [NAME, VERSION]
+    return said.decode("ascii", "replace").split() == [name, VERSION]

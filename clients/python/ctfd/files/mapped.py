@@ -3,7 +3,6 @@ from __future__ import annotations
 
 import os
 import stat
-from typing import Iterable
 
 from ..client.faults import Unreadable
 from . import bounded
@@ -23,13 +22,6 @@ def linked(path: str) -> Mapped:
     """A file that another file names: a regular one alone, since anybody may have written that
     name. Raises Unreadable."""
     return _opened(path, takes_pipe=False)
-
-
-def is_within(path: str, folders: Iterable[str]) -> bool:
-    """Whether a file is in one of some folders or below it, links followed."""
-    real = os.path.realpath(path)
-    return any(os.path.commonpath([real, os.path.realpath(folder or ".")])
-               == os.path.realpath(folder or ".") for folder in folders)
 
 
 def _opened(path: str, takes_pipe: bool) -> Mapped:

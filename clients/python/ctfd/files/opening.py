@@ -1,20 +1,16 @@
-"""The dictionaries that a command's words name, with their parents and all their types."""
+"""The dictionaries of files, with their parents."""
 from __future__ import annotations
 
 import contextlib
-from typing import TYPE_CHECKING, Dict, Iterable, Iterator, List, Optional
+from typing import Dict, Iterator, List, Optional
 
 from ..client.dictionary import Dictionary, open_file, open_found, open_source
 from ..client.faults import BadSymbols, Error, Refused, Unreadable
-from ..client.gather import LISTS
 from ..client.session import Session
 from . import anyfile, archives, source
 from .anyfile import Asked, Read
 from .cache import Kept
 from .mapped import Mapped, contents
-
-if TYPE_CHECKING:
-    from ..layout.whole import Whole
 
 ALONE = ("a parent goes with a dictionary, and this file's types are converted first: leave the"
          " parent out, or make the dictionary by ctfd-convert (--parent makes a child)")
@@ -86,13 +82,6 @@ class Opener:
             bare = found.source._replace(sym=None, strings=None, how="none")
             self.read[path] = found._replace(source=bare)
             return open_source(self.session, bare)
-
-    def whole(self, path: str, parent: Optional[str] = None,
-              lists: Iterable[str] = LISTS) -> Whole:
-        """As `open`, with all types read. Raises Error for a child whose parent is not named."""
-        from ..layout.whole import whole  # here: who asks for one type reads no others
-
-        return whole(self.open(path, parent), path, lists)
 
 
 @contextlib.contextmanager

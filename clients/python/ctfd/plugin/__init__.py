@@ -1,1 +1,2 @@
-"""The commands of the plug-in for gdb; all that runs without gdb is in the package around it."""
+"""The commands of the plug-in for gdb. Of its modules `debug_files` runs without gdb, for lldb too;
+all else that does is in the package around it."""

@@ -8,12 +8,12 @@ import gdb
 import ctfd
 from ..client.nearest import offered
 from ..text import printable
-from ..debuginfo.keeping import has_types
 from ..values import expressions, formats, linked, spelling
 from ..values.operands import BadExpression, Code, Located, Number, Operand, Steps, Untold
 from ..view.declare import declaration, declarator, function
 
 from . import native
+from .debug_files import has_types
 from .inferior import Inferior, has_program
 from .loaded import Loaded
 from .state import STATE, bounds, style
@@ -162,9 +162,7 @@ class Load(Command):
     def give(self, path: str, parent: Optional[str] = None) -> None:
         """Gives gdb the types of a file, and says so, or why it has none."""
         try:
-            told = native.give(STATE.client(), path, parent)
-        except ctfd.Gone:
-            raise
+            told = native.give(path, parent)
         except ctfd.Error as error:
             told = f"gdb's own commands don't know these types: {error}"
         if told:

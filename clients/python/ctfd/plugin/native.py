@@ -10,11 +10,10 @@ from typing import Optional
 import gdb
 
 import ctfd
-from ..debuginfo.command import Wanted
-from ..debuginfo.keeping import Writer, has_types
 from ..files.debugfiles import has_debug
 from ..files.elf import Elf
 from ..files.mapped import contents
+from .debug_files import Writer, has_types
 
 
 class Given(gdb.Parameter):
@@ -57,13 +56,13 @@ def knows(expression: str) -> bool:
     return True
 
 
-def give(client: ctfd.Service, path: str, parent: Optional[str] = None) -> str:
+def give(path: str, parent: Optional[str] = None) -> str:
     """Gives gdb the types of a file that it has read; a line on what it has of them, "" where it
     has no such file, or the file has no CTF. Raises Error."""
     one = objfile_of(path)
     if one is None or not has_types(path):
         return ""
-    made = WRITER.written(client, Wanted(path, parent))
+    made = WRITER.debug_file(path, parent)
     has_own = has_debug(Elf(contents(path), path))
     try:
         one.add_separate_debug_file(str(made))

@@ -11,20 +11,15 @@ pub type Named = (Vec<u8>, i128);
 #[derive(Clone, Debug, Default)]
 pub struct Beyond {
     /// All enumerators of enums that have more, or larger ones.
-    pub values: HashMap<u16, Vec<Named>>,
+    pub values: HashMap<u32, Vec<Named>>,
     /// How many elements longer arrays have.
-    pub elements: HashMap<u16, u64>,
+    pub elements: HashMap<u32, u64>,
     /// All arguments of functions that take more.
-    pub arguments: HashMap<u16, Vec<u16>>,
+    pub arguments: HashMap<u32, Vec<u32>>,
     /// The enums that bit-fields are of, by struct or union and by the member's place in it.
-    pub fields: HashMap<(u16, usize), u16>,
+    pub fields: HashMap<(u32, usize), u32>,
     /// What is lost even so, a line each.
     pub losses: Vec<String>,
-}
-
-/// A number that is one of a dictionary too.
-fn short(number: u32) -> u16 {
-    u16::try_from(number).unwrap_or(0)
 }
 
 impl Beyond {
@@ -46,13 +41,13 @@ impl Beyond {
         let losses = full.losses.iter().chain(lost).cloned().collect();
         let mut made = Beyond { losses, ..Beyond::default() };
         for number in 1..=full.len() {
-            made.add(full, short(number), full.get(number), fitted.get(number));
+            made.add(full, number, full.get(number), fitted.get(number));
         }
         made
     }
 
     /// Adds what a type says that the record of it in the dictionary does not.
-    fn add(&mut self, full: &Table<'_>, number: u16, record: &Record<'_>, fitted: &Record<'_>) {
+    fn add(&mut self, full: &Table<'_>, number: u32, record: &Record<'_>, fitted: &Record<'_>) {
         if record.values() != fitted.values() {
             let named = record.values().iter().map(|one| (one.name.to_vec(), one.value));
             self.values.insert(number, named.collect());
@@ -61,8 +56,7 @@ impl Beyond {
             self.elements.insert(number, record.elements);
         }
         if record.arguments() != fitted.arguments() {
-            let listed = record.arguments().iter().copied().map(short).collect();
-            self.arguments.insert(number, listed);
+            self.arguments.insert(number, record.arguments().to_vec());
         }
         if record.members().len() != fitted.members().len() {
             return;
@@ -70,7 +64,7 @@ impl Beyond {
         for (place, member) in record.members().iter().enumerate() {
             let end = full.resolved(member.of);
             if member.width.is_some() && end != 0 && full.get(end).kind == Kind::Enum {
-                self.fields.insert((number, place), short(end));
+                self.fields.insert((number, place), end);
             }
         }
     }

@@ -9,6 +9,9 @@ use gimli::DwTag;
 use rayon::prelude::*;
 use std::collections::{BTreeSet, HashMap};
 
+/// What a type is, its name, and the names of the files in which it is defined.
+pub type TypeFiles<'f> = (Kind, &'f [u8], Vec<&'f [u8]>);
+
 /// The names of the files, without folders, in which types are defined, by what these are and by
 /// their names. One that several units define may have several.
 #[derive(Clone, Debug, Default)]
@@ -16,6 +19,7 @@ pub struct SourceFiles {
     names: Vec<Vec<u8>>,
     numbers: HashMap<Vec<u8>, u32>,
     types: HashMap<(Kind, Vec<u8>), BTreeSet<u32>>,
+    is_known: bool,
 }
 
 impl SourceFiles {
@@ -28,7 +32,8 @@ impl SourceFiles {
         };
         let combined = |one: SourceFiles, other: SourceFiles| Ok(one.combined(other));
         let units = (0..debug.slot_count()).into_par_iter().map(of_unit);
-        units.try_reduce(SourceFiles::default, combined)
+        let made = units.try_reduce(SourceFiles::default, combined)?;
+        Ok(SourceFiles { is_known: true, ..made })
     }
 
     /// The files in which a type is defined; none where nothing says that.
@@ -37,21 +42,19 @@ impl SourceFiles {
         numbers.map(|&number| self.names[number as usize].as_slice())
     }
 
-    /// Whether nothing is said of any type.
-    pub fn is_empty(&self) -> bool {
-        self.types.is_empty()
+    /// Whether nothing says in which files types are defined: no debug information was read.
+    pub fn is_unknown(&self) -> bool {
+        !self.is_known && self.types.is_empty()
     }
 
     /// Each type with the files in which it is defined, in the order of their names.
-    pub fn each(&self) -> Vec<(Kind, &[u8], Vec<&[u8]>)> {
+    pub fn each(&self) -> Vec<TypeFiles<'_>> {
         let file = |&number: &u32| self.names[number as usize].as_slice();
         let each = self.types.iter();
         let mut made: Vec<_> = each
             .map(|((kind, name), files)| (*kind, name.as_slice(), files.iter().map(file).collect()))
             .collect();
-        made.sort_unstable_by_key(|(kind, name, _): &(Kind, &[u8], Vec<&[u8]>)| {
-            (*name, *kind as u8)
-        });
+        made.sort_unstable_by_key(|(kind, name, _): &TypeFiles<'_>| (*name, *kind as u8));
         made
     }
 
@@ -76,6 +79,7 @@ impl SourceFiles {
         if self.types.len() < other.types.len() {
             return other.combined(self);
         }
+        self.is_known |= other.is_known;
         let to: Vec<u32> = other.names.iter().map(|name| self.number(name)).collect();
         for (key, files) in other.types {
             let files = files.into_iter().map(|number| to[number as usize]);
@@ -100,10 +104,12 @@ impl SourceFiles {
                     continue;
                 };
                 let name = prefixes.full_name(debug, &entry)?;
-                if !files.contains_key(&file) {
-                    files.insert(file, self.number(debug.file_name(unit, file)?));
-                }
-                self.types.entry((kind, name.into_owned())).or_default().insert(files[&file]);
+                let number = match files.get(&file) {
+                    Some(&number) => number,
+                    None => self.number(debug.file_name(unit, file)?),
+                };
+                files.insert(file, number);
+                self.types.entry((kind, name.into_owned())).or_default().insert(number);
             }
         }
         Ok(())

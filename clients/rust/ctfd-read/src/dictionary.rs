@@ -78,7 +78,7 @@ pub fn select_in_full<'a>(
         Form::Ctf | Form::OtherCtf => {}
     }
     if table.is_empty() {
-        return refuse("nothing is to be written: the file tells no type of C with a name");
+        return refuse("it has no named types of C");
     }
     Ok((ProgramTypes { table, roots: Vec::new(), bases, form, symbols, note, verifier }, bases))
 }

@@ -6,7 +6,10 @@ use crate::image::{Data, Elf, ElfSection, Image};
 use crate::symbols::{Symbol, SymbolTable, Symbols};
 use gimli::{Endianity as _, RunTimeEndian};
 use object::read::elf::{FileHeader, SectionHeader, Sym as _};
-use object::{elf, Architecture, Endianness, Object, ObjectKind, ObjectSection, ObjectSymbol};
+use object::{
+    elf, Architecture, CompressedData, CompressedFileRange, CompressionFormat, Endianness,
+};
+use object::{Object, ObjectKind, ObjectSection, ObjectSymbol};
 use object::{Relocation, RelocationKind, RelocationTarget, SectionIndex};
 use std::borrow::Cow;
 use std::path::{Component, Path, PathBuf};
@@ -158,7 +161,7 @@ fn by_build_id(folder: &Path, build: &[u8]) -> PathBuf {
 }
 
 /// What the sections of a name hold, inflated and relocated; an object file may have more than one.
-pub fn section<'a>(file: &Elf<'a>, name: &str) -> Result<Cow<'a, [u8]>> {
+pub fn section<'a>(image: &'a Image, file: &Elf<'a>, name: &str) -> Result<Cow<'a, [u8]>> {
     let zipped = name.strip_prefix(".debug").map(|rest| format!(".zdebug{rest}"));
     let mut made: Option<Cow<'a, [u8]>> = None;
     for one in file.sections() {
@@ -166,11 +169,10 @@ pub fn section<'a>(file: &Elf<'a>, name: &str) -> Result<Cow<'a, [u8]>> {
         if called != name.as_bytes() && zipped.as_deref().map(str::as_bytes) != Some(called) {
             continue;
         }
-        let packed = one.compressed_data()?;
-        if packed.uncompressed_size > MOST_INFLATED * packed.data.len() as u64 {
-            return refuse(format!("{name} does not inflate to the bytes that it says: damage"));
-        }
-        let mut data = packed.decompress()?;
+        let mut data = match one.compressed_file_range()? {
+            packed if packed.format == CompressionFormat::None => Cow::Borrowed(one.data()?),
+            packed => inflate(image, name, &packed)?,
+        };
         if file.kind() == ObjectKind::Relocatable {
             relocate(file, &one, data.to_mut())?;
         }
@@ -180,6 +182,17 @@ pub fn section<'a>(file: &Elf<'a>, name: &str) -> Result<Cow<'a, [u8]>> {
         });
     }
     Ok(made.unwrap_or_default())
+}
+
+/// What a compressed section holds. The bytes in the file are not kept.
+fn inflate(image: &Image, name: &str, packed: &CompressedFileRange) -> Result<Cow<'static, [u8]>> {
+    if packed.uncompressed_size > MOST_INFLATED.saturating_mul(packed.compressed_size) {
+        return refuse(format!("{name} does not inflate to the bytes that it says: damage"));
+    }
+    let data = image.passing(packed.offset, packed.compressed_size)?;
+    let (format, uncompressed_size) = (packed.format, packed.uncompressed_size);
+    let data = CompressedData { format, data: &data, uncompressed_size };
+    Ok(Cow::Owned(data.decompress()?.into_owned()))
 }
 
 /// Writes in an object file what the linker would.

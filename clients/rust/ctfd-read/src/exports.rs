@@ -163,6 +163,22 @@ fn numbers<'n>(table: &'n [u8], strings: &'n [u8]) -> Numbers<'n> {
     made
 }
 
+/// What programs ask for that are linked with a shared library: empty where it has no such name;
+/// None of another file.
+pub fn soname(image: &Image) -> Result<Option<Vec<u8>>> {
+    fn of<F: FileHeader<Endian = Endianness>>(image: &Image) -> Result<Option<Vec<u8>>> {
+        let file: File<'_, F> = File::parse(image)?;
+        match file.named(".dynsym").is_some() && file.is_shared {
+            true => Ok(Some(file.soname()?.to_vec())),
+            false => Ok(None),
+        }
+    }
+    match image.elf()?.is_64() {
+        true => of::<FileHeader64<Endianness>>(image),
+        false => of::<FileHeader32<Endianness>>(image),
+    }
+}
+
 /// A function or object of the table that types go by.
 struct Handed {
     name: u32,
@@ -211,6 +227,7 @@ struct File<'a, F: FileHeader<Endian = Endianness>> {
     data: Data<'a>,
     endian: Endianness,
     is_linked: bool,
+    is_shared: bool,
     sections: SectionTable<'a, F, Data<'a>>,
 }
 
@@ -220,7 +237,9 @@ impl<'a, F: FileHeader<Endian = Endianness>> File<'a, F> {
         let header = F::parse(data)?;
         let endian = header.endian()?;
         let sections = header.sections(endian, data)?;
-        Ok(File { data, endian, is_linked: header.e_type(endian) != elf::ET_REL, sections })
+        let kind = header.e_type(endian);
+        let (is_linked, is_shared) = (kind != elf::ET_REL, kind == elf::ET_DYN);
+        Ok(File { data, endian, is_linked, is_shared, sections })
     }
 
     /// The section of a name, where it has bytes in the file.

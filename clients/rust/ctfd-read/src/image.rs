@@ -4,6 +4,7 @@
 use crate::error::{refuse, Error, Result};
 use flate2::Crc;
 use object::read::{ReadCache, ReadRef};
+use std::borrow::Cow;
 use std::fs::File;
 use std::io::{Cursor, Read, Seek, SeekFrom};
 use std::ops::Range;
@@ -58,6 +59,7 @@ const PIECE: u64 = 1 << 20;
 /// A file, and where it is.
 pub struct Image {
     path: PathBuf,
+    file: Option<File>,
     cache: ReadCache<Box<dyn Source>>,
     length: u64,
 }
@@ -66,10 +68,11 @@ impl Image {
     /// Opens a regular file, or reads a pipe to its end. Anything else is refused: a device may
     /// have no end.
     pub fn open(path: &Path) -> Result<Image> {
-        let open = || -> Result<Box<dyn Source>> {
+        let open = || -> Result<(Box<dyn Source>, Option<File>)> {
             let kind = std::fs::metadata(path)?.file_type();
             if kind.is_file() {
-                return Ok(Box::new(File::open(path)?));
+                let file = File::open(path)?;
+                return Ok((Box::new(file.try_clone()?), Some(file)));
             }
             if kind.is_dir() {
                 return refuse("it is a folder");
@@ -82,12 +85,12 @@ impl Image {
             }
             let mut bytes = Vec::new();
             File::open(path)?.take(LONGEST_PIPE).read_to_end(&mut bytes)?;
-            Ok(Box::new(Cursor::new(bytes)))
+            Ok((Box::new(Cursor::new(bytes)), None))
         };
         let of_path = |error: Error| error.of(path.display());
-        let mut source = open().map_err(of_path)?;
+        let (mut source, file) = open().map_err(of_path)?;
         let length = source.seek(SeekFrom::End(0)).map_err(|error| of_path(error.into()))?;
-        Ok(Image { path: path.to_owned(), cache: ReadCache::new(source), length })
+        Ok(Image { path: path.to_owned(), file, cache: ReadCache::new(source), length })
     }
 
     /// Opens a regular file that another file names; anybody may have written that name.
@@ -96,15 +99,37 @@ impl Image {
         is_file.then(|| Image::open(path).ok()).flatten()
     }
 
+    /// Opens a regular file that is at one place and known by another name; anybody may have
+    /// written that place.
+    pub fn linked_as(place: &Path, path: &Path) -> Option<Image> {
+        Some(Image { path: path.to_owned(), ..Image::linked(place)? })
+    }
+
     /// Bytes that are no file of their own, as a member of an archive.
     pub fn of_bytes(path: PathBuf, bytes: Vec<u8>) -> Image {
         let length = bytes.len() as u64;
-        Image { path, cache: ReadCache::new(Box::new(Cursor::new(bytes))), length }
+        Image { path, file: None, cache: ReadCache::new(Box::new(Cursor::new(bytes))), length }
     }
 
     /// All its bytes.
     pub fn all(&self) -> Result<&[u8]> {
         self.data().read_bytes_at(0, self.length).map_err(|()| Error("can't be read".to_owned()))
+    }
+
+    /// Some of its bytes, which are not kept beside what is made of them.
+    pub fn passing(&self, offset: u64, length: u64) -> Result<Cow<'_, [u8]>> {
+        let is_there = offset.checked_add(length).is_some_and(|end| end <= self.length);
+        match (&self.file, usize::try_from(length)) {
+            (Some(file), Ok(length)) if is_there => {
+                let mut bytes = vec![0; length];
+                read_at(file, &mut bytes, offset)?;
+                Ok(Cow::Owned(bytes))
+            }
+            _ => {
+                let bytes = self.data().read_bytes_at(offset, length);
+                bytes.map(Cow::Borrowed).map_err(|()| Error("it ends too early".to_owned()))
+            }
+        }
     }
 
     /// Where the file is.
@@ -140,6 +165,18 @@ impl Image {
             crc.update(&piece[..count]);
         }
     }
+}
+
+/// Fills bytes with those of a file from an offset on, wherever else it is read.
+#[cfg(unix)]
+fn read_at(file: &File, bytes: &mut [u8], offset: u64) -> std::io::Result<()> {
+    std::os::unix::fs::FileExt::read_exact_at(file, bytes, offset)
+}
+
+#[cfg(not(unix))]
+fn read_at(mut file: &File, bytes: &mut [u8], offset: u64) -> std::io::Result<()> {
+    file.seek(SeekFrom::Start(offset))?;
+    file.read_exact(bytes)
 }
 
 #[cfg(unix)]

@@ -67,7 +67,7 @@ impl Form {
     }
 
     /// The form that first bytes say.
-    fn of(bytes: &[u8]) -> Option<Form> {
+    pub(crate) fn of(bytes: &[u8]) -> Option<Form> {
         if btf::is_btf(bytes) {
             Some(Form::Btf)
         } else if bytes.starts_with(&gnu::ARCHIVE)
@@ -185,7 +185,7 @@ fn read(image: &Image, options: &Options, run: &mut Use<'_>) -> Result<()> {
 }
 
 /// What bytes are that nothing here reads.
-fn foreign(bytes: &[u8]) -> String {
+pub(crate) fn foreign(bytes: &[u8]) -> String {
     let version = bytes.get(2).copied().unwrap_or(0);
     match bytes.get(..2) {
         Some([0xcf, 0xf1] | [0xf1, 0xcf]) => format!(
@@ -505,7 +505,9 @@ fn judge_first(data: &[u8]) -> Result<()> {
     let size = std::str::from_utf8(&header[48..58]).ok();
     match size.and_then(|size| size.trim_end().parse::<usize>().ok()) {
         None => refuse("a damaged archive"),
-        Some(size) if size > data.len() - THIN.len() - MEMBER => refuse("an archive that is cut off"),
+        Some(size) if size > data.len() - THIN.len() - MEMBER => {
+            refuse("an archive that is cut off")
+        }
         Some(_) => Ok(()),
     }
 }

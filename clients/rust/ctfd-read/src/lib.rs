@@ -7,18 +7,23 @@
 //! and the library of this project, which is proved, opens before anybody gets them.
 
 mod archive;
+pub mod baseline;
+pub mod beside;
 pub mod beyond;
 mod btf;
 mod bytes;
-pub mod collection;
+pub mod core_file;
 mod ctf;
+pub mod debuggee;
 pub mod declared;
 mod descriptions;
 pub mod dictionary;
 mod dwarf;
 mod elf;
+pub mod entry_symbols;
 pub mod error;
 pub mod exports;
+pub mod foreign;
 mod gnu;
 mod gnu_symbols;
 pub mod image;
@@ -32,10 +37,12 @@ pub mod opening;
 pub mod parts;
 pub mod progress;
 mod section;
+pub mod segments;
 mod select;
 mod slots;
 mod sound;
 mod spread;
+pub mod symbol_places;
 pub mod symbols;
 pub mod table;
 pub mod verify;

@@ -2,7 +2,7 @@
 
 use std::collections::HashSet;
 
-/// How many are suggestion.
+/// How many are offered.
 const MOST: usize = 3;
 /// How alike two names are at least, of 1 for the same.
 const LEAST: f64 = 0.6;
@@ -15,7 +15,7 @@ fn bare(name: &str) -> &str {
     }
 }
 
-/// Words for a message: `; the nearest are a, b`, or none where nothing is near. First come names of
+/// Words for a message: `; did you mean a, b or c?`, or none where nothing is near. First come names of
 /// the same letters under another word, then those that differ in few.
 pub fn suggestion(name: &str, names: impl Iterator<Item = String>) -> String {
     let mut met = HashSet::new();
@@ -35,7 +35,7 @@ pub fn suggestion(name: &str, names: impl Iterator<Item = String>) -> String {
     found.truncate(MOST);
     match found.as_slice() {
         [] => String::new(),
-        [one] => format!("; the nearest is {one}"),
-        several => format!("; the nearest are {}", several.join(", ")),
+        [one] => format!("; did you mean {one}?"),
+        [others @ .., last] => format!("; did you mean {} or {last}?", others.join(", ")),
     }
 }

@@ -1,16 +1,19 @@
 //! What the library is given for a file: its dictionary as it is, or one that is made of its types,
 //! and the symbols that go with it.
 
+use crate::archive::{has_dictionaries, members};
 use crate::beyond::Beyond;
 use crate::ctf::{self, Sections};
 use crate::declared::SourceFiles;
-use crate::dictionary::{alone, select, select_in_full};
+use crate::dictionary::{alone, select, select_in_full, MOST_TYPES};
 use crate::elf;
 use crate::error::{refuse, Error, Result};
 use crate::image::{Data, Image};
 use crate::inputs::{plain_bytes, with_types, Form, Options, ProgramTypes};
 use crate::labels;
 use crate::limits::fit;
+use crate::parts;
+use crate::symbol_places::symbols_before_strip;
 use crate::symbols::SymbolTable;
 use crate::table::Table;
 use ctfd::Model;
@@ -21,7 +24,7 @@ use object::{Endianness, Object as _, ObjectSection as _, SectionFlags, SectionI
 use std::borrow::Cow;
 
 /// The sections that have a dictionary.
-const SECTIONS: [&str; 2] = [".SUNW_ctf", ".ctf"];
+pub const SECTIONS: [&str; 2] = [".SUNW_ctf", ".ctf"];
 /// Those of a file whose types can be converted.
 const OTHERS: [&str; 4] = [".debug_info", ".zdebug_info", ".gnu_debuglink", ".BTF"];
 
@@ -97,6 +100,8 @@ pub struct Handed<'a> {
     pub beyond: Option<Beyond>,
     /// In which source files its types are defined, where that was asked for.
     pub sources: SourceFiles,
+    /// The children of a program in parts, of which this is the parent.
+    pub children: Vec<Handed<'a>>,
 }
 
 impl<'a> Handed<'a> {
@@ -111,20 +116,32 @@ impl<'a> Handed<'a> {
             losses: Vec::new(),
             beyond: None,
             sources: SourceFiles::default(),
+            children: Vec::new(),
         }
     }
 
-    /// Whether the dictionary has names of symbols that are not handed in yet, as `add_names` does.
+    /// The dictionary alone, without symbols, and its children so.
+    pub fn bare(&self) -> Handed<'_> {
+        Handed {
+            model: self.model,
+            is_made: self.is_made,
+            children: self.children.iter().map(Handed::bare).collect(),
+            ..Handed::plain(Cow::Borrowed(&self.ctf))
+        }
+    }
+
+    /// Whether a dictionary has names of symbols that are not handed in yet, as `add_names` does.
     pub fn has_more_names(&self) -> bool {
         let is_bare = self.symbols.is_none() && self.origin == Origin::None;
-        is_bare
+        let has_names = is_bare
             && Sections::of(&self.ctf)
                 .ok()
                 .and_then(|sections| labels::symbols(&sections))
-                .is_some_and(|wanted| wanted.table == SymbolTable::Names)
+                .is_some_and(|wanted| wanted.table == SymbolTable::Names);
+        has_names || self.children.iter().any(Handed::has_more_names)
     }
 
-    /// Hands in the symbols whose names the dictionary has itself.
+    /// Hands in the symbols whose names the dictionaries have themselves.
     pub fn add_names(&mut self) {
         let own = Sections::of(&self.ctf).ok().and_then(|sections| {
             labels::own_symbols(&sections).map(|symbols| symbols.made_table())
@@ -132,6 +149,9 @@ impl<'a> Handed<'a> {
         if let Some((symbols, strings)) = own {
             self.symbols = Some(symbols.into());
             self.strings = Some(strings.into());
+        }
+        self.children.iter_mut().for_each(Handed::add_names);
+        if self.symbols.is_some() || self.children.iter().any(|one| one.symbols.is_some()) {
             self.origin = Origin::Named;
         }
     }
@@ -144,6 +164,13 @@ impl<'a> Handed<'a> {
             model: self.model.unwrap_or_default(),
         }
     }
+}
+
+/// Whether an ELF file has a section for a dictionary that has bytes.
+pub fn has_dictionary(image: &Image) -> bool {
+    let Ok(file) = image.elf() else { return false };
+    let mut listed = SECTIONS.iter().filter_map(|name| file.section_by_name(name));
+    listed.any(|section| section.file_range().is_some())
 }
 
 /// The data model that a dictionary names.
@@ -166,16 +193,43 @@ pub fn table_of_program(image: &Image) -> Option<(&[u8], &[u8])> {
 
 /// What the library is given for a file: its own dictionary, or one that is made of its types.
 pub fn handed<'a>(image: &'a Image, options: &Options) -> Result<Handed<'a>> {
+    match own_dictionary(image, options)? {
+        Some(found) => Ok(found),
+        None => {
+            let options = Options { symbols: table_wanted(image)?, ..options.clone() };
+            converted(image, &options)
+        }
+    }
+}
+
+/// The same; of a program that strip has left no symbols but those that it exports, with those that
+/// it had before and their addresses, where its debug file has them.
+pub fn handed_before_strip<'a>(image: &'a Image, options: &Options) -> Result<Handed<'a>> {
+    let is_stripped = symbols_before_strip(image).is_some();
+    match own_dictionary(image, options)? {
+        None if is_stripped => {
+            let options = Options { symbols: SymbolTable::Symtab, ..options.clone() };
+            converted(image, &options)
+        }
+        Some(found) => Ok(found),
+        None => handed(image, options),
+    }
+}
+
+/// The dictionary of a file, unless it has other types that are wanted.
+fn own_dictionary<'a>(image: &'a Image, options: &Options) -> Result<Option<Handed<'a>>> {
     let is_plain = matches!(options.form, None | Some(Form::Ctf)) && options.base.is_none();
+    if is_plain && !image.is_elf() && has_dictionaries(image.all()?) {
+        return in_archive(image, options).map(Some);
+    }
     if is_plain {
         match dictionary_of(image, options.number) {
-            Ok(Some(found)) => return Ok(found),
-            Ok(None) => {}
+            Ok(found) => return Ok(found),
             Err(error) if has_others(image) => drop(error),
             Err(error) => return Err(error.within(&image.path().display().to_string())),
         }
     }
-    converted(image, options)
+    Ok(None)
 }
 
 /// The dictionary of a file as it is; None where the file has none of version 2.
@@ -198,8 +252,38 @@ pub fn dictionary_of<'a>(image: &'a Image, number: Option<usize>) -> Result<Opti
     Ok(Some(Handed { model, ..Handed::plain(ctf) }))
 }
 
+/// The dictionaries of a program in parts, as `ctfd-convert` writes them; None of other files.
+pub fn parts_of(image: &Image) -> Result<Option<Handed<'_>>> {
+    let is_archive = !image.is_elf() && has_dictionaries(image.all()?);
+    is_archive.then(|| in_archive(image, &Options::default())).transpose()
+}
+
+/// The dictionaries of an archive, as `ctfd-convert` writes them of a program in parts.
+fn in_archive<'a>(image: &'a Image, options: &Options) -> Result<Handed<'a>> {
+    let path = image.path().display();
+    if options.number.is_some() {
+        return refuse(format!(
+            "{path}: its dictionaries are the parts of one program, and are read as one: leave the \
+             number out"
+        ));
+    }
+    let mut parts = members(image.all()?).map_err(|error| error.of(&path))?.into_iter();
+    let part = |(name, bytes): (String, &'a [u8])| -> Result<Handed<'a>> {
+        if !ctf::Layout::of(bytes).is_some_and(ctf::Layout::is_native) {
+            return refuse(format!(
+                "{path}, {name}: no dictionary of CTF version 2: let ctfd-convert make the file anew"
+            ));
+        }
+        let ctf = ctf::inflate(bytes).map_err(|error| error.of(format!("{path}, {name}")))?;
+        Ok(Handed { model: model_named(&ctf), ..Handed::plain(ctf) })
+    };
+    let mut made = part(parts.next().unwrap_or_default())?;
+    made.children = parts.map(part).collect::<Result<_>>()?;
+    Ok(made)
+}
+
 /// Whether an ELF file has types beside those of its dictionary.
-fn has_others(image: &Image) -> bool {
+pub(crate) fn has_others(image: &Image) -> bool {
     let file = image.is_elf().then(|| image.elf().ok()).flatten();
     file.is_some_and(|file| OTHERS.iter().any(|name| file.section_by_name(name).is_some()))
 }
@@ -318,14 +402,16 @@ fn add_unnamed<'a, F: FileHeader<Endian = Endianness>>(
 
 /// A dictionary that is made of a file's types.
 fn converted<'a>(image: &'a Image, options: &Options) -> Result<Handed<'a>> {
-    let options = Options { symbols: table_wanted(image)?, ..options.clone() };
     let is_ilp32 = image.is_elf() && !image.elf()?.is_64();
-    with_types(image, &options, |found| {
+    with_types(image, options, |found| {
         let named = |error: Error| error.within(&image.path().display().to_string());
         let (found, full) = match options.is_in_full {
             true => fitted(select_in_full(found, &[]).map_err(named)?.0),
             false => (select(found, &[]).map_err(named)?.0, None),
         };
+        if found.table.len() > MOST_TYPES {
+            return in_parts(image, found, is_ilp32).map_err(named);
+        }
         let mut dictionary = alone(found.table, found.symbols);
         let ctf = dictionary.bytes().map_err(named)?;
         let table = dictionary.symbols.table;
@@ -337,7 +423,8 @@ fn converted<'a>(image: &'a Image, options: &Options) -> Result<Handed<'a>> {
             losses: std::mem::take(&mut dictionary.table.losses),
             ..Handed::plain(Cow::Owned(ctf))
         };
-        if dictionary.has_label() && table == SymbolTable::Names {
+        let has_places = dictionary.symbols.listed.iter().any(|one| one.address != 0);
+        if dictionary.has_label() && table == SymbolTable::Names && !has_places {
             return Ok(made); // their names stand in it
         }
         let lists = match is_ilp32 {
@@ -356,6 +443,38 @@ fn converted<'a>(image: &'a Image, options: &Options) -> Result<Handed<'a>> {
         }
         Ok(made)
     })
+}
+
+/// The dictionaries of a program with more types than one holds.
+fn in_parts<'a>(image: &'a Image, found: ProgramTypes<'_>, is_ilp32: bool) -> Result<Handed<'a>> {
+    let written = parts::write(found.table, found.symbols, image, image.path())?;
+    let mut whole = written.whole;
+    let table = whole.symbols.table;
+    let made_lists = is_ilp32.then(|| whole.symbols.made_table());
+    let part = |(_, bytes): (String, &[u8])| -> Result<Handed<'a>> {
+        let mut made = Handed {
+            model: Some(whole.table.model()),
+            is_made: true,
+            ..Handed::plain(Cow::Owned(bytes.to_vec()))
+        };
+        let has_label = labels::symbols(&Sections::of(bytes)?).is_some();
+        match &made_lists {
+            _ if !has_label || table == SymbolTable::Names => {}
+            Some((symbols, strings)) => {
+                made.symbols = Some(symbols.clone().into());
+                made.strings = Some(strings.clone().into());
+                made.origin = Origin::Named;
+            }
+            None => add_named(&mut made, image, table)?,
+        }
+        Ok(made)
+    };
+    let mut listed = members(&written.bytes)?.into_iter().map(part);
+    let mut made = listed.next().transpose()?.unwrap_or_else(|| Handed::plain(Cow::default()));
+    made.children = listed.collect::<Result<_>>()?;
+    made.losses = std::mem::take(&mut whole.table.losses);
+    made.sources = std::mem::take(&mut whole.table.sources);
+    Ok(made)
 }
 
 /// Types as CTF holds them, and all that the file says of them, where CTF does not hold that.

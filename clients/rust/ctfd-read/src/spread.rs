@@ -1,7 +1,7 @@
 //! The types of a table that are more than a dictionary holds, spread over several: a parent with
 //! what many name, and children, each with all that its types reach beside the parent's.
 //!
-//! The choice depends on the table alone. Types that lead round stay together: a group of them, and
+//! The choice depends on the table alone. Types that form a cycle stay together: a group of them, and
 //! all that it reaches, is in the parent or in each child that needs it.
 
 use crate::section::MOST_TYPES;

@@ -379,7 +379,7 @@ impl<'a> Table<'a> {
         self.len()
     }
 
-    /// Without typedefs and qualifiers; 0 where these lead round.
+    /// Follows typedefs and qualifiers; 0 if they form a cycle.
     pub fn resolved(&self, mut number: u32) -> u32 {
         for _ in 0..self.records.len() {
             if number == 0 {

@@ -1,22 +1,13 @@
 //! Damaged files are read or refused: nothing panics, whatever their bytes are.
 
+mod chance;
+
+use chance::Chance;
 use ctfd_read::dictionary;
 use ctfd_read::image::Image;
 use ctfd_read::inputs::{with_types, Options};
 use object::read::ReadRef as _;
 use std::path::PathBuf;
-
-/// Numbers that are the same in each run.
-struct Chance(u64);
-
-impl Chance {
-    fn below(&mut self, end: usize) -> usize {
-        self.0 ^= self.0 << 13;
-        self.0 ^= self.0 >> 7;
-        self.0 ^= self.0 << 17;
-        (self.0 % end as u64) as usize
-    }
-}
 
 /// Reads some bytes as a file, and makes a dictionary of them if they can be read.
 fn read(bytes: Vec<u8>) -> bool {
@@ -29,7 +20,7 @@ fn read(bytes: Vec<u8>) -> bool {
 }
 
 fn damage(whole: &[u8], rounds: usize) {
-    let mut chance = Chance(0x9e37_79b9_7f4a_7c15);
+    let mut chance = Chance::new();
     let mut accepted = 0;
     for _ in 0..rounds {
         let mut bytes = whole.to_vec();

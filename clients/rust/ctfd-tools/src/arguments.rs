@@ -6,15 +6,22 @@ use ctfd::Model;
 use ctfd_read::inputs::{Form, Options};
 use std::path::PathBuf;
 
+/// The columns of a help that is read at ease, and those that it takes at least.
+const MOST_COLUMNS: usize = 100;
+const LEAST_COLUMNS: usize = 40;
+
 /// A command of a name, with what its help says of it.
 pub fn command(name: &'static str, about: &'static str) -> Command {
-    let columns = std::env::var("COLUMNS").ok().and_then(|columns| columns.parse().ok());
-    Command::new(name)
+    let command = Command::new(name)
         .version(env!("CARGO_PKG_VERSION"))
         .about(about)
-        .term_width(columns.filter(|&columns| columns >= 40).unwrap_or(100))
-        .max_term_width(100)
-        .infer_long_args(true)
+        .max_term_width(MOST_COLUMNS)
+        .infer_long_args(true);
+    let columns = std::env::var("COLUMNS").ok().and_then(|columns| columns.parse().ok());
+    match columns.filter(|&columns| columns >= LEAST_COLUMNS) {
+        Some(columns) => command.term_width(columns),
+        None => command, // as wide as the terminal
+    }
 }
 
 /// An option that names a file.

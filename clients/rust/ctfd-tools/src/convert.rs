@@ -1,8 +1,9 @@
 //! `ctfd-convert`: writes a program's types as a dictionary of CTF version 2.
 
-use crate::messages::{warn, LOSSY, REFUSED};
+use crate::arguments;
 use crate::interrupts;
-use crate::output::{self, STANDARD_OUTPUT};
+use crate::messages::{warn, LOSSY, REFUSED};
+use crate::output;
 use crate::progress::Bar;
 use crate::standard;
 use clap::builder::PossibleValuesParser;
@@ -148,28 +149,14 @@ impl Words {
         }
         let outputs = self.outputs();
         let inputs = [Some(&self.input), self.reading.base.as_ref(), self.parent.as_ref()];
-        for input in inputs.into_iter().flatten() {
-            let is_written = |out: &&Path| **out != *STANDARD_OUTPUT && is_same(input, out);
-            if outputs.iter().any(is_written) {
-                return refuse(format!(
-                    "{}: it is an input, and would be overwritten: name another file",
-                    input.display()
-                ));
-            }
-        }
+        inputs.into_iter().flatten().try_for_each(|input| output::judge_input(input, &outputs))?;
         for (place, one) in outputs.iter().enumerate() {
-            if outputs[place + 1..].iter().any(|other| is_same(one, other)) {
+            if outputs[place + 1..].iter().any(|other| output::is_same(one, other)) {
                 return refuse("--report, --split and OUT must be different files");
             }
         }
         Ok(())
     }
-}
-
-/// Whether two paths name one file, links followed.
-fn is_same(one: &Path, other: &Path) -> bool {
-    let real = |path: &Path| path.canonicalize().unwrap_or_else(|_| path.to_owned());
-    real(one) == real(other)
 }
 
 fn path(name: &'static str) -> Arg {
@@ -187,11 +174,7 @@ fn flag(name: &'static str) -> Arg {
 }
 
 fn options() -> Command {
-    let command = Command::new(NAME)
-        .version(env!("CARGO_PKG_VERSION"))
-        .about(ABOUT)
-        .max_term_width(100)
-        .infer_long_args(true)
+    let command = arguments::command(NAME, ABOUT)
         .arg(
             path("IN")
                 .required(true)

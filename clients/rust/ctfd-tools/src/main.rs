@@ -6,12 +6,14 @@
 
 mod arguments;
 mod convert;
+mod debuginfo;
 mod diff;
 mod explore;
 mod interrupts;
 mod messages;
 mod output;
 mod progress;
+mod show;
 mod standard;
 mod types;
 
@@ -22,14 +24,17 @@ use std::process::ExitCode;
 /// A command: from its words, the program's name first, to its exit status.
 type Command = fn(Vec<OsString>) -> ExitCode;
 
-const COMMANDS: [(&str, Command); 4] = [
+const COMMANDS: [(&str, Command); 6] = [
     ("ctfd-convert", convert::main),
+    ("ctfd-debuginfo", debuginfo::main),
     ("ctfd-diff", diff::main),
     ("ctfd-explore", explore::main),
+    ("ctfd-show", show::main),
     ("ctfd-types", types::main),
 ];
 
 fn main() -> ExitCode {
+    progress::begin();
     let mut words: Vec<OsString> = std::env::args_os().collect();
     // A link may have another name, so the file that runs counts too.
     let file = std::env::current_exe().map(PathBuf::into_os_string).unwrap_or_default();

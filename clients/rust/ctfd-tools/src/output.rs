@@ -22,7 +22,7 @@ fn is_standard(path: &Path) -> bool {
 }
 
 fn error_of(path: &Path, error: &std::io::Error) -> Error {
-    Error(format!("{}: it can't be written: {}", path.display(), reason(error)))
+    Error(format!("cannot write {}: {}", path.display(), reason(error)))
 }
 
 /// Refuses a file that can't be written, before what is to be in it is made.
@@ -32,11 +32,29 @@ pub fn judge(path: &Path) -> Result<()> {
     }
     match fs::metadata(path) {
         Ok(about) if about.is_dir() => {
-            refuse(format!("{}: it can't be written: it is a folder", path.display()))
+            refuse(format!("cannot write {}: it is a folder", path.display()))
         }
         Ok(about) if !about.is_file() => Ok(()), // a device or a pipe: to open it is to write to it
         _ => Beside::new(path).map(drop),
     }
+}
+
+/// Refuses a file that is read where it is also written.
+pub fn judge_input(input: &Path, outputs: &[&Path]) -> Result<()> {
+    let is_written = |output: &&Path| !is_standard(output) && is_same(input, output);
+    match outputs.iter().any(is_written) {
+        true => refuse(format!(
+            "{}: it is an input, and would be overwritten: name another file",
+            input.display()
+        )),
+        false => Ok(()),
+    }
+}
+
+/// Whether two paths name one file, links followed.
+pub fn is_same(one: &Path, other: &Path) -> bool {
+    let real = |path: &Path| path.canonicalize().unwrap_or_else(|_| path.to_owned());
+    real(one) == real(other)
 }
 
 /// Writes a file whole, or leaves what was there.
@@ -92,12 +110,13 @@ impl Drop for Beside {
 }
 
 /// A folder of this process alone, which goes with what is in it.
-struct Folder {
+pub struct Folder {
     path: PathBuf,
 }
 
 impl Folder {
-    fn new() -> Result<Folder> {
+    /// Makes one.
+    pub fn new() -> Result<Folder> {
         let process = std::process::id();
         for turn in 0..u32::MAX {
             let path = std::env::temp_dir().join(format!(".ctfd-{process}-{turn}"));
@@ -109,6 +128,11 @@ impl Folder {
         }
         refuse("no name is left for a folder")
     }
+
+    /// Where it is.
+    pub fn path(&self) -> &Path {
+        &self.path
+    }
 }
 
 impl Drop for Folder {
@@ -119,35 +143,53 @@ impl Drop for Folder {
 
 /// Writes a copy of an ELF file with the dictionary in it, in place of one that it has.
 pub fn add_section(input: &Path, bytes: &[u8], output: &Path) -> Result<()> {
+    let words = ["--remove-section", SECTION].map(str::to_owned);
+    let whole = with_sections("--section", input, &words, &[(SECTION, bytes)], output)?;
+    write(output, &whole)?;
+    if !is_standard(output) && output.is_file() {
+        let mode =
+            fs::metadata(input).and_then(|about| fs::set_permissions(output, about.permissions()));
+        mode.map_err(|error| error_of(output, &error))?;
+    }
+    Ok(())
+}
+
+/// A copy of an ELF file that objcopy makes by some words, with some sections by their names.
+/// `option` is what the user asked for, and `output` the file that is to be written.
+pub fn with_sections(
+    option: &str,
+    input: &Path,
+    words: &[String],
+    sections: &[(&str, &[u8])],
+    output: &Path,
+) -> Result<Vec<u8>> {
     let folder = Folder::new()?;
-    let (section, copy) = (folder.path.join("section"), folder.path.join("copy"));
-    fs::write(&section, bytes).map_err(|error| error_of(&section, &error))?;
+    let copy = folder.path.join("copy");
+    let mut words = words.to_vec();
+    for (number, (name, bytes)) in sections.iter().enumerate() {
+        let file = folder.path.join(number.to_string());
+        fs::write(&file, bytes).map_err(|error| error_of(&file, &error))?;
+        words.extend(["--add-section".to_owned(), format!("{name}={}", file.display())]);
+    }
     let mut said = Vec::new();
     for copier in COPIERS {
-        match copied(copier, input, &section, &copy) {
+        match copied(copier, &words, input, &copy) {
             None => {}
-            Some(Ok(())) => {
-                let whole = fs::read(&copy).map_err(|error| error_of(&copy, &error))?;
-                write(output, &whole)?;
-                if !is_standard(output) && output.is_file() {
-                    let mode = fs::metadata(input)
-                        .and_then(|about| fs::set_permissions(output, about.permissions()));
-                    mode.map_err(|error| error_of(output, &error))?;
-                }
-                return Ok(());
-            }
+            Some(Ok(())) => return fs::read(&copy).map_err(|error| error_of(&copy, &error)),
             Some(Err(words)) => said.push(words),
         }
     }
     match said.first() {
         Some(words) => refuse(format!("{}: objcopy failed: {words}", output.display())),
-        None => refuse("--section needs objcopy, which is not on the PATH: install binutils"),
+        None => {
+            refuse(format!("{option} needs objcopy, which is not on the PATH: install binutils"))
+        }
     }
 }
 
 /// A program on the PATH, of whose folders those count that are named from the root on: another user
 /// may have put a file into the folder that this one stands in.
-fn on_path(name: &str) -> Option<PathBuf> {
+pub fn on_path(name: &str) -> Option<PathBuf> {
     let is_program = |path: &PathBuf| {
         fs::metadata(path).is_ok_and(|about| about.is_file() && about.mode() & 0o111 != 0)
     };
@@ -157,20 +199,16 @@ fn on_path(name: &str) -> Option<PathBuf> {
         .find(is_program)
 }
 
-/// Copies a file with a section in it; what the tool said in vain. None where it is not there.
+/// Copies a file by a tool; what that said in vain. None where it is not there.
 fn copied(
     copier: &str,
+    words: &[String],
     input: &Path,
-    section: &Path,
     copy: &Path,
 ) -> Option<std::result::Result<(), String>> {
     let input = input.canonicalize().unwrap_or_else(|_| input.to_owned());
-    let done = Command::new(on_path(copier)?)
-        .args(["--remove-section", SECTION, "--add-section"])
-        .arg(format!("{SECTION}={}", section.display()))
-        .args([input.as_path(), copy])
-        .output()
-        .ok()?;
+    let done =
+        Command::new(on_path(copier)?).args(words).args([input.as_path(), copy]).output().ok()?;
     if done.status.success() {
         return Some(Ok(()));
     }

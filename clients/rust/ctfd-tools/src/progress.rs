@@ -1,14 +1,26 @@
 //! How far long work is, with an estimate, on standard error where that is a terminal.
 
-use ctfd_read::progress::Progress;
+use crate::types::text::printable;
+use ctfd_read::inputs::Options;
+use ctfd_read::progress::{Listener, Progress};
 use indicatif::{ProgressBar, ProgressDrawTarget, ProgressStyle};
 use std::io::{stderr, IsTerminal as _};
-use std::sync::OnceLock;
+use std::os::unix::ffi::OsStrExt as _;
+use std::path::Path;
+use std::sync::{Arc, OnceLock};
 use std::time::{Duration, Instant};
 
 /// Nothing is shown of work that takes no longer.
 const PATIENCE: Duration = Duration::from_secs(1);
 const TEMPLATE: &str = "{msg} [{bar:30}] {percent:>3}%, {eta} left";
+
+/// When the command began.
+static BEGUN: OnceLock<Instant> = OnceLock::new();
+
+/// Counts the time from now on, after which bars are shown.
+pub fn begin() {
+    BEGUN.get_or_init(Instant::now);
+}
 
 /// A bar that is there while something is read.
 pub struct Bar {
@@ -22,7 +34,7 @@ impl Bar {
     /// That of some work.
     pub fn new(what: String) -> Bar {
         let is_wanted = stderr().is_terminal();
-        Bar { begun: Instant::now(), what, is_wanted, shown: OnceLock::new() }
+        Bar { begun: *BEGUN.get_or_init(Instant::now), what, is_wanted, shown: OnceLock::new() }
     }
 
     fn show(&self, total: u64) -> ProgressBar {
@@ -34,6 +46,12 @@ impl Bar {
             Err(_) => bar,
         }
     }
+}
+
+/// How a file is read, with a bar that tells how far that is.
+pub fn with_bar(reading: &Options, path: &Path) -> Options {
+    let what = format!("reading {}", printable(path.as_os_str().as_bytes()));
+    Options { listener: Listener::new(Arc::new(Bar::new(what))), ..reading.clone() }
 }
 
 impl Progress for Bar {

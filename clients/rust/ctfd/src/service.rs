@@ -1,6 +1,6 @@
 //! The line protocol in process.
 
-use crate::faults::{told, Refusal};
+use crate::faults::{told, Fault, Refusal};
 use crate::names::fill;
 use crate::raw;
 use std::fmt;
@@ -45,6 +45,45 @@ impl Service {
         let reply = std::str::from_utf8(&self.room).expect("a reply is plain ASCII");
         Ok(reply.trim_end_matches('\n'))
     }
+
+    /// Answers a line of any bytes, without its newline, and appends the reply with one.
+    ///
+    /// Memory that is refused for the reply is [`Fault::Memory`], and then nothing is appended:
+    /// the line was answered or not.
+    ///
+    /// ```
+    /// let (mut service, mut replies) = (ctfd::Service::new().unwrap(), Vec::new());
+    /// service.answer_into(br#"{"s":1,"op":"create"}"#, &mut replies).unwrap();
+    /// assert_eq!(replies, b"{\"ok\":{\"d\":1},\"s\":1}\n");
+    /// ```
+    pub fn answer_into(&mut self, line: &[u8], replies: &mut Vec<u8>) -> Result<(), Refusal> {
+        reserve(replies, ROOM)?;
+        let (mut len, room) = (0, replies.spare_capacity_mut());
+        let (at, room) = (room.as_mut_ptr().cast::<u8>(), room.len());
+        // SAFETY: the handle is this value's own, the line is lent for the call, and behind what
+        // stands in `replies` there are so many bytes.
+        told(unsafe {
+            raw::ctfd_line(&mut self.raw, line.as_ptr(), line.len(), at, room, &mut len)
+        })?;
+        let len = len as usize;
+        if len > room {
+            reserve(replies, len)?;
+            let (mut same, at) = (0, replies.spare_capacity_mut().as_mut_ptr().cast::<u8>());
+            // SAFETY: as above, with room for the whole reply.
+            told(unsafe { raw::ctfd_reply(&mut self.raw, at, len, &mut same) })?;
+        }
+        // SAFETY: the library wrote so many bytes behind what stands in `replies`.
+        unsafe { replies.set_len(replies.len() + len) };
+        Ok(())
+    }
+}
+
+/// The room that a reply is given at first.
+const ROOM: usize = 4096;
+
+/// Makes room for so many bytes more.
+fn reserve(replies: &mut Vec<u8>, more: usize) -> Result<(), Refusal> {
+    replies.try_reserve(more).map_err(|_| Refusal { fault: Fault::Memory, place: 0 })
 }
 
 impl Drop for Service {

@@ -63,14 +63,20 @@ impl<'a> Sections<'a> {
     /// some folders, and .dwo files.
     pub fn load(image: &'a Image, folders: &[PathBuf]) -> Result<Self> {
         let file = image.elf()?;
-        let main = gimli::Dwarf::load(|id: SectionId| elf::section(&file, id.name()))?;
+        let main = gimli::Dwarf::load(|id: SectionId| match is_needed(id) {
+            true => elf::section(image, &file, id.name()),
+            false => Ok(Cow::default()),
+        })?;
         let endian = elf::endian(&file);
         let (splits, skeletons) = (Vec::new(), HashMap::new());
         let mut sections = Sections { main, common: None, endian, splits, skeletons };
         if let Some(common) = elf::alternate_file(image, folders)? {
             let file = common.elf()?;
             let owned = |id: SectionId| -> Result<Cow<'a, [u8]>> {
-                Ok(Cow::Owned(elf::section(&file, id.name())?.into_owned()))
+                match is_needed(id) {
+                    true => Ok(Cow::Owned(elf::section(&common, &file, id.name())?.into_owned())),
+                    false => Ok(Cow::default()),
+                }
             };
             sections.common = Some(gimli::Dwarf::load(owned)?);
         }
@@ -81,6 +87,11 @@ impl<'a> Sections<'a> {
             sections.skeletons.insert(start, Skeleton { split, id: one.id, name: one.name });
         }
         Ok(sections)
+    }
+
+    /// Whether some of it is in other files.
+    pub fn goes_on(&self) -> bool {
+        self.common.is_some() || !self.splits.is_empty()
     }
 
     /// The place of the .dwo file of a unit, or of the package that has it.
@@ -117,6 +128,12 @@ impl<'a> Sections<'a> {
             tried.join(" or ")
         ))
     }
+}
+
+/// Whether types and symbols need a section. Lines are read with each unit.
+fn is_needed(id: SectionId) -> bool {
+    use SectionId::{DebugAranges, DebugLoc, DebugLocLists, DebugMacinfo, DebugMacro};
+    !matches!(id, DebugAranges | DebugLoc | DebugLocLists | DebugMacinfo | DebugMacro)
 }
 
 /// What a unit says of the .dwo file that it stands for.
@@ -210,7 +227,7 @@ impl Split {
         let mut data = HashMap::new();
         for id in SPLIT {
             if let Some(name) = id.dwo_name() {
-                data.insert(name, elf::section(&file, name)?.into_owned());
+                data.insert(name, elf::section(&image, &file, name)?.into_owned());
             }
         }
         data.retain(|name, bytes| !name.ends_with("_index") || has_slots(bytes));

@@ -17,7 +17,7 @@ use std::collections::{BTreeMap, HashMap, HashSet};
 use std::hash::BuildHasherDefault;
 use std::rc::Rc;
 
-/// A declaration, an abstract function and a copy of it are three; damage may lead round.
+/// A declaration, an abstract function and a copy of it are three; damage may form a cycle.
 const LONGEST_CHAIN: usize = 16;
 const LONGEST_TYPE: usize = 512;
 /// How many units one thread reads and joins before they are joined with those of others.
@@ -142,7 +142,7 @@ impl<'a> Collector<'a> {
         for some in groups.chunks(GROUPS).chain([&[][..]]) {
             let before = std::mem::take(&mut ready);
             let (next, joined) = rayon::join(
-                || some.par_iter().map(|numbers| Group::read(numbers, &read, tags)).collect(),
+                || some.par_iter().map(|numbers| Group::read(numbers, read, tags)).collect(),
                 || before.into_iter().try_for_each(|one| one.map(|one| self.take(one))),
             );
             joined?;
@@ -651,11 +651,7 @@ impl<'d, 'a> Reader<'d, 'a> {
     }
 
     /// What a class has in it that is nothing known.
-    pub(super) fn lost_part(
-        &mut self,
-        whole: &Entry<'d, 'a>,
-        part: &Entry<'d, 'a>,
-    ) -> Result<()> {
+    pub(super) fn lost_part(&mut self, whole: &Entry<'d, 'a>, part: &Entry<'d, 'a>) -> Result<()> {
         let name = self.debug.name(whole)?;
         self.lost(&format!(
             "an entry of tag 0x{:x} in {}, which is nothing of C or C++: it is left out",
@@ -762,7 +758,7 @@ impl<'d, 'a> Reader<'d, 'a> {
                 None => return Ok(made),
             }
         }
-        refuse("its debug information is damaged: its entries lead round")
+        refuse("its debug information is damaged: DW_AT_specification or DW_AT_abstract_origin forms a cycle")
     }
 
     /// The name of the first entry that has one. Outside of C it is that of its symbol, where an

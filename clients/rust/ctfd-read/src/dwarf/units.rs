@@ -598,7 +598,7 @@ pub fn scopes(unit: &Unit<'_>, language: Language) -> Result<Vec<Scope>> {
             made.push(Scope { offset, entries: Vec::new(), is_class });
         } else if let Some(behind) = sibling {
             if behind < raw.next_offset() {
-                return refuse("its entries lead round: damage");
+                return refuse("DW_AT_sibling points backwards: the debug information is damaged");
             }
             raw = unit.inner.entries_raw(Some(behind))?;
         } else {

@@ -2,6 +2,7 @@
 //! have thousands of one name.
 
 use super::side::Side;
+use crate::types::catalog::Number;
 use ctfd::Kind;
 use std::collections::hash_map::DefaultHasher;
 use std::collections::{HashMap, VecDeque};
@@ -12,7 +13,7 @@ const TRIES: usize = 4;
 
 /// The new types of a name.
 pub struct Candidates<'c> {
-    listed: &'c [u16],
+    listed: &'c [Number],
     is_left: Vec<bool>,
     /// Their places by their sums; none of a single one, which is compared at once.
     by_sum: HashMap<u64, VecDeque<usize>>,
@@ -20,7 +21,7 @@ pub struct Candidates<'c> {
 
 impl<'c> Candidates<'c> {
     /// Those types of a side.
-    pub fn new(side: &Side<'_, '_>, listed: &'c [u16]) -> Candidates<'c> {
+    pub fn new(side: &Side<'_, '_>, listed: &'c [Number]) -> Candidates<'c> {
         let mut by_sum: HashMap<u64, VecDeque<usize>> = HashMap::new();
         if listed.len() > 1 {
             for (place, &number) in listed.iter().enumerate() {
@@ -34,8 +35,8 @@ impl<'c> Candidates<'c> {
     pub fn take(
         &mut self,
         side: &Side<'_, '_>,
-        old: u16,
-        is_same: impl Fn(u16, u16) -> bool,
+        old: Number,
+        is_same: impl Fn(Number, Number) -> bool,
     ) -> bool {
         if let [only] = self.listed {
             let is_taken = self.is_left[0] && is_same(old, *only);
@@ -55,14 +56,14 @@ impl<'c> Candidates<'c> {
     }
 
     /// Those that were not taken, in order.
-    pub fn left(self) -> impl Iterator<Item = u16> + 'c {
+    pub fn left(self) -> impl Iterator<Item = Number> + 'c {
         let listed = self.listed.iter().copied().zip(self.is_left);
         listed.filter(|(_, is_left)| *is_left).map(|(number, _)| number)
     }
 }
 
 /// A number that two types have in common which do not differ.
-fn sum(side: &Side<'_, '_>, number: u16) -> u64 {
+fn sum(side: &Side<'_, '_>, number: Number) -> u64 {
     let mut parts: Vec<u64> = Vec::new();
     let mut add = |part: &dyn Fn(&mut DefaultHasher)| {
         let mut hasher = DefaultHasher::new();

@@ -8,7 +8,7 @@ use super::candidates::Candidates;
 use super::members::differences as members;
 use super::said::{kind_word, size, Change, Datum, Fate, Said};
 use super::side::{is_of_base, places, Key, Side};
-use crate::types::catalog::is_renaming;
+use crate::types::catalog::{is_renaming, Number};
 use crate::types::json::word_of;
 use crate::types::text::printable;
 use ctfd::Kind;
@@ -44,9 +44,9 @@ impl Sides<'_, '_, '_> {
     }
 
     /// The types of one name: equal ones first, then the others in order.
-    fn changes_of(&self, key: &Key, old: &[u16], new: &[u16]) -> Vec<Change> {
+    fn changes_of(&self, key: &Key, old: &[Number], new: &[Number]) -> Vec<Change> {
         let mut candidates = Candidates::new(self.after, new);
-        let is_same = |old: u16, new: u16| self.differences(old, new).is_empty();
+        let is_same = |old: Number, new: Number| self.differences(old, new).is_empty();
         let mut rest = Vec::new();
         for &number in old {
             if !candidates.take(self.before, number, is_same) {
@@ -57,7 +57,7 @@ impl Sides<'_, '_, '_> {
         if left.peek().is_none() && !new.is_empty() {
             return Vec::new(); // of several of one name some are gone: what was there still is
         }
-        let changed = |number: u16| {
+        let changed = |number: Number| {
             let (fate, said, other) = match left.next() {
                 Some(other) => (Fate::Changed, self.differences(number, other), other),
                 None => (Fate::Removed, vec![Said::breaking("removed", "removed")], 0),
@@ -69,7 +69,7 @@ impl Sides<'_, '_, '_> {
     }
 
     /// What differs in two types of one key.
-    fn differences(&self, old: u16, new: u16) -> Vec<Said> {
+    fn differences(&self, old: Number, new: Number) -> Vec<Said> {
         let (before, after) = (self.before.kind(old), self.after.kind(new));
         if before != after {
             return vec![other_kind(before, after)];
@@ -90,7 +90,7 @@ impl Sides<'_, '_, '_> {
     }
 
     /// What differs in the enumerators, matched by name.
-    pub fn enums(&self, old: u16, new: u16) -> Vec<Said> {
+    pub fn enums(&self, old: Number, new: Number) -> Vec<Said> {
         let sizes = (self.before.catalog.size(old), self.after.catalog.size(new));
         let mut said = Vec::from_iter(size(sizes.0, sizes.1));
         let (here, there) = (self.before.values(old), self.after.values(new));
@@ -116,7 +116,7 @@ impl Sides<'_, '_, '_> {
         said
     }
 
-    fn typedefs(&self, old: u16, new: u16) -> Option<Said> {
+    fn typedefs(&self, old: Number, new: Number) -> Option<Said> {
         let one = self.before.catalog.record(old).of;
         let other = self.after.catalog.record(new).of;
         let (was, now) = (self.before.text(one), self.after.text(other));
@@ -126,7 +126,7 @@ impl Sides<'_, '_, '_> {
         is_told.then(|| said.from(Datum::text(&*was), Datum::text(&*now)))
     }
 
-    fn numbers(&self, old: u16, new: u16) -> Vec<Said> {
+    fn numbers(&self, old: Number, new: Number) -> Vec<Said> {
         let sizes = (self.before.catalog.size(old), self.after.catalog.size(new));
         let mut said = Vec::from_iter(size(sizes.0, sizes.1));
         let (was, now) = (self.before.flags(old), self.after.flags(new));
@@ -150,7 +150,7 @@ fn each_once<'v>(values: &[(&'v [u8], i128)]) -> impl Iterator<Item = &'v [u8]> 
     names.into_iter().filter(move |name| seen.insert(*name))
 }
 
-fn addition(side: &Side<'_, '_>, key: &Key, number: u16) -> Change {
+fn addition(side: &Side<'_, '_>, key: &Key, number: Number) -> Change {
     let size = side.catalog.size(number);
     let text = size.map_or("added".to_owned(), |size| format!("added, size {size}"));
     let said = Said::harmless("added", text).from(Datum::Nothing, Datum::size(size));
@@ -171,7 +171,7 @@ fn other_kind(before: Option<Kind>, after: Option<Kind>) -> Said {
 }
 
 /// Whether a change of what a typedef names is told of that by itself.
-fn is_told(side: &Side<'_, '_>, mut number: u16) -> bool {
+fn is_told(side: &Side<'_, '_>, mut number: Number) -> bool {
     while is_renaming(side.catalog.kind(number)) && side.key(number).is_none() {
         number = side.catalog.record(number).of;
     }

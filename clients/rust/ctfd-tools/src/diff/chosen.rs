@@ -101,15 +101,19 @@ impl<'c> Choice<'c> {
 
     /// Whether a pair of types is left out, with all that it alone leads to.
     pub fn leaves_out_pair(&self, sides: &Sides<'_, '_, '_>, label: &str, pair: Pair) -> bool {
-        let is_hidden = match &self.chosen.headers {
+        let suppressions = &self.chosen.suppressions;
+        self.is_hidden(sides, pair)
+            || self.chosen.leaves_out(label.as_bytes())
+            || suppressions.leaves_out_type(sides.before, pair.0, self.sources[0], &self.names)
+    }
+
+    /// Whether no public header defines a pair of types.
+    pub fn is_hidden(&self, sides: &Sides<'_, '_, '_>, pair: Pair) -> bool {
+        match &self.chosen.headers {
             [Some(headers), _] => headers.hide(sides.before, pair.0, self.sources[0]),
             [None, Some(headers)] => headers.hide(sides.after, pair.1, self.sources[1]),
             [None, None] => false,
-        };
-        let suppressions = &self.chosen.suppressions;
-        is_hidden
-            || self.chosen.leaves_out(label.as_bytes())
-            || suppressions.leaves_out_type(sides.before, pair.0, self.sources[0], &self.names)
+        }
     }
 
     /// Leaves differences of a pair of types out that are not told.

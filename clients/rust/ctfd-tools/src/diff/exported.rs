@@ -4,33 +4,18 @@ use super::changes::Sides;
 use super::said::{Change, Datum, Fate, Said};
 use super::structure::Found;
 use super::UNTOLD;
-use crate::types::catalog::{number_of, Catalog, Signature};
-use crate::types::symbols::signature_of;
+use crate::types::catalog::{Catalog, Told};
 use crate::types::text::printable;
 use ctfd_read::exports::{Export, ExportKind, Exports};
 
-/// What the dictionary tells of a symbol.
-enum Told {
-    Function(Signature),
-    Object(u16),
-}
-
-impl Told {
-    /// What a dictionary tells of one; None where it tells nothing.
-    fn of(catalog: &Catalog<'_>, one: &Export<'_>) -> Option<Told> {
-        let number = one.number?;
-        match one.kind {
-            ExportKind::Function => catalog
-                .types
-                .function(number)
-                .ok()
-                .map(|found| Told::Function(signature_of(&found))),
-            ExportKind::Object => {
-                catalog.types.object(number).ok().map(|found| Told::Object(number_of(found)))
-            }
-            ExportKind::Symbol => None,
-        }
-    }
+/// What the dictionary tells of a symbol; None where it tells nothing.
+fn told_of(catalog: &Catalog<'_>, one: &Export<'_>) -> Option<Told> {
+    let told = catalog.told_of(one.number?)?;
+    let is_of_kind = match told {
+        Told::Function(_) => one.kind == ExportKind::Function,
+        Told::Object(_) => one.kind == ExportKind::Object,
+    };
+    is_of_kind.then_some(told)
 }
 
 /// A symbol as a change calls it.
@@ -87,7 +72,7 @@ pub fn difference(sides: &Sides<'_, '_, '_>, one: &Export<'_>, other: &Export<'_
         let (was, now) = (Datum::Truth(one.is_of_threads), Datum::Truth(other.is_of_threads));
         return Found::of([said.from(was, now)]);
     }
-    let (was, now) = (Told::of(sides.before.catalog, one), Told::of(sides.after.catalog, other));
+    let (was, now) = (told_of(sides.before.catalog, one), told_of(sides.after.catalog, other));
     match (&was, &now) {
         (Some(Told::Function(was)), Some(Told::Function(now))) => sides.signature(was, now),
         (Some(Told::Object(was)), Some(Told::Object(now))) => {
@@ -99,14 +84,18 @@ pub fn difference(sides: &Sides<'_, '_, '_>, one: &Export<'_>, other: &Export<'_
     }
 }
 
-/// What differs in symbols of which the types are told on one side at most.
-fn untold(one: &Export<'_>, other: &Export<'_>, was_told: bool, is_told: bool) -> Vec<Said> {
-    let mut said = Vec::new();
-    if one.kind == ExportKind::Object && one.size != other.size {
+/// That an object has another size.
+pub fn size(one: &Export<'_>, other: &Export<'_>) -> Option<Said> {
+    (one.kind == ExportKind::Object && one.size != other.size).then(|| {
         let text = format!("size {} -> {}", one.size, other.size);
         let sizes = (Datum::number(one.size), Datum::number(other.size));
-        said.push(Said::breaking("size", text).of(one.label()).from(sizes.0, sizes.1));
-    }
+        Said::breaking("size", text).of(one.label()).from(sizes.0, sizes.1)
+    })
+}
+
+/// What differs in symbols of which the types are told on one side at most.
+fn untold(one: &Export<'_>, other: &Export<'_>, was_told: bool, is_told: bool) -> Vec<Said> {
+    let mut said: Vec<Said> = size(one, other).into_iter().collect();
     if one.is_of_threads && other.is_of_threads {
         let text = "CTF tells no type of what each thread has its own of: it is not compared";
         said.push(Said::harmless(UNTOLD, text).of(one.label()));

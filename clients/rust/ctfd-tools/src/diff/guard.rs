@@ -7,7 +7,7 @@
 use super::changes::Sides;
 use super::chosen::Choice;
 use super::exported;
-use super::said::{kind_word, Change, Fate, Reach};
+use super::said::{kind_word, Change, Fate, Reach, Said};
 use super::structure::{Found, Pair};
 use super::suppressions::SymbolChange;
 use ctfd_read::exports::{Export, Exports};
@@ -45,12 +45,14 @@ struct Node {
     end: usize,
     /// The types, of such a pair.
     pair: Option<Pair>,
+    /// Of an object that has another size now, how that is told where its type is not.
+    size: Option<Said>,
 }
 
 impl Node {
     fn new(label: String, kind: &'static str, found: Found) -> Node {
         let (leads, way, to) = (Vec::new(), None, None);
-        Node { label, kind, found, leads, way, root: 0, to, end: 0, pair: None }
+        Node { label, kind, found, leads, way, root: 0, to, end: 0, pair: None, size: None }
     }
 
     /// Whether something differs, or breaks.
@@ -124,7 +126,9 @@ impl Guard<'_, '_, '_> {
                 }
                 Some(other) if self.is_told(one, SymbolChange::OfType) => {
                     let found = exported::difference(&self.sides, one, other);
-                    self.nodes.push(Node::new(exported::label(one), one.kind.word(), found));
+                    let size = exported::size(one, other);
+                    let node = Node::new(exported::label(one), one.kind.word(), found);
+                    self.nodes.push(Node { size, ..node });
                 }
                 _ => {}
             }
@@ -142,7 +146,10 @@ impl Guard<'_, '_, '_> {
         while let Some(number) = todo.pop_front() {
             for lead in std::mem::take(&mut self.nodes[number].found.leads) {
                 let (reached, is_new) = self.node(lead.pair);
-                let Some(reached) = reached else { continue };
+                let Some(reached) = reached else {
+                    self.tell_size(number, lead.pair);
+                    continue;
+                };
                 self.nodes[number].leads.push((reached, lead.text.clone()));
                 if is_new {
                     let is_symbol = number < self.symbols;
@@ -152,6 +159,15 @@ impl Guard<'_, '_, '_> {
                     todo.push_back(reached);
                 }
             }
+        }
+    }
+
+    /// Tells that an object has another size, where its type is one of no public header: programs
+    /// that were linked with the old copy it.
+    fn tell_size(&mut self, number: usize, of: Pair) {
+        if number < self.symbols && self.choice.is_hidden(&self.sides, of) {
+            let size = self.nodes[number].size.take();
+            self.nodes[number].found.said.extend(size);
         }
     }
 

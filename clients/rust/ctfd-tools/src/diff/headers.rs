@@ -1,6 +1,7 @@
 //! The public headers of a library: types that others define are opaque to its users.
 
 use super::side::Side;
+use crate::types::catalog::Number;
 use crate::types::failure::Outcome;
 use crate::types::open::shown;
 use ctfd::Kind;
@@ -46,7 +47,7 @@ impl Headers {
 
     /// Whether a type of a side is defined elsewhere alone. What has no name is a part of others,
     /// and what nothing is said of may be in a header.
-    pub fn hide(&self, side: &Side<'_, '_>, number: u16, sources: &SourceFiles) -> bool {
+    pub fn hide(&self, side: &Side<'_, '_>, number: Number, sources: &SourceFiles) -> bool {
         let record = side.catalog.record(number);
         let is_defined = record.is_aggregate() || matches!(record.kind, Kind::Enum | Kind::Typedef);
         if !is_defined || !side.names.has_name(number) {
@@ -65,7 +66,7 @@ impl Headers {
         &self,
         kind: table::Kind,
         side: &Side<'_, '_>,
-        number: u16,
+        number: Number,
         sources: &SourceFiles,
     ) -> bool {
         let mut files = sources.of_type(kind, &side.catalog.record(number).name).peekable();

@@ -1,16 +1,17 @@
 //! `ctfd-diff`: what differs between two programs or libraries, and what of that breaks.
 
+mod baseline;
 mod candidates;
 mod changes;
 mod chosen;
 mod complete;
-pub mod crowded;
 mod exported;
 mod guard;
 mod headers;
 mod members;
 mod open;
 mod options;
+mod packages;
 mod report;
 mod said;
 mod side;
@@ -19,16 +20,20 @@ mod suppressions;
 mod symbol_changes;
 mod type_names;
 
+use crate::interrupts;
 use crate::standard;
 use crate::types::failure::{Failure, Outcome};
-use crate::types::output::{self, Output};
+use crate::types::output::{self, Output, Titled};
 use crate::types::warn_by;
 use chosen::Chosen;
+use ctfd_read::inputs::Options;
 use open::{with_file, Opened};
 use options::{Words, NAME};
+use packages::{Side, Unpacked};
 use report::Tally;
 use std::ffi::OsString;
-use std::io::Write as _;
+use std::io::Write;
+use std::path::Path;
 use std::process::ExitCode;
 
 const SAME: u8 = 0;
@@ -42,6 +47,7 @@ const UNCOMPARED: [&str; 2] = [UNTOLD, "undefined"];
 /// The command; its exit status.
 pub fn main(words: Vec<OsString>) -> ExitCode {
     let mut words = Words::parsed(words);
+    interrupts::watch();
     if standard::is_output_closed() {
         warn_by(NAME, standard::CLOSED);
         return ExitCode::from(TROUBLE);
@@ -64,7 +70,18 @@ fn run(words: &mut Words, output: &mut Output) -> Outcome<u8> {
     let chosen = Chosen::new(words)?;
     words.reading.has_sources = chosen.has_sources();
     let mut tally = Tally::default();
-    compare(words, &chosen, output, &mut tally)?;
+    if packages::has_libraries(&words.old) || packages::has_libraries(&words.new) {
+        compare_packages(words, &chosen, output, &mut tally)?;
+    } else {
+        baseline::judge(words)?;
+        if !words.has_baseline || words.old.exists() {
+            let read = |path| Read::of(path, &words.reading);
+            compare(words, [read(&words.old), read(&words.new)], &chosen, output, &mut tally)?;
+        }
+        if words.is_updated {
+            baseline::write(words)?;
+        }
+    }
     if words.has_verdict {
         output.flush()?;
         writeln!(output, "{}", if words.is_json { tally.json() } else { tally.text() })?;
@@ -72,13 +89,81 @@ fn run(words: &mut Words, output: &mut Output) -> Outcome<u8> {
     Ok(tally.status)
 }
 
-fn compare(words: &Words, chosen: &Chosen, output: &mut Output, tally: &mut Tally) -> Outcome<()> {
-    with_file(words, &words.old, words.parent_of_old(), |old| {
-        with_file(words, &words.new, words.parent_of_new(), |new| match are_one(words, old, new)? {
+/// A file, how it is read, and the package that it was unpacked of.
+struct Read<'r> {
+    path: &'r Path,
+    reading: &'r Options,
+    unpacked: Option<&'r Unpacked>,
+    /// Whether it is a library of a package or folder: nothing but its exports counts.
+    is_library: bool,
+}
+
+impl<'r> Read<'r> {
+    fn of(path: &'r Path, reading: &'r Options) -> Read<'r> {
+        Read { path, reading, unpacked: None, is_library: false }
+    }
+
+    fn of_library(
+        path: &'r Path,
+        reading: &'r Options,
+        unpacked: Option<&'r Unpacked>,
+    ) -> Read<'r> {
+        Read { path, reading, unpacked, is_library: true }
+    }
+}
+
+fn compare(
+    words: &Words,
+    [old, new]: [Read<'_>; 2],
+    chosen: &Chosen,
+    output: &mut dyn Write,
+    tally: &mut Tally,
+) -> Outcome<()> {
+    with_file(&old, words.parent_of_old(), |old| {
+        with_file(&new, words.parent_of_new(), |new| match are_one(words, old, new)? {
             true => Ok(()),
             false => report::tell(words, chosen, output, tally, (old, new)),
         })
     })
+}
+
+/// Compares the libraries of two packages or folders. One that can't be compared is told, and the
+/// rest is compared.
+fn compare_packages(
+    words: &Words,
+    chosen: &Chosen,
+    output: &mut Output,
+    tally: &mut Tally,
+) -> Outcome<()> {
+    let sides = packages::sides(words)?;
+    let reading = |side: &Side| Options {
+        folders: side.folders.iter().chain(&words.reading.folders).cloned().collect(),
+        ..words.reading.clone()
+    };
+    let readings = sides.each_ref().map(reading);
+    let [old, new] = &sides;
+    for pair in packages::pairs(old, new) {
+        let (Some(one), Some(other)) = pair else {
+            tally.tell_library(words, pair, output)?;
+            continue;
+        };
+        let files = [
+            Read::of_library(&one.path, &readings[0], old.unpacked.as_ref()),
+            Read::of_library(&other.path, &readings[1], new.unpacked.as_ref()),
+        ];
+        let mut titled = Titled::new(output, Some(packages::title(words, one)));
+        match compare(words, files, chosen, &mut titled, tally) {
+            Err(Failure::Unknown(said) | Failure::Refused(said)) => {
+                output.flush()?;
+                tally.leave_out();
+                let unpacked = sides.iter().filter_map(|side| side.unpacked.as_ref());
+                let said = unpacked.fold(said, |said, unpacked| unpacked.named(&said));
+                warn_by(NAME, &format!("{}: not compared: {said}", one.printable_name()));
+            }
+            done => done?,
+        }
+    }
+    Ok(())
 }
 
 /// Whether both are the same bytes, over the same parent: nothing differs then.

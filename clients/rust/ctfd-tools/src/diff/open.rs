@@ -1,8 +1,11 @@
 //! Opens the two files, each over its parent.
 
-use super::crowded::{is_crowded, CROWDED};
-use super::options::{Words, NAME};
+use super::options::NAME;
+use super::packages::Unpacked;
+use super::Read;
+use crate::progress::with_bar;
 use crate::types::catalog::Catalog;
+use crate::types::crowded::{is_crowded, CROWDED};
 use crate::types::failure::{Failure, Outcome};
 use crate::types::names::Names;
 use crate::types::open::{judge_model, shown, with_catalog, without_parent, Parents};
@@ -25,6 +28,8 @@ pub struct Opened<'o, 'd> {
     pub image: &'o Image,
     /// Its types.
     pub names: &'o Names<'o, 'd>,
+    unpacked: Option<&'o Unpacked>,
+    is_library: bool,
     /// What its dictionary was given.
     pub handed: &'o Handed<'o>,
     losses: &'o [String],
@@ -36,7 +41,8 @@ pub struct Opened<'o, 'd> {
 impl<'o, 'd> Opened<'o, 'd> {
     /// The file, as a line on it begins.
     pub fn path(&self) -> String {
-        shown(self.image.path())
+        let path = shown(self.image.path());
+        self.unpacked.map_or(path.clone(), |unpacked| unpacked.named(&path))
     }
 
     /// Its types.
@@ -53,7 +59,7 @@ impl<'o, 'd> Opened<'o, 'd> {
         }
     }
 
-    /// What it exports, where it is a library or the like and types of functions are told.
+    /// What it exports, where types of that are told and it exports functions, or is a library.
     pub fn exports(&self) -> Outcome<Option<Exports<'o>>> {
         let (Some(table), true) = (&self.handed.symbols, self.image.is_elf()) else {
             return Ok(None);
@@ -63,39 +69,46 @@ impl<'o, 'd> Opened<'o, 'd> {
         }
         let strings = self.handed.strings.as_deref().unwrap_or_default();
         let found = exports(self.image, table, strings)?;
-        Ok(found.has_functions().then_some(found))
+        Ok((found.has_functions() || self.is_library).then_some(found))
     }
 }
 
 /// Opens a file over its parent, and runs something on it.
 pub fn with_file<T>(
-    words: &Words,
-    path: &Path,
+    &Read { path, reading, unpacked, is_library }: &Read<'_>,
     parent: Option<&Path>,
     run: impl FnOnce(&Opened<'_, '_>) -> Outcome<T>,
 ) -> Outcome<T> {
     let image = Image::open(path)?;
-    let mut found = opening::handed(&image, &words.reading)?;
+    let mut found = opening::handed(&image, &with_bar(reading, path))?;
     if found.is_made && parent.is_some() {
         return Err(Failure::Refused(format!("{}: {ALONE}", shown(path))));
     }
-    judge_model(&mut found, words.reading.model, path)?;
+    judge_model(&mut found, reading.model, path)?;
     if found.has_more_names() {
         found.add_names();
     }
-    let parents = Parents::new(NAME, parent, words.reading.model);
+    let parents = Parents::new(NAME, parent, reading.model);
     with_catalog(path, &found, &parents, |opened| {
         let catalog = opened.catalog;
-        if catalog.types.is_child() && parent.is_none() {
+        if catalog.is_child() && parent.is_none() {
             return Err(without_parent(path, catalog));
         }
         let handed = opened.handed;
-        let strings = handed.strings.as_deref().unwrap_or_default();
-        if is_crowded(catalog.types, handed.ctf.len() + strings.len()) {
+        if is_crowded(catalog) {
             return Err(Failure::Refused(format!("{}: {CROWDED}", shown(path))));
         }
         let names = Names::new(catalog);
         let (losses, beyond, sources) = (&found.losses, found.beyond.as_ref(), &found.sources);
-        run(&Opened { image: &image, names: &names, handed, losses, beyond, sources })
+        run(&Opened {
+            is_library,
+            unpacked,
+            image: &image,
+            names: &names,
+            handed,
+            losses,
+            beyond,
+            sources,
+        })
     })
 }

@@ -14,7 +14,8 @@ Lists the differences between two programs or libraries, and says whether progra
 break with NEW.
 
 OLD and NEW are what ctfd-convert takes: libraries and programs with debug information, object
-files, archives, or sections of CTF or BTF. If both export functions and objects, these are
+files, archives, or sections of CTF or BTF; or packages of Debian or folders, whose libraries are
+compared one by one. If both export functions and objects, these are
 compared, with all types that they reach; otherwise, or with --all, all types. Offsets and sizes are
 in bytes, `96:3` is bit 3 of byte 96. The status is 0 if nothing differs, 1 if all changes are
 compatible, 4 if something breaks, and 2 if something is refused, or nothing breaks as far as can be
@@ -22,10 +23,16 @@ told and something could not be compared.";
 
 /// What a command line says.
 pub struct Words {
-    /// The old file.
+    /// The old file; the baseline, where one is kept.
     pub old: PathBuf,
     /// The new file.
     pub new: PathBuf,
+    /// Whether the old file is a baseline, which is written anew with `is_updated`.
+    pub has_baseline: bool,
+    /// Whether the baseline is written anew.
+    pub is_updated: bool,
+    /// Packages with the debug information of the old package or folder, and of the new.
+    pub debug_packages: [Vec<PathBuf>; 2],
     /// Whether only what breaks is told.
     pub is_breaking: bool,
     /// Whether all types and symbols are compared.
@@ -59,9 +66,19 @@ impl Words {
         let path = |name: &str| matches.get_one::<PathBuf>(name).cloned();
         let many = |name: &str| matches.get_many(name).unwrap_or_default().cloned().collect();
         let names = matches.get_many::<OsString>("name").unwrap_or_default();
+        let baseline = path("baseline");
+        let (first, second) = (path("OLD").unwrap_or_default(), path("NEW").unwrap_or_default());
+        let has_baseline = baseline.is_some();
+        let (old, new) = match baseline {
+            Some(baseline) => (baseline, first),
+            None => (first, second),
+        };
         Words {
-            old: path("OLD").unwrap_or_default(),
-            new: path("NEW").unwrap_or_default(),
+            old,
+            new,
+            has_baseline,
+            is_updated: matches.get_flag("update"),
+            debug_packages: [many("debug-package1"), many("debug-package2")],
             is_breaking: matches.get_flag("breaking"),
             is_all: matches.get_flag("all"),
             names: names.cloned().map(OsString::into_vec).collect(),
@@ -92,11 +109,23 @@ fn headers(name: &'static str, help: &'static str) -> Arg {
     file(name, help).value_name("FOLDER").action(ArgAction::Append)
 }
 
+fn packages(name: &'static str, help: &'static str) -> Arg {
+    file(name, help).action(ArgAction::Append)
+}
+
 fn options() -> Command {
-    let of_file =
-        |name: &'static str| Arg::new(name).required(true).value_parser(value_parser!(PathBuf));
+    let of_file = |name: &'static str| Arg::new(name).value_parser(value_parser!(PathBuf));
     arguments::command(NAME, ABOUT)
-        .args([of_file("OLD"), of_file("NEW")])
+        .arg(of_file("OLD").required(true))
+        .arg(of_file("NEW").required_unless_present("baseline").conflicts_with("baseline"))
+        .args([
+            file("baseline", "compare with a baseline of an earlier build: give one file then"),
+            flag("update", "write the baseline anew, after the comparison").requires("baseline"),
+        ])
+        .args([
+            packages("debug-package1", "a package with the debug information of OLD, a package"),
+            packages("debug-package2", "the same of NEW"),
+        ])
         .args(of_answers())
         .args([
             file("parent", "the parent of both"),

@@ -6,19 +6,21 @@ use super::complete::incomparable;
 use super::guard;
 use super::open::Opened;
 use super::options::{Words, NAME};
-use super::said::{Change, Said};
+use super::packages;
+use super::said::{Change, Fate, Said};
 use super::side::Side;
 use super::suppressions::{SymbolChange, SymbolNamed};
 use super::symbol_changes::{self, Symbols};
 use super::{BREAKING, COMPATIBLE, SAME, TROUBLE, UNCOMPARED, UNTOLD};
+use crate::types::catalog::Number;
 use crate::types::failure::{Failure, Outcome};
 use crate::types::json::Object;
 use crate::types::listing::{definition, Manner};
-use crate::types::output::Output;
+use crate::types::text::printable;
 use crate::types::warn_by;
 use ctfd_read::exports::Exports;
 use ctfd_read::opening::Origin;
-use std::io::Write as _;
+use std::io::Write;
 
 const NO_SOURCES: &str =
     "it does not say in which source files its types are defined, by which some \
@@ -45,6 +47,44 @@ impl Tally {
         self.uncompared += usize::from(is_untold);
         let status = if change.breaks() { BREAKING } else { COMPATIBLE };
         self.status = self.status.max(status).max(if is_untold { TROUBLE } else { SAME });
+    }
+
+    /// Counts what could not be compared.
+    pub fn leave_out(&mut self) {
+        self.uncompared += 1;
+        self.status = self.status.max(TROUBLE);
+    }
+
+    /// Tells a library that only one side has.
+    pub fn tell_library(
+        &mut self,
+        words: &Words,
+        (old, new): packages::Pair<'_>,
+        output: &mut dyn Write,
+    ) -> Outcome<()> {
+        let Some(library) = old.or(new) else { return Ok(()) };
+        let name = library.name.as_bytes();
+        let label = format!("library {}", printable(name));
+        let change = match old {
+            Some(_) => {
+                let said = Said::breaking("removed", "removed").of(name);
+                Change::new(label, "library", Fate::Removed, vec![said])
+            }
+            None => {
+                let said = Said::harmless("added", "added").of(name);
+                Change::new(label, "library", Fate::Added, vec![said])
+            }
+        };
+        let is_left_out = words.is_breaking && !change.breaks() || !words.names.is_empty();
+        if !is_left_out {
+            self.add(&change);
+            match (words.is_json, words.has_verdict) {
+                (true, _) => writeln!(output, "{}", change.json(None))?,
+                (false, true) => writeln!(output, "{}", change.judged())?,
+                (false, false) => writeln!(output, "{}", change.lines())?,
+            }
+        }
+        Ok(())
     }
 
     /// The verdict in one line.
@@ -88,7 +128,7 @@ impl Tally {
 pub fn tell(
     words: &Words,
     chosen: &Chosen,
-    output: &mut Output,
+    output: &mut dyn Write,
     tally: &mut Tally,
     (old, new): (&Opened<'_, '_>, &Opened<'_, '_>),
 ) -> Outcome<()> {
@@ -98,8 +138,8 @@ pub fn tell(
     };
     let soname = |one: &Option<Exports<'_>>| one.as_ref().map_or(Vec::new(), |e| e.soname.to_vec());
     let sonames = (soname(&exports.0), soname(&exports.1));
-    let lacks_old = chosen.needs_old() && old.sources.is_empty();
-    let lacks_new = chosen.needs_new() && new.sources.is_empty();
+    let lacks_old = chosen.needs_old() && old.sources.is_unknown();
+    let lacks_new = chosen.needs_new() && new.sources.is_unknown();
     if lacks_old || lacks_new {
         let path = if lacks_old { old.path() } else { new.path() };
         return Err(Failure::Refused(format!("{path}: {NO_SOURCES}")));
@@ -118,7 +158,7 @@ pub fn tell(
 struct Report<'r> {
     words: &'r Words,
     choice: &'r Choice<'r>,
-    output: &'r mut Output,
+    output: &'r mut dyn Write,
     tally: &'r mut Tally,
     /// Lines on what is not compared.
     left: Vec<String>,
@@ -240,18 +280,18 @@ impl Report<'_> {
 fn named(change: &Change) -> SymbolNamed<'_> {
     let name = change.said.first().map_or(&[][..], |one| one.name.as_slice());
     let change_kind = match change.fate {
-        super::said::Fate::Added => SymbolChange::Added,
-        super::said::Fate::Removed => SymbolChange::Deleted,
-        super::said::Fate::Changed => SymbolChange::OfType,
+        Fate::Added => SymbolChange::Added,
+        Fate::Removed => SymbolChange::Deleted,
+        Fate::Changed => SymbolChange::OfType,
     };
     let is_function = change.kind == "function";
     SymbolNamed { name, version: &[], is_function, change: change_kind }
 }
 
 /// Both types of a pair in full; nothing for one that is not there.
-fn both(sides: &Sides<'_, '_, '_>, (old, new): (u16, u16)) -> [String; 2] {
+fn both(sides: &Sides<'_, '_, '_>, (old, new): (Number, Number)) -> [String; 2] {
     let manner = Manner { has_places: true, ..Manner::PLAIN };
-    let written = |side: &Side<'_, '_>, number: u16| match number {
+    let written = |side: &Side<'_, '_>, number: Number| match number {
         0 => String::new(),
         _ => definition(side.catalog, number, manner),
     };

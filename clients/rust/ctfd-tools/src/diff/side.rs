@@ -1,7 +1,7 @@
 //! One of the two dictionaries: its types by what they are matched by, and what is told of each.
 
 use super::type_names::TypeNames;
-use crate::types::catalog::{Catalog, Part, Signature};
+use crate::types::catalog::{Catalog, Number, Part, Signature};
 use crate::types::embeds::Embeds;
 use crate::types::names::Names;
 use crate::types::text::{printable, usual};
@@ -25,11 +25,11 @@ pub fn is_of_base(kind: Kind) -> bool {
 #[derive(Default)]
 pub struct Keys {
     places: HashMap<Key, usize>,
-    listed: Vec<(Key, Vec<u16>)>,
+    listed: Vec<(Key, Vec<Number>)>,
 }
 
 impl Keys {
-    fn add(&mut self, key: Key, number: u16) {
+    fn add(&mut self, key: Key, number: Number) {
         let place = *self.places.entry(key).or_insert_with_key(|key| {
             self.listed.push((key.clone(), Vec::new()));
             self.listed.len() - 1
@@ -38,12 +38,12 @@ impl Keys {
     }
 
     /// All keys with their types.
-    pub fn iter(&self) -> impl Iterator<Item = &(Key, Vec<u16>)> {
+    pub fn iter(&self) -> impl Iterator<Item = &(Key, Vec<Number>)> {
         self.listed.iter()
     }
 
     /// The types of a key; None where it has none.
-    pub fn get(&self, key: &Key) -> Option<&[u16]> {
+    pub fn get(&self, key: &Key) -> Option<&[Number]> {
         self.places.get(key).map(|&place| self.listed[place].1.as_slice())
     }
 }
@@ -133,13 +133,13 @@ impl NamedValues {
 #[derive(Clone, Copy, Debug, PartialEq, Eq, Hash)]
 pub struct Used {
     /// The type.
-    pub number: u16,
+    pub number: Number,
     /// The enum, where it is one's bit-field.
-    pub of_enum: Option<u16>,
+    pub of_enum: Option<Number>,
 }
 
-impl From<u16> for Used {
-    fn from(number: u16) -> Used {
+impl From<Number> for Used {
+    fn from(number: Number) -> Used {
         Used { number, of_enum: None }
     }
 }
@@ -185,8 +185,8 @@ pub struct Side<'s, 'd> {
     embeds: Embeds<'s, 'd>,
     written: TypeNames<'s, 'd>,
     told: RefCell<HashMap<Used, (u64, Rc<Told>)>>,
-    named: RefCell<HashMap<u16, Rc<NamedValues>>>,
-    enums: HashMap<(Vec<u8>, u64), u16>,
+    named: RefCell<HashMap<Number, Rc<NamedValues>>>,
+    enums: HashMap<(Vec<u8>, u64), Number>,
     bytes: usize,
 }
 
@@ -232,7 +232,7 @@ impl<'s, 'd> Side<'s, 'd> {
     }
 
     /// How many members, enumerators or arguments a type has.
-    pub fn length(&self, number: u16) -> usize {
+    pub fn length(&self, number: Number) -> usize {
         match self.catalog.kind(number) {
             Kind::Struct | Kind::Union => self.catalog.members(number).len(),
             Kind::Enum => self.values(number).len(),
@@ -242,17 +242,17 @@ impl<'s, 'd> Side<'s, 'd> {
     }
 
     /// The types of a key, those of the parent too; its own where it has some.
-    pub fn get(&self, key: &Key) -> Option<&[u16]> {
+    pub fn get(&self, key: &Key) -> Option<&[Number]> {
         self.own.get(key).or_else(|| self.parents.get(key))
     }
 
     /// The kind of a type; None for void.
-    pub fn kind(&self, number: u16) -> Option<Kind> {
+    pub fn kind(&self, number: Number) -> Option<Kind> {
         (number != 0).then(|| self.catalog.kind(number))
     }
 
     /// What a type is matched by; None for what is compared as a part of others.
-    pub fn key(&self, number: u16) -> Option<Key> {
+    pub fn key(&self, number: Number) -> Option<Key> {
         let record = self.catalog.record(number);
         match record.kind {
             Kind::Struct | Kind::Union | Kind::Enum | Kind::Float | Kind::Forward => {}
@@ -270,30 +270,30 @@ impl<'s, 'd> Side<'s, 'd> {
     }
 
     /// Whether a typedef of a type is itself the name of that.
-    fn is_unnamed(&self, number: u16) -> bool {
+    fn is_unnamed(&self, number: Number) -> bool {
         let record = self.catalog.record(number);
         (record.is_aggregate() || record.kind == Kind::Enum) && record.name.is_empty()
     }
 
     /// Whether an integer is no bit-field's.
-    fn is_plain(&self, number: u16) -> bool {
+    fn is_plain(&self, number: Number) -> bool {
         let bits = self.catalog.record(number).encoding.map_or(0, |lies| u64::from(lies.bits));
         Some(bits) == self.catalog.size(number).map(|size| 8 * size)
     }
 
     /// How C writes a type.
-    pub fn text(&self, number: u16) -> Rc<str> {
+    pub fn text(&self, number: Number) -> Rc<str> {
         self.written.name(number)
     }
 
     /// What its encoding says; 0 of what is no number.
-    pub fn flags(&self, number: u16) -> u32 {
+    pub fn flags(&self, number: Number) -> u32 {
         let encoding = self.catalog.record(number).encoding;
         encoding.map_or(0, |encoding| encoding.encoding.into())
     }
 
     /// What a value of it is to a program.
-    pub fn value(&self, number: u16) -> Meaning {
+    pub fn value(&self, number: Number) -> Meaning {
         let mut end = self.catalog.resolved(number);
         let mut lengths = Vec::new();
         while self.kind(end) == Some(Kind::Array) {
@@ -317,13 +317,13 @@ impl<'s, 'd> Side<'s, 'd> {
     }
 
     /// How many elements an array has; 0 of another type.
-    pub fn elements(&self, number: u16) -> u64 {
+    pub fn elements(&self, number: Number) -> u64 {
         let known = self.beyond.elements.get(&number).copied();
         known.unwrap_or_else(|| self.catalog.record(number).elements.into())
     }
 
     /// What a function type takes and returns.
-    pub fn signature(&self, number: u16) -> Cow<'s, Signature> {
+    pub fn signature(&self, number: Number) -> Cow<'s, Signature> {
         let told = self.catalog.signature(number);
         match self.beyond.arguments.get(&number) {
             Some(arguments) => {
@@ -334,7 +334,7 @@ impl<'s, 'd> Side<'s, 'd> {
     }
 
     /// The enumerators of an enum; none of another type.
-    pub fn values(&self, number: u16) -> Vec<(&'s [u8], i128)> {
+    pub fn values(&self, number: Number) -> Vec<(&'s [u8], i128)> {
         match self.beyond.values.get(&number) {
             Some(listed) => listed.iter().map(|(name, value)| (name.as_slice(), *value)).collect(),
             None => {
@@ -345,7 +345,7 @@ impl<'s, 'd> Side<'s, 'd> {
     }
 
     /// The members of a struct or union, those of unnamed parts too, each with its type.
-    pub fn parts(&self, number: u16) -> Vec<(Place, Used)> {
+    pub fn parts(&self, number: Number) -> Vec<(Place, Used)> {
         let parts = self.catalog.members(number);
         let mut made = Vec::with_capacity(parts.len());
         if !parts.iter().any(|part| self.embeds.is_walked_through(part.of)) {
@@ -364,7 +364,7 @@ impl<'s, 'd> Side<'s, 'd> {
     }
 
     /// The type of a member of some struct or union.
-    fn used(&self, number: u16, within: (u16, usize)) -> Used {
+    fn used(&self, number: Number, within: (Number, usize)) -> Used {
         let end = self.catalog.resolved(number);
         let of_enum = self.beyond.fields.get(&within).copied();
         match of_enum.filter(|_| self.kind(end) == Some(Kind::Integer)) {
@@ -396,7 +396,7 @@ impl<'s, 'd> Side<'s, 'd> {
         (span.lies, told)
     }
 
-    fn named(&self, of_enum: u16) -> Rc<NamedValues> {
+    fn named(&self, of_enum: Number) -> Rc<NamedValues> {
         let mut known = self.named.borrow_mut();
         let made = known.entry(of_enum);
         made.or_insert_with(|| Rc::new(NamedValues::of(&self.values(of_enum)))).clone()
@@ -405,7 +405,7 @@ impl<'s, 'd> Side<'s, 'd> {
     /// The enum that a type is, or a bit-field of which it is the type.
     ///
     /// A dictionary has no widths of enums: an integer with the enum's name stands there.
-    pub fn enum_of(&self, number: u16) -> Option<u16> {
+    pub fn enum_of(&self, number: Number) -> Option<Number> {
         let record = self.catalog.record(number);
         match record.kind {
             Kind::Enum => Some(number),
@@ -419,7 +419,7 @@ impl<'s, 'd> Side<'s, 'd> {
 
     /// What was not compared, since it has too many members of members; each once or more.
     pub fn cut(&self) -> Vec<String> {
-        let line = |number: &u16| {
+        let line = |number: &Number| {
             let label = self.names.label(*number);
             format!("{label} has more members of members than are compared")
         };

@@ -8,7 +8,7 @@ use super::changes::Sides;
 use super::members::differences as members;
 use super::said::{kind_word, size, Datum, Said};
 use super::side::{places, Side, Used};
-use crate::types::catalog::{is_renaming, Signature};
+use crate::types::catalog::{is_renaming, Number, Signature};
 use ctfd::Kind;
 use std::collections::{HashMap, HashSet};
 use std::rc::Rc;
@@ -17,7 +17,7 @@ const SIGNED: u32 = 1;
 const BOOLEAN: u32 = 4;
 
 /// An old and a new type.
-pub type Pair = (u16, u16);
+pub type Pair = (Number, Number);
 
 /// A step from a type or a symbol to a pair that its own type leads to.
 #[derive(Clone, Debug)]
@@ -93,11 +93,11 @@ fn is_opaque(kind: Option<Kind>) -> bool {
 
 /// A type without typedefs and qualifiers.
 struct Base {
-    number: u16,
+    number: Number,
     is_const: bool,
 }
 
-fn base_of(side: &Side<'_, '_>, mut number: u16) -> Base {
+fn base_of(side: &Side<'_, '_>, mut number: Number) -> Base {
     let mut is_const = false;
     while is_renaming(side.catalog.kind(number)) {
         is_const |= side.catalog.kind(number) == Kind::Const;
@@ -107,7 +107,7 @@ fn base_of(side: &Side<'_, '_>, mut number: u16) -> Base {
 }
 
 /// The kinds of what a type leads through, its arrays among them.
-fn kinds_on_way(side: &Side<'_, '_>, mut number: u16) -> HashSet<Kind> {
+fn kinds_on_way(side: &Side<'_, '_>, mut number: Number) -> HashSet<Kind> {
     let mut made = HashSet::new();
     let is_passed = |kind| is_renaming(kind) || kind == Kind::Array;
     while is_passed(side.catalog.kind(number)) {
@@ -202,7 +202,12 @@ impl Sides<'_, '_, '_> {
     }
 
     /// The pair that is compared by itself where two types end.
-    fn pair(&self, old: u16, new: u16, fields: (Option<u16>, Option<u16>)) -> Option<Pair> {
+    fn pair(
+        &self,
+        old: Number,
+        new: Number,
+        fields: (Option<Number>, Option<Number>),
+    ) -> Option<Pair> {
         let (one, other) = (self.before.kind(old), self.after.kind(new));
         if one == other && is_kept(one) || self.is_told_once(old, new) {
             return Some((old, new));
@@ -214,7 +219,7 @@ impl Sides<'_, '_, '_> {
     }
 
     /// Whether one is the declaration of what the other defines.
-    fn is_told_once(&self, old: u16, new: u16) -> bool {
+    fn is_told_once(&self, old: Number, new: Number) -> bool {
         let kinds = [self.before.kind(old), self.after.kind(new)];
         let (one, other) = (self.before.catalog.record(old), self.after.catalog.record(new));
         kinds.contains(&Some(Kind::Forward))
@@ -223,7 +228,7 @@ impl Sides<'_, '_, '_> {
     }
 
     /// How much a change of what stands at the end harms.
-    fn harm(&self, old: u16, new: u16, is_pointed: bool) -> Harm {
+    fn harm(&self, old: Number, new: Number, is_pointed: bool) -> Harm {
         let kinds = (self.before.kind(old), self.after.kind(new));
         if is_opaque(kinds.0) || is_opaque(kinds.1) {
             return self.opaque_harm(old, new, is_pointed);
@@ -247,7 +252,7 @@ impl Sides<'_, '_, '_> {
 
     /// The same where one of the two tells nothing of itself: what can't be seen of it is no harm,
     /// but a value where there was none, or the other way, is.
-    fn opaque_harm(&self, old: u16, new: u16, is_pointed: bool) -> Harm {
+    fn opaque_harm(&self, old: Number, new: Number, is_pointed: bool) -> Harm {
         let kinds = (self.before.kind(old), self.after.kind(new));
         if kinds.0 == kinds.1 {
             let (one, other) = (self.before.catalog.record(old), self.after.catalog.record(new));
@@ -261,7 +266,7 @@ impl Sides<'_, '_, '_> {
 
     /// What differs in how an object itself, or each of its elements, may be used: one that is
     /// const is in memory that is not written to, and its value is one that does not change.
-    pub fn qualifiers(&self, old: u16, new: u16) -> Vec<Said> {
+    pub fn qualifiers(&self, old: Number, new: Number) -> Vec<Said> {
         let (was, now) = (kinds_on_way(self.before, old), kinds_on_way(self.after, new));
         let mut said = Vec::new();
         for (word, kind) in [("const", Kind::Const), ("volatile", Kind::Volatile)] {

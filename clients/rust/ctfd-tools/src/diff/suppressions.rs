@@ -3,6 +3,7 @@
 use super::headers::kind_of;
 use super::said::Said;
 use super::side::Side;
+use crate::types::catalog::Number;
 use crate::types::failure::{Failure, Outcome};
 use crate::types::open::shown;
 use crate::types::text::printable;
@@ -75,7 +76,7 @@ impl Bound {
     }
 
     /// The bit where it is in a struct; None where that has not the member.
-    fn bit(&self, side: &Side<'_, '_>, number: u16) -> Option<u128> {
+    fn bit(&self, side: &Side<'_, '_>, number: Number) -> Option<u128> {
         match self {
             Bound::Bit(bit) => Some(*bit),
             Bound::End => Some(u128::MAX),
@@ -206,7 +207,7 @@ impl Rule {
         is_met(&self.files, paths) && is_met(&self.sonames, sonames)
     }
 
-    fn is_about_type(&self, side: &Side<'_, '_>, number: u16, sources: &SourceFiles) -> bool {
+    fn is_about_type(&self, side: &Side<'_, '_>, number: Number, sources: &SourceFiles) -> bool {
         let record = side.catalog.record(number);
         if self.kind.as_ref().is_some_and(|kinds| !kinds.contains(&record.tag)) {
             return false;
@@ -240,7 +241,7 @@ impl Rule {
         if said.what == "size" {
             return self.has_size_change;
         }
-        let is_of_enum = self.enumerators.iter().any(|name| *name == said.name);
+        let is_of_enum = self.enumerators.contains(&said.name);
         is_of_enum || ranges.iter().any(|&(from, to)| said.is_between(from, to))
     }
 }
@@ -367,7 +368,7 @@ impl Suppressions {
     pub fn leaves_out_type(
         &self,
         side: &Side<'_, '_>,
-        number: u16,
+        number: Number,
         sources: &SourceFiles,
         names: &FileNames,
     ) -> bool {
@@ -379,7 +380,7 @@ impl Suppressions {
     pub fn prune(
         &self,
         side: &Side<'_, '_>,
-        number: u16,
+        number: Number,
         sources: &SourceFiles,
         names: &FileNames,
         said: &mut Vec<Said>,

@@ -2,9 +2,10 @@
 
 use super::said::{Change, Datum, Fate, Said};
 use crate::types::catalog::Catalog;
+use crate::types::catalog::Told;
 use crate::types::declare;
 use crate::types::text::{printable, shortened, usual};
-use crate::types::told::{told_symbols, Told, ToldSymbol};
+use crate::types::told::{told_symbols, ToldSymbol};
 use ctfd_read::opening::Handed;
 use std::collections::HashMap;
 

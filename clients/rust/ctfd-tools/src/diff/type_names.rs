@@ -3,7 +3,7 @@
 //! What `declare` walks for one declaration is kept here for every type on the way, since a command
 //! that looks at all types writes most of them again and again.
 
-use crate::types::catalog::{is_qualifier, Catalog};
+use crate::types::catalog::{is_qualifier, Catalog, Number};
 use crate::types::declare;
 use crate::types::json::word_of;
 use crate::types::text::{printable, shortened, usual};
@@ -31,8 +31,8 @@ struct Written {
 pub struct TypeNames<'n, 'd> {
     catalog: &'n Catalog<'d>,
     beyond: &'n Beyond,
-    written: RefCell<HashMap<u16, Rc<Written>>>,
-    names: RefCell<HashMap<u16, Rc<str>>>,
+    written: RefCell<HashMap<Number, Rc<Written>>>,
+    names: RefCell<HashMap<Number, Rc<str>>>,
 }
 
 impl<'n, 'd> TypeNames<'n, 'd> {
@@ -42,7 +42,7 @@ impl<'n, 'd> TypeNames<'n, 'd> {
     }
 
     /// How C writes a type, without a name.
-    pub fn name(&self, number: u16) -> Rc<str> {
+    pub fn name(&self, number: Number) -> Rc<str> {
         if let Some(known) = self.names.borrow().get(&number) {
             return known.clone();
         }
@@ -55,7 +55,7 @@ impl<'n, 'd> TypeNames<'n, 'd> {
     }
 
     /// The parts of a type's declaration.
-    fn written(&self, mut number: u16) -> Rc<Written> {
+    fn written(&self, mut number: Number) -> Rc<Written> {
         let mut layers = Vec::new();
         let mut made = loop {
             if let Some(known) = self.written.borrow().get(&number) {
@@ -78,7 +78,7 @@ impl<'n, 'd> TypeNames<'n, 'd> {
     }
 
     /// A type that is neither pointer, array nor qualifier.
-    fn end(&self, number: u16) -> Written {
+    fn end(&self, number: Number) -> Written {
         let record = self.catalog.record(number);
         let kind = (number != 0).then_some(record.kind);
         if kind == Some(Kind::Function) {
@@ -101,7 +101,7 @@ impl<'n, 'd> TypeNames<'n, 'd> {
     }
 
     /// A layer round what it leads to.
-    fn around(&self, number: u16, inside: &Written) -> Written {
+    fn around(&self, number: Number, inside: &Written) -> Written {
         let record = self.catalog.record(number);
         let kind = Some(record.kind);
         let Written { left, right, .. } = inside;

@@ -3,8 +3,8 @@
 mod options;
 mod rows;
 
-use crate::diff::crowded::{is_crowded, CROWDED};
 use crate::standard;
+use crate::types::crowded::{is_crowded, CROWDED};
 use crate::types::failure::{Failure, Outcome};
 use crate::types::open::{handed_by, shown, with_catalog, without_parent, Parents};
 use crate::types::output::{self, Output};
@@ -73,11 +73,10 @@ fn add(words: &Words, parents: &Parents<'_>, path: &Path, rows: &mut Rows) -> Ou
     }
     with_catalog(path, &found, parents, |opened| {
         let catalog = opened.catalog;
-        if catalog.types.is_child() && words.parent.is_none() {
+        if catalog.is_child() && words.parent.is_none() {
             return Err(without_parent(path, catalog));
         }
-        let strings = opened.handed.strings.as_deref().unwrap_or_default();
-        if is_crowded(catalog.types, opened.handed.ctf.len() + strings.len()) {
+        if is_crowded(catalog) {
             return Err(Failure::Refused(format!("{}: {CROWDED}", shown(path))));
         }
         rows.add(path, catalog, opened.handed);

@@ -1,11 +1,11 @@
 //! All types of some files as rows of JSON, which name each other by their places; row 0 is void.
 //! Functions and variables are rows of their own.
 
-use crate::types::catalog::{Catalog, Record};
+use crate::types::catalog::{Catalog, Number, Record, Told};
 use crate::types::json::{list, text, word_of, Object};
 use crate::types::open::shown;
 use crate::types::text::printable;
-use crate::types::told::{told_symbols, Told};
+use crate::types::told::told_symbols;
 use ctfd::Kind;
 use ctfd_read::opening::Handed;
 use std::collections::HashMap;
@@ -31,7 +31,7 @@ const KINDS: [Kind; 14] = [
 const VOID: &str = "[0,\"\"]";
 
 /// Where types stand among the rows, by their numbers.
-type Places = HashMap<u16, usize>;
+type Places = HashMap<Number, usize>;
 
 /// The rows. A parent's types are there once, in front of those of its children.
 pub struct Rows {
@@ -61,11 +61,11 @@ impl Rows {
 
     /// Adds the types of a file, and its functions and variables.
     pub fn add(&mut self, path: &Path, catalog: &Catalog<'_>, handed: &Handed<'_>) {
-        let above: Vec<u16> = catalog.all().filter(|&number| !catalog.is_own(number)).collect();
+        let above: Vec<Number> = catalog.all().filter(|&number| !catalog.is_own(number)).collect();
         if !above.is_empty() && self.parents.is_empty() {
             self.parents = self.numbered(catalog, &above, &self.parent.clone());
         }
-        let own: Vec<u16> = catalog.own().collect();
+        let own: Vec<Number> = catalog.own().collect();
         let mut places = self.parents.clone();
         places.extend(self.numbered(catalog, &own, &shown(path)));
         for number in catalog.all() {
@@ -81,7 +81,7 @@ impl Rows {
     }
 
     fn add_symbols(&mut self, catalog: &Catalog<'_>, handed: &Handed<'_>, places: &Places) {
-        let place = |number: u16| places.get(&number).copied().unwrap_or(0);
+        let place = |number: Number| places.get(&number).copied().unwrap_or(0);
         let file = self.files.len() - 1;
         for one in told_symbols(catalog, handed) {
             let name = text(printable(&one.name).as_bytes());
@@ -97,12 +97,21 @@ impl Rows {
         }
     }
 
-    /// Makes room for some types.
-    fn numbered(&mut self, catalog: &Catalog<'_>, numbers: &[u16], path: &str) -> Places {
+    /// Makes room for some types. The page has a file for each run of numbers that follow each other.
+    fn numbered(&mut self, catalog: &Catalog<'_>, numbers: &[Number], path: &str) -> Places {
         let first = self.rows.len();
-        let begins = numbers.first().copied().unwrap_or(0);
         let pointer = if catalog.is_ilp32() { 4 } else { 8 };
-        self.files.push(format!("[{},{first},{begins},{pointer}]", text(path.as_bytes())));
+        let path = text(path.as_bytes());
+        let mut last = None;
+        for (place, &number) in numbers.iter().enumerate() {
+            if last.is_none_or(|last| last + 1 != number) {
+                self.files.push(format!("[{path},{},{number},{pointer}]", first + place));
+            }
+            last = Some(number);
+        }
+        if numbers.is_empty() {
+            self.files.push(format!("[{path},{first},0,{pointer}]"));
+        }
         self.rows.resize(first + numbers.len(), String::new());
         numbers.iter().enumerate().map(|(place, &number)| (number, first + place)).collect()
     }
@@ -125,7 +134,7 @@ impl Rows {
 }
 
 /// `kind, name, size`, and what the kind has behind that.
-fn row(catalog: &Catalog<'_>, number: u16, places: &Places) -> String {
+fn row(catalog: &Catalog<'_>, number: Number, places: &Places) -> String {
     let record = catalog.record(number);
     let kind = 1 + KINDS.iter().position(|&kind| kind == record.kind).unwrap_or(KINDS.len() - 1);
     let size = catalog.size(number).map_or("null".to_owned(), |size| size.to_string());
@@ -136,8 +145,8 @@ fn name(bytes: &[u8]) -> String {
     text(printable(bytes).as_bytes())
 }
 
-fn behind(catalog: &Catalog<'_>, number: u16, record: &Record<'_>, places: &Places) -> String {
-    let place = |number: u16| places.get(&number).copied().unwrap_or(0);
+fn behind(catalog: &Catalog<'_>, number: Number, record: &Record<'_>, places: &Places) -> String {
+    let place = |number: Number| places.get(&number).copied().unwrap_or(0);
     match record.kind {
         Kind::Integer | Kind::Float => {
             let (bits, offset) = record.encoding.map_or((0, 0), |lies| (lies.bits, lies.offset));
@@ -165,7 +174,7 @@ fn behind(catalog: &Catalog<'_>, number: u16, record: &Record<'_>, places: &Plac
 }
 
 /// Whether it is a hidden copy of a type, which only bit-fields have.
-fn is_copy(catalog: &Catalog<'_>, number: u16) -> bool {
+fn is_copy(catalog: &Catalog<'_>, number: Number) -> bool {
     let end = catalog.record(catalog.resolved(number));
     !catalog.record(number).is_root && end.kind == Kind::Integer && !end.is_root
 }

@@ -3,212 +3,92 @@
 //! What a type is, its size, what it stands for and where a value of it lies are the library's
 //! answers; nothing here works any of that out of bytes.
 
-use ctfd::{Dictionary, Encoding, Kind, MemberRow, Model, Type};
+pub use super::record::{is_qualifier, is_renaming, Part, Reached, Record, Signature, Span, Value};
+use super::volumes::{Entry, Volumes};
+pub use super::volumes::{Lists, Number, Volume};
+use ctfd::{Dictionary, Kind, MemberRow, Model, Refusal, Type};
 use std::cell::{Cell, OnceCell, RefCell};
+use std::collections::VecDeque;
 
 /// The number from which on a child's types are its own.
-const CHILD: u16 = 0x8000;
+const CHILD: Number = 0x8000;
 /// How many members are asked for at once, at first.
 const ROWS: usize = 64;
 
-/// The lists that a dictionary was opened with, where names of members stand.
-#[derive(Clone, Copy)]
-pub struct Lists<'d> {
-    /// The dictionary.
-    pub ctf: &'d [u8],
-    /// The strings of its symbols.
-    pub strings: &'d [u8],
+/// What is told of a symbol.
+pub enum Told {
+    /// What a function takes and returns.
+    Function(Signature),
+    /// The type of an object; 0 is none.
+    Object(Number),
 }
 
-impl<'d> Lists<'d> {
-    fn name(&self, list: u32, at: u64) -> &'d [u8] {
-        let list = match list {
-            0 => self.ctf,
-            1 => self.strings,
-            _ => &[],
-        };
-        let rest = usize::try_from(at).ok().and_then(|at| list.get(at..)).unwrap_or_default();
-        let end = rest.iter().position(|&byte| byte == 0).unwrap_or(rest.len());
-        &rest[..end]
-    }
-}
-
-/// A member of a struct or union: `offset` is in bits, without that of a bit-field's type.
-#[derive(Clone, Copy, Debug)]
-pub struct Part<'d> {
-    /// Its name, empty for one without.
-    pub name: &'d [u8],
-    /// The number of its type.
-    pub of: u16,
-    /// Where it begins.
-    pub offset: u64,
-}
-
-/// An enumerator.
-#[derive(Clone, Debug, PartialEq)]
-pub struct Value {
-    /// Its name.
-    pub name: Vec<u8>,
-    /// Its value.
-    pub value: i32,
-}
-
-/// What a function takes and returns; 0 is none.
-#[derive(Clone, Debug, Default)]
-pub struct Signature {
-    /// What it returns.
-    pub returns: u16,
-    /// The types of its arguments.
-    pub arguments: Vec<u16>,
-    /// Whether more may follow.
-    pub is_open: bool,
-}
-
-/// What a type comes to, behind typedefs, qualifiers and arrays.
-#[derive(Clone, Copy, Debug)]
-pub struct Reached {
-    /// The type.
-    pub number: u16,
-    /// In how many elements of arrays it stands.
-    pub elements: u128,
-    /// Whether there are arrays on the way.
-    pub is_array: bool,
-}
-
-/// Where in its storage a value begins and how many bits it has; `width` is that of a bit-field.
-#[derive(Clone, Copy, Debug)]
-pub struct Span {
-    /// Bits in front of it.
-    pub lies: u64,
-    /// Its bits.
-    pub bits: u128,
-    /// Its width where it is a bit-field.
-    pub width: Option<u64>,
-}
-
-/// A type: what it is, what it names, and what was asked of it so far.
-pub struct Record<'d> {
-    /// Its kind.
-    pub kind: Kind,
-    /// Its name, without a word in front.
-    pub name: Vec<u8>,
-    /// Whether look-ups by name see it.
-    pub is_root: bool,
-    /// What a forward declares; else its kind.
-    pub tag: Kind,
-    /// What it points to, renames, qualifies or holds; 0 is none.
-    pub of: u16,
-    /// How many elements an array has.
-    pub elements: u32,
-    /// How a number lies in its storage.
-    pub encoding: Option<Encoding>,
-    size: OnceCell<Option<u64>>,
-    resolved: OnceCell<u16>,
-    reached: OnceCell<Reached>,
-    span: OnceCell<Span>,
-    members: OnceCell<Vec<Part<'d>>>,
-    values: OnceCell<Vec<Value>>,
-    signature: OnceCell<Signature>,
-}
-
-impl Record<'_> {
-    fn of_kind(kind: Kind) -> Self {
-        Record {
-            kind,
-            name: Vec::new(),
-            is_root: false,
-            tag: kind,
-            of: 0,
-            elements: 0,
-            encoding: None,
-            size: OnceCell::new(),
-            resolved: OnceCell::new(),
-            reached: OnceCell::new(),
-            span: OnceCell::new(),
-            members: OnceCell::new(),
-            values: OnceCell::new(),
-            signature: OnceCell::new(),
-        }
-    }
-
-    /// Whether it has members.
-    pub fn is_aggregate(&self) -> bool {
-        matches!(self.kind, Kind::Struct | Kind::Union)
-    }
-
-    /// Whether it may have a tag.
-    pub fn is_tagged(&self) -> bool {
-        matches!(self.kind, Kind::Struct | Kind::Union | Kind::Enum | Kind::Forward)
-    }
-
-    /// The word in front of its name in C; empty where there is none.
-    pub fn word(&self) -> &'static str {
-        match self.tag {
-            Kind::Struct => "struct",
-            Kind::Union => "union",
-            Kind::Enum => "enum",
-            _ => "",
-        }
-    }
-
-    /// Its name as C has it, with the word in front.
-    pub fn called(&self) -> Vec<u8> {
-        match self.word() {
-            "" => self.name.clone(),
-            word => [word.as_bytes(), b" ", &self.name].concat(),
-        }
-    }
-}
-
-/// Whether a type of a kind is another with a qualifier.
-pub fn is_qualifier(kind: Kind) -> bool {
-    matches!(kind, Kind::Const | Kind::Volatile | Kind::Restrict)
-}
-
-/// Whether a type of a kind stands for another.
-pub fn is_renaming(kind: Kind) -> bool {
-    kind == Kind::Typedef || is_qualifier(kind)
-}
-
-/// The types of a dictionary by their numbers.
+/// The types of a program by their numbers.
 pub struct Catalog<'d> {
-    /// The dictionary.
-    pub types: &'d Dictionary<'d>,
-    own: Lists<'d>,
-    parent: Option<Lists<'d>>,
-    records: Vec<OnceCell<Box<Record<'d>>>>,
+    volumes: Volumes<'d>,
+    /// Those of each dictionary, by their numbers there, from the least that it has.
+    records: Vec<Vec<OnceCell<Box<Record<'d>>>>>,
     rows: RefCell<Vec<MemberRow>>,
     lacks: Cell<bool>,
 }
 
 impl<'d> Catalog<'d> {
-    /// Those of a dictionary that was opened with some lists, over a parent where it has one.
-    pub fn new(
-        types: &'d Dictionary<'d>,
-        own: Lists<'d>,
-        parent: Option<Lists<'d>>,
-    ) -> Catalog<'d> {
-        let last = types.types().next_back().map_or(0, Type::number);
-        let last = last.max(types.parent_count().unwrap_or(0) as u16);
-        let mut records = Vec::new();
-        records.resize_with(usize::from(last) + 1, OnceCell::new);
-        let rows = RefCell::new(vec![MemberRow::default(); ROWS]);
-        Catalog { types, own, parent, records, rows, lacks: Cell::new(false) }
+    /// Those of a dictionary, over a parent where it has one.
+    pub fn new(volume: Volume<'d>, parent: Option<Lists<'d>>) -> Catalog<'d> {
+        Catalog::of(Volumes::alone(volume, parent))
     }
 
-    /// The numbers of its own types, in order.
-    pub fn own(&self) -> impl DoubleEndedIterator<Item = u16> + 'd {
-        self.types.types().map(Type::number)
+    /// Those of a program in parts: of a parent and all its children.
+    pub fn in_parts(parent: Volume<'d>, children: Vec<Volume<'d>>) -> Catalog<'d> {
+        Catalog::of(Volumes::in_parts(parent, children))
+    }
+
+    fn of(volumes: Volumes<'d>) -> Catalog<'d> {
+        let cells = |(place, volume): (usize, &Volume<'d>)| {
+            let last = volume.types.types().next_back().map_or(0, Type::number);
+            let parents = if place == 0 { volume.types.parent_count().unwrap_or(0) } else { 0 };
+            let mut cells = Vec::new();
+            let count = usize::from(last).max(parents) + 1;
+            cells.resize_with(count.saturating_sub(usize::from(first_of(place))), OnceCell::new);
+            cells
+        };
+        let records = volumes.listed().iter().enumerate().map(cells).collect();
+        let rows = RefCell::new(vec![MemberRow::default(); ROWS]);
+        Catalog { volumes, records, rows, lacks: Cell::new(false) }
+    }
+
+    /// Its dictionaries: one, or the parent and then its children.
+    pub fn volumes(&self) -> &[Volume<'d>] {
+        self.volumes.listed()
+    }
+
+    fn first(&self) -> &'d Dictionary<'d> {
+        self.volumes.first().types
+    }
+
+    /// Whether it is a dictionary that is a child: its parent may be there or not.
+    pub fn is_child(&self) -> bool {
+        self.first().is_child()
+    }
+
+    /// What a child calls its parent.
+    pub fn parent_name(&self) -> ctfd::Name {
+        self.first().parent_name()
+    }
+
+    /// The numbers of its own types, in order: those of all parts.
+    pub fn own(&self) -> impl DoubleEndedIterator<Item = Number> + use<'_, 'd> {
+        (0..self.volumes().len()).flat_map(|place| self.volumes.own(place))
     }
 
     /// Whether a type is one of its own, and not of its parent.
-    pub fn is_own(&self, number: u16) -> bool {
-        !self.types.is_child() || number > CHILD
+    pub fn is_own(&self, number: Number) -> bool {
+        !self.is_child() || number > CHILD
     }
 
     /// The numbers of all types: those of its parent, and its own.
-    pub fn all(&self) -> impl Iterator<Item = u16> + 'd {
-        let parents = self.types.parent_count().unwrap_or(0) as u16;
+    pub fn all(&self) -> impl Iterator<Item = Number> + use<'_, 'd> {
+        let parents = self.first().parent_count().unwrap_or(0) as Number;
         (1..=parents).chain(self.own())
     }
 
@@ -219,15 +99,50 @@ impl<'d> Catalog<'d> {
 
     /// Whether pointers have 4 bytes.
     pub fn is_ilp32(&self) -> bool {
-        self.types.model() == Model::Ilp32
+        self.first().model() == Model::Ilp32
+    }
+
+    /// The type of a name as the library finds it, in the first part that has it.
+    pub fn find(&self, name: &[u8]) -> Result<Number, Refusal> {
+        self.volumes.find(name)
+    }
+
+    /// What is said of the first symbol of a name.
+    pub fn symbol(&self, name: &[u8]) -> Result<Told, Refusal> {
+        self.volumes.symbol(name).map(|found| self.symbol_type(found))
+    }
+
+    /// What is said of a symbol by its number among those of the file; None where nothing is.
+    pub fn told_of(&self, symbol: u32) -> Option<Told> {
+        self.volumes.entry(symbol).map(|found| self.symbol_type(found))
+    }
+
+    /// What one part says of a symbol by its number there.
+    pub fn told_in(&self, place: usize, symbol: u32) -> Option<Told> {
+        self.volumes.entry_in(place, symbol).map(|found| self.symbol_type(found))
+    }
+
+    fn symbol_type(&self, (place, entry): (usize, Entry<'d>)) -> Told {
+        match entry {
+            Entry::Function(found) => Told::Function(Signature {
+                returns: self.volumes.number_of(place, found.returns),
+                arguments: self.numbers(place, found.arguments.iter().copied()),
+                is_open: found.varargs,
+            }),
+            Entry::Object(of) => Told::Object(self.volumes.number_of(place, of)),
+        }
+    }
+
+    fn numbers(&self, place: usize, of: impl Iterator<Item = Option<Type<'d>>>) -> Vec<Number> {
+        of.map(|of| self.volumes.number_of(place, of)).collect()
     }
 
     /// A type as the library has it; None for 0, and for one of a parent that is not there.
-    pub fn get(&self, number: u16) -> Option<Type<'d>> {
+    pub fn get(&self, number: Number) -> Option<Type<'d>> {
         if number == 0 {
             return None;
         }
-        let found = self.types.get(number);
+        let found = self.volumes.get(number);
         if let Err(refusal) = &found {
             self.lacks.set(self.lacks.get() || refusal.fault == ctfd::Fault::NoParent);
         }
@@ -235,15 +150,19 @@ impl<'d> Catalog<'d> {
     }
 
     /// The record of a number: unknown for 0, and for a parent's that is not there.
-    pub fn record(&self, number: u16) -> &Record<'d> {
-        match self.records.get(usize::from(number)) {
+    pub fn record(&self, number: Number) -> &Record<'d> {
+        let (place, own) = Volumes::place(number);
+        let at = usize::from(own).checked_sub(usize::from(first_of(place)));
+        let cell = self.records.get(place).and_then(|records| records.get(at?));
+        match cell {
             Some(record) => record.get_or_init(|| Box::new(self.read(number))),
-            None => self.records[0].get_or_init(|| Box::new(Record::of_kind(Kind::Unknown))),
+            None => self.records[0][0].get_or_init(|| Box::new(Record::of_kind(Kind::Unknown))),
         }
     }
 
-    fn read(&self, number: u16) -> Record<'d> {
+    fn read(&self, number: Number) -> Record<'d> {
         let Some(of) = self.get(number) else { return Record::of_kind(Kind::Unknown) };
+        let number_of = |of| self.volumes.number_of(Volumes::place(number).0, of);
         let mut made = Record::of_kind(of.kind());
         made.name = of.declared_name().map(ctfd::Name::into_bytes).unwrap_or_default();
         made.is_root = of.is_root().unwrap_or(false);
@@ -264,24 +183,24 @@ impl<'d> Catalog<'d> {
     }
 
     /// Its kind.
-    pub fn kind(&self, number: u16) -> Kind {
+    pub fn kind(&self, number: Number) -> Kind {
         self.record(number).kind
     }
 
     /// The bytes of a value; None where it has none.
-    pub fn size(&self, number: u16) -> Option<u64> {
+    pub fn size(&self, number: Number) -> Option<u64> {
         let ask = || self.get(number).and_then(|of| of.size().ok());
         *self.record(number).size.get_or_init(ask)
     }
 
     /// Without typedefs and qualifiers.
-    pub fn resolved(&self, number: u16) -> u16 {
+    pub fn resolved(&self, number: Number) -> Number {
         let record = self.record(number);
         if !is_renaming(record.kind) {
             return number;
         }
         *record.resolved.get_or_init(|| match self.get(number).map(Type::resolve) {
-            Some(Ok(end)) => number_of(end),
+            Some(Ok(end)) => self.volumes.number_of(Volumes::place(number).0, end),
             _ => {
                 self.lacks.set(true); // it ends at a type of a parent that is not there
                 self.end_of(number)
@@ -290,7 +209,7 @@ impl<'d> Catalog<'d> {
     }
 
     /// Where typedefs and qualifiers end that lead to a type which is not there.
-    fn end_of(&self, mut number: u16) -> u16 {
+    fn end_of(&self, mut number: Number) -> Number {
         while is_renaming(self.kind(number)) {
             number = self.record(number).of;
         }
@@ -298,7 +217,7 @@ impl<'d> Catalog<'d> {
     }
 
     /// Without typedefs, qualifiers and arrays.
-    pub fn reached(&self, number: u16) -> Reached {
+    pub fn reached(&self, number: Number) -> Reached {
         *self.record(number).reached.get_or_init(|| {
             let mut made = Reached { number: self.resolved(number), elements: 1, is_array: false };
             while self.kind(made.number) == Kind::Array {
@@ -312,7 +231,7 @@ impl<'d> Catalog<'d> {
     }
 
     /// Where in its storage a value lies.
-    pub fn span(&self, number: u16) -> Span {
+    pub fn span(&self, number: Number) -> Span {
         let end = self.resolved(number);
         *self.record(end).span.get_or_init(|| {
             let is_integer = self.kind(end) == Kind::Integer;
@@ -332,16 +251,14 @@ impl<'d> Catalog<'d> {
     }
 
     /// The members of a struct or union, in order; none of other types.
-    pub fn members(&self, number: u16) -> &[Part<'d>] {
+    pub fn members(&self, number: Number) -> &[Part<'d>] {
         self.record(number).members.get_or_init(|| {
             let is_aggregate = self.record(number).is_aggregate();
             let Some(of) = is_aggregate.then(|| self.get(number)).flatten() else {
                 return Vec::new();
             };
-            let lists = match &self.parent {
-                Some(parent) if number <= CHILD => parent,
-                _ => &self.own,
-            };
+            let Some(lists) = self.volumes.lists(number) else { return Vec::new() };
+            let place = Volumes::place(number).0;
             let mut rows = self.rows.borrow_mut();
             let mut count = of.member_rows(0, &mut rows).unwrap_or(0) as usize;
             if count > rows.len() {
@@ -350,15 +267,30 @@ impl<'d> Catalog<'d> {
             }
             let part = |row: &MemberRow| Part {
                 name: lists.name(row.name_list, row.name_at),
-                of: row.tnum,
+                of: self.volumes.number(place, row.tnum),
                 offset: row.offset,
             };
             rows[..count].iter().map(part).collect()
         })
     }
 
+    /// Where the first member of a name lies, in bits, and its type, as the library finds it; of
+    /// those in members without a name, where none of its own has it.
+    pub fn field(&self, number: Number, name: &[u8]) -> Option<(u64, Number)> {
+        let mut todo = VecDeque::from([(0, number)]);
+        while let Some((start, holder)) = todo.pop_front() {
+            if let Some((offset, of)) = self.get(holder).and_then(|one| one.field(name).ok()) {
+                let of = self.volumes.number_of(Volumes::place(holder).0, of);
+                return Some((start + offset, of));
+            }
+            let unnamed = self.members(holder).iter().filter(|part| part.name.is_empty());
+            todo.extend(unnamed.map(|part| (start + part.offset, self.resolved(part.of))));
+        }
+        None
+    }
+
     /// The enumerators of an enum, in order.
-    pub fn values(&self, number: u16) -> &[Value] {
+    pub fn values(&self, number: Number) -> &[Value] {
         self.record(number).values.get_or_init(|| {
             let listed = self.get(number).and_then(|of| of.enumerators().ok());
             let value =
@@ -367,12 +299,19 @@ impl<'d> Catalog<'d> {
         })
     }
 
+    /// The type of an array's index; 0 of other types.
+    pub fn index(&self, number: Number) -> Number {
+        let parts = self.get(number).and_then(|of| of.array().ok());
+        let index = parts.and_then(|array| array.index);
+        self.volumes.number_of(Volumes::place(number).0, index)
+    }
+
     /// What a function type takes and returns.
-    pub fn signature(&self, number: u16) -> &Signature {
+    pub fn signature(&self, number: Number) -> &Signature {
         self.record(number).signature.get_or_init(|| {
             let listed = self.get(number).and_then(|of| of.arguments().ok());
-            let mut arguments: Vec<u16> =
-                listed.map(|listed| listed.map(number_of).collect()).unwrap_or_default();
+            let place = Volumes::place(number).0;
+            let mut arguments = listed.map_or(Vec::new(), |listed| self.numbers(place, listed));
             let is_open = arguments.last() == Some(&0);
             arguments.truncate(arguments.len() - usize::from(is_open));
             Signature { returns: self.record(number).of, arguments, is_open }
@@ -380,12 +319,16 @@ impl<'d> Catalog<'d> {
     }
 
     /// Its own structs and unions, in order.
-    pub fn aggregates(&self) -> impl Iterator<Item = u16> + use<'_, 'd> {
+    pub fn aggregates(&self) -> impl Iterator<Item = Number> + use<'_, 'd> {
         self.own().filter(|&number| self.record(number).is_aggregate())
     }
 }
 
-/// The number of a type; 0 for none.
-pub fn number_of(of: Option<Type<'_>>) -> u16 {
-    of.map_or(0, Type::number)
+/// The number of which the first record of the dictionary at a place is.
+fn first_of(place: usize) -> u16 {
+    if place == 0 {
+        0
+    } else {
+        CHILD as u16
+    }
 }

@@ -3,7 +3,7 @@
 //! The declarator is written from the inside out, along the type. It is cut at a depth and at a
 //! number of steps: a function may take a pointer to itself, and a hostile one may take many.
 
-use super::catalog::{is_qualifier, Catalog, Signature};
+use super::catalog::{is_qualifier, Catalog, Number, Signature};
 use super::text::printable;
 use ctfd::Kind;
 
@@ -12,7 +12,7 @@ const STEPS: i32 = 4096;
 const CUT: &str = "/* .. */";
 
 /// How a declaration calls the type that it begins with.
-pub type Naming<'n> = dyn Fn(u16) -> String + 'n;
+pub type Naming<'n> = dyn Fn(Number) -> String + 'n;
 
 /// A declaration in its parts: `qualifiers base left name right`, as in `const int (* f )(void)`.
 #[derive(Clone, Debug)]
@@ -20,7 +20,7 @@ pub struct Declarator {
     /// The qualifiers of the base.
     pub qualifiers: Vec<&'static str>,
     /// The type that it begins with: 0 for void.
-    pub base: u16,
+    pub base: Number,
     /// How that is called.
     pub named: String,
     /// What stands left of the name.
@@ -56,7 +56,7 @@ impl Declarator {
 }
 
 /// A type that is neither pointer, array, function nor qualifier, by its name.
-pub fn base(catalog: &Catalog<'_>, number: u16) -> String {
+pub fn base(catalog: &Catalog<'_>, number: Number) -> String {
     if number == 0 {
         return "void".to_owned();
     }
@@ -71,12 +71,12 @@ pub fn base(catalog: &Catalog<'_>, number: u16) -> String {
 }
 
 /// How C declares a name with a type, arguments of functions and all.
-pub fn declaration(catalog: &Catalog<'_>, number: u16, name: &[u8]) -> String {
+pub fn declaration(catalog: &Catalog<'_>, number: Number, name: &[u8]) -> String {
     declarator(catalog, number, 0).around(&printable(name))
 }
 
 /// How C declares an object, which may be an array of a length that is not known.
-pub fn object(catalog: &Catalog<'_>, number: u16, name: &[u8]) -> String {
+pub fn object(catalog: &Catalog<'_>, number: Number, name: &[u8]) -> String {
     let named = |one| base(catalog, one);
     let maker = Maker { catalog, named: &named, is_open: true };
     maker.declarator(number, 0, 0, &mut STEPS.clone()).around(&printable(name))
@@ -92,7 +92,7 @@ pub fn function(catalog: &Catalog<'_>, signature: &Signature, name: &[u8]) -> St
 }
 
 /// The parts of the declaration of a type, or of so many pointers to it.
-pub fn declarator(catalog: &Catalog<'_>, number: u16, stars: usize) -> Declarator {
+pub fn declarator(catalog: &Catalog<'_>, number: Number, stars: usize) -> Declarator {
     let named = |one| base(catalog, one);
     let maker = Maker { catalog, named: &named, is_open: false };
     maker.declarator(number, stars, 0, &mut STEPS.clone())
@@ -102,7 +102,7 @@ pub fn declarator(catalog: &Catalog<'_>, number: u16, stars: usize) -> Declarato
 /// is not known, where C takes that.
 pub fn declarator_by(
     catalog: &Catalog<'_>,
-    number: u16,
+    number: Number,
     named: &Naming<'_>,
     is_open: bool,
 ) -> Declarator {
@@ -117,7 +117,13 @@ struct Maker<'m, 'd> {
 }
 
 impl Maker<'_, '_> {
-    fn declarator(&self, number: u16, stars: usize, depth: usize, budget: &mut i32) -> Declarator {
+    fn declarator(
+        &self,
+        number: Number,
+        stars: usize,
+        depth: usize,
+        budget: &mut i32,
+    ) -> Declarator {
         let (mut left, mut right) = (String::new(), String::new());
         let mut qualifiers: Vec<&'static str> = Vec::new();
         let mut of_pointer: Vec<&'static str> = Vec::new(); // those of the pointer that comes next
@@ -168,7 +174,7 @@ impl Maker<'_, '_> {
     }
 
     /// Brackets round the stars of a pointer to an array or a function.
-    fn enclose(&self, to: u16, left: &mut String, right: &mut String) {
+    fn enclose(&self, to: Number, left: &mut String, right: &mut String) {
         let to = self.unqualified(to);
         if matches!(self.catalog.kind(to), Kind::Array | Kind::Function) {
             left.insert(0, '(');
@@ -176,7 +182,7 @@ impl Maker<'_, '_> {
         }
     }
 
-    fn unqualified(&self, mut number: u16) -> u16 {
+    fn unqualified(&self, mut number: Number) -> Number {
         while is_qualifier(self.catalog.kind(number)) {
             number = self.catalog.record(number).of;
         }
@@ -184,7 +190,7 @@ impl Maker<'_, '_> {
     }
 
     /// What a qualifier of a type is said of: of an array its elements.
-    fn element(&self, mut number: u16) -> u16 {
+    fn element(&self, mut number: Number) -> Number {
         for _ in 0..STEPS {
             number = self.unqualified(number);
             if self.catalog.kind(number) != Kind::Array {

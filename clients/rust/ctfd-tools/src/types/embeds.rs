@@ -1,6 +1,6 @@
 //! Which structs and unions hold a type by value, and which point to it.
 
-use super::catalog::{is_renaming, Catalog, Part};
+use super::catalog::{is_renaming, Catalog, Number, Part};
 use super::declare::declaration;
 use super::names::Names;
 use ctfd::Kind;
@@ -16,13 +16,13 @@ const EACH: i64 = 64;
 #[derive(Clone, Debug)]
 pub struct Embedded<'d> {
     /// The struct or union.
-    pub owner: u16,
+    pub owner: Number,
     /// The names of the member and of those that it lies in, the outermost first.
     pub path: Vec<&'d [u8]>,
     /// The type of the member.
-    pub of: u16,
+    pub of: Number,
     /// The struct or union that it is a member of itself, and its place among the members there.
-    pub within: (u16, usize),
+    pub within: (Number, usize),
     /// Where it begins, the first of the elements that it stands in.
     pub offset: u128,
     /// In how many elements of arrays it stands.
@@ -56,10 +56,10 @@ impl Embedded<'_> {
 pub struct Embeds<'e, 'd> {
     names: &'e Names<'e, 'd>,
     is_deep: bool,
-    cut: RefCell<Vec<u16>>,
+    cut: RefCell<Vec<Number>>,
     left: Cell<i64>,
-    through: RefCell<HashMap<u16, bool>>,
-    member_types: BTreeSet<u16>,
+    through: RefCell<HashMap<Number, bool>>,
+    member_types: BTreeSet<Number>,
 }
 
 impl<'e, 'd> Embeds<'e, 'd> {
@@ -68,20 +68,19 @@ impl<'e, 'd> Embeds<'e, 'd> {
         let catalog = names.catalog;
         // What is walked in all follows the number of members, each level of one counted.
         let mut count = 0;
-        let mut seen = vec![false; usize::from(u16::MAX) + 1];
+        let mut seen = HashSet::new();
         for number in catalog.aggregates() {
             let members = catalog.members(number);
             count += members.len() as i64;
-            members.iter().for_each(|part| seen[usize::from(part.of)] = true);
+            seen.extend(members.iter().map(|part| part.of));
         }
-        let types = (0..=u16::MAX).filter(|&number| seen[usize::from(number)]);
         Embeds {
             names,
             is_deep,
             cut: RefCell::default(),
             left: Cell::new(LEAST + EACH * count),
             through: RefCell::default(),
-            member_types: types.collect(),
+            member_types: seen.into_iter().collect(),
         }
     }
 
@@ -90,17 +89,18 @@ impl<'e, 'd> Embeds<'e, 'd> {
     }
 
     /// Those of which not all members were walked, since members of members were too many.
-    pub fn cut(&self) -> Vec<u16> {
+    pub fn cut(&self) -> Vec<Number> {
         self.cut.borrow().clone()
     }
 
     /// Where some types stand by value, or with `is_pointer` where pointers to these stand.
-    pub fn of(&self, targets: &BTreeSet<u16>, is_pointer: bool) -> Vec<Embedded<'d>> {
+    pub fn of(&self, targets: &BTreeSet<Number>, is_pointer: bool) -> Vec<Embedded<'d>> {
         let reaching = Reaching { catalog: self.catalog(), targets, is_pointer };
         let mut known = HashMap::new();
-        let mut leads =
-            |number: &u16| reaching.reaches(*number, &mut known) || self.is_walked_through(*number);
-        let leading: HashSet<u16> =
+        let mut leads = |number: &Number| {
+            reaching.reaches(*number, &mut known) || self.is_walked_through(*number)
+        };
+        let leading: HashSet<Number> =
             self.member_types.iter().copied().filter(|number| leads(number)).collect();
         let mut found = Vec::new();
         for owner in self.owners() {
@@ -117,15 +117,15 @@ impl<'e, 'd> Embeds<'e, 'd> {
     }
 
     /// Its own structs and unions but those that are walked through in others.
-    fn owners(&self) -> Vec<u16> {
-        let reached = |&number: &u16| self.catalog().reached(number).number;
-        let inner: HashSet<u16> = self.member_types.iter().map(reached).collect();
-        let is_owner = |number: &u16| !inner.contains(number) || self.names.has_name(*number);
+    fn owners(&self) -> Vec<Number> {
+        let reached = |&number: &Number| self.catalog().reached(number).number;
+        let inner: HashSet<Number> = self.member_types.iter().map(reached).collect();
+        let is_owner = |number: &Number| !inner.contains(number) || self.names.has_name(*number);
         self.catalog().aggregates().filter(is_owner).collect()
     }
 
     /// Visits each member, and those of the structs that are walked through, in order of members.
-    pub fn walk(&self, owner: u16, mut visit: impl FnMut(&Embedded<'d>)) {
+    pub fn walk(&self, owner: Number, mut visit: impl FnMut(&Embedded<'d>)) {
         let mut todo = vec![Embedded {
             owner,
             path: Vec::new(),
@@ -149,7 +149,7 @@ impl<'e, 'd> Embeds<'e, 'd> {
     }
 
     /// Whether the members of a member of this type are walked too.
-    pub fn is_walked_through(&self, number: u16) -> bool {
+    pub fn is_walked_through(&self, number: Number) -> bool {
         *self.through.borrow_mut().entry(number).or_insert_with(|| {
             let end = self.catalog().reached(number).number;
             let is_named = self.names.has_name(end);
@@ -192,12 +192,12 @@ impl<'e, 'd> Embeds<'e, 'd> {
 /// Whether types lead to some others, through pointers or without.
 struct Reaching<'r, 'd> {
     catalog: &'r Catalog<'d>,
-    targets: &'r BTreeSet<u16>,
+    targets: &'r BTreeSet<Number>,
     is_pointer: bool,
 }
 
 impl Reaching<'_, '_> {
-    fn reaches(&self, number: u16, known: &mut HashMap<(u16, bool), bool>) -> bool {
+    fn reaches(&self, number: Number, known: &mut HashMap<(Number, bool), bool>) -> bool {
         let mut passed = Vec::new(); // each with whether it is behind a pointer
         let mut here = (number, false);
         let answer = loop {

@@ -1,6 +1,6 @@
 //! Figures of structs and unions: bytes, members, holes, padding, and what another order saves.
 
-use super::catalog::Catalog;
+use super::catalog::{Catalog, Number};
 use super::failure::Outcome;
 use super::layout::{Layout, Place};
 use super::names::Names;
@@ -15,7 +15,7 @@ const COLUMNS: &str = "   bytes members   holes in holes padding   saves  type";
 /// What is told of one struct or union; all but counts are bytes.
 pub struct Figures {
     /// Its number.
-    pub number: u16,
+    pub number: Number,
     /// What it is called.
     pub label: String,
     /// Its bytes.
@@ -81,7 +81,7 @@ fn key_of_holes(one: &Figures) -> (Reverse<u128>, Reverse<usize>, &str) {
 /// The figures of a catalog's types, and the alignment that C gives them.
 pub struct Sizes<'s, 'd> {
     names: &'s Names<'s, 'd>,
-    alignments: RefCell<HashMap<u16, u64>>,
+    alignments: RefCell<HashMap<Number, u64>>,
 }
 
 impl<'s, 'd> Sizes<'s, 'd> {
@@ -95,7 +95,7 @@ impl<'s, 'd> Sizes<'s, 'd> {
     }
 
     /// What is told of a struct or union.
-    pub fn figures(&self, number: u16) -> Figures {
+    pub fn figures(&self, number: Number) -> Figures {
         let whole = Layout::of(self.catalog(), number);
         Figures {
             number,
@@ -124,7 +124,7 @@ impl<'s, 'd> Sizes<'s, 'd> {
     }
 
     /// The greatest alignment of what a type holds by value, as C aligns numbers.
-    pub fn alignment(&self, number: u16) -> u64 {
+    pub fn alignment(&self, number: Number) -> u64 {
         let whole = self.catalog().reached(number).number;
         let mut known = self.alignments.borrow_mut();
         let mut todo = vec![whole]; // no recursion: types may hold each other deep
@@ -142,13 +142,13 @@ impl<'s, 'd> Sizes<'s, 'd> {
     }
 
     /// The types of which the members of a struct or union, or their elements, are.
-    fn inner(&self, number: u16) -> BTreeSet<u16> {
+    fn inner(&self, number: Number) -> BTreeSet<Number> {
         let members = self.catalog().members(number).iter();
         members.map(|part| self.catalog().reached(part.of).number).collect()
     }
 
     /// A number's alignment is its size, as far as that is a power of two up to 16.
-    fn plain(&self, number: u16) -> u64 {
+    fn plain(&self, number: Number) -> u64 {
         if self.catalog().record(number).is_aggregate() {
             return 1;
         }
@@ -157,7 +157,7 @@ impl<'s, 'd> Sizes<'s, 'd> {
     }
 
     /// What is left over once all stand close, the last one up to the struct's alignment.
-    fn saved(&self, number: u16, whole: &Layout<'_>) -> u128 {
+    fn saved(&self, number: Number, whole: &Layout<'_>) -> u128 {
         let has_holes = whole.places.iter().any(|place| place.gap != 0);
         if self.catalog().kind(number) != Kind::Struct || !has_holes {
             return 0;

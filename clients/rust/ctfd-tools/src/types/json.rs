@@ -2,6 +2,7 @@
 //!
 //! `offset` and `bits` of members are in bits, as the library has them; all else is in bytes.
 
+use super::catalog::Number;
 use super::embeds::Embedded;
 use super::layout::Layout;
 use super::text::code_points;
@@ -69,7 +70,7 @@ pub fn list(items: impl Iterator<Item = String>) -> String {
 }
 
 /// A type with all that it says.
-pub fn of_type(whole: &Whole<'_, '_>, number: u16) -> String {
+pub fn of_type(whole: &Whole<'_, '_>, number: Number) -> String {
     let catalog = whole.names.catalog;
     let record = catalog.record(number);
     let size = catalog.size(number).map_or("null".to_owned(), |size| size.to_string());
@@ -84,10 +85,10 @@ pub fn of_type(whole: &Whole<'_, '_>, number: u16) -> String {
     made.end()
 }
 
-fn add_details(whole: &Whole<'_, '_>, number: u16, made: &mut Object) {
+fn add_details(whole: &Whole<'_, '_>, number: Number, made: &mut Object) {
     let catalog = whole.names.catalog;
     let record = catalog.record(number);
-    let spelled = |of: u16| text(whole.names.spelled(of).as_bytes());
+    let spelled = |of: Number| text(whole.names.spelled(of).as_bytes());
     match record.kind {
         Kind::Struct | Kind::Union => {
             let figures = whole.sizes.figures(number);
@@ -127,7 +128,7 @@ fn add_details(whole: &Whole<'_, '_>, number: u16, made: &mut Object) {
     }
 }
 
-fn members(whole: &Whole<'_, '_>, number: u16) -> String {
+fn members(whole: &Whole<'_, '_>, number: Number) -> String {
     let layout = Layout::of(whole.names.catalog, number);
     list(layout.places.iter().map(|place| {
         let of = place.part.of;

@@ -1,7 +1,7 @@
 //! Where the members of a struct or union lie, and the holes between them. All is in bits but
 //! where bytes are told.
 
-use super::catalog::{Catalog, Part};
+use super::catalog::{Catalog, Number, Part};
 use ctfd::Kind;
 
 /// Where a member lies; `gap` is how many bits lie unused in front of it.
@@ -48,7 +48,7 @@ pub struct Layout<'d> {
 
 impl<'d> Layout<'d> {
     /// That of a struct or union.
-    pub fn of(catalog: &Catalog<'d>, number: u16) -> Layout<'d> {
+    pub fn of(catalog: &Catalog<'d>, number: Number) -> Layout<'d> {
         let is_struct = catalog.kind(number) == Kind::Struct;
         let size = catalog.size(number).unwrap_or(0);
         let mut places: Vec<Place<'d>> = Vec::with_capacity(catalog.members(number).len());

@@ -1,6 +1,6 @@
 //! Types as C writes them, with places, sizes and holes as pahole prints them.
 
-use super::catalog::{Catalog, Value};
+use super::catalog::{Catalog, Number, Value};
 use super::declare::{base, declaration, declarator, Declarator};
 use super::layout::{Layout, Place};
 use super::text::printable;
@@ -33,7 +33,7 @@ impl Manner {
 }
 
 /// The lines of a type in full.
-pub fn definition(catalog: &Catalog<'_>, number: u16, manner: Manner) -> String {
+pub fn definition(catalog: &Catalog<'_>, number: Number, manner: Manner) -> String {
     let mut listing = Listing::new(catalog, manner);
     listing.definition(number);
     listing.text
@@ -70,7 +70,7 @@ impl<'l, 'd> Listing<'l, 'd> {
         self.lines += 1;
     }
 
-    fn definition(&mut self, number: u16) {
+    fn definition(&mut self, number: Number) {
         let catalog = self.catalog;
         let record = catalog.record(number);
         match record.kind {
@@ -93,7 +93,7 @@ impl<'l, 'd> Listing<'l, 'd> {
     }
 
     /// A type with a tag by that, or by its word alone.
-    fn head(&self, number: u16) -> String {
+    fn head(&self, number: Number) -> String {
         let record = self.catalog.record(number);
         match record.name.is_empty() {
             true => record.word().to_owned(),
@@ -101,7 +101,7 @@ impl<'l, 'd> Listing<'l, 'd> {
         }
     }
 
-    fn enumerators(&mut self, number: u16) {
+    fn enumerators(&mut self, number: Number) {
         self.push(0, &format!("{} {{", self.head(number)));
         let values = self.catalog.values(number);
         let shown = |one: &Value| printable(&one.name).into_owned();
@@ -130,7 +130,7 @@ impl<'l, 'd> Listing<'l, 'd> {
     }
 
     /// The struct or union that is written in place: one without a name, or any that is held.
-    fn inner_of(&self, said: &Declarator) -> Option<u16> {
+    fn inner_of(&self, said: &Declarator) -> Option<Number> {
         let record = self.catalog.record(said.base);
         if record.is_aggregate() && record.name.is_empty() {
             return Some(said.base);
@@ -145,7 +145,7 @@ impl<'l, 'd> Listing<'l, 'd> {
         &mut self,
         place: &Place<'_>,
         said: &Declarator,
-        inner: u16,
+        inner: Number,
         depth: usize,
         start: u128,
     ) {

@@ -1,6 +1,6 @@
 //! The type that a name says, as a person writes it.
 
-use super::catalog::{number_of, Catalog};
+use super::catalog::{Catalog, Number};
 use super::text::{name_and_number, normal, printable, spellings, without_tag, TAGS};
 use ctfd::{Fault, Kind, Refusal};
 
@@ -8,7 +8,7 @@ use ctfd::{Fault, Kind, Refusal};
 #[derive(Clone, Copy, Debug, PartialEq, Eq)]
 pub struct Found {
     /// The type: 0 for void.
-    pub number: u16,
+    pub number: Number,
     /// How many stars the name has.
     pub stars: usize,
 }
@@ -22,8 +22,8 @@ pub fn find(catalog: &Catalog<'_>, name: &[u8]) -> Result<Option<Found>, Refusal
     }
     let mut refusals = Vec::new();
     for spelling in spellings(&base) {
-        match catalog.types.find(&spelling) {
-            Ok(found) => return Ok(Some(Found { number: found.number(), stars })),
+        match catalog.find(&spelling) {
+            Ok(number) => return Ok(Some(Found { number, stars })),
             Err(refusal) => refusals.push(refusal),
         }
     }
@@ -37,20 +37,17 @@ pub fn find(catalog: &Catalog<'_>, name: &[u8]) -> Result<Option<Found>, Refusal
 }
 
 /// A type that is named by its name and its number, since the name alone leads to none or to another.
-fn other_of(catalog: &Catalog<'_>, base: &[u8]) -> Option<u16> {
+fn other_of(catalog: &Catalog<'_>, base: &[u8]) -> Option<Number> {
     let (name, number) = name_and_number(base)?;
-    let is_there = catalog.types.get(number).is_ok();
-    let record = is_there.then(|| catalog.record(number))?;
+    let record = catalog.get(number).map(|_| catalog.record(number))?;
     let usual = normal(name).0;
     spellings(&usual).contains(&record.called()).then_some(number)
 }
 
 /// The only struct, union or enum that has a tag.
-pub fn find_tag(catalog: &Catalog<'_>, tag: &[u8]) -> Option<u16> {
+pub fn find_tag(catalog: &Catalog<'_>, tag: &[u8]) -> Option<Number> {
     let is_plain = !tag.is_empty() && tag.iter().all(|&byte| !b" *".contains(&byte));
-    let named = |word: &&str| {
-        catalog.types.find([word.as_bytes(), b" ", tag].concat()).ok().map(ctfd::Type::number)
-    };
+    let named = |word: &&str| catalog.find(&[word.as_bytes(), b" ", tag].concat()).ok();
     let mut found = TAGS.iter().filter_map(named);
     let first = is_plain.then(|| found.next()).flatten();
     first.filter(|_| found.next().is_none())
@@ -58,7 +55,7 @@ pub fn find_tag(catalog: &Catalog<'_>, tag: &[u8]) -> Option<u16> {
 
 /// All own types with a name, hidden ones among them: one name may stand for several. A name with
 /// stars is that of none. Copies that only bit-fields have are left out.
-pub fn find_all(catalog: &Catalog<'_>, name: &[u8]) -> Vec<u16> {
+pub fn find_all(catalog: &Catalog<'_>, name: &[u8]) -> Vec<Number> {
     let (base, stars) = normal(name);
     if stars != 0 {
         return Vec::new();
@@ -66,12 +63,13 @@ pub fn find_all(catalog: &Catalog<'_>, name: &[u8]) -> Vec<u16> {
     let wanted = spellings(&base);
     let apart: Vec<(&str, &[u8])> = wanted.iter().map(|name| without_tag(name)).collect();
     let mut found = Vec::new();
-    for of in catalog.types.types() {
-        let Ok(own) = of.declared_name() else { continue };
-        if apart.iter().any(|(_, bare)| **bare == *own) {
-            let record = catalog.record(of.number());
+    for number in catalog.own() {
+        let declared = catalog.get(number).and_then(|of| of.declared_name().ok());
+        let Some(declared) = declared else { continue };
+        if apart.iter().any(|(_, bare)| **bare == *declared) {
+            let record = catalog.record(number);
             if apart.contains(&(record.word(), &record.name)) {
-                found.push(of.number());
+                found.push(number);
             }
         }
     }
@@ -80,14 +78,14 @@ pub fn find_all(catalog: &Catalog<'_>, name: &[u8]) -> Vec<u16> {
 }
 
 /// Whether a type is a hidden integer, or a hidden typedef of one.
-fn is_copy(catalog: &Catalog<'_>, number: u16) -> bool {
+fn is_copy(catalog: &Catalog<'_>, number: Number) -> bool {
     let end = catalog.record(catalog.resolved(number));
     !catalog.record(number).is_root && !end.is_root && end.kind == Kind::Integer
 }
 
 /// That there are more types of a name than the one that is told; None where there are none.
-pub fn others(found: &[u16], name: &[u8]) -> Option<String> {
-    let numbers: Vec<String> = found.iter().map(u16::to_string).collect();
+pub fn others(found: &[Number], name: &[u8]) -> Option<String> {
+    let numbers: Vec<String> = found.iter().map(Number::to_string).collect();
     (found.len() > 1).then(|| {
         format!(
             "{} types are called {}, and this is the first: --all shows them all, --number N one \
@@ -101,16 +99,18 @@ pub fn others(found: &[u16], name: &[u8]) -> Option<String> {
 
 /// The names by which types are found, those of the parent too.
 pub fn names(catalog: &Catalog<'_>) -> Vec<Vec<u8>> {
-    let is_found = |number: &u16| {
+    let is_found = |number: &Number| {
         let record = catalog.record(*number);
         record.is_root && !record.name.is_empty()
     };
     catalog.all().filter(is_found).map(|number| catalog.record(number).called()).collect()
 }
 
-/// Of a typedef of a struct, union or enum, that; else the type itself.
-pub fn worth_listing(catalog: &Catalog<'_>, number: u16) -> u16 {
-    let end = number_of(catalog.get(number).and_then(|of| of.resolve().ok().flatten()));
+/// Resolves a typedef to the struct, union or enum that it names; other types are returned as they
+/// are.
+pub fn worth_listing(catalog: &Catalog<'_>, number: Number) -> Number {
+    let has_end = catalog.get(number).is_some_and(|of| matches!(of.resolve(), Ok(Some(_))));
+    let end = if has_end { catalog.resolved(number) } else { 0 };
     match catalog.kind(end) {
         Kind::Struct | Kind::Union | Kind::Enum => end,
         _ => number,

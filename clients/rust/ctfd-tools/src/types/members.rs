@@ -1,6 +1,6 @@
 //! Questions on members: which is at an offset, and which have a name.
 
-use super::catalog::{is_renaming, Catalog};
+use super::catalog::{is_renaming, Catalog, Number};
 use super::declare::declaration;
 use super::embeds::Embeds;
 use super::failure::{Failure, Outcome};
@@ -19,7 +19,7 @@ const NAMELESS: &str = "(a member without a name)";
 /// What stands at a bit: its path, its type, where it begins and how many bits it has.
 struct Here {
     path: String,
-    of: u16,
+    of: Number,
     start: u128,
     bits: u128,
 }
@@ -88,10 +88,10 @@ pub fn at(
 }
 
 /// The structs and unions that a name means, those behind typedefs too.
-fn aggregates(names: &Names<'_, '_>, name: &[u8]) -> Outcome<BTreeSet<u16>> {
+fn aggregates(names: &Names<'_, '_>, name: &[u8]) -> Outcome<BTreeSet<Number>> {
     let meant = names.meant(name)?;
     let ends = meant.into_iter().map(|number| names.catalog.resolved(number));
-    let kept: BTreeSet<u16> = ends.filter(|&n| names.catalog.record(n).is_aggregate()).collect();
+    let kept: BTreeSet<Number> = ends.filter(|&n| names.catalog.record(n).is_aggregate()).collect();
     match kept.is_empty() {
         true => Err(Failure::Refused(format!(
             "{} is no struct and no union, and has no members",
@@ -102,7 +102,7 @@ fn aggregates(names: &Names<'_, '_>, name: &[u8]) -> Outcome<BTreeSet<u16>> {
 }
 
 /// The members at a bit, each in front of those that it holds. A hostile type ends by a count.
-fn members_at(catalog: &Catalog<'_>, number: u16, bit: u128, is_bit: bool) -> Vec<Here> {
+fn members_at(catalog: &Catalog<'_>, number: Number, bit: u128, is_bit: bool) -> Vec<Here> {
     let end = bit + if is_bit { 1 } else { 8 };
     let bits = 8 * u128::from(catalog.size(number).unwrap_or(0));
     let mut todo = vec![Here { path: String::new(), of: number, start: 0, bits }];
@@ -147,7 +147,7 @@ fn inside(catalog: &Catalog<'_>, here: &Here, bit: u128) -> Vec<Here> {
     catalog.members(number).iter().map(member).collect()
 }
 
-fn unqualified(catalog: &Catalog<'_>, mut number: u16) -> u16 {
+fn unqualified(catalog: &Catalog<'_>, mut number: Number) -> Number {
     while is_renaming(catalog.kind(number)) {
         number = catalog.resolved(number);
     }

@@ -1,6 +1,8 @@
 //! `ctfd-types`: prints the types of a program.
 
 pub mod catalog;
+mod copies;
+pub mod crowded;
 pub mod declare;
 mod drawing;
 pub mod embeds;
@@ -10,13 +12,14 @@ mod header;
 pub mod json;
 mod layout;
 pub mod listing;
-mod lookup;
+pub mod lookup;
 mod members;
 pub mod names;
 pub mod open;
 mod options;
 pub mod output;
 mod picture;
+mod record;
 mod records;
 mod reorganize;
 mod report;
@@ -24,6 +27,7 @@ pub mod symbols;
 pub mod text;
 pub mod told;
 mod treemap;
+mod volumes;
 mod whole;
 
 use crate::messages;

@@ -1,6 +1,6 @@
 //! What a person calls the types of a catalog, and which of them a name or a pattern means.
 
-use super::catalog::Catalog;
+use super::catalog::{Catalog, Number};
 use super::declare::declaration;
 use super::failure::{Failure, Outcome};
 use super::text::{patterns_of, printable, Meaning};
@@ -11,13 +11,13 @@ use std::collections::{BTreeSet, HashMap};
 pub struct Names<'c, 'd> {
     /// The types.
     pub catalog: &'c Catalog<'d>,
-    typedefs: HashMap<u16, Vec<u16>>,
+    typedefs: HashMap<Number, Vec<Number>>,
 }
 
 impl<'c, 'd> Names<'c, 'd> {
     /// Those of all types of a catalog.
     pub fn new(catalog: &'c Catalog<'d>) -> Names<'c, 'd> {
-        let mut typedefs: HashMap<u16, Vec<u16>> = HashMap::new();
+        let mut typedefs: HashMap<Number, Vec<Number>> = HashMap::new();
         for number in catalog.all() {
             if catalog.kind(number) == ctfd::Kind::Typedef {
                 let named = catalog.resolved(number);
@@ -30,17 +30,17 @@ impl<'c, 'd> Names<'c, 'd> {
     }
 
     /// Whether something names it: else it is known by where it stands alone.
-    pub fn has_name(&self, number: u16) -> bool {
+    pub fn has_name(&self, number: Number) -> bool {
         !self.catalog.record(number).name.is_empty() || self.typedefs.contains_key(&number)
     }
 
     /// The typedefs of a type that has a tag, or may have one.
-    pub fn typedefs(&self, number: u16) -> &[u16] {
+    pub fn typedefs(&self, number: Number) -> &[Number] {
         self.typedefs.get(&number).map(Vec::as_slice).unwrap_or_default()
     }
 
     /// The name by which it is told.
-    pub fn label(&self, number: u16) -> String {
+    pub fn label(&self, number: Number) -> String {
         let record = self.catalog.record(number);
         let name = printable(&record.name);
         if !record.is_tagged() {
@@ -59,17 +59,17 @@ impl<'c, 'd> Names<'c, 'd> {
     }
 
     /// As C spells it.
-    pub fn spelled(&self, number: u16) -> String {
+    pub fn spelled(&self, number: Number) -> String {
         declaration(self.catalog, number, b"")
     }
 
     /// Whether one of the names that it is found by meets something: those of its typedefs, and
     /// tags alone and with their word.
-    fn is_called(&self, number: u16, meets: impl Fn(&[u8]) -> bool) -> bool {
+    fn is_called(&self, number: Number, meets: impl Fn(&[u8]) -> bool) -> bool {
         self.calls(number).iter().any(|name| meets(name))
     }
 
-    fn calls(&self, number: u16) -> Vec<std::borrow::Cow<'_, [u8]>> {
+    fn calls(&self, number: Number) -> Vec<std::borrow::Cow<'_, [u8]>> {
         let record = self.catalog.record(number);
         let typedefs = self.typedefs.get(&number).map(Vec::as_slice).unwrap_or_default();
         let mut names: Vec<std::borrow::Cow<'_, [u8]>> =
@@ -87,10 +87,10 @@ impl<'c, 'd> Names<'c, 'd> {
     pub fn matching(
         &self,
         patterns: &[Vec<u8>],
-        among: impl Iterator<Item = u16>,
-    ) -> Outcome<Vec<u16>> {
+        among: impl Iterator<Item = Number>,
+    ) -> Outcome<Vec<Number>> {
         let meaning = Meaning::of(patterns.iter().flat_map(|one| patterns_of(one)));
-        let found: Vec<u16> =
+        let found: Vec<Number> =
             among.filter(|&n| self.is_called(n, |name| meaning.has(name))).collect();
         match found.is_empty() {
             true => Err(self.nothing(patterns)),
@@ -99,7 +99,7 @@ impl<'c, 'd> Names<'c, 'd> {
     }
 
     /// The types that one name says; of a typedef of a struct, union or enum that too.
-    pub fn meant(&self, name: &[u8]) -> Outcome<BTreeSet<u16>> {
+    pub fn meant(&self, name: &[u8]) -> Outcome<BTreeSet<Number>> {
         let names = [name.to_vec()];
         Ok(self.matching(&names, self.catalog.all())?.into_iter().collect())
     }

@@ -1,12 +1,12 @@
 //! Opens the dictionaries that a command line names, over their parents.
 
-use super::catalog::{Catalog, Lists};
+use super::catalog::{Catalog, Lists, Volume};
 use super::failure::{told, Failure, Outcome};
 use super::options::{Words, NAME};
 use super::text::printable;
 use super::warn_by;
+use crate::progress::with_bar;
 use ctfd::{Dictionary, Fault, Model, Refusal};
-use ctfd_read::declared::SourceFiles;
 use ctfd_read::dictionary::notice;
 use ctfd_read::image::Image;
 use ctfd_read::opening::{self, Handed, Origin};
@@ -21,6 +21,13 @@ const ALONE: &str =
     "--parent, --symbols and --strings go with a dictionary, and this file's types \
                      are converted first: leave them out, or make the dictionary by ctfd-convert \
                      (--parent makes a child)";
+
+const NO_PARENT: &str =
+    "it has the parts of one program, and a parent is one dictionary: make one by \
+                         ctfd-convert --split";
+const IN_PARTS: &str =
+    "its dictionaries are the parts of one program, which need no other parent: \
+                        leave --parent out";
 
 /// A file, as a line on it begins.
 pub fn shown(path: &Path) -> String {
@@ -53,6 +60,10 @@ impl<'w> Parents<'w> {
             ..ctfd_read::inputs::Options::default()
         };
         let mut handed = opening::handed(image, &reading)?;
+        if !handed.children.is_empty() {
+            let path = shown(path);
+            return Err(Failure::Refused(format!("{path}: {NO_PARENT}")));
+        }
         judge_model(&mut handed, self.model, path)?;
         Ok(Some((path, handed)))
     }
@@ -72,7 +83,7 @@ pub fn handed_by<'i>(
     is_given: bool,
 ) -> Outcome<Handed<'i>> {
     let path = image.path();
-    let mut found = opening::handed(image, reading)?;
+    let mut found = opening::handed(image, &with_bar(reading, path))?;
     for line in losses(&found, path) {
         warn_by(command, &format!("{}: {line}", shown(path)));
     }
@@ -108,6 +119,7 @@ pub fn judge_model(found: &mut Handed<'_>, wanted: Option<Model>, path: &Path) -
         )));
     }
     found.model = Some(wanted);
+    found.children.iter_mut().for_each(|child| child.model = Some(wanted));
     Ok(())
 }
 
@@ -155,6 +167,8 @@ impl Given {
 pub struct Opened<'o, 'd> {
     /// The types.
     pub catalog: &'o Catalog<'d>,
+    /// The parent that the command line names.
+    pub parent: Option<&'o Volume<'d>>,
     /// What the dictionary was given.
     pub handed: &'o Handed<'o>,
 }
@@ -180,15 +194,9 @@ pub fn with_catalog<T>(
         warn_by(parents.command, &format!("{}: {line}", shown(path)));
     }
     let bare = Handed {
-        ctf: Cow::Borrowed(&handed.ctf),
-        symbols: None,
         strings: handed.strings.as_deref().filter(|_| is_guess).map(Cow::Borrowed),
         origin: if is_guess { Origin::Refused } else { Origin::None },
-        model: handed.model,
-        is_made: handed.is_made,
-        losses: Vec::new(),
-        beyond: None,
-        sources: SourceFiles::default(),
+        ..handed.bare()
     };
     let types = Dictionary::open_lent(&bare.ctf, bare.options())
         .map_err(|refusal| Failure::of_library(shown(path), refusal))?;
@@ -207,9 +215,12 @@ fn over_parent<T>(
     parents: &Parents<'_>,
     run: impl FnOnce(&Opened<'_, '_>) -> Outcome<T>,
 ) -> Outcome<T> {
-    let own = lists(handed);
+    if !handed.children.is_empty() {
+        return in_parts(path, &types, handed, parents, run);
+    }
     let Some((parent_path, parent)) = parents.handed()? else {
-        return run(&Opened { catalog: &Catalog::new(&types, own, None), handed });
+        let catalog = Catalog::new(volume(&types, handed), None);
+        return run(&Opened { catalog: &catalog, parent: None, handed });
     };
     let what = format!("{}, as the parent of {}", shown(parent_path), shown(path));
     if let Some(why) = opening::why_not_parent(&types, &parent.ctf) {
@@ -219,8 +230,42 @@ fn over_parent<T>(
         .map_err(|refusal| Failure::of_library(shown(parent_path), refusal))?;
     let mut types = types; // which lives no longer than what its parent borrows
     types.import(&opened).map_err(|refusal| Failure::Refused(told(what, refusal)))?;
-    let catalog = Catalog::new(&types, own, Some(lists(&parent)));
-    run(&Opened { catalog: &catalog, handed })
+    let catalog = Catalog::new(volume(&types, handed), Some(lists(&parent)));
+    let beneath = volume(&opened, &parent);
+    run(&Opened { catalog: &catalog, parent: Some(&beneath), handed })
+}
+
+/// Opens the children of a program in parts too, all as one.
+fn in_parts<T>(
+    path: &Path,
+    parent: &Dictionary<'_>,
+    handed: &Handed<'_>,
+    parents: &Parents<'_>,
+    run: impl FnOnce(&Opened<'_, '_>) -> Outcome<T>,
+) -> Outcome<T> {
+    if parents.path.is_some() {
+        return Err(Failure::Refused(format!("{}: {IN_PARTS}", shown(path))));
+    }
+    let open = |(place, child): (usize, &Handed<'_>)| {
+        let what = || format!("{}, part {}", shown(path), place + 1);
+        let mut types = Dictionary::open_with(&child.ctf, child.options())
+            .map_err(|refusal| Failure::of_library(what(), refusal))?;
+        types.import(parent).map_err(|refusal| Failure::Refused(told(what(), refusal)))?;
+        Ok(types)
+    };
+    let children: Vec<Dictionary<'_>> =
+        handed.children.iter().enumerate().map(open).collect::<Outcome<_>>()?;
+    let listed = children.iter().zip(&handed.children);
+    let listed = listed.map(|(types, child)| Volume {
+        has_first_symbols: child.symbols == handed.symbols,
+        ..volume(types, child)
+    });
+    let catalog = Catalog::in_parts(volume(parent, handed), listed.collect());
+    run(&Opened { catalog: &catalog, parent: None, handed })
+}
+
+fn volume<'h>(types: &'h Dictionary<'h>, handed: &'h Handed<'_>) -> Volume<'h> {
+    Volume { types, lists: lists(handed), has_first_symbols: true }
 }
 
 fn lists<'h>(handed: &'h Handed<'_>) -> Lists<'h> {
@@ -229,7 +274,7 @@ fn lists<'h>(handed: &'h Handed<'_>) -> Lists<'h> {
 
 /// That a file is a child whose parent is not named.
 pub fn without_parent(path: &Path, catalog: &Catalog<'_>) -> Failure {
-    let name = catalog.types.parent_name();
+    let name = catalog.parent_name();
     let name = match name.is_empty() {
         true => Cow::Borrowed("a parent without a name"),
         false => printable(&name),

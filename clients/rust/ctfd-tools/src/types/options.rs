@@ -2,14 +2,16 @@
 
 use super::figures::Order;
 use super::text::is_pattern;
-use clap::builder::PossibleValuesParser;
+use crate::arguments::{self, file, flag, word};
 use clap::error::ErrorKind;
 use clap::{value_parser, Arg, ArgAction, ArgGroup, ArgMatches, Command};
-use ctfd::Model;
-use ctfd_read::inputs::{Form, Options};
+use ctfd_read::inputs::Options;
 use std::ffi::{OsStr, OsString};
 use std::os::unix::ffi::{OsStrExt as _, OsStringExt as _};
 use std::path::{Path, PathBuf};
+
+/// The question that an option asks of a name.
+type QuestionOf = fn(Vec<u8>) -> Question;
 
 /// The command's name.
 pub const NAME: &str = "ctfd-types";
@@ -127,16 +129,8 @@ impl Words {
             symbols: path("symbols"),
             strings: path("strings"),
             reading: Options {
-                model: word("model").map(|word| match word {
-                    "ilp32" => Model::Ilp32,
-                    _ => Model::Lp64,
-                }),
-                form: word("from")
-                    .and_then(|word| Form::ALL.into_iter().find(|form| form.word() == word)),
-                base: path("base"),
-                folders: matches.get_many("debug-folder").unwrap_or_default().cloned().collect(),
                 number: matches.get_one("dictionary").copied(),
-                ..Options::default()
+                ..arguments::reading(matches)
             },
         }
     }
@@ -156,7 +150,7 @@ fn question(matches: &ArgMatches) -> Question {
     let name =
         |option: &str| matches.get_one::<OsString>(option).map(|word| word.as_bytes().to_vec());
     let flag = |option: &str| matches.get_flag(option);
-    let of_name: [(&str, fn(Vec<u8>) -> Question); 6] = [
+    let of_name: [(&str, QuestionOf); 6] = [
         ("contains", Question::Contains),
         ("uses", Question::Uses),
         ("functions", Question::Functions),
@@ -236,31 +230,11 @@ fn value(name: &'static str, shown: &'static str, help: &'static str) -> Arg {
     Arg::new(name).long(name).value_name(shown).value_parser(value_parser!(OsString)).help(help)
 }
 
-fn file(name: &'static str, help: &'static str) -> Arg {
-    value(name, "FILE", help).value_parser(value_parser!(PathBuf))
-}
-
-fn flag(name: &'static str, help: &'static str) -> Arg {
-    Arg::new(name).long(name).action(ArgAction::SetTrue).help(help)
-}
-
-/// An option of one of some words, which stand apart by `|`.
-fn word(name: &'static str, listed: &'static str, help: &'static str) -> Arg {
-    let words = PossibleValuesParser::new(listed.split('|'));
-    value(name, listed, help).value_parser(words).hide_possible_values(true)
-}
-
 /// All options: help, the manual page's and the shells' are made of these.
 pub fn options() -> Command {
     let questions = questions();
     let group = ArgGroup::new("question").args(questions.iter().map(Arg::get_id));
-    let columns = std::env::var("COLUMNS").ok().and_then(|columns| columns.parse().ok());
-    Command::new(NAME)
-        .version(env!("CARGO_PKG_VERSION"))
-        .about(ABOUT)
-        .term_width(columns.filter(|&columns| columns >= 40).unwrap_or(100))
-        .max_term_width(100)
-        .infer_long_args(true)
+    arguments::command(NAME, ABOUT)
         .arg(
             Arg::new("words")
                 .value_name("FILE")

@@ -1,6 +1,6 @@
 //! A struct with its members in an order without holes, as one can paste it.
 
-use super::catalog::Catalog;
+use super::catalog::{Catalog, Number};
 use super::declare::base;
 use super::failure::{Failure, Outcome};
 use super::layout::{Layout, Place};
@@ -59,7 +59,7 @@ pub fn reorganized(
 }
 
 /// A struct in an order that is smaller, and what that saves; else a line that says that none is.
-fn order_of(whole: &Whole<'_, '_>, number: u16) -> Result<String, String> {
+fn order_of(whole: &Whole<'_, '_>, number: Number) -> Result<String, String> {
     let catalog = whole.names.catalog;
     let layout = Layout::of(catalog, number);
     let order = Order { whole, catalog };
@@ -113,7 +113,7 @@ impl Order<'_, '_, '_> {
         each.max().map_or(1, u128::from)
     }
 
-    fn alignment(&self, number: u16) -> u64 {
+    fn alignment(&self, number: Number) -> u64 {
         let found = self.whole.sizes.alignment(number);
         if self.catalog.is_ilp32() {
             found.min(WORD)

@@ -1,6 +1,6 @@
 //! What is told of one file.
 
-use super::catalog::Catalog;
+use super::catalog::{Catalog, Number};
 use super::embeds::Embeds;
 use super::failure::{told, Failure, Outcome};
 use super::figures::{table, Order};
@@ -10,12 +10,12 @@ use super::names::Names;
 use super::open::{handed, shown, with_catalog, Given, Opened, Parents};
 use super::options::{Question, Words};
 use super::text::{is_pattern, printable, without_tag, TAGS};
+use super::told::symbol_lists;
 use super::whole::Whole;
 use super::{declare, header, json, members, picture, records, reorganize, symbols, treemap, warn};
-use ctfd_read::declared::SourceFiles;
 use ctfd_read::image::Image;
 use ctfd_read::nearest::suggestion;
-use ctfd_read::opening::{Handed, Origin};
+use ctfd_read::opening::Origin;
 use std::borrow::Cow;
 use std::collections::{BTreeSet, HashSet};
 use std::io::Write;
@@ -72,13 +72,13 @@ impl<'a, 'd> Answer<'a, 'd> {
 
     /// What is said of a child that is read alone.
     fn without_parent(&self) -> Option<String> {
-        let types = self.catalog().types;
-        let name = types.parent_name();
+        let catalog = self.catalog();
+        let name = catalog.parent_name();
         let name = match name.is_empty() {
             true => Cow::Borrowed("a parent without a name"),
             false => printable(&name),
         };
-        let is_alone = types.is_child() && self.words.parent.is_none();
+        let is_alone = catalog.is_child() && self.words.parent.is_none();
         is_alone.then(|| {
             format!(
                 "{} is a child of {name}, whose types it names: name the parent's file by --parent",
@@ -111,9 +111,8 @@ impl<'a, 'd> Answer<'a, 'd> {
             }
             Question::Members(name) => members::named(whole, name, words.is_json, output),
             Question::Functions(name) => {
-                let given = self.opened.handed;
-                let table = given.symbols.as_deref().zip(given.strings.as_deref());
-                symbols::functions(whole, table, name, words.is_json, output)
+                let lists = symbol_lists(self.opened.handed);
+                symbols::functions(whole, &lists, name, words.is_json, output)
             }
             Question::Show(listed) => self.records(whole, listed, output),
             Question::Reorganize => reorganize::reorganized(whole, of_names, output),
@@ -193,7 +192,7 @@ impl<'a, 'd> Answer<'a, 'd> {
     /// Types in full, each once, a blank line between them; or as objects.
     fn matching(&self, whole: &Whole<'_, 'd>, output: &mut dyn Write) -> Outcome<()> {
         let catalog = self.catalog();
-        let numbers: Vec<u16> = match &self.words.names[..] {
+        let numbers: Vec<Number> = match &self.words.names[..] {
             [] => catalog.own().collect(),
             names => whole.names.matching(names, catalog.own())?,
         };
@@ -253,9 +252,9 @@ impl<'a, 'd> Answer<'a, 'd> {
         Ok(output.write_all(text.as_bytes())?)
     }
 
-    fn of_number(&self, number: u64) -> Outcome<u16> {
+    fn of_number(&self, number: u64) -> Outcome<Number> {
         let catalog = self.catalog();
-        let known = u16::try_from(number).ok().filter(|&number| catalog.get(number).is_some());
+        let known = Number::try_from(number).ok().filter(|&number| catalog.get(number).is_some());
         known.ok_or_else(|| {
             let mut own = catalog.own();
             Failure::Refused(match (own.next(), own.next_back()) {
@@ -270,9 +269,9 @@ impl<'a, 'd> Answer<'a, 'd> {
 
     /// A line for each type: its number, its size in bytes ("-" where it has none), its name.
     fn all(&self, output: &mut dyn Write) -> Outcome<()> {
-        for of in self.catalog().types.types() {
+        let catalog = self.catalog();
+        for (number, of) in catalog.own().filter_map(|n| Some((n, catalog.get(n)?))) {
             let size = of.size().map_or("-".to_owned(), |size| size.to_string());
-            let number = of.number();
             match of.name() {
                 Ok(name) => writeln!(output, "{number:>6} {size:>8}  {}", printable(&name))?,
                 Err(refusal) => {
@@ -304,7 +303,7 @@ impl<'a, 'd> Answer<'a, 'd> {
         }
     }
 
-    fn listing(&self, number: u16) -> String {
+    fn listing(&self, number: Number) -> String {
         let number = lookup::worth_listing(self.catalog(), number);
         definition(self.catalog(), number, self.manner())
     }
@@ -320,7 +319,7 @@ impl<'a, 'd> Answer<'a, 'd> {
         }
         let shown = printable(name);
         Err(Failure::Unknown(format!(
-            "{shown}: no type, and no symbol with a type, has this name ({why}){}",
+            "no type or symbol is called {shown} ({why}){}",
             self.advice(name)
         )))
     }
@@ -329,17 +328,7 @@ impl<'a, 'd> Answer<'a, 'd> {
     fn symbol(&self, name: &[u8]) -> Outcome<Result<String, String>> {
         let handed = self.opened.handed;
         if handed.has_more_names() {
-            let mut whole = Handed {
-                ctf: Cow::Borrowed(&handed.ctf),
-                symbols: None,
-                strings: None,
-                origin: Origin::None,
-                model: handed.model,
-                is_made: handed.is_made,
-                losses: Vec::new(),
-                beyond: None,
-                sources: SourceFiles::default(),
-            };
+            let mut whole = handed.bare();
             whole.add_names();
             return with_catalog(self.path, &whole, self.parents, |opened| {
                 Ok(symbols::declared(opened.catalog, name).map_err(|r| r.fault.to_string()))

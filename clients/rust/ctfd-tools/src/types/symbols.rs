@@ -1,12 +1,13 @@
 //! Functions and objects of the program: what C declares of one, and which take or return a type.
 
-use super::catalog::{number_of, Catalog, Signature};
+use super::catalog::{Catalog, Number, Signature, Told};
 use super::declare;
 use super::failure::{Failure, Outcome};
 use super::json;
 use super::text::printable;
+use super::told::SymbolList;
 use super::whole::Whole;
-use ctfd::{Fault, Kind, Refusal};
+use ctfd::{Kind, Refusal};
 use std::collections::BTreeSet;
 use std::io::Write;
 
@@ -17,52 +18,39 @@ const FUNCTION: u8 = 2;
 
 /// How C declares the first symbol of a name.
 pub fn declared(catalog: &Catalog<'_>, name: &[u8]) -> Result<String, Refusal> {
-    let symbol = catalog.types.symbol(name)?;
-    match catalog.types.function(symbol) {
-        Ok(found) => {
-            let signature = signature_of(&found);
-            Ok(format!("{};", declare::function(catalog, &signature, name)))
+    Ok(match catalog.symbol(name)? {
+        Told::Function(signature) => {
+            format!("{};", declare::function(catalog, &signature, name))
         }
-        Err(refusal) if refusal.fault == Fault::NotFunction => {
-            let of = catalog.types.object(symbol)?;
-            Ok(format!("{};", declare::object(catalog, number_of(of), name)))
-        }
-        Err(refusal) => Err(refusal),
-    }
-}
-
-/// What the library says of a function.
-pub fn signature_of(found: &ctfd::Function<'_>) -> Signature {
-    Signature {
-        returns: number_of(found.returns),
-        arguments: found.arguments.iter().map(|&one| number_of(one)).collect(),
-        is_open: found.varargs,
-    }
+        Told::Object(of) => format!("{};", declare::object(catalog, of, name)),
+    })
 }
 
 /// Tells the functions that take or return a type, or a pointer to it, by their names.
 pub fn functions(
     whole: &Whole<'_, '_>,
-    table: Option<(&[u8], &[u8])>,
+    lists: &[SymbolList<'_>],
     name: &[u8],
     is_json: bool,
     output: &mut dyn Write,
 ) -> Outcome<()> {
-    let Some((symbols, strings)) = table else {
+    if lists.is_empty() {
         let path = printable(whole.path);
         return Err(Failure::Refused(format!("{path}: it has no types of functions")));
-    };
+    }
     let catalog = whole.names.catalog;
     let targets = whole.names.meant(name)?;
-    let mut found: Vec<(&[u8], Signature)> = function_symbols(symbols, strings)
-        .filter_map(|(number, name)| {
-            let told = catalog.types.function(number).ok()?;
-            Some((name, signature_of(&told)))
-        })
-        .collect();
+    let mut found: Vec<(&[u8], Signature)> = Vec::new();
+    for list in lists {
+        for (number, name) in function_symbols(list.table, list.strings) {
+            if let Some(Told::Function(signature)) = catalog.told_in(list.place, number) {
+                found.push((name, signature));
+            }
+        }
+    }
     found.sort_by_key(|(name, _)| *name); // a stable sort
     for (name, signature) in found {
-        let leads = |&number: &u16| leads_to(catalog, &targets, number);
+        let leads = |&number: &Number| leads_to(catalog, &targets, number);
         let mut how = Vec::new();
         how.extend(leads(&signature.returns).then_some("returns"));
         how.extend(signature.arguments.iter().any(leads).then_some("takes"));
@@ -79,7 +67,7 @@ pub fn functions(
 }
 
 /// Whether a type leads to one of some through pointers, arrays, typedefs and qualifiers.
-fn leads_to(catalog: &Catalog<'_>, targets: &BTreeSet<u16>, mut number: u16) -> bool {
+fn leads_to(catalog: &Catalog<'_>, targets: &BTreeSet<Number>, mut number: Number) -> bool {
     while number != 0 {
         if targets.contains(&number) {
             return true;

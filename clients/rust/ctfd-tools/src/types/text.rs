@@ -1,6 +1,7 @@
 //! Names as a person reads and writes them: what a terminal may show, patterns, spellings of base
 //! types.
 
+use super::catalog::Number;
 use std::borrow::Cow;
 use std::collections::hash_map::DefaultHasher;
 use std::collections::HashSet;
@@ -114,7 +115,7 @@ pub fn spellings(base: &[u8]) -> Vec<Vec<u8>> {
 }
 
 /// A type's own name and its number, of a name that may be made of these: `struct dict__17`.
-pub fn name_and_number(written: &[u8]) -> Option<(&[u8], u16)> {
+pub fn name_and_number(written: &[u8]) -> Option<(&[u8], Number)> {
     let end = written.len() - written.iter().rev().take_while(|&&byte| byte == b'_').count();
     let digits = written[..end].iter().rev().take_while(|byte| byte.is_ascii_digit()).count();
     // The shortest name in front, so the first `__` that only digits follow.

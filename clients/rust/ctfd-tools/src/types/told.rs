@@ -1,7 +1,6 @@
 //! The functions and objects of a program of which its dictionary tells something.
 
-use super::catalog::{number_of, Catalog, Signature};
-use super::symbols::signature_of;
+use super::catalog::{Catalog, Told};
 use ctfd_read::opening::{Handed, Origin};
 use std::collections::HashSet;
 
@@ -16,14 +15,6 @@ pub fn is_told(origin: Origin) -> bool {
     matches!(origin, Origin::Named | Origin::Linked | Origin::Guessed | Origin::Given)
 }
 
-/// What is told of a symbol.
-pub enum Told {
-    /// What a function takes and returns.
-    Function(Signature),
-    /// The type of an object.
-    Object(u16),
-}
-
 /// A symbol of which something is told.
 pub struct ToldSymbol {
     /// Its name, of what is no UTF-8 the escapes.
@@ -32,36 +23,56 @@ pub struct ToldSymbol {
     pub told: Told,
 }
 
+/// The symbols that one dictionary of a file was given.
+#[derive(Clone, Copy)]
+pub struct SymbolList<'h> {
+    /// The dictionary's place.
+    pub place: usize,
+    /// The table, of 64 bits.
+    pub table: &'h [u8],
+    /// Its strings.
+    pub strings: &'h [u8],
+}
+
+/// Those of each dictionary that was given some.
+pub fn symbol_lists<'h>(handed: &'h Handed<'_>) -> Vec<SymbolList<'h>> {
+    let each = std::iter::once(handed).chain(&handed.children).enumerate();
+    let list = |(place, one): (usize, &'h Handed<'_>)| {
+        let (table, strings) = (one.symbols.as_deref()?, one.strings.as_deref()?);
+        Some(SymbolList { place, table, strings })
+    };
+    each.filter_map(list).collect()
+}
+
 /// Those of a dictionary that was given some symbols, the first of each name.
 pub fn told_symbols(catalog: &Catalog<'_>, handed: &Handed<'_>) -> Vec<ToldSymbol> {
-    let (Some(table), Some(strings)) = (&handed.symbols, &handed.strings) else {
-        return Vec::new();
-    };
     if !is_told(handed.origin) {
         return Vec::new();
     }
     let mut known = HashSet::new();
     let mut made = Vec::new();
-    for (number, entry) in table.chunks_exact(ENTRY).enumerate() {
-        let at = u32::from_le_bytes([entry[0], entry[1], entry[2], entry[3]]);
-        let kind = entry[4] & 15;
-        let is_nowhere = entry[6..8] == [0, 0];
-        if at == 0 || is_nowhere || !matches!(kind, OBJECT | FUNCTION) {
-            continue;
-        }
-        let Some(told) = told(catalog, number as u32, kind == FUNCTION) else { continue };
-        let name = shown(strings, at as usize);
-        if known.insert(name.clone()) {
-            made.push(ToldSymbol { name, told });
+    for list in symbol_lists(handed) {
+        for (number, entry) in list.table.chunks_exact(ENTRY).enumerate() {
+            let at = u32::from_le_bytes([entry[0], entry[1], entry[2], entry[3]]);
+            let kind = entry[4] & 15;
+            let is_nowhere = entry[6..8] == [0, 0];
+            if at == 0 || is_nowhere || !matches!(kind, OBJECT | FUNCTION) {
+                continue;
+            }
+            let Some(told) = catalog.told_in(list.place, number as u32) else { continue };
+            let name = shown(list.strings, at as usize);
+            if is_of(&told, kind) && known.insert(name.clone()) {
+                made.push(ToldSymbol { name, told });
+            }
         }
     }
     made
 }
 
-fn told(catalog: &Catalog<'_>, number: u32, is_function: bool) -> Option<Told> {
-    match is_function {
-        true => catalog.types.function(number).ok().map(|one| Told::Function(signature_of(&one))),
-        false => catalog.types.object(number).ok().map(|one| Told::Object(number_of(one))),
+fn is_of(told: &Told, kind: u8) -> bool {
+    match told {
+        Told::Function(_) => kind == FUNCTION,
+        Told::Object(_) => kind == OBJECT,
     }
 }
 

@@ -1,5 +1,6 @@
 //! A picture of all structs and unions of a dictionary: rectangles as large as their bytes.
 
+use super::catalog::Number;
 use super::drawing::{self, Extent, Label, Rectangle};
 use super::failure::Outcome;
 use super::text::printable;
@@ -23,7 +24,7 @@ struct Tile {
 /// The picture of the own types, or of those that are meant; the least of many as one.
 pub fn svg(whole: &Whole<'_, '_>, patterns: &[Vec<u8>]) -> Outcome<String> {
     let all = whole.names.catalog.aggregates();
-    let chosen: Vec<u16> = match patterns {
+    let chosen: Vec<Number> = match patterns {
         [] => all.collect(),
         patterns => whole.names.matching(patterns, all)?,
     };
@@ -50,7 +51,7 @@ pub fn svg(whole: &Whole<'_, '_>, patterns: &[Vec<u8>]) -> Outcome<String> {
     Ok(drawing::page(WIDTH + 16.0, TOP + HIGH + 8.0, &title, &parts))
 }
 
-fn tile(whole: &Whole<'_, '_>, number: u16) -> Tile {
+fn tile(whole: &Whole<'_, '_>, number: Number) -> Tile {
     let catalog = whole.names.catalog;
     let sort = match catalog.kind(number) {
         Kind::Union => "union",

@@ -4,7 +4,7 @@
 //! What none of these gives is told as bytes alone.
 
 use super::abi::{self, Attributes, Basic, Field, Laid, Shape, BOOLEAN, SIGNED};
-use crate::types::catalog::{Catalog, Part, Record};
+use crate::types::catalog::{Catalog, Number, Part, Record};
 use ctfd::Kind;
 use std::cell::RefCell;
 use std::collections::HashMap;
@@ -61,7 +61,7 @@ pub struct Forms<'f, 'd> {
     catalog: &'f Catalog<'d>,
     is_ilp32: bool,
     basics: Vec<Basic>,
-    forms: RefCell<HashMap<u16, Rc<Form<'d>>>>,
+    forms: RefCell<HashMap<Number, Rc<Form<'d>>>>,
 }
 
 impl<'f, 'd> Forms<'f, 'd> {
@@ -72,7 +72,7 @@ impl<'f, 'd> Forms<'f, 'd> {
     }
 
     /// That of a struct or union of which all that it holds has a form by now.
-    pub fn form(&self, number: u16) -> Rc<Form<'d>> {
+    pub fn form(&self, number: Number) -> Rc<Form<'d>> {
         if let Some(known) = self.forms.borrow().get(&number) {
             return known.clone();
         }
@@ -82,7 +82,7 @@ impl<'f, 'd> Forms<'f, 'd> {
     }
 
     /// None for what has no size in C.
-    fn shape(&self, number: u16) -> Option<Shape> {
+    fn shape(&self, number: Number) -> Option<Shape> {
         let reached = self.catalog.reached(number);
         let record = self.catalog.record(reached.number);
         let shape = match record.kind {
@@ -95,7 +95,7 @@ impl<'f, 'd> Forms<'f, 'd> {
         Some(shape.times(reached.elements))
     }
 
-    fn basic(&self, record: &Record<'_>, number: u16) -> Option<Shape> {
+    fn basic(&self, record: &Record<'_>, number: Number) -> Option<Shape> {
         if let Some(alike) = self.alike(record, number) {
             return Some(alike.shape);
         }
@@ -103,12 +103,12 @@ impl<'f, 'd> Forms<'f, 'd> {
         (size != 0).then(|| Shape::new(size, 1))
     }
 
-    fn size(&self, number: u16) -> u128 {
+    fn size(&self, number: Number) -> u128 {
         self.catalog.size(number).unwrap_or(0).into()
     }
 
     /// The shape of an enum, and whether it is that of a packed one.
-    pub fn enumeration(&self, number: u16) -> (Shape, bool) {
+    pub fn enumeration(&self, number: Number) -> (Shape, bool) {
         let values = self.catalog.values(number).iter().map(|one| one.value);
         let wanted = self.size(number);
         for is_packed in [false, true] {
@@ -121,7 +121,7 @@ impl<'f, 'd> Forms<'f, 'd> {
     }
 
     /// The compiler's type that an integer or float is: its own name's, or one of its size.
-    pub fn alike(&self, record: &Record<'_>, number: u16) -> Option<&Basic> {
+    pub fn alike(&self, record: &Record<'_>, number: Number) -> Option<&Basic> {
         let size = self.size(number);
         let own = self.basics.iter().find(|one| one.name.as_bytes() == record.name);
         let is_whole = |one: &&Basic| one.shape.size == size || is_narrow(record, size);
@@ -138,7 +138,7 @@ impl<'f, 'd> Forms<'f, 'd> {
         self.basics.iter().filter(is_same).find(of_size)
     }
 
-    fn make(&self, number: u16) -> Form<'d> {
+    fn make(&self, number: Number) -> Form<'d> {
         let record = self.catalog.record(number);
         let members = self.catalog.members(number);
         let size = self.size(number);
@@ -213,7 +213,7 @@ impl<'f, 'd> Forms<'f, 'd> {
     }
 
     /// Each hole a member of its own, in front of what it stands before.
-    fn with_holes(&self, number: u16) -> Vec<Said<'d>> {
+    fn with_holes(&self, number: Number) -> Vec<Said<'d>> {
         let is_struct = self.catalog.kind(number) == Kind::Struct;
         let size = self.size(number);
         let (mut made, mut end) = (Vec::new(), 0);

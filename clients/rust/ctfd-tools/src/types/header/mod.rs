@@ -7,7 +7,7 @@ mod forms;
 mod naming;
 mod order;
 
-use super::catalog::{Catalog, Part, Record, Value};
+use super::catalog::{Catalog, Number, Part, Record, Value};
 use super::declare::{declarator_by, Declarator};
 use super::failure::Outcome;
 use super::text::printable;
@@ -51,20 +51,20 @@ pub fn write(whole: &Whole<'_, '_>, patterns: &[Vec<u8>], output: &mut dyn Write
 struct Header<'h, 'd> {
     catalog: &'h Catalog<'d>,
     forms: Forms<'h, 'd>,
-    tags: RefCell<HashMap<String, u16>>,
-    ordinary: RefCell<HashMap<String, u16>>,
-    names: RefCell<HashMap<u16, String>>,
-    lengths: RefCell<HashMap<u16, usize>>,
-    written: RefCell<HashSet<u16>>,
+    tags: RefCell<HashMap<String, Number>>,
+    ordinary: RefCell<HashMap<String, Number>>,
+    names: RefCell<HashMap<Number, String>>,
+    lengths: RefCell<HashMap<Number, usize>>,
+    written: RefCell<HashSet<Number>>,
     /// Structs that are named, in full or not, in the order in which that was met.
-    pointed: Vec<u16>,
+    pointed: Vec<Number>,
     /// Those without a name that need one.
-    tagged: HashSet<u16>,
-    order: Vec<u16>,
+    tagged: HashSet<Number>,
+    order: Vec<Number>,
 }
 
 impl<'h, 'd> Header<'h, 'd> {
-    fn new(catalog: &'h Catalog<'d>, wanted: &[u16]) -> Header<'h, 'd> {
+    fn new(catalog: &'h Catalog<'d>, wanted: &[Number]) -> Header<'h, 'd> {
         let mut made = Header {
             catalog,
             forms: Forms::new(catalog),
@@ -81,12 +81,12 @@ impl<'h, 'd> Header<'h, 'd> {
         made
     }
 
-    fn record(&self, number: u16) -> &'h Record<'d> {
+    fn record(&self, number: Number) -> &'h Record<'d> {
         self.catalog.record(number)
     }
 
     fn add_forwards(&self, text: &mut String) {
-        let is_listed = |number: &u16| {
+        let is_listed = |number: &Number| {
             let record = self.record(*number);
             let is_forward = record.kind == Kind::Forward && record.tag != Kind::Enum;
             (record.is_aggregate() || is_forward) && !self.is_in_place(*number)
@@ -101,7 +101,7 @@ impl<'h, 'd> Header<'h, 'd> {
     }
 
     /// Whether a struct or union is written where it is used: it has no name, and is short.
-    fn is_in_place(&self, number: u16) -> bool {
+    fn is_in_place(&self, number: Number) -> bool {
         self.record(number).name.is_empty()
             && !self.tagged.contains(&number)
             && self.length(number) <= MOST_IN_PLACE
@@ -109,7 +109,7 @@ impl<'h, 'd> Header<'h, 'd> {
 
     /// How many members it has with those of unnamed parts, up to a bound. What stands in a type is
     /// known before it: the order has it so.
-    fn length(&self, number: u16) -> usize {
+    fn length(&self, number: Number) -> usize {
         if let Some(&known) = self.lengths.borrow().get(&number) {
             return known;
         }
@@ -128,7 +128,7 @@ impl<'h, 'd> Header<'h, 'd> {
         length
     }
 
-    fn add_definition(&self, number: u16, text: &mut String) {
+    fn add_definition(&self, number: Number, text: &mut String) {
         match self.record(number).kind {
             Kind::Struct | Kind::Union => {
                 self.length(number);
@@ -146,7 +146,7 @@ impl<'h, 'd> Header<'h, 'd> {
 
     fn add_aggregate(
         &self,
-        number: u16,
+        number: Number,
         head: &str,
         behind: &str,
         depth: usize,
@@ -228,7 +228,7 @@ impl<'h, 'd> Header<'h, 'd> {
     }
 
     /// The base of a declaration, by a name that is declared by then.
-    fn called(&self, number: u16) -> String {
+    fn called(&self, number: Number) -> String {
         if number == 0 {
             return "void".to_owned();
         }
@@ -245,7 +245,7 @@ impl<'h, 'd> Header<'h, 'd> {
         }
     }
 
-    fn add_enum(&self, number: u16, text: &mut String) {
+    fn add_enum(&self, number: Number, text: &mut String) {
         let (shape, is_packed) = self.forms.enumeration(number);
         let size = self.catalog.size(number).unwrap_or(0);
         if shape.size != size.into() {
@@ -279,7 +279,7 @@ impl<'h, 'd> Header<'h, 'd> {
         *text += if is_packed { "} __attribute__((packed));\n" } else { "};\n" };
     }
 
-    fn add_typedef(&self, number: u16, text: &mut String) {
+    fn add_typedef(&self, number: Number, text: &mut String) {
         let name = self.name(number);
         if self.catalog.span(number).width.is_some() {
             return; // that of a bit-field, which is written without it
@@ -301,7 +301,7 @@ impl<'h, 'd> Header<'h, 'd> {
     }
 
     /// Numbers that the compiler has no name for.
-    fn add_number(&self, number: u16, text: &mut String) {
+    fn add_number(&self, number: Number, text: &mut String) {
         let record = self.record(number);
         let name = self.name(number);
         let alike = self.forms.alike(record, number);

@@ -1,7 +1,7 @@
 //! How types are called in a header: by their own names where C allows these and no other has them.
 
 use super::Header;
-use crate::types::catalog::Record;
+use crate::types::catalog::{Number, Record};
 use ctfd::Kind;
 use std::cell::RefCell;
 use std::collections::HashMap;
@@ -29,7 +29,7 @@ pub(super) fn comment(said: &str) -> String {
 
 impl Header<'_, '_> {
     /// How C calls a struct, union, enum, typedef or number.
-    pub(super) fn name(&self, number: u16) -> String {
+    pub(super) fn name(&self, number: Number) -> String {
         if let Some(known) = self.names.borrow().get(&number) {
             return known.clone();
         }
@@ -38,7 +38,7 @@ impl Header<'_, '_> {
         made
     }
 
-    fn new_name(&self, number: u16) -> String {
+    fn new_name(&self, number: Number) -> String {
         let record = self.record(number);
         if matches!(record.kind, Kind::Integer | Kind::Float) {
             if record.name == b"void" && self.catalog.size(number).unwrap_or(0) == 0 {
@@ -56,7 +56,7 @@ impl Header<'_, '_> {
     }
 
     /// The type's own name if it is free; a forward and what it declares have the same.
-    fn free(&self, taken: &RefCell<HashMap<String, u16>>, number: u16) -> String {
+    fn free(&self, taken: &RefCell<HashMap<String, Number>>, number: Number) -> String {
         let record = self.record(number);
         let name = match identifier(&record.name) {
             Some(name) => name.to_owned(),

@@ -1,30 +1,30 @@
 //! The order of a header: what a type needs in full stands before it.
 
 use super::Header;
-use crate::types::catalog::is_qualifier;
+use crate::types::catalog::{is_qualifier, Number};
 use ctfd::Kind;
 use std::collections::HashSet;
 
 /// A type that is still to be put in order, or of which all that it needs was.
 enum Step {
-    Enter(u16),
-    Leave(u16),
+    Enter(Number),
+    Leave(Number),
 }
 
 /// What a declaration needs.
 #[derive(Default)]
 struct Needs {
     /// What stands before it, in full.
-    before: Vec<u16>,
+    before: Vec<Number>,
     /// The structs that it names, and those of them without a name.
-    pointed: Vec<u16>,
-    tagged: Vec<u16>,
+    pointed: Vec<Number>,
+    tagged: Vec<Number>,
 }
 
 impl Header<'_, '_> {
     /// What a type needs in full stands before it: by depth first, without recursion, since chains
     /// may be long.
-    pub(super) fn put_in_order(&mut self, wanted: &[u16]) {
+    pub(super) fn put_in_order(&mut self, wanted: &[Number]) {
         let mut seen = HashSet::new();
         let mut todo: Vec<Step> = wanted.iter().rev().map(|&number| Step::Enter(number)).collect();
         let mut pointed = HashSet::new();
@@ -47,7 +47,7 @@ impl Header<'_, '_> {
     }
 
     /// Names that its declaration has, and structs that it holds; pointers need none in full.
-    fn needs(&self, number: u16) -> Needs {
+    fn needs(&self, number: Number) -> Needs {
         let mut needs = Needs::default();
         let record = self.record(number);
         match record.kind {
@@ -63,7 +63,7 @@ impl Header<'_, '_> {
     }
 
     /// What a declaration names; the struct that it holds by value first, if it is needed.
-    fn add_named_in(&self, number: u16, is_renamed: bool, needs: &mut Needs) {
+    fn add_named_in(&self, number: Number, is_renamed: bool, needs: &mut Needs) {
         let reached = self.catalog.reached(number);
         let end = self.record(reached.number);
         let is_whole = !is_renamed || reached.is_array || end.name.is_empty();

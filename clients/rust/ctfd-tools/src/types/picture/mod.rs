@@ -5,7 +5,7 @@
 
 mod block;
 
-use super::catalog::Catalog;
+use super::catalog::{Catalog, Number};
 use super::declare::declaration;
 use super::drawing::{self, Extent, Label, Rectangle};
 use super::failure::{Failure, Outcome};
@@ -49,7 +49,7 @@ struct Room {
 /// The picture of the first struct or union of a name.
 pub fn svg(whole: &Whole<'_, '_>, name: &[u8], cache_line: u64) -> Outcome<String> {
     let catalog = whole.names.catalog;
-    let mut meant: Vec<u16> = whole.names.meant(name)?.into_iter().collect();
+    let mut meant: Vec<Number> = whole.names.meant(name)?.into_iter().collect();
     meant.sort_by_key(|&number| !catalog.is_own(number)); // a stable sort
     let found = meant.into_iter().find(|&number| catalog.record(number).is_aggregate());
     let Some(number) = found else {
@@ -63,17 +63,17 @@ pub fn svg(whole: &Whole<'_, '_>, name: &[u8], cache_line: u64) -> Outcome<Strin
 struct Picture<'p, 'd> {
     names: &'p Names<'p, 'd>,
     catalog: &'p Catalog<'d>,
-    number: u16,
+    number: Number,
     size: u64,
     row_bits: u128,
     scale: f64,
     cut: Vec<String>,
     blocks: Vec<Block>,
-    lanes: RefCell<HashMap<(u16, usize), u64>>,
+    lanes: RefCell<HashMap<(Number, usize), u64>>,
 }
 
 impl<'p, 'd> Picture<'p, 'd> {
-    fn of(names: &'p Names<'p, 'd>, number: u16, cache_line: u64) -> Outcome<Picture<'p, 'd>> {
+    fn of(names: &'p Names<'p, 'd>, number: Number, cache_line: u64) -> Outcome<Picture<'p, 'd>> {
         let catalog = names.catalog;
         let size = catalog.size(number).unwrap_or(0);
         let whole = match 8 * u128::from(size).div_ceil(8) {
@@ -99,7 +99,7 @@ impl<'p, 'd> Picture<'p, 'd> {
     /// Adds the boxes of the members of a struct or union that has some room in height.
     fn add(
         &mut self,
-        number: u16,
+        number: Number,
         path: &str,
         start: u128,
         room: Room,
@@ -136,7 +136,7 @@ impl<'p, 'd> Picture<'p, 'd> {
         self.blocks.push(Block { sort, name, of, start, bits, top, high, strip: 1.0 });
     }
 
-    fn leave_out(&mut self, number: u16, path: &str, start: u128, room: Room) {
+    fn leave_out(&mut self, number: Number, path: &str, start: u128, room: Room) {
         let name = match path.is_empty() {
             true => self.names.label(number),
             false => path.to_owned(),
@@ -205,7 +205,7 @@ impl<'p, 'd> Picture<'p, 'd> {
     }
 
     /// The struct or union that is drawn by its members; none of what is one box.
-    fn inner(&self, place: &Place<'_>, depth: usize) -> Option<u16> {
+    fn inner(&self, place: &Place<'_>, depth: usize) -> Option<Number> {
         let reached = self.catalog.reached(place.part.of);
         let is_open = self.catalog.record(reached.number).is_aggregate()
             && reached.elements == 1
@@ -231,7 +231,7 @@ impl<'p, 'd> Picture<'p, 'd> {
     }
 
     /// How many boxes stand below each other in a struct or union.
-    fn lanes(&self, number: u16, depth: usize) -> u64 {
+    fn lanes(&self, number: Number, depth: usize) -> u64 {
         if depth > DEEPEST {
             return 1;
         }

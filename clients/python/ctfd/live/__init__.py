@@ -1,1 +1,0 @@
-"""Values in a process that runs, or in a core file, without a debugger."""

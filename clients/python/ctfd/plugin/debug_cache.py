@@ -1,0 +1,114 @@
+"""Debug files that were written before, in a folder of the user.
+
+It is `ctfd` in the user's cache (XDG_CACHE_HOME, else ~/.cache). Whoever could write there could
+give a debugger any symbols, so a folder that others may write to, or that is another's, is not
+used. Of many files those that were used last stay. Each ends with the sum of what is before it,
+which no reader of ELF files looks at: one that is not as it was written is made anew.
+"""
+from __future__ import annotations
+
+import contextlib
+import hashlib
+import os
+import stat
+import tempfile
+import time
+from pathlib import Path
+from typing import Iterable
+
+from ..client.faults import Error
+from ..files.mapped import Mapped
+from ..version import VERSION
+
+MOST_FILES, MOST_BYTES = 64, 1 << 30
+SUFFIX, UNFINISHED = ".debug", ".new-"
+FORMAT = 3  # of the files; another number is another name
+MARK, SUM = b"\nctfd sum", 32
+PIECE = 1 << 20
+SECONDS = 3600  # after which nobody is still writing a file
+
+
+def folder() -> Path:
+    """The folder, which is made where it is not there. Raises Error where it can't be used."""
+    base = os.environ.get("XDG_CACHE_HOME") or os.path.expanduser("~/.cache")
+    place = Path(base, "ctfd")
+    try:
+        place.mkdir(mode=0o700, parents=True, exist_ok=True)
+        found = os.lstat(place)
+    except OSError as error:
+        raise Error(f"{place}: {error.strerror}") from error
+    is_ours = stat.S_ISDIR(found.st_mode) and found.st_uid == os.geteuid()
+    if not is_ours or found.st_mode & (stat.S_IWGRP | stat.S_IWOTH):
+        raise Error(f"{place} is not a folder that its owner alone may write to, and that is yours:"
+                    " debug files are not kept there")
+    return place
+
+
+def key(build_id: str, read: Iterable[Mapped]) -> str:
+    """The name of the file that is made of what was read: of the build's, where one is told."""
+    found = hashlib.sha256(f"{FORMAT} {VERSION}".encode())
+    for data in read:
+        found.update(len(data).to_bytes(8, "little"))
+        found.update(data)
+    return f"{build_id or 'none'}-{found.hexdigest()[:32]}{SUFFIX}"
+
+
+def keep(place: Path, name: str, data: bytes) -> Path:
+    """Writes a file whole, and lets the oldest go until there is room. Raises Error, and then
+    leaves nothing behind."""
+    kept = place / name
+    try:
+        handle, made = tempfile.mkstemp(dir=place, prefix=UNFINISHED)
+        try:
+            with os.fdopen(handle, "wb") as file:
+                file.write(data)
+                file.write(MARK + hashlib.blake2b(data, digest_size=SUM).digest())
+            os.replace(made, kept)
+        except BaseException:
+            with contextlib.suppress(OSError):
+                os.unlink(made)
+            raise
+        _shrink(place, kept)
+    except OSError as error:
+        raise Error(f"{kept}: {error.strerror}") from error
+    return kept
+
+
+def known(place: Path, name: str) -> bool:
+    """Whether a file is there as it was written, which is then the one that was used last."""
+    try:
+        is_whole = _is_whole(place / name)
+        if is_whole:
+            os.utime(place / name)
+        return is_whole
+    except OSError:
+        return False
+
+
+def _is_whole(path: Path) -> bool:
+    """Whether a file has the sum that it ends with."""
+    found = hashlib.blake2b(digest_size=SUM)
+    with open(path, "rb") as file:
+        left = os.fstat(file.fileno()).st_size - len(MARK) - SUM
+        while left > 0:
+            piece = file.read(min(left, PIECE))
+            if not piece:
+                return False
+            found.update(piece)
+            left -= len(piece)
+        return file.read() == MARK + found.digest()
+
+
+def _shrink(place: Path, newest: Path) -> None:
+    """Takes the files away that were not used longest, and what was never written to its end."""
+    for path in place.glob(f"{UNFINISHED}*"):
+        with contextlib.suppress(OSError):
+            if path.lstat().st_mtime < time.time() - SECONDS:
+                path.unlink()
+    files = sorted(((path.stat().st_mtime, path.stat().st_size, path)
+                    for path in place.glob(f"*{SUFFIX}") if path != newest), reverse=True)
+    room = MOST_BYTES - newest.stat().st_size
+    for number, (_, size, path) in enumerate(files, 1):
+        room -= size
+        if room < 0 or number >= MOST_FILES:
+            path.unlink()

@@ -1,0 +1,87 @@
+"""Debug files for a debugger that runs: those that are kept, and new ones, which the compiled
+`ctfd-debuginfo` writes."""
+from __future__ import annotations
+
+import subprocess
+import tempfile
+from pathlib import Path
+from typing import Callable, List, Optional
+
+from ..client.faults import Error, Unreadable
+from ..files import compiled
+from ..files.elf import Elf, MAGIC, build_id
+from ..files.mapped import contents
+from ..files.source import SECTIONS
+from ..text import printable
+from . import debug_cache
+
+NAME = "ctfd-debuginfo"
+
+
+class Writer:
+    """Writes debug files into the user's cache, else into a folder that goes with the debugger.
+    `say` prints a line."""
+
+    def __init__(self, say: Callable[[str], None]) -> None:
+        self.say = say
+        self._folder: Optional[tempfile.TemporaryDirectory[str]] = None
+
+    def debug_file(self, path: str, parent: Optional[str] = None) -> Path:
+        """The debug file of a program. What is to be known of a new one is said. Raises Error."""
+        read = [contents(one) for one in (path, parent) if one]
+        name = debug_cache.key(build_id(Elf(read[0], path)), read)
+        place = self._place()
+        if debug_cache.known(place, name):
+            return place / name
+        data = self._new(path, parent)
+        try:
+            return debug_cache.keep(place, name, data)
+        except Error as error:  # as where the disk is full
+            return debug_cache.keep(self._temporary(error), name, data)
+
+    def _new(self, path: str, parent: Optional[str]) -> bytes:
+        """What the command writes for a program; its notes are said. Raises Unreadable."""
+        command = compiled.find(NAME)
+        if command is None:
+            raise Unreadable(f"{path}: {compiled.missing(NAME, 'its debug file is written')}")
+        words = [command, *([f"--parent={parent}"] if parent else []), "--", path, "-"]
+        try:
+            done = subprocess.run(words, stdin=subprocess.DEVNULL, capture_output=True,
+                                  check=False)
+        except OSError as error:
+            raise Unreadable(f"{path}: {command}: {error.strerror}") from error
+        if done.returncode != 0:
+            raise Unreadable(compiled.reason(path, done, NAME))
+        for note in _notes(done.stderr):
+            self.say(printable(note))
+        return done.stdout
+
+    def _place(self) -> Path:
+        try:
+            return debug_cache.folder()
+        except Error as error:
+            return self._temporary(error)
+
+    def _temporary(self, why: Error) -> Path:
+        """A folder that goes with the debugger, and why it is not the user's."""
+        if self._folder is None:
+            self.say(printable(str(why)))
+            self._folder = tempfile.TemporaryDirectory(prefix="ctfd-")
+        return Path(self._folder.name)
+
+
+def _notes(errors: bytes) -> List[str]:
+    """The lines that the command says, without its name in front."""
+    front = f"{NAME}: "
+    lines = errors.decode("utf-8", "replace").splitlines()
+    return [line[len(front):] if line.startswith(front) else line for line in lines]
+
+
+def has_types(path: str) -> bool:
+    """Whether a file is an ELF file with CTF."""
+    try:
+        data = contents(path)
+        file = Elf(data, path) if data[:4] == MAGIC else None
+    except Unreadable:
+        return False
+    return file is not None and any(file.named(name) for name in SECTIONS)

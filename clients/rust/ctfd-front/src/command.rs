@@ -1,0 +1,268 @@
+//! The words of the command line.
+
+use crate::limits::{Limits, LONGEST_LINE, MOST_SESSIONS};
+use clap::{value_parser, Arg, ArgAction, ArgMatches, Command};
+use std::ffi::OsString;
+use std::path::PathBuf;
+use std::time::Duration;
+
+const ABOUT: &str = "Lets many clients use one ctfd, over a socket.
+
+Each connection is a session of its own: the front writes its number into each line, whatever the \
+client writes. A line without `s` is answered with that number; others take by it what it \
+publishes. Each NAME=FILE is published for all, who take it from owner 0.";
+
+const STATUSES: &str = "\
+The status is 0 if SIGTERM or SIGINT ended it; 1 if a file was refused, 3 if one can't be read and \
+4 if memory is short for one; 2 for a wrong command line; 5 if the socket can't be had; 7 if all \
+session numbers were given. SIGUSR1 writes statistics to standard error.";
+
+const MOST_SHARDS: u64 = 256;
+/// The largest number of an option that has no limit of its own.
+const MOST: u64 = u32::MAX as u64 * 1_024;
+const MOST_SECONDS: f64 = 1e9;
+
+/// What the operator wants.
+pub struct Options {
+    pub files: Vec<OsString>,
+    pub socket: Option<PathBuf>,
+    pub mode: u32,
+    pub group: Option<String>,
+    pub shards: usize,
+    pub withdraws: bool,
+    pub stats: Option<Duration>,
+    pub metrics: Option<PathBuf>,
+    pub limits: Limits,
+    /// Options that mean nothing where the service is in this process.
+    pub ignored: Vec<&'static str>,
+}
+
+/// The words of the command line. Wrong ones end the process with status 2.
+pub fn options(words: impl IntoIterator<Item = OsString>) -> Options {
+    let matches = command().get_matches_from(words);
+    let limits = limits(&matches);
+    let files = matches.get_many("files").unwrap_or_default().cloned().collect();
+    let ignored =
+        [("restart", matches.get_flag("restart")), ("service", matches.contains_id("service"))];
+    Options {
+        files,
+        socket: matches.get_one("socket").cloned(),
+        mode: matches.get_one("mode").copied().unwrap_or(0o660),
+        group: matches.get_one("group").cloned(),
+        shards: matches.get_one::<u64>("processes").map_or(1, |shards| *shards as usize),
+        withdraws: matches.get_flag("withdraw"),
+        stats: matches.get_one("stats").copied(),
+        metrics: matches.get_one("metrics").cloned(),
+        limits,
+        ignored: ignored.iter().filter(|(_, is_given)| *is_given).map(|(name, _)| *name).collect(),
+    }
+}
+
+fn command() -> Command {
+    let defaults = Limits::default();
+    Command::new("ctfd-front")
+        .version(env!("CARGO_PKG_VERSION"))
+        .about(ABOUT)
+        .after_help(STATUSES)
+        .max_term_width(100)
+        .infer_long_args(true)
+        .args_override_self(true)
+        .arg(
+            Arg::new("files")
+                .value_name("NAME=FILE")
+                .num_args(0..)
+                .value_parser(value_parser!(OsString))
+                .help("a CTF section that all may take from owner 0"),
+        )
+        .args(of_the_socket())
+        .args(of_the_service())
+        .args(of_counts(&defaults))
+        .args(of_bytes(&defaults))
+        .args(of_times(&defaults))
+}
+
+fn of_the_socket() -> [Arg; 3] {
+    [
+        path("socket", "PATH").help(
+            "where clients find it; a socket on which nobody listens is replaced. By default the \
+             socket that systemd hands over (LISTEN_FDS)",
+        ),
+        option("mode", "MODE")
+            .value_parser(mode)
+            .default_value("660")
+            .help("who may connect, as for chmod"),
+        option("group", "GROUP").help("the group of the socket"),
+    ]
+}
+
+fn of_the_service() -> [Arg; 6] {
+    [
+        option("processes", "N")
+            .value_parser(value_parser!(u64).range(1..=MOST_SHARDS))
+            .default_value("1")
+            .help(
+                "how many shards, each a thread with a service of its own. Clients that meet name \
+                 a room in their first line, {\"op\":\"room\",\"name\":\"NAME\"}: it lives in one \
+                 of them",
+            ),
+        Arg::new("withdraw")
+            .long("withdraw")
+            .action(ArgAction::SetTrue)
+            .help("withdraw what a client has published when its connection ends"),
+        option("stats", "SECONDS")
+            .value_parser(seconds)
+            .help("write statistics to standard error, so often; by default only at SIGUSR1"),
+        path("metrics", "FILE").help(
+            "write statistics there too, for the textfile collector of Prometheus' node exporter, \
+             so often or each 15 seconds",
+        ),
+        Arg::new("restart")
+            .long("restart")
+            .action(ArgAction::SetTrue)
+            .help("for older scripts: the service is in this process, and ends with it"),
+        option("service", "CTFD").help("for older scripts: the service is in this process"),
+    ]
+}
+
+/// An option that counts something, from 1 to so many.
+fn size(name: &'static str, default: u64, most: u64, help: &str) -> Arg {
+    option(name, "N")
+        .value_parser(value_parser!(u64).range(1..=most))
+        .help(format!("{help} [default: {default}]"))
+}
+
+fn of_counts(limits: &Limits) -> [Arg; 6] {
+    let count = |name, default: usize, help| size(name, default as u64, MOST, help);
+    let help = "sessions in all; then the front ends";
+    [
+        count("connections", limits.connections, "connections; one more is told so and closed"),
+        count("user-connections", limits.user_connections, "connections of one user"),
+        size("sessions", limits.sessions, MOST_SESSIONS, help),
+        count("user-sessions", limits.user_sessions, "sessions of one user in an hour"),
+        count("ahead", limits.ahead, "lines of a connection that are answered in a turn"),
+        count("user-ahead", limits.user_ahead, "the same: the smaller of both counts"),
+    ]
+}
+
+fn of_bytes(limits: &Limits) -> [Arg; 6] {
+    let count = |name, default: usize, help| size(name, default as u64, MOST, help);
+    let line = "bytes of a line; a longer one is refused as LongLine";
+    let lines = "unanswered lines of a connection; then it is not read from";
+    let bytes = "unanswered bytes of a connection; then it is not read from";
+    let unread = "bytes of replies that a client has not read; then its next line waits";
+    let memory = "bytes kept for all connections; then the one that asked for more is closed";
+    let of_user = "bytes kept for one user's connections; then the same";
+    [
+        size("line", limits.line as u64, LONGEST_LINE as u64, line),
+        count("lines", limits.lines, lines),
+        count("bytes", limits.bytes, bytes),
+        count("unread", limits.unread, unread),
+        count("memory", limits.memory, memory),
+        count("user-memory", limits.user_memory, of_user),
+    ]
+}
+
+fn of_times(limits: &Limits) -> [Arg; 3] {
+    let time = |name, default: Duration, help| {
+        option(name, "SECONDS")
+            .value_parser(seconds)
+            .help(format!("{help} [default: {}]", default.as_secs()))
+    };
+    [
+        time("idle", limits.idle, "a connection that sends nothing for so long is closed"),
+        time(
+            "stalled",
+            limits.stalled,
+            "so is one with half a line, or with replies that it does not read",
+        ),
+        time(
+            "grace",
+            limits.grace,
+            "how long clients have to read their last replies when the front ends",
+        ),
+    ]
+}
+
+fn option(name: &'static str, value: &'static str) -> Arg {
+    Arg::new(name).long(name).value_name(value).allow_hyphen_values(true)
+}
+
+fn path(name: &'static str, value: &'static str) -> Arg {
+    option(name, value).value_parser(value_parser!(PathBuf))
+}
+
+fn limits(matches: &ArgMatches) -> Limits {
+    let defaults = Limits::default();
+    let size = |name, default| {
+        let size = matches.get_one::<u64>(name).copied();
+        size.map_or(default, |size| usize::try_from(size).unwrap_or(usize::MAX))
+    };
+    let time = |name, default| matches.get_one::<Duration>(name).copied().unwrap_or(default);
+    Limits {
+        connections: size("connections", defaults.connections),
+        user_connections: size("user-connections", defaults.user_connections),
+        line: size("line", defaults.line),
+        lines: size("lines", defaults.lines),
+        bytes: size("bytes", defaults.bytes),
+        unread: size("unread", defaults.unread),
+        memory: size("memory", defaults.memory),
+        user_memory: size("user-memory", defaults.user_memory),
+        sessions: matches.get_one("sessions").copied().unwrap_or(defaults.sessions),
+        user_sessions: size("user-sessions", defaults.user_sessions),
+        ahead: size("ahead", defaults.ahead),
+        user_ahead: size("user-ahead", defaults.user_ahead),
+        idle: time("idle", defaults.idle),
+        stalled: time("stalled", defaults.stalled),
+        grace: time("grace", defaults.grace),
+    }
+}
+
+fn seconds(text: &str) -> Result<Duration, String> {
+    let seconds: f64 = text.parse().map_err(|_| "no number of seconds".to_owned())?;
+    if seconds > 0.0 && seconds < MOST_SECONDS {
+        Ok(Duration::from_secs_f64(seconds))
+    } else {
+        Err("more than 0 seconds and less than 1e9 are wanted".into())
+    }
+}
+
+fn mode(text: &str) -> Result<u32, String> {
+    let mode = u32::from_str_radix(text, 8).ok().filter(|mode| mode & !0o777 == 0);
+    mode.ok_or_else(|| "octal digits up to 777 are wanted".into())
+}
+
+#[cfg(test)]
+mod tests {
+    use super::*;
+
+    fn parsed(words: &[&str]) -> Options {
+        options(["ctfd-front"].iter().chain(words).map(OsString::from))
+    }
+
+    #[test]
+    fn the_command_line_is_consistent() {
+        command().debug_assert();
+        let options = parsed(&[]);
+        let wanted = Limits::default();
+        assert_eq!(format!("{:?}", options.limits), format!("{wanted:?}"));
+        assert_eq!((options.mode, options.shards, options.files.len()), (0o660, 1, 0));
+    }
+
+    #[test]
+    fn words_are_read() {
+        let options =
+            parsed(&["--idle", "0.5", "a=b", "--mode=600", "--user-mem", "7", "--", "-c=d"]);
+        assert_eq!(options.limits.idle, Duration::from_millis(500));
+        assert_eq!((options.mode, options.limits.user_memory), (0o600, 7));
+        assert_eq!(options.files, ["a=b", "-c=d"]);
+    }
+
+    #[test]
+    fn wrong_words_are_refused() {
+        for words in [["--line", "1048562"], ["--lines", "0"], ["--idle", "-1"], ["--mode", "9"]] {
+            let words = ["ctfd-front"].iter().chain(&words);
+            let why = command().try_get_matches_from(words).unwrap_err();
+            assert!(why.use_stderr(), "{why}");
+        }
+    }
+}

@@ -1,0 +1,129 @@
+//! What other threads give a shard, and ask of it.
+
+use crate::connection::Connection;
+use crate::statistics::Statistics;
+use mio::Waker;
+use std::sync::atomic::{AtomicBool, AtomicUsize, Ordering};
+use std::sync::{Condvar, Mutex, MutexGuard, PoisonError};
+use std::time::Duration;
+
+/// So long a shard that answers a long request is waited for; then what it told before counts.
+const PATIENCE: Duration = Duration::from_millis(250);
+
+/// What a shard tells of itself.
+#[derive(Clone)]
+pub struct Snapshot {
+    pub statistics: Statistics,
+    pub processor: Duration,
+    pub connections: Vec<Row>,
+}
+
+/// What a shard tells of an open connection.
+#[derive(Clone)]
+pub struct Row {
+    pub session: u32,
+    pub user: u32,
+    pub lines: u64,
+    pub refusals: u64,
+    pub time_used: Duration,
+    pub bytes: usize,
+}
+
+/// The way into a shard.
+pub struct Door {
+    waker: Waker,
+    comers: Mutex<Vec<Connection>>,
+    connections: AtomicUsize,
+    is_stopping: AtomicBool,
+    is_asked: AtomicBool,
+    snapshot: Mutex<Option<Snapshot>>,
+    has_told: Condvar,
+}
+
+impl Door {
+    /// That of a shard which is woken so.
+    pub fn new(waker: Waker) -> Door {
+        Door {
+            waker,
+            comers: Mutex::default(),
+            connections: AtomicUsize::new(0),
+            is_stopping: AtomicBool::new(false),
+            is_asked: AtomicBool::new(false),
+            snapshot: Mutex::default(),
+            has_told: Condvar::new(),
+        }
+    }
+
+    /// Gives it a connection, or gives that back where memory is refused.
+    #[must_use]
+    pub fn give(&self, connection: Connection) -> Option<Connection> {
+        let mut comers = lock(&self.comers);
+        if comers.try_reserve(1).is_err() {
+            return Some(connection);
+        }
+        self.connections.fetch_add(1, Ordering::Relaxed);
+        comers.push(connection);
+        drop(comers);
+        self.wake();
+        None
+    }
+
+    /// How many connections it has.
+    pub fn connections(&self) -> usize {
+        self.connections.load(Ordering::Relaxed)
+    }
+
+    /// Has it answer what has come, and end.
+    pub fn stop(&self) {
+        self.is_stopping.store(true, Ordering::Release);
+        self.wake();
+    }
+
+    /// What it has counted: now, or before the long request that it answers.
+    pub fn ask(&self) -> Option<Snapshot> {
+        let snapshot = lock(&self.snapshot);
+        self.is_asked.store(true, Ordering::Release);
+        self.wake();
+        let is_waiting = |_: &mut Option<Snapshot>| self.is_asked.load(Ordering::Acquire);
+        let waited = self.has_told.wait_timeout_while(snapshot, PATIENCE, is_waiting);
+        waited.unwrap_or_else(PoisonError::into_inner).0.clone()
+    }
+
+    fn wake(&self) {
+        // It fails where the shard has ended, which nobody wakes any more.
+        let _ = self.waker.wake();
+    }
+
+    // What the shard itself does.
+
+    /// A connection that came, if there is one.
+    pub fn comer(&self) -> Option<Connection> {
+        lock(&self.comers).pop()
+    }
+
+    /// A connection has gone.
+    pub fn leave(&self) {
+        self.connections.fetch_sub(1, Ordering::Relaxed);
+    }
+
+    /// Whether it is to end.
+    pub fn is_stopping(&self) -> bool {
+        self.is_stopping.load(Ordering::Acquire)
+    }
+
+    /// Whether somebody waits for a snapshot.
+    pub fn is_asked(&self) -> bool {
+        self.is_asked.load(Ordering::Acquire)
+    }
+
+    /// Tells what it has counted.
+    pub fn tell(&self, snapshot: Snapshot) {
+        *lock(&self.snapshot) = Some(snapshot);
+        self.is_asked.store(false, Ordering::Release);
+        self.has_told.notify_all();
+    }
+}
+
+fn lock<T>(mutex: &Mutex<T>) -> MutexGuard<'_, T> {
+    mutex.lock().unwrap_or_else(PoisonError::into_inner)
+}

@@ -1,0 +1,93 @@
+//! The operator's dictionaries: NAME=FILE, read once for all shards.
+
+use crate::listening::words;
+use crate::members::Text;
+use crate::published::Name;
+use std::ffi::{OsStr, OsString};
+use std::fs::File;
+use std::io::{self, Read};
+use std::os::unix::ffi::OsStrExt;
+use std::path::{Path, PathBuf};
+
+/// The bytes of a section at most.
+const LONGEST: u64 = 67_108_864;
+
+/// What programs and archives begin with.
+const PROGRAMS: [&[u8]; 3] = [b"\x7fELF", b"!<arch>\n", b"!<thin>\n"];
+
+/// Why a file is not served, and the status that the front ends with.
+pub struct Trouble {
+    pub status: u8,
+    pub message: String,
+}
+
+/// A dictionary that all may take.
+pub struct Published {
+    pub name: String,
+    pub path: PathBuf,
+    pub section: Vec<u8>,
+}
+
+/// Refuses files that hold more than types.
+pub fn refuse_programs(files: &[OsString]) -> Result<(), Trouble> {
+    let program = files.iter().find_map(|word| {
+        let (name, path) = cut(word)?;
+        is_program(path).then(|| (String::from_utf8_lossy(name), path.display()))
+    });
+    program.map_or(Ok(()), |(name, path)| {
+        let message = format!(
+            "{path} is a program, and a service takes types alone: `ctfd-convert {path} OUT` \
+             writes them, then name {name}=OUT"
+        );
+        Err(Trouble { status: 1, message })
+    })
+}
+
+/// Whether a file is a program, a library, an object file or an archive.
+fn is_program(path: &Path) -> bool {
+    let mut start = [0; 8];
+    // That it can't be read is told where it is to be read.
+    let is_read =
+        path.is_file() && File::open(path).and_then(|mut file| file.read_exact(&mut start)).is_ok();
+    is_read && PROGRAMS.iter().any(|magic| start.starts_with(magic))
+}
+
+/// The two parts of NAME=FILE.
+fn cut(word: &OsString) -> Option<(&[u8], &Path)> {
+    let bytes = word.as_bytes();
+    let place = bytes.iter().position(|&byte| byte == b'=')?;
+    Some((&bytes[..place], Path::new(OsStr::from_bytes(&bytes[place + 1..]))))
+}
+
+/// The dictionaries that some words name.
+pub fn read(files: &[OsString]) -> Result<Vec<Published>, Trouble> {
+    files.iter().map(one).collect()
+}
+
+fn one(word: &OsString) -> Result<Published, Trouble> {
+    let usage = || Trouble { status: 2, message: "usage: NAME=FILE".into() };
+    let (name, path) = cut(word).ok_or_else(usage)?;
+    let is_plain = !name.contains(&b'\\');
+    let name = Name::of(Text(name)).filter(|_| is_plain).ok_or_else(usage)?.to_string();
+    let path = path.to_owned();
+    let section = section(&path)?;
+    Ok(Published { name, path, section })
+}
+
+/// The bytes of a file.
+fn section(path: &Path) -> Result<Vec<u8>, Trouble> {
+    let shown = path.display();
+    let trouble = |status, message| Trouble { status, message };
+    let unread = |why: io::Error| trouble(3, format!("{shown}: {}", words(&why)));
+    let file = File::open(path).map_err(unread)?;
+    let mut section = Vec::new();
+    let is_read = file.take(LONGEST + 1).read_to_end(&mut section);
+    is_read.map_err(|why| match why.kind() {
+        io::ErrorKind::OutOfMemory => trouble(4, format!("{shown}: Memory")),
+        _ => unread(why),
+    })?;
+    if section.len() as u64 > LONGEST {
+        return Err(trouble(1, format!("{shown}: StageFull at 0")));
+    }
+    Ok(section)
+}

@@ -1,0 +1,270 @@
+//! A thread with a service of its own and its share of the connections.
+
+use crate::connection::{After, Connection};
+use crate::door::{Door, Row, Snapshot};
+use crate::refusals::{Cause, Refusal};
+use crate::tools::Tools;
+use crate::turns::Turns;
+use mio::{Events, Poll, Token};
+use std::io::{self, ErrorKind};
+use std::sync::Arc;
+use std::time::{Duration, Instant};
+
+/// Who wakes a shard.
+pub const BELL: Token = Token(usize::MAX);
+/// So long turns go on before newcomers are looked for.
+const SLICE: Duration = Duration::from_millis(2);
+/// How often silent clients are looked for, at least and at most.
+const LEAST_TICK: Duration = Duration::from_millis(20);
+const LONGEST_TICK: Duration = Duration::from_secs(1);
+const EVENTS: usize = 512;
+
+/// A shard, as its thread has it.
+pub struct Shard {
+    doors: Arc<[Door]>,
+    poll: Poll,
+    tools: Tools,
+    turns: Turns,
+    connections: Vec<Option<Connection>>,
+    free: Vec<usize>,
+    open: usize,
+    /// When it ends, whatever is unread.
+    until: Option<Instant>,
+    next_tick: Instant,
+}
+
+impl Shard {
+    /// One without connections. `doors` are those of all shards.
+    pub fn new(poll: Poll, doors: Arc<[Door]>, tools: Tools) -> Shard {
+        Shard {
+            doors,
+            poll,
+            tools,
+            turns: Turns::new(),
+            connections: Vec::new(),
+            free: Vec::new(),
+            open: 0,
+            until: None,
+            next_tick: Instant::now(),
+        }
+    }
+
+    /// Serves until it is told to end and all is answered and read, or the time for that is over.
+    /// How many connections were closed before that.
+    pub fn run(mut self) -> io::Result<usize> {
+        let mut events = Events::with_capacity(EVENTS);
+        loop {
+            match self.poll.poll(&mut events, self.patience()) {
+                Err(why) if why.kind() == ErrorKind::Interrupted => continue,
+                polled => polled?,
+            }
+            self.tools.meter.refresh();
+            for event in &events {
+                if event.token() == BELL {
+                    self.look();
+                } else if let Some(Some(connection)) = self.connections.get_mut(event.token().0) {
+                    connection.note(event);
+                    self.turns.offer(event.token().0);
+                }
+            }
+            self.turns.wake(self.tools.meter.last());
+            self.slice();
+            self.tick();
+            if self.until.is_some_and(|until| self.is_over(until)) {
+                break;
+            }
+        }
+        let left = self.open;
+        (0..self.connections.len()).for_each(|token| self.close(token, Cause::Unread));
+        self.tell();
+        Ok(left)
+    }
+
+    /// Whether nobody waits in any shard, from which one could still come, or the time is over.
+    fn is_over(&self, until: Instant) -> bool {
+        let is_empty = self.doors.iter().all(|door| door.connections() == 0);
+        is_empty || self.tools.meter.last() > until
+    }
+
+    fn door(&self) -> &Door {
+        &self.doors[self.tools.shard]
+    }
+
+    /// How long it may wait for events.
+    fn patience(&self) -> Option<Duration> {
+        if !self.turns.is_empty() {
+            return Some(Duration::ZERO);
+        }
+        let now = Instant::now();
+        let tick = (self.open > 0).then_some(self.next_tick);
+        let ending = self.until.map(|_| now + LEAST_TICK);
+        let moments = [self.turns.next_wake(), ending, tick];
+        let next = moments.into_iter().flatten().min()?;
+        Some(next.saturating_duration_since(now))
+    }
+
+    /// Gives turns for a bounded time.
+    fn slice(&mut self) {
+        let began = self.tools.meter.now();
+        let mut before = began;
+        while let Some(token) = self.turns.next() {
+            let Some(connection) = self.connections[token].as_mut() else { continue };
+            let mut longest = Duration::ZERO;
+            let before_turn = connection.time_used;
+            let after = connection.turn(&mut self.tools, &mut longest);
+            let answering = connection.time_used - before_turn;
+            let now = self.tools.meter.now();
+            // What stalled the thread amid a long request is nobody's.
+            let took = if longest > crate::turns::LONG { answering } else { now - before };
+            self.turns.charge(token, took, longest, now);
+            self.follow(token, after);
+            before = now;
+            if now - began > SLICE {
+                break;
+            }
+        }
+    }
+
+    /// Does what a connection waits for after its turn.
+    fn follow(&mut self, token: usize, after: Result<After, Cause>) {
+        let Some(connection) = self.connections[token].as_mut() else { return };
+        match after {
+            Ok(After::Turn) => self.turns.offer(token),
+            Ok(After::Client) => {
+                if connection.watch(self.poll.registry(), token).is_err() {
+                    self.close(token, Cause::Broken);
+                }
+            }
+            Ok(After::Shard(shard)) => self.hand_over(token, shard),
+            Err(cause) => self.close(token, cause),
+        }
+    }
+
+    /// Closes a connection and gives back its session, which its user is charged for.
+    fn close(&mut self, token: usize, cause: Cause) {
+        let Some(mut connection) = self.connections[token].take() else { return };
+        connection.deregister(self.poll.registry());
+        let began = self.tools.meter.now();
+        connection.close(cause, &mut self.tools);
+        let now = self.tools.meter.now();
+        self.turns.charge(token, now - began, Duration::ZERO, now);
+        self.leave(token);
+    }
+
+    /// Gives a connection to the shard where its room is.
+    fn hand_over(&mut self, token: usize, shard: usize) {
+        let Some(mut connection) = self.connections[token].take() else { return };
+        connection.deregister(self.poll.registry());
+        if let Some(connection) = self.doors[shard].give(connection) {
+            connection.close(Cause::Refused(Refusal::Held), &mut self.tools);
+        }
+        self.leave(token);
+    }
+
+    /// A connection has left its place.
+    fn leave(&mut self, token: usize) {
+        self.turns.leave(token);
+        self.free.push(token);
+        self.open -= 1;
+        self.door().leave();
+    }
+
+    /// Looks what other threads have given and ask for.
+    fn look(&mut self) {
+        while let Some(connection) = self.door().comer() {
+            self.adopt(connection);
+        }
+        if self.door().is_asked() {
+            self.tell();
+        }
+        if self.door().is_stopping() && self.until.is_none() {
+            self.until = Some(Instant::now() + self.tools.limits.grace);
+            for token in 0..self.connections.len() {
+                if let Some(connection) = &mut self.connections[token] {
+                    connection.finish(&mut self.tools);
+                    self.turns.offer(token);
+                }
+            }
+        }
+    }
+
+    /// Takes a connection in; where memory is refused, or it can't be watched, it is closed.
+    fn adopt(&mut self, mut connection: Connection) {
+        match self.place(connection.user) {
+            Some(token) if connection.register(self.poll.registry(), token).is_ok() => {
+                if self.until.is_some() {
+                    connection.finish(&mut self.tools);
+                }
+                self.connections[token] = Some(connection);
+                self.open += 1;
+                self.turns.offer(token);
+            }
+            place => {
+                if let Some(token) = place {
+                    self.turns.leave(token);
+                    self.free.push(token);
+                }
+                connection.close(Cause::Refused(Refusal::Held), &mut self.tools);
+                self.door().leave();
+            }
+        }
+    }
+
+    /// A place for a user's connection, where memory for it is given.
+    fn place(&mut self, user: u32) -> Option<usize> {
+        let token = match self.free.pop() {
+            Some(token) => token,
+            None => {
+                self.connections.try_reserve(1).ok()?;
+                // Each place may be free at once.
+                let places = self.connections.len() + 1;
+                self.free.try_reserve(places.saturating_sub(self.free.len())).ok()?;
+                self.connections.push(None);
+                places - 1
+            }
+        };
+        if self.turns.join(token, user).is_err() {
+            self.free.push(token);
+            return None;
+        }
+        Some(token)
+    }
+
+    /// Looks for those who are silent too long.
+    fn tick(&mut self) {
+        let now = self.tools.meter.last();
+        if now < self.next_tick {
+            return;
+        }
+        let limits = &self.tools.limits;
+        let tick = (limits.idle.min(limits.stalled) / 4).clamp(LEAST_TICK, LONGEST_TICK);
+        self.next_tick = now + tick;
+        self.turns.tidy_all();
+        for token in 0..self.connections.len() {
+            let connection = self.connections[token].as_ref();
+            let overdue = connection.and_then(|open| open.overdue(now, &self.tools.limits));
+            if let Some(cause) = overdue {
+                self.close(token, cause);
+            }
+        }
+    }
+
+    /// Tells what it has counted.
+    fn tell(&self) {
+        let mut connections = Vec::new();
+        // Without memory for it, what is told of connections is left out.
+        if connections.try_reserve(self.open).is_ok() {
+            connections.extend(self.connections.iter().flatten().map(|open| Row {
+                session: open.session.number(),
+                user: open.user,
+                lines: open.lines,
+                refusals: open.refusals,
+                time_used: open.time_used,
+                bytes: open.bytes(),
+            }));
+        }
+        let processor = self.tools.meter.processor();
+        let statistics = self.tools.statistics.clone();
+        self.door().tell(Snapshot { statistics, processor, connections });
+    }
+}

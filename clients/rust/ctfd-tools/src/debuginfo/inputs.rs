@@ -1,0 +1,209 @@
+//! The files that a debug file is made of, and how they go together.
+
+use super::options::Words;
+use crate::types::failure::{Failure, Outcome};
+use crate::types::open::{judge_model, shown};
+use ctfd::Model;
+use ctfd_read::debuggee::{Debuggee, Section};
+use ctfd_read::entry_symbols::{identity_of, likeness, own_symbols, Likeness};
+use ctfd_read::foreign::why_no_dictionary;
+use ctfd_read::image::Image;
+use ctfd_read::opening::{dictionary_of, parts_of, Handed, Origin, SECTIONS};
+use ctfd_read::symbols::SymbolTable;
+use std::path::Path;
+
+const NAME_IT: &str = "name the program before it was stripped by --symbols";
+
+/// The files that a command line names.
+pub struct Files {
+    file: Image,
+    program: Option<Image>,
+    symbols: Option<Image>,
+}
+
+impl Files {
+    /// Opens them, and refuses those that do not go together.
+    pub fn open(words: &Words) -> Outcome<Files> {
+        let open = |path: &Option<std::path::PathBuf>| path.as_deref().map(Image::open).transpose();
+        let file = Image::open(&words.file)?;
+        let made = Files { program: open(&words.program)?, symbols: open(&words.symbols)?, file };
+        made.judge()?;
+        Ok(made)
+    }
+
+    fn judge(&self) -> Outcome<()> {
+        let path = shown(self.file.path());
+        let why = match &self.program {
+            Some(program) if !program.is_elf() => format!(
+                "{} is no ELF file: --program names the program that the types are of",
+                shown(program.path())
+            ),
+            Some(_) if self.file.is_elf() => format!(
+                "{path} is an ELF file itself: --program is for a section without one, and \
+                 --symbols names a copy that has more symbols"
+            ),
+            None if !self.file.is_elf() && self.symbols.is_some() => format!(
+                "{path} is no ELF file: name the program that its types are of by --program, in \
+                 place of --symbols"
+            ),
+            _ => return Ok(()),
+        };
+        Err(Failure::Refused(why))
+    }
+
+    /// The program; None for a section by itself.
+    pub fn debuggee(&self) -> Outcome<Option<Debuggee<'_>>> {
+        let image = self.program.as_ref().unwrap_or(&self.file);
+        Ok(image.is_elf().then(|| Debuggee::of(image)).transpose()?)
+    }
+
+    /// The copy of the program that has its symbols, where another is named. One of another build
+    /// is refused.
+    pub fn copy(&self, program: Option<&Debuggee<'_>>) -> Outcome<Option<Debuggee<'_>>> {
+        let Some(image) = &self.symbols else { return Ok(None) };
+        let copy = Debuggee::of(image)?;
+        match program {
+            Some(program) if !program.is_same_build(&copy) => Err(Failure::Refused(format!(
+                "{} is of another build than {}: name the file that this program was stripped from",
+                shown(image.path()),
+                shown(program.image().path())
+            ))),
+            _ => Ok(Some(copy)),
+        }
+    }
+
+    /// The dictionary, with the data model that the words and the program say.
+    pub fn dictionary(
+        &self,
+        wanted: Option<Model>,
+        program: Option<&Debuggee<'_>>,
+    ) -> Outcome<Handed<'_>> {
+        let path = self.file.path();
+        let read = || match parts_of(&self.file)? {
+            Some(parts) => Ok(Some(parts)),
+            None => dictionary_of(&self.file, None),
+        };
+        let found = read().map_err(|error| error.within(&shown(path)))?;
+        let mut found = found.ok_or_else(|| why_no_dictionary(&self.file))?;
+        judge_model(&mut found, wanted, path)?;
+        if let Some(program) = program {
+            judge_program(&found, path, program)?;
+            found.model = Some(program.model);
+            found.children.iter_mut().for_each(|child| child.model = found.model);
+        }
+        Ok(found)
+    }
+
+    /// Whether the symbols may be others than those that the section of the dictionary names.
+    fn has_others(&self) -> bool {
+        self.program.is_some() || self.symbols.is_some()
+    }
+
+    /// Gives a dictionary the symbols of a program for which it was written; else says why not.
+    pub fn add_symbols<'a>(
+        &self,
+        found: &mut Handed<'a>,
+        program: &Debuggee<'a>,
+    ) -> Outcome<Numbers<'a>> {
+        if !found.children.is_empty() {
+            return Ok(Numbers::None(format!(
+                "{}: it has the parts of a program, so the types are written, and nothing of its \
+                 symbols: let ctfd-convert write one dictionary by --one",
+                shown(self.file.path())
+            )));
+        }
+        found.symbols = None;
+        found.origin = Origin::None;
+        let table = |name: &str| program.section_of(name).map(|at| program.sections[at]);
+        let Some(wanted) = identity_of(&found.ctf) else {
+            return add_unnamed(found, program, self.has_others());
+        };
+        if wanted.table == SymbolTable::Names {
+            found.add_names();
+            let has_names = own_symbols(&found.ctf).is_some();
+            return Ok(match table(".symtab").filter(|_| has_names) {
+                Some(table) => Numbers::ByName(table),
+                None => Numbers::None(String::new()),
+            });
+        }
+        let word = wanted.table.word();
+        let why = match likeness(program.image(), wanted)? {
+            Likeness::Same => {
+                let table = table(word).ok_or_else(|| Failure::Refused(word.to_owned()))?;
+                return add_table(found, program, table, Origin::Named);
+            }
+            Likeness::Others => {
+                format!("the symbols of its {word} are not those that the types were written for")
+            }
+            Likeness::Absent => {
+                format!("it has no {word}, for whose symbols the types were written")
+            }
+        };
+        Ok(Numbers::None(without_symbols(program, &why)))
+    }
+}
+
+/// By what the entries of a dictionary know the symbols of a program.
+pub enum Numbers<'a> {
+    /// By their numbers in a table.
+    ByNumber(Section<'a>),
+    /// By their names, which are those of a table.
+    ByName(Section<'a>),
+    /// By nothing, and why, in a line; empty where nothing need be said.
+    None(String),
+}
+
+/// That types alone are written of a program, and why.
+pub fn without_symbols(program: &Debuggee<'_>, why: &str) -> String {
+    format!(
+        "{}: {why}, so the types are written, and nothing of its symbols: {NAME_IT}",
+        shown(program.image().path())
+    )
+}
+
+/// Refuses a dictionary of another data model than its program.
+fn judge_program(found: &Handed<'_>, path: &Path, program: &Debuggee<'_>) -> Outcome<()> {
+    let word = |model| match model {
+        Model::Ilp32 => "ilp32",
+        Model::Lp64 => "lp64",
+    };
+    match found.model.filter(|&model| model != program.model) {
+        None => Ok(()),
+        Some(model) => Err(Failure::Refused(format!(
+            "{} is of {}, and {} of {}: name the program that the types are of",
+            shown(path),
+            word(model),
+            shown(program.image().path()),
+            word(program.model)
+        ))),
+    }
+}
+
+/// The symbols of a dictionary that names none: those that its section links to, else .symtab.
+fn add_unnamed<'a>(
+    found: &mut Handed<'a>,
+    program: &Debuggee<'a>,
+    has_others: bool,
+) -> Outcome<Numbers<'a>> {
+    let section = SECTIONS.iter().find_map(|name| program.section_of(name));
+    let link = section.filter(|_| !has_others).map_or(0, |at| program.sections[at].link);
+    let linked = program.linked_table(link);
+    let origin = if linked.is_some() { Origin::Linked } else { Origin::Guessed };
+    match linked.or_else(|| program.section_of(".symtab")) {
+        Some(at) => add_table(found, program, program.sections[at], origin),
+        None => Ok(Numbers::None(without_symbols(program, "it has no symbol table"))),
+    }
+}
+
+/// Gives a dictionary a table, and the names that go with it.
+fn add_table<'a>(
+    found: &mut Handed<'a>,
+    program: &Debuggee<'a>,
+    table: Section<'a>,
+    origin: Origin,
+) -> Outcome<Numbers<'a>> {
+    found.symbols = Some(program.wide_table(&table)?);
+    found.strings = Some(program.strings(&table)?.into());
+    found.origin = origin;
+    Ok(Numbers::ByNumber(table))
+}

@@ -1,0 +1,189 @@
+//! The functions and objects of a program with their types, which its dictionary says.
+
+use crate::types::catalog::{Catalog, Signature, Told};
+use ctfd_read::debuggee::ProgramSymbol;
+use ctfd_read::symbols::Symbols;
+use gimli::write::Address;
+use object::elf::SHN_COMMON;
+use std::collections::{HashMap, HashSet};
+
+/// What compilers append to the names of copies of functions.
+const COPIES: [&[u8]; 6] =
+    [b".isra.", b".constprop.", b".part.", b".cold", b".lto_priv.", b".localalias"];
+const ALIAS: &[u8] = b".localalias";
+
+/// A symbol with what a dictionary says of it. Of a program that is linked, `section` is 0.
+pub struct TypedSymbol<'a> {
+    symbol: ProgramSymbol<'a>,
+    is_relocated: bool,
+    /// What is said of it.
+    pub description: Told,
+}
+
+impl<'a> TypedSymbol<'a> {
+    /// Its name.
+    pub fn name(&self) -> &'a [u8] {
+        self.symbol.name
+    }
+
+    /// Its address; in an object file that in its section.
+    pub fn address(&self) -> u64 {
+        self.symbol.address
+    }
+
+    /// Its bytes.
+    pub fn size(&self) -> u64 {
+        self.symbol.size
+    }
+
+    /// Whether other source files see it.
+    pub fn is_global(&self) -> bool {
+        self.symbol.is_global
+    }
+
+    /// The source file of one that is seen nowhere else, where that is known.
+    pub fn source(&self) -> &'a [u8] {
+        self.symbol.source
+    }
+
+    /// The section in which its address counts; 0 where it counts in none.
+    pub fn section(&self) -> u16 {
+        if self.is_relocated {
+            self.symbol.section
+        } else {
+            0
+        }
+    }
+
+    /// Whether its address is filled in as its file is loaded.
+    pub fn is_relocated(&self) -> bool {
+        self.is_relocated
+    }
+
+    /// The address so many bytes behind it, which has no more bits than a pointer.
+    pub fn behind(&self, count: u64, address_size: u8) -> Address {
+        match self.is_relocated {
+            true => Address::Symbol { symbol: self.symbol.number as usize, addend: count as i64 },
+            false => {
+                let address = self.symbol.address.wrapping_add(count);
+                Address::Constant(if address_size == 4 { address & 0xffff_ffff } else { address })
+            }
+        }
+    }
+
+    /// What a function takes and returns.
+    pub fn signature(&self) -> Option<&Signature> {
+        match &self.description {
+            Told::Function(signature) => Some(signature),
+            Told::Object(_) => None,
+        }
+    }
+
+    /// Whether it is another name of a function, which linkers made.
+    pub fn is_alias(&self) -> bool {
+        find(self.name(), ALIAS).is_some()
+    }
+
+    /// Whether it is a copy of a function, which may take its arguments elsewhere.
+    pub fn is_copy(&self) -> bool {
+        COPIES.iter().any(|mark| find(self.name(), mark).is_some())
+    }
+
+    /// Its name as C has it: without what compilers append to tell copies of functions, and
+    /// variables of functions, from others.
+    pub fn declared_name(&self) -> &'a [u8] {
+        without_mark(self.name())
+    }
+}
+
+fn without_mark(name: &[u8]) -> &[u8] {
+    let cut = |name, mark: &&[u8]| match find(name, mark) {
+        Some(at) => &name[..at],
+        None => name,
+    };
+    let name = COPIES.iter().fold(name, cut);
+    let digits = name.iter().rev().take_while(|byte| byte.is_ascii_digit()).count();
+    match name[..name.len() - digits].strip_suffix(b".") {
+        Some(front) if digits > 0 && !front.is_empty() => front,
+        _ => name,
+    }
+}
+
+fn find(name: &[u8], mark: &[u8]) -> Option<usize> {
+    name.windows(mark.len()).position(|part| part == mark)
+}
+
+/// What a dictionary says of symbols that it knows by their numbers in a table.
+pub fn by_number<'a>(
+    catalog: &Catalog<'_>,
+    symbols: &[ProgramSymbol<'a>],
+    is_relocated: bool,
+) -> Vec<TypedSymbol<'a>> {
+    let listed = symbols.iter().filter_map(|&symbol| {
+        let description = description_of(catalog, symbol.number, symbol.is_function)?;
+        Some(TypedSymbol { symbol, is_relocated, description })
+    });
+    in_order(listed.collect())
+}
+
+/// What a dictionary says of symbols whose names it has itself, for names that no two symbols have.
+pub fn by_name<'a>(
+    catalog: &Catalog<'_>,
+    own: &Symbols<'_>,
+    symbols: &[ProgramSymbol<'a>],
+    is_relocated: bool,
+) -> Vec<TypedSymbol<'a>> {
+    let mut only: HashMap<(&[u8], bool), Option<ProgramSymbol<'a>>> = HashMap::new();
+    for &symbol in symbols {
+        let one = only.entry((symbol.name, symbol.is_function));
+        one.and_modify(|known| *known = None).or_insert(Some(symbol));
+    }
+    let listed = own.listed.iter().zip(1..).filter_map(|(one, number)| {
+        let symbol = (*only.get(&(&*one.name, one.is_function))?)?;
+        let description = description_of(catalog, number, one.is_function)?;
+        Some(TypedSymbol { symbol, is_relocated, description })
+    });
+    in_order(listed.collect())
+}
+
+/// What a dictionary says of a symbol; None where it has no type.
+fn description_of(catalog: &Catalog<'_>, number: u32, is_function: bool) -> Option<Told> {
+    let told = catalog.told_of(number)?;
+    let is_typed = !matches!(told, Told::Object(0));
+    (is_typed && is_function == matches!(told, Told::Function(_))).then_some(told)
+}
+
+/// Objects that have a place, then each function once.
+fn in_order(listed: Vec<TypedSymbol<'_>>) -> Vec<TypedSymbol<'_>> {
+    let (functions, mut made): (Vec<_>, Vec<_>) =
+        listed.into_iter().partition(|one| one.signature().is_some());
+    made.retain(|one| one.section() != SHN_COMMON);
+    let mut known = HashSet::new();
+    for one in functions {
+        if known.insert((one.name(), one.address(), one.section())) {
+            made.push(one);
+        }
+    }
+    made
+}
+
+#[cfg(test)]
+mod tests {
+    use super::*;
+
+    #[test]
+    fn names_are_those_of_c() {
+        for (name, declared) in [
+            ("main", "main"),
+            ("touch.constprop.0", "touch"),
+            ("touch.isra.0.cold", "touch"),
+            ("counter.3", "counter"),
+            ("counter.x3", "counter.x3"),
+            (".7", ".7"),
+            ("touch.lto_priv.0", "touch"),
+            ("a.1.2", "a.1"),
+        ] {
+            assert_eq!(without_mark(name.as_bytes()), declared.as_bytes(), "{name}");
+        }
+    }
+}

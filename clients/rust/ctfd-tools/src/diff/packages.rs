@@ -1,0 +1,271 @@
+//! The libraries of two packages, or of two folders: which of the old is which of the new.
+
+use super::options::{Words, NAME};
+use crate::output::{on_path, Folder};
+use crate::types::failure::{Failure, Outcome};
+use crate::types::json::Object;
+use crate::types::open::shown;
+use crate::types::text::printable;
+use crate::types::warn_by;
+use ctfd_read::error::{reason, Error};
+use ctfd_read::exports::soname;
+use ctfd_read::image::Image;
+use std::collections::BTreeMap;
+use std::fs::{self, File};
+use std::io::Read as _;
+use std::path::{Path, PathBuf};
+use std::process::{Command, Stdio};
+
+/// How each package of Debian begins.
+const MAGIC: &[u8] = b"!<arch>\ndebian-binary";
+/// Where debug files are, below a folder or in a package.
+const DEBUG: &str = "usr/lib/debug";
+/// How many times its bytes a package may unpack to, and how much more.
+const MOST_TIMES: u64 = 256;
+const AT_LEAST: u64 = 1 << 30;
+const DEEPEST: usize = 64;
+const UNPACKER: &str = "dpkg-deb";
+
+/// Whether a path is that of a package or a folder.
+pub fn has_libraries(path: &Path) -> bool {
+    path.is_dir() || is_package(path)
+}
+
+fn is_package(path: &Path) -> bool {
+    let mut begins = [0; MAGIC.len()];
+    let is_file = fs::metadata(path).is_ok_and(|about| about.is_file());
+    let read = |mut file: File| file.read_exact(&mut begins);
+    is_file && File::open(path).and_then(read).is_ok() && begins == MAGIC
+}
+
+/// A library, and what programs that were linked with it ask for.
+#[derive(Clone, Debug, PartialEq, Eq)]
+pub struct Library {
+    /// Where it is.
+    pub path: PathBuf,
+    /// Its soname; the name of its file, where it has none.
+    pub name: String,
+}
+
+impl Library {
+    /// Its name, as a line on it begins.
+    pub fn printable_name(&self) -> String {
+        printable(self.name.as_bytes()).into_owned()
+    }
+
+    /// Its name without what is behind `.so`, and without a version in front of that.
+    fn stem(&self) -> &str {
+        let end = self.name.find(".so").unwrap_or(self.name.len());
+        self.name[..end].trim_end_matches(|letter: char| letter.is_ascii_digit() || letter == '.')
+    }
+}
+
+/// A package that was unpacked: lines tell of it, and not of the folder that it is in for now.
+pub struct Unpacked {
+    folder: Folder,
+    package: String,
+}
+
+impl Unpacked {
+    /// A line in which the folder is the package.
+    pub fn named(&self, line: &str) -> String {
+        line.replace(&shown(self.folder.path()), &self.package)
+    }
+}
+
+/// The libraries of a package or folder, and where their debug files are.
+pub struct Side {
+    /// The folders of debug files, in front of those that the command line names.
+    pub folders: Vec<PathBuf>,
+    /// Where it was unpacked, if it was.
+    pub unpacked: Option<Unpacked>,
+    libraries: Vec<Library>,
+}
+
+impl Side {
+    /// Those of a path, with what some packages of debug information have.
+    pub fn open(path: &Path, debug: &[PathBuf]) -> Outcome<Side> {
+        let mut folder = path.to_owned();
+        let mut unpacked = None;
+        let own = is_package(path).then_some(path);
+        if own.is_some() || !debug.is_empty() {
+            let made = Unpacked { folder: Folder::new()?, package: shown(path) };
+            let packages = own.into_iter().chain(debug.iter().map(PathBuf::as_path));
+            packages.into_iter().try_for_each(|one| unpack(one, made.folder.path()))?;
+            if own.is_some() {
+                folder = made.folder.path().to_owned();
+            }
+            unpacked = Some(made);
+        }
+        let mut libraries = Vec::new();
+        find(&folder, &folder.join(DEBUG), DEEPEST, &mut libraries)?;
+        libraries.sort_by(|one: &Library, other| {
+            (&one.name, &one.path).cmp(&(&other.name, &other.path))
+        });
+        let unpacked_debug = unpacked.as_ref().map(|made| made.folder.path().join(DEBUG));
+        let folders = [Some(folder.join(DEBUG)), unpacked_debug].into_iter().flatten();
+        let folders = folders.filter(|folder| folder.is_dir()).collect();
+        Ok(Side { folders, unpacked, libraries })
+    }
+}
+
+/// The line in front of what differs in a library.
+pub fn title(words: &Words, library: &Library) -> String {
+    match words.is_json {
+        true => Object::default().text("library", library.name.as_bytes()).end() + "\n",
+        false => format!("{}:\n", library.printable_name()),
+    }
+}
+
+/// A library of the old and the same of the new, as far as each is there.
+pub type Pair<'p> = (Option<&'p Library>, Option<&'p Library>);
+
+/// Which libraries of two sides belong together: those of one soname, then those whose sonames differ
+/// in their versions alone.
+pub fn pairs<'p>(old: &'p Side, new: &'p Side) -> Vec<Pair<'p>> {
+    let mut left: BTreeMap<&str, Vec<&Library>> = BTreeMap::new();
+    for one in &new.libraries {
+        left.entry(one.stem()).or_default().push(one);
+    }
+    let mut made: Vec<Pair<'p>> = old.libraries.iter().map(|one| (Some(one), None)).collect();
+    let passes: [fn(&Library, &Library) -> bool; 2] =
+        [|one, other| one.name == other.name, |_, _| true];
+    for is_same in passes {
+        for (one, found) in &mut made {
+            let Some(one) = one.filter(|_| found.is_none()) else { continue };
+            let Some(listed) = left.get_mut(one.stem()) else { continue };
+            let place = listed.iter().position(|other| is_same(one, other));
+            *found = place.map(|place| listed.remove(place));
+        }
+    }
+    made.extend(left.into_values().flatten().map(|one| (None, Some(one))));
+    made
+}
+
+/// The two sides that a command line names.
+pub fn sides(words: &Words) -> Outcome<[Side; 2]> {
+    let [old, new] = &words.debug_packages;
+    let sides = [Side::open(&words.old, old)?, Side::open(&words.new, new)?];
+    for (path, side) in [&words.old, &words.new].into_iter().zip(&sides) {
+        if side.libraries.is_empty() {
+            return Err(Failure::Refused(format!(
+                "{}: there is no shared library in it",
+                shown(path)
+            )));
+        }
+    }
+    Ok(sides)
+}
+
+/// Adds the libraries below a folder. Links lead to files that are met by themselves, or elsewhere.
+fn find(folder: &Path, passed: &Path, depth: usize, found: &mut Vec<Library>) -> Outcome<()> {
+    let refused = |error| Error(format!("{}: {}", shown(folder), reason(&error)));
+    let mut entries: Vec<_> = fs::read_dir(folder)
+        .and_then(|entries| entries.collect::<std::io::Result<Vec<_>>>())
+        .map_err(refused)?;
+    entries.sort_by_key(fs::DirEntry::file_name);
+    for entry in entries {
+        let (path, kind) = (entry.path(), entry.file_type().map_err(refused)?);
+        if kind.is_dir() && depth > 0 && path != passed {
+            find(&path, passed, depth - 1, found)?;
+        } else if kind.is_file() {
+            found.extend(library(path));
+        }
+    }
+    Ok(())
+}
+
+/// A file as a library, if it is one: an ELF file that programs are linked with.
+fn library(path: PathBuf) -> Option<Library> {
+    let file_name = path.file_name()?.to_string_lossy().into_owned();
+    if !file_name.contains(".so") {
+        return None;
+    }
+    let image = Image::open(&path).ok().filter(Image::is_elf)?;
+    let own = soname(&image).ok()??;
+    let name = if own.is_empty() { file_name } else { String::from_utf8_lossy(&own).into_owned() };
+    Some(Library { path, name })
+}
+
+/// Unpacks the regular files of a package.
+fn unpack(package: &Path, into: &Path) -> Outcome<()> {
+    let refused = |said: String| Failure::Refused(format!("{}: {said}", shown(package)));
+    if !is_package(package) {
+        return Err(refused("it is no package of Debian (.deb)".to_owned()));
+    }
+    let Some(unpacker) = on_path(UNPACKER) else {
+        return Err(refused(format!(
+            "{UNPACKER}, which unpacks it, is not on the PATH: unpack it, and name the folder"
+        )));
+    };
+    let bytes = fs::metadata(package).map_or(0, |about| about.len());
+    let most = MOST_TIMES.saturating_mul(bytes).saturating_add(AT_LEAST);
+    let mut child = Command::new(unpacker)
+        .arg("--fsys-tarfile")
+        .arg(package.canonicalize().unwrap_or_else(|_| package.to_owned()))
+        .stdout(Stdio::piped())
+        .stderr(Stdio::null())
+        .spawn()
+        .map_err(|error| refused(reason(&error)))?;
+    let output = child.stdout.take().map(|output| output.take(most));
+    let unpacked = output.map_or(Ok(0), |output| unpack_tar(output, into));
+    let _ = child.kill(); // it has ended, unless the package is damaged or too large
+    let status = child.wait().map_err(|error| refused(reason(&error)))?;
+    match unpacked {
+        Ok(_) if !status.success() => Err(refused("it is damaged".to_owned())),
+        Ok(0) => {
+            warn_by(NAME, &format!("{}: it has no files", shown(package)));
+            Ok(())
+        }
+        Ok(_) => Ok(()),
+        Err(error) => Err(refused(format!("it can't be unpacked: {}", reason(&error)))),
+    }
+}
+
+/// Unpacks the regular files of an archive; how many there were. None is written outside of the
+/// folder.
+fn unpack_tar(bytes: impl std::io::Read, into: &Path) -> std::io::Result<usize> {
+    let mut archive = tar::Archive::new(bytes);
+    archive.set_preserve_mtime(false);
+    let mut count = 0;
+    for entry in archive.entries()? {
+        let mut entry = entry?;
+        if entry.header().entry_type().is_file() {
+            count += usize::from(entry.unpack_in(into)?);
+        }
+    }
+    std::io::copy(&mut archive.into_inner(), &mut std::io::sink())?;
+    Ok(count)
+}
+
+#[cfg(test)]
+mod tests {
+    use super::{pairs, Library, Side};
+    use std::path::PathBuf;
+
+    fn side(names: &[&str]) -> Side {
+        let library =
+            |name: &&str| Library { path: PathBuf::from(*name), name: (*name).to_owned() };
+        Side { folders: Vec::new(), unpacked: None, libraries: names.iter().map(library).collect() }
+    }
+
+    #[test]
+    fn libraries_are_paired_by_their_names() {
+        let old = side(&["liba.so.1", "libb.so.1", "libgone.so.1", "libtwo-1.2.so"]);
+        let new = side(&["liba.so.1", "liba.so.2", "libb.so.2", "libnew.so.1", "libtwo-1.3.so"]);
+        let shown = |one: Option<&Library>| one.map_or(String::new(), |one| one.name.clone());
+        let told: Vec<String> = pairs(&old, &new)
+            .into_iter()
+            .map(|(one, other)| format!("{} {}", shown(one), shown(other)))
+            .collect();
+        let wanted = [
+            "liba.so.1 liba.so.1",
+            "libb.so.1 libb.so.2",
+            "libgone.so.1 ",
+            "libtwo-1.2.so libtwo-1.3.so",
+            " liba.so.2",
+            " libnew.so.1",
+        ];
+        assert_eq!(told, wanted);
+    }
+}

@@ -1,0 +1,327 @@
+//! The types of a file: its own dictionary, or one that is made of its debug information.
+
+use super::modules::{written_name, Module};
+use super::options::NAME;
+use crate::progress::with_bar;
+use crate::types::catalog::{Catalog, Lists, Volume};
+use crate::types::failure::told;
+use crate::types::open::shown;
+use crate::types::warn_by;
+use ctfd::{Dictionary, Fault, Model};
+use ctfd_read::beside::is_same_build;
+use ctfd_read::dictionary::notice;
+use ctfd_read::error::{refuse, Error, Result};
+use ctfd_read::image::Image;
+use ctfd_read::inputs::Options;
+use ctfd_read::opening::{self, Handed, Origin};
+use std::cell::RefCell;
+use std::path::Path;
+
+/// Bytes of a symbol of ELF64, and of its name at most.
+const ENTRY: usize = 24;
+const LONGEST_NAME: usize = 4096;
+/// Names may overlap: all together are read for so many bytes for each of the table's.
+const MOST_TIMES: usize = 64;
+const OBJECT: u8 = 1;
+const FUNCTION: u8 = 2;
+/// How many lines tell what was lost where a file is converted.
+const FEW: usize = 1;
+
+/// A symbol of which a dictionary may tell something.
+#[derive(Clone, Copy, Debug)]
+pub struct SymbolEntry {
+    /// Which dictionary of the file was given it.
+    pub place: usize,
+    /// Its number in the table.
+    pub number: u32,
+    /// Its address in the file; none where the dictionary has its name alone, as that of a program
+    /// which was stripped.
+    pub address: Option<u64>,
+    /// Whether it is a function.
+    pub is_function: bool,
+}
+
+/// The lists that a dictionary was opened with.
+struct OwnLists {
+    ctf: Vec<u8>,
+    strings: Vec<u8>,
+}
+
+impl OwnLists {
+    fn of(handed: &Handed<'_>) -> OwnLists {
+        OwnLists {
+            ctf: handed.ctf.to_vec(),
+            strings: handed.strings.as_deref().unwrap_or_default().to_vec(),
+        }
+    }
+
+    fn borrow_all(&self) -> Lists<'_> {
+        Lists { ctf: &self.ctf, strings: &self.strings }
+    }
+}
+
+/// A dictionary of a file, and the symbols that it was given.
+struct Part {
+    types: Dictionary<'static>,
+    lists: OwnLists,
+    symbols: SymbolList,
+    has_first_symbols: bool,
+}
+
+impl Part {
+    fn of(
+        types: Dictionary<'static>,
+        handed: &Handed<'_>,
+        place: usize,
+        has_first_symbols: bool,
+    ) -> Part {
+        // Those of the first count for all that go by them.
+        let symbols = match place == 0 || !has_first_symbols {
+            true => SymbolList::of(handed, place),
+            false => SymbolList::default(),
+        };
+        Part { types, lists: OwnLists::of(handed), symbols, has_first_symbols }
+    }
+
+    fn volume(&self) -> Volume<'_> {
+        let has_first_symbols = self.has_first_symbols;
+        Volume { types: &self.types, lists: self.lists.borrow_all(), has_first_symbols }
+    }
+}
+
+/// The types of a file.
+pub struct FileTypes {
+    /// Its dictionary; of a program in parts the parent, and then the children.
+    parts: Vec<Part>,
+    /// The lists of the parent of the only one.
+    parent: Option<OwnLists>,
+    /// What CTF can't hold of a file that was converted; none once that was told.
+    losses: RefCell<Vec<String>>,
+}
+
+impl FileTypes {
+    /// Says what CTF can't hold of a file, once something of it is used.
+    pub fn warn_of_losses(&self) {
+        self.losses.take().iter().for_each(|line| warn_by(NAME, line));
+    }
+
+    /// The symbols of a name; of what link-time optimisation renamed also by its name in C, where
+    /// no other has that.
+    pub fn symbols(&self, name: &[u8]) -> Vec<SymbolEntry> {
+        let matching = |meets: &dyn Fn(&[u8]) -> bool| -> Vec<SymbolEntry> {
+            self.parts.iter().flat_map(|part| part.symbols.matching(meets)).collect()
+        };
+        let found = matching(&|one| one == name);
+        match found.is_empty() {
+            true => matching(&|one| written_name(one) == name),
+            false => found,
+        }
+    }
+
+    /// The types by their numbers.
+    pub fn catalog(&self) -> Catalog<'_> {
+        let mut volumes = self.parts.iter().map(Part::volume);
+        match (self.parts.len(), volumes.next()) {
+            (1, Some(only)) => Catalog::new(only, self.parent.as_ref().map(OwnLists::borrow_all)),
+            (_, Some(first)) => Catalog::in_parts(first, volumes.collect()),
+            (_, None) => unreachable!("a file with types has a dictionary"),
+        }
+    }
+
+    /// The types of a file that is mapped.
+    pub fn of_module(module: &Module, parent: Option<&Path>) -> Result<FileTypes> {
+        let image = &module.image;
+        let mut handed =
+            opening::handed_before_strip(image, &with_bar(&Options::default(), image.path()))?;
+        handed.widen(image)?;
+        FileTypes::open(handed, image.path(), parent)
+    }
+
+    /// The types of a file that is named for the program, if that is known.
+    pub fn of_path(
+        path: &Path,
+        program: Option<&Module>,
+        parent: Option<&Path>,
+    ) -> Result<FileTypes> {
+        let image = Image::open(path)?;
+        let mut handed =
+            opening::handed_before_strip(&image, &with_bar(&Options::default(), path))?;
+        if image.is_elf() {
+            if let Some(program) = program {
+                judge_build(&image, program)?;
+            }
+            handed.widen(&image)?;
+        } else {
+            if let Some(program) = program {
+                let is_64 = program.image.data_is_64()?;
+                let model = if is_64 { Model::Lp64 } else { Model::Ilp32 };
+                handed.model = handed.model.or(Some(model));
+                handed.add_symbols_of(&program.image)?;
+            }
+        }
+        FileTypes::open(handed, path, parent)
+    }
+
+    fn open(mut handed: Handed<'_>, path: &Path, parent: Option<&Path>) -> Result<FileTypes> {
+        if handed.has_more_names() {
+            handed.add_names();
+        }
+        warn_of_symbols(&handed, path);
+        let mut types = opened(&mut handed, path)?;
+        let losses = RefCell::new(losses(&handed, path));
+        let is_alone = handed.children.is_empty();
+        let parent = match types.is_child() && is_alone {
+            true => Some(import(&mut types, path, parent)?),
+            false => None,
+        };
+        let mut parts = Vec::new();
+        for (place, child) in handed.children.iter().enumerate() {
+            let what = format!("{}, part {}", shown(path), place + 1);
+            let refusal = |refusal| Error(told(&what, refusal));
+            let mut own = Dictionary::open_with(&child.ctf, child.options()).map_err(refusal)?;
+            own.import(&types).map_err(refusal)?;
+            let has_first_symbols = child.symbols == handed.symbols;
+            parts.push(Part::of(own, child, place + 1, has_first_symbols));
+        }
+        parts.insert(0, Part::of(types, &handed, 0, true));
+        Ok(FileTypes { parts, parent, losses })
+    }
+}
+
+/// The dictionary of a file: without symbols where those that were guessed do not fit, or those of
+/// what was converted.
+fn opened(handed: &mut Handed<'_>, path: &Path) -> Result<Dictionary<'static>> {
+    let refusal = |refusal| Error(told(shown(path), refusal));
+    match Dictionary::open_with(&handed.ctf, handed.options()) {
+        Err(refused) => {
+            let is_of_symbols =
+                matches!(refused.fault, Fault::BadFuncs | Fault::BadSymbolType | Fault::BadSymtab);
+            if !is_of_symbols || handed.origin != Origin::Guessed {
+                return Err(refusal(refused));
+            }
+            handed.without_guess();
+            warn_of_symbols(handed, path);
+            Dictionary::open_with(&handed.ctf, handed.options()).map_err(refusal)
+        }
+        types => types.map_err(refusal),
+    }
+}
+
+/// Refuses types of another build than that of the program.
+fn judge_build(image: &Image, program: &Module) -> Result<()> {
+    match is_same_build(&program.image, image)? {
+        true => Ok(()),
+        false => refuse(format!(
+            "{} is of another build than {}, so its types may not be those of the program: name a \
+             file of that build, or a section by itself",
+            shown(image.path()),
+            shown(program.path())
+        )),
+    }
+}
+
+/// A line on what CTF can't hold of a file that is converted.
+fn losses(handed: &Handed<'_>, path: &Path) -> Vec<String> {
+    let path = shown(path);
+    let how = format!("`ctfd-convert --report - {path} /dev/null` lists them all");
+    if handed.losses.is_empty() {
+        return Vec::new();
+    }
+    let lines = notice(&handed.losses, FEW, &how);
+    lines.into_iter().map(|line| format!("{path}: {line}")).collect()
+}
+
+/// A line on symbols that may not be those that a dictionary was written for.
+fn warn_of_symbols(handed: &Handed<'_>, path: &Path) {
+    if !handed.origin.warning().is_empty() {
+        warn_by(NAME, &format!("{}: {}", shown(path), handed.origin.warning()));
+    }
+}
+
+/// Imports the parent that is named.
+fn import(types: &mut Dictionary<'static>, path: &Path, parent: Option<&Path>) -> Result<OwnLists> {
+    let name = types.parent_name();
+    let Some(parent) = parent else {
+        return refuse(format!(
+            "{} is a child of {name}: name the parent's file by --parent",
+            shown(path)
+        ));
+    };
+    let what = format!("{}, as the parent of {}", shown(parent), shown(path));
+    let image = Image::open(parent)?;
+    let mut handed = opening::handed(&image, &Options::default())?;
+    handed.model = Some(types.model());
+    if let Some(why) = opening::why_not_parent(types, &handed.ctf) {
+        return refuse(format!("{what}: {why}"));
+    }
+    let refusal = |refusal| Error(told(&what, refusal));
+    let opened = Dictionary::open_with(&handed.ctf, handed.options()).map_err(refusal)?;
+    types.import(&opened).map_err(refusal)?;
+    Ok(OwnLists::of(&handed))
+}
+
+/// The functions and objects of the symbols that were handed in.
+#[derive(Default)]
+struct SymbolList {
+    /// All names, one behind the other.
+    names: Vec<u8>,
+    /// Where each ends, and of what it is the name.
+    listed: Vec<(usize, SymbolEntry)>,
+}
+
+impl SymbolList {
+    fn of(handed: &Handed<'_>, place: usize) -> SymbolList {
+        let mut made = SymbolList::default();
+        let (Some(table), Some(strings)) = (&handed.symbols, &handed.strings) else { return made };
+        let most = MOST_TIMES * (table.len() + strings.len());
+        for (number, entry) in table.chunks_exact(ENTRY).enumerate() {
+            if let Some((name, symbol)) = symbol((place, number), entry, strings) {
+                if made.names.len() + name.len() > most {
+                    break;
+                }
+                made.names.extend(name);
+                made.listed.push((made.names.len(), symbol));
+            }
+        }
+        made
+    }
+
+    /// Those whose name meets something.
+    fn matching<'s>(
+        &'s self,
+        meets: impl Fn(&[u8]) -> bool + 's,
+    ) -> impl Iterator<Item = SymbolEntry> + 's {
+        let mut start = 0;
+        self.listed.iter().filter_map(move |&(end, symbol)| {
+            let name = &self.names[start..end];
+            start = end;
+            meets(name).then_some(symbol)
+        })
+    }
+}
+
+/// An entry of a table, if it is a function or an object that the file has.
+fn symbol<'s>(
+    (place, number): (usize, usize),
+    entry: &[u8],
+    strings: &'s [u8],
+) -> Option<(&'s [u8], SymbolEntry)> {
+    let at = u32::from_le_bytes(entry[..4].try_into().ok()?) as usize;
+    let section = u16::from_le_bytes(entry[6..8].try_into().ok()?);
+    let address = u64::from_le_bytes(entry[8..16].try_into().ok()?);
+    let kind = entry[4] & 15;
+    if at == 0 || section == 0 || !matches!(kind, OBJECT | FUNCTION) {
+        return None;
+    }
+    let rest = strings.get(at..)?;
+    let rest = &rest[..rest.len().min(LONGEST_NAME)];
+    // Behind @ is the version of what a library has.
+    let end = rest.iter().position(|&byte| byte == 0 || byte == b'@').unwrap_or(rest.len());
+    let symbol = SymbolEntry {
+        place,
+        number: number as u32,
+        address: (address != 0).then_some(address),
+        is_function: kind == FUNCTION,
+    };
+    Some((&rest[..end], symbol))
+}

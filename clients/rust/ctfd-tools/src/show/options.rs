@@ -1,0 +1,177 @@
+//! The words of `ctfd-show`: where to look, what for, and how it is printed.
+
+use crate::arguments;
+use clap::{value_parser, Arg, ArgAction, ArgGroup, ArgMatches, Command};
+use std::ffi::OsString;
+use std::os::unix::ffi::OsStringExt as _;
+use std::path::PathBuf;
+use std::time::Duration;
+
+/// The command's name.
+pub const NAME: &str = "ctfd-show";
+/// How many elements of an array, a text or a list are printed, and the most.
+const ELEMENTS: usize = 200;
+const MOST: usize = 65_536;
+const LONGEST_WAIT: f64 = 86_400.0;
+const ABOUT: &str = "\
+Prints variables of a running process or a core file, by the types in its CTF or its debug
+information.
+
+EXPRESSION is one of C: `table.slots[3]->name`, `*head@3`, `*(struct node *) 0x55d0c0`,
+`sizeof(struct node)`. A process is not stopped: its memory is read as it is, while it may change.";
+
+/// Where memory is read.
+pub enum Place {
+    /// In a process.
+    Process(u32),
+    /// In a core file.
+    Core(PathBuf),
+}
+
+/// How often is looked.
+pub struct Watch {
+    /// How long to wait between two looks.
+    pub pause: Duration,
+    /// After how many looks it ends; without a number, when it is interrupted.
+    pub count: Option<u64>,
+}
+
+/// How a linked list is followed.
+pub struct Follow {
+    /// The pointer of a node to the next, or its link.
+    pub member: Vec<u8>,
+    /// The type that has the link.
+    pub inside: Option<Vec<u8>>,
+}
+
+/// What a command line says.
+pub struct Words {
+    /// Where memory is read.
+    pub place: Place,
+    /// What is asked for.
+    pub expressions: Vec<Vec<u8>>,
+    /// The program of a core file.
+    pub program: Option<PathBuf>,
+    /// The file with the program's types.
+    pub types: Option<PathBuf>,
+    /// The parent of the dictionaries.
+    pub parent: Option<PathBuf>,
+    /// The linked list that each expression is the head of.
+    pub follow: Option<Follow>,
+    /// Whether numbers are in hexadecimal.
+    pub is_hexadecimal: bool,
+    /// How many elements of an array, a text or a list are printed.
+    pub elements: usize,
+    /// Whether it goes on behind an expression that is refused.
+    pub goes_on: bool,
+    /// Whether it looks again and again.
+    pub watch: Option<Watch>,
+}
+
+impl Words {
+    /// Those of a command line. What is wrong with it is told, and ends the process.
+    pub fn parsed(words: Vec<OsString>) -> Words {
+        let matches = options().get_matches_from(words);
+        let path = |name: &str| matches.get_one::<PathBuf>(name).cloned();
+        let place = match (matches.get_one::<u32>("pid"), path("core")) {
+            (Some(&pid), _) => Place::Process(pid),
+            (None, core) => Place::Core(core.unwrap_or_default()),
+        };
+        let elements = matches.get_one::<i64>("elements").copied();
+        let most = |count: i64| usize::try_from(count.max(1)).unwrap_or(MOST).min(MOST);
+        Words {
+            place,
+            expressions: texts(&matches, "EXPRESSION"),
+            program: path("program"),
+            types: path("types"),
+            parent: path("parent"),
+            follow: texts(&matches, "list")
+                .pop()
+                .map(|member| Follow { member, inside: texts(&matches, "of").pop() }),
+            is_hexadecimal: matches.get_flag("hex"),
+            elements: elements.map_or(ELEMENTS, most),
+            goes_on: matches.get_flag("keep-going"),
+            watch: matches
+                .get_one::<Duration>("watch")
+                .map(|&pause| Watch { pause, count: matches.get_one("count").copied() }),
+        }
+    }
+}
+
+fn texts(matches: &ArgMatches, name: &str) -> Vec<Vec<u8>> {
+    let words = matches.get_many::<OsString>(name).unwrap_or_default();
+    words.map(|word| word.clone().into_vec()).collect()
+}
+
+/// A number of seconds.
+fn seconds(word: &str) -> Result<Duration, String> {
+    let seconds = word.parse().ok().filter(|&seconds| (0.0..=LONGEST_WAIT).contains(&seconds));
+    let seconds = seconds.ok_or_else(|| format!("a number of seconds up to {LONGEST_WAIT}"))?;
+    Ok(Duration::from_secs_f64(seconds))
+}
+
+fn text(name: &'static str, value: &'static str, help: &'static str) -> Arg {
+    let made = Arg::new(name).long(name).value_name(value).help(help);
+    made.value_parser(value_parser!(OsString))
+}
+
+fn options() -> Command {
+    let pid = Arg::new("pid").long("pid").value_name("PID").help("the process");
+    let expressions = Arg::new("EXPRESSION").required(true).action(ArgAction::Append).num_args(1..);
+    let of_process = [
+        pid.value_parser(value_parser!(u32)),
+        arguments::file("core", "the core file"),
+        arguments::file("program", "the program of the core file, if it is not where that says")
+            .requires("core"),
+        arguments::file(
+            "types",
+            "the file with the program's types, if the program has none: a copy of it that has, or \
+             a section",
+        ),
+        arguments::file("parent", "the parent of that"),
+    ];
+    arguments::command(NAME, ABOUT)
+        .arg(expressions.value_parser(value_parser!(OsString)))
+        .group(ArgGroup::new("place").args(["pid", "core"]).required(true))
+        .args(of_process)
+        .args(of_printing())
+        .args(of_going_on())
+        .arg(arguments::file("service", "for older scripts: the library answers").hide(true))
+}
+
+fn of_printing() -> [Arg; 4] {
+    let elements = Arg::new("elements")
+        .long("elements")
+        .value_name("N")
+        .help("at most N elements of an array, a text or a list: 200 without it, 65536 at most");
+    [
+        text(
+            "list",
+            "MEMBER",
+            "print a linked list: EXPRESSION is its first node, or a pointer to it, and MEMBER a \
+             node's pointer to the next",
+        ),
+        text(
+            "of",
+            "TYPE",
+            "with --list: MEMBER is a link inside TYPE that points to the next link, as the \
+             kernel's list_head does, and EXPRESSION is the head of the list",
+        )
+        .requires("list"),
+        arguments::flag("hex", "numbers in hexadecimal"),
+        elements.value_parser(value_parser!(i64)).allow_negative_numbers(true),
+    ]
+}
+
+fn of_going_on() -> [Arg; 3] {
+    let watch = Arg::new("watch").long("watch").value_name("SECONDS").help(
+        "look again every so many seconds, and print what has changed, until the process ends or \
+         you interrupt it",
+    );
+    let count = Arg::new("count").long("count").value_name("N").requires("watch");
+    [
+        arguments::flag("keep-going", "answer the other EXPRESSIONs where one is refused"),
+        watch.value_parser(seconds),
+        count.value_parser(value_parser!(u64).range(1..)).help("with --watch: look N times"),
+    ]
+}

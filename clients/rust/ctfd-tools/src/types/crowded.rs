@@ -1,0 +1,77 @@
+//! Whether the names of a dictionary are larger than a file's may be, each told by itself.
+//!
+//! Names may share their bytes: a small file may have a large one at each of its types.
+
+use super::catalog::{Catalog, Volume};
+use ctfd::{Dictionary, EnumeratorRow, Kind, MemberRow, TypeRow};
+
+/// How many times the bytes of the lists names may have, and some more.
+const TIMES: u64 = 16;
+const AT_LEAST: u64 = 1 << 20;
+const AT_ONCE: usize = 256;
+/// What is said of such a file.
+pub const CROWDED: &str =
+    "its names share their bytes, and are too large each by itself: no compiler \
+                       writes that, so it is damaged or made to be slow";
+const ENUM: u32 = Kind::Enum as u32;
+const STRUCT: u32 = Kind::Struct as u32;
+const UNION: u32 = Kind::Union as u32;
+
+/// Whether the names of one of a catalog's dictionaries are.
+pub fn is_crowded(catalog: &Catalog<'_>) -> bool {
+    catalog.volumes().iter().any(has_crowded_names)
+}
+
+/// Whether a dictionary's own names are, beside the lists that they stand in.
+pub fn has_crowded_names(volume: &Volume<'_>) -> bool {
+    let left = TIMES * volume.lists.length() as u64 + AT_LEAST;
+    let mut room = Room { types: volume.types, left };
+    room.with_types().is_none()
+}
+
+/// How many bytes names may have yet.
+struct Room<'r> {
+    types: &'r Dictionary<'r>,
+    left: u64,
+}
+
+impl Room<'_> {
+    fn with_types(&mut self) -> Option<()> {
+        let mut rows = vec![TypeRow::default(); AT_ONCE];
+        let count = self.types.count();
+        for from in (0..count).step_by(AT_ONCE) {
+            self.types.type_rows(from, &mut rows);
+            for row in rows.iter().take(count - from) {
+                self.take(row.tnum, row.name_list, row.name_at)?;
+                match row.kind {
+                    STRUCT | UNION => self.with_members(row)?,
+                    ENUM => self.with_enumerators(row)?,
+                    _ => {}
+                }
+            }
+        }
+        Some(())
+    }
+
+    fn with_members(&mut self, of: &TypeRow) -> Option<()> {
+        let Ok(found) = self.types.get(of.tnum) else { return Some(()) };
+        let mut rows = vec![MemberRow::default(); of.length as usize];
+        let count = found.member_rows(0, &mut rows).unwrap_or(0) as usize;
+        let mut rows = rows.iter().take(count);
+        rows.try_for_each(|row| self.take(of.tnum, row.name_list, row.name_at))
+    }
+
+    fn with_enumerators(&mut self, of: &TypeRow) -> Option<()> {
+        let Ok(found) = self.types.get(of.tnum) else { return Some(()) };
+        let mut rows = vec![EnumeratorRow::default(); of.length as usize];
+        let count = found.enumerator_rows(0, &mut rows).unwrap_or(0) as usize;
+        let mut rows = rows.iter().take(count);
+        rows.try_for_each(|row| self.take(of.tnum, row.name_list, row.name_at))
+    }
+
+    fn take(&mut self, number: u16, list: u32, at: u64) -> Option<()> {
+        let name = self.types.name_at(number, list, at).unwrap_or_default();
+        self.left = self.left.checked_sub(name.len() as u64)?;
+        Some(())
+    }
+}
