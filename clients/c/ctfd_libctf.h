@@ -360,6 +360,15 @@ int ctf_discard(ctf_file_t *fp);
 /* Writes what is visible, or what was opened. */
 int ctf_write(ctf_file_t *fp, int fd);
 
+/* Not one of libctf's: the handle of ctfd.h that a file has open, for its calls beside these. It is
+ * there until the file is closed, its model or its parent changes; of one in the making, or a child
+ * of one, until that changes. NULL, and an error, where one in the making can't be written. Only
+ * ask with it: what it opens, creates or closes would be the file's. */
+struct ctfd *ctfd_of(ctf_file_t *fp);
+
+/* Not one of libctf's: the version of the library, CTFD_VERSION when it was compiled. */
+const char *ctfd_version(void);
+
 /* Not one of libctf's: which build this library is, as `ctfd --version` says it of the program:
  * "proved build: " and the kit that checked its proofs, or "quick build: proofs not checked".
  */

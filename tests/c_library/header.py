@@ -201,7 +201,7 @@ def named(*words: str) -> set[str]:
 def of_libctf() -> set[str]:
     """The calls that ctfd_libctf.h declares."""
     text = (TOP / "clients" / "c" / "ctfd_libctf.h").read_text(encoding="utf-8")
-    return set(re.findall(r"^(?!typedef)(?:\w+ )+\*?(ctf_\w+)\(", text, re.MULTILINE))
+    return set(re.findall(r"^(?!typedef)(?:\w+ )+\*?(ctfd?_\w+)\(", text, re.MULTILINE))
 
 
 def of_gnu() -> set[str]:

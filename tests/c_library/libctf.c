@@ -486,6 +486,31 @@ static void lent_names(void)
     ctf_close(child);
 }
 
+/* One open file for both headers; and which fault stands behind an error that several share. */
+static void both_headers(void)
+{
+    static const char damaged[36] = "\xf1\xcf\x02\x00";
+    ctf_sect_t section;
+    struct ctfd *types = ctfd_of(lua);
+    uint32_t kind = 0;
+    int error = 0;
+    CHECK(types != NULL && ctfd_kind(types, 1, &kind) == CTFD_OK);
+    CHECK((int)kind == ctf_type_kind(lua, 1));
+    memset(&section, 0, sizeof section);
+    section.cts_data = damaged;
+    section.cts_size = 4;
+    CHECK(ctf_bufopen(&section, NULL, NULL, &error) == NULL);
+    CHECK(error == ECTF_NOCTFBUF && ctf_fault(NULL) == CTFD_SHORT_HEADER);
+    section.cts_size = sizeof damaged;
+    CHECK(ctf_bufopen(&section, NULL, NULL, &error) == NULL);
+    CHECK(error == ECTF_CORRUPT && ctf_fault(NULL) == CTFD_BAD_STRINGS);
+    CHECK(ctf_type_size(lua, 70000) == -1 && ctf_fault(lua) == CTFD_NO_TYPE);
+    CHECK(ctf_setmodel(lua, 9) == -1 && ctf_fault(lua) == CTFD_OK && ctf_errno(lua) == EINVAL);
+    CHECK(is(ctf_errmsg(ECTF_FAULT + CTFD_INCOMPLETE),
+        "Incomplete: the type has no size, alignment or value"));
+    CHECK(is(ctfd_version(), CTFD_VERSION));
+}
+
 int main(int argc, char **argv)
 {
     struct bytes ctf, sym, strs;
@@ -521,6 +546,7 @@ int main(int argc, char **argv)
     snprintf(file, sizeof file, "%s/lua.ctf", argv[1]);
     models(file);
     declarations();
+    both_headers();
     refused_files(argv[2]);
     drafts(argv[2]);
     lent_names();

@@ -177,9 +177,9 @@ static const char *of_several(int number)
     case ECTF_CORRUPT:
         return "a rule of the format is broken: ctf_fault says which";
     case ECTF_NOCTFBUF:
-        return "BadMagic: the bytes are no CTF";
+        return statuses[CTFD_BAD_MAGIC].message;
     case ECTF_NOPARENT:
-        return "NoParent: a type of a parent, and none is imported";
+        return statuses[CTFD_NO_PARENT].message;
     case ECTF_ZMISSING:
         return others[0].message;
     case ECTF_NOTSUP:

@@ -89,12 +89,13 @@ void ctf_close(ctf_file_t *fp)
 /* ---- sections */
 
 /* Opens the lists that were handed in, behind a handle that has nothing open. */
-static enum ctfd_status open_lists(const struct ctfd__lists *lists, int model, struct ctfd *types)
+static enum ctfd_status open_lists(const ctf_file_t *fp, int model, struct ctfd *types)
 {
+    const struct ctfd__lists *lists = &fp->lists;
     uint64_t place;
-    return ctfd_open(types, lists->data[0], lists->len[0], lists->data[1], lists->len[1],
-        lists->data[2], lists->len[2], lists->has[1], lists->has[2], model == CTF_MODEL_ILP32,
-        &place);
+    return (fp->keeps_lists ? ctfd_open_lent : ctfd_open)(types, lists->data[0], lists->len[0],
+        lists->data[1], lists->len[1], lists->data[2], lists->len[2], lists->has[1],
+        lists->has[2], model == CTF_MODEL_ILP32, &place);
 }
 
 /* Opens them again, for another model or another parent; a refusal leaves all as it was. */
@@ -102,7 +103,7 @@ static int reopen(ctf_file_t *fp, int model, ctf_file_t *parent)
 {
     struct ctfd types = CTFD_NONE, *of_parent;
     uint64_t place;
-    enum ctfd_status status = open_lists(&fp->lists, model, &types);
+    enum ctfd_status status = open_lists(fp, model, &types);
     if (status == CTFD_OK && parent != NULL)
         status = ctfd__opened(parent, &of_parent);
     if (status == CTFD_OK && parent != NULL)
@@ -179,11 +180,17 @@ static int open_inflated(ctf_file_t *fp)
     if (error != 0)
         return error;
     own_list(fp, 0, made.at, made.len);
-    return (int)open_lists(&fp->lists, fp->model, &fp->types);
+    return (int)open_lists(fp, fp->model, &fp->types);
 }
 
 ctf_file_t *ctf_bufopen(const ctf_sect_t *ctf, const ctf_sect_t *symbols,
     const ctf_sect_t *strings, int *error)
+{
+    return ctfd__open(ctf, symbols, strings, false, error);
+}
+
+ctf_file_t *ctfd__open(const ctf_sect_t *ctf, const ctf_sect_t *symbols,
+    const ctf_sect_t *strings, bool is_kept, int *error)
 {
     int failed;
     ctf_file_t *fp;
@@ -192,11 +199,12 @@ ctf_file_t *ctf_bufopen(const ctf_sect_t *ctf, const ctf_sect_t *symbols,
     fp = ctfd__new(error);
     if (fp == NULL)
         return NULL;
+    fp->keeps_lists = is_kept;
     take_list(&fp->lists, 0, ctf);
     take_list(&fp->lists, 2, strings);
     failed = (int)take_symbols(fp, symbols);
     if (failed == CTFD_OK)
-        failed = (int)open_lists(&fp->lists, fp->model, &fp->types);
+        failed = (int)open_lists(fp, fp->model, &fp->types);
     if (failed == CTFD_COMPRESSED)
         failed = open_inflated(fp);
     if (failed == CTFD_OK)
@@ -429,6 +437,7 @@ ctf_file_t *ctf_dup(ctf_file_t *fp)
         return NULL;
     }
     made->lists = fp->lists;
+    made->keeps_lists = fp->keeps_lists;
     if (!copy_owned(made, fp) || reopen(made, fp->model, fp->parent) != 0) {
         (void)ctfd__fail(fp, made->error != 0 ? made->error : CTFD_MEMORY);
         ctf_close(made);

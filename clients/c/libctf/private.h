@@ -78,6 +78,7 @@ struct ctf_file {
     bool is_live; /* what is added is visible at once, as GNU's library has it */
     bool is_touched;
     bool is_left; /* closed, and kept by a child: the lists may go at any time */
+    bool keeps_lists; /* all lists are owned, so that no copy is made of them */
     void *specific;
     unsigned char *variables; /* a byte a symbol: whether GNU's linker makes it a variable */
     void *owned[3]; /* copies of lists, where the caller keeps none */
@@ -233,6 +234,11 @@ HIDDEN uint32_t ctfd__of_value(ctf_file_t *fp, struct ctfd__details *details, in
 HIDDEN uint32_t ctfd__of_name(ctf_file_t *fp, struct ctfd__details *details, const char *name);
 
 /* ---- files.c */
+
+/* Opens lists as ctf_bufopen does. With `is_kept` they stay as long as the file, which will own
+ * them; else they are copied, since a child may need them longer than the caller keeps them. */
+HIDDEN ctf_file_t *ctfd__open(const ctf_sect_t *ctf, const ctf_sect_t *symbols,
+    const ctf_sect_t *strings, bool is_kept, int *error);
 
 /* A file with nothing open, and with room for a text, or NULL and the error. */
 HIDDEN ctf_file_t *ctfd__new(int *error);

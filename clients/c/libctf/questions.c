@@ -217,3 +217,9 @@ enum ctfd_status ctfd__own_types(ctf_file_t *fp, uint32_t *count, uint32_t *befo
     *before = child != 0 ? CTF_MAX_PTYPE + 1u : 0;
     return status;
 }
+
+struct ctfd *ctfd_of(ctf_file_t *fp)
+{
+    struct ctfd *types;
+    return ctfd__done(fp, ctfd__opened(fp, &types)) == 0 ? types : NULL;
+}

@@ -51,7 +51,8 @@ static ctf_file_t *open_owned(struct ctfd_elf_lists *lists, int *error)
     bool has_symbols = lists->symbols.at != NULL && lists->strings.at != NULL;
     ctf_file_t *fp;
     symbols.cts_entsize = CTFD_SYMBOL;
-    fp = ctf_bufopen(&ctf, has_symbols ? &symbols : NULL, has_symbols ? &strings : NULL, error);
+    fp = ctfd__open(&ctf, has_symbols ? &symbols : NULL, has_symbols ? &strings : NULL, true,
+        error);
     if (fp != NULL && fp->owned[0] == NULL) {
         fp->owned[0] = lists->ctf.at;
         lists->ctf.at = NULL;
