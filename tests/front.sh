@@ -1,18 +1,19 @@
 #!/usr/bin/env bash
 # Checks ctfd-front, with which many clients use one service, over a built ctfd.
 # usage: tests/front.sh PROGRAM [--all]
-# PROGRAM is crates/ctfd/out/ctfd once `rt run` in crates/ctfd has built it. Needs Linux, Python,
-# and Debian's python3-prometheus-client for one test.
+# PROGRAM is the ctfd to compare with. The front is the one that scripts/rust.py builds, over the
+# library, or the one that CTFD_FRONT names. Needs Linux, Python, and Debian's
+# python3-prometheus-client for one test.
 #
 # Isolation seen from outside (tests/front/isolation.py): 200 clients send 100,000 lines, valid and
 # hostile, and each is replied what a service of its own replies. Attacks on a session's number and
 # on the others' patience and memory (test_attacks.py). Shares of the service's time, and limits
-# for each user (test_shares.py; test_turns.py by a clock of its own). What a line costs
-# (test_costs.py). Beginnings, ends, and processes killed in the middle of a load (test_ends.py);
-# ends at random moments while clients come and leave (departures.py). Random lines with a number
-# in them (test_tagging.py). Several services behind one front (test_rooms.py). What an operator
-# sees (test_told.py). The client over a socket (test_client.py). The units of docs/SERVING.md,
-# where systemd-analyze is there (units.py).
+# for each user (test_shares.py). What a line costs (test_costs.py). Beginnings, ends, and processes
+# killed in the middle of a load (test_ends.py); ends at random moments while clients come and leave
+# (departures.py). Several services in one front (test_rooms.py). What an operator sees
+# (test_told.py). The client over a socket (test_client.py). The units of docs/SERVING.md, where
+# systemd-analyze is there (units.py). The tests of the crate clients/rust/ctfd-front have random
+# lines with a number in them, and turns by a clock of their own.
 # With --all, isolation is tried with other seeds and a million lines, ends 1,000 times, and shares
 # beside the dearest requests that are known. Two run at a time. PATIENCE in the environment is how
 # many seconds a test waits for anything, 60 where it is absent.
@@ -20,6 +21,10 @@
 set -eu
 CTFD=$(realpath "$1")
 export CTFD
+top=$(realpath "$(dirname "$0")/..")
+CTFD_FRONT=$(realpath "${CTFD_FRONT:-${CARGO_TARGET_DIR:-$top/clients/rust/target}/release/ctfd-front}")
+export CTFD_FRONT
+[ -x "$CTFD_FRONT" ] || { echo "skipped: ctfd-front is not compiled (scripts/rust.py)"; exit 0; }
 cd "$(dirname "$0")/front"
 work=$(mktemp -d)
 trap 'rm -r "$work"' EXIT
@@ -42,12 +47,12 @@ with_prometheus() {
 }
 
 (told isolation python3 isolation.py; told client python3 -W ignore -m unittest test_client
- told tagging python3 -m unittest test_tagging; told rooms python3 -W ignore -m unittest test_rooms
+ told rooms python3 -W ignore -m unittest test_rooms
  told told "$(with_prometheus)" -W ignore -m unittest test_told
  told attacks python3 -W ignore -m unittest test_attacks; told units python3 units.py) &
 told ends python3 -W ignore -m unittest test_ends
 told departures python3 departures.py
-told shares python3 -W ignore -m unittest test_turns test_shares
+told shares python3 -W ignore -m unittest test_shares
 wait
 told costs python3 -W ignore -m unittest test_costs
 if [ "${2:-}" = --all ]; then

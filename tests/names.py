@@ -84,9 +84,7 @@ def missing(page: Path, known: Known) -> Iterator[str]:
             if not known.has_file(quoted):
                 yield quoted
         elif CODE.fullmatch(quoted):
-            # Prometheus has counters end in `_total`, which the front puts behind their names.
-            names = {it: it.removesuffix("_total") for it in WORD.findall(quoted)}
-            yield from (it for it, name in names.items() if name not in known.words)
+            yield from (it for it in WORD.findall(quoted) if it not in known.words)
 
 
 def pages() -> list[Path]:

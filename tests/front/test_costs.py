@@ -8,7 +8,7 @@ import time
 import unittest
 from typing import List
 
-from support import HAND_IN, IS_COMPILED, Front, Talker, WithFront, ask, processor
+from support import HAND_IN, Front, Talker, WithFront, ask, processor
 
 KIND = ask("kind", d=1, t=1)
 INTEGERS = b'{"op":"info","x":[' + b",".join([b"1"] * 490_000) + b'],"s":1,"d":1}\n'
@@ -17,7 +17,7 @@ PIECE = 65_536
 # work. So each limit is several times what is used, and what it is to find is several times more.
 A_MEGABYTE = 0.1
 A_LINE = 10e-6
-AGAIN = 10e-6 if IS_COMPILED else 30e-6  # less than to look through a megabyte for each byte
+AGAIN = 10e-6  # less than to look through a megabyte for each byte
 
 
 class Costs(WithFront):

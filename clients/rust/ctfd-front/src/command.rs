@@ -14,8 +14,8 @@ publishes. Each NAME=FILE is published for all, who take it from owner 0.";
 
 const STATUSES: &str = "\
 The status is 0 if SIGTERM or SIGINT ended it; 1 if a file was refused, 3 if one can't be read and \
-4 if memory is short for one; 2 for a wrong command line; 5 if the socket can't be had; 7 if all \
-session numbers were given. SIGUSR1 writes statistics to standard error.";
+4 if memory is short for one; 2 for a wrong command line; 5 if the socket can't be had; 6 if a \
+shard ended by itself, which is a bug; 7 if all session numbers were given. SIGUSR1 writes statistics to standard error.";
 
 const MOST_SHARDS: u64 = 256;
 /// The largest number of an option that has no limit of its own.
@@ -33,6 +33,8 @@ pub struct Options {
     pub stats: Option<Duration>,
     pub metrics: Option<PathBuf>,
     pub limits: Limits,
+    /// Bytes that all services may have, if that is bounded.
+    pub service_memory: Option<u64>,
     /// Options that mean nothing where the service is in this process.
     pub ignored: Vec<&'static str>,
 }
@@ -54,6 +56,7 @@ pub fn options(words: impl IntoIterator<Item = OsString>) -> Options {
         stats: matches.get_one("stats").copied(),
         metrics: matches.get_one("metrics").cloned(),
         limits,
+        service_memory: matches.get_one("service-memory").copied(),
         ignored: ignored.iter().filter(|(_, is_given)| *is_given).map(|(name, _)| *name).collect(),
     }
 }
@@ -95,7 +98,7 @@ fn of_the_socket() -> [Arg; 3] {
     ]
 }
 
-fn of_the_service() -> [Arg; 6] {
+fn of_the_service() -> [Arg; 7] {
     [
         option("processes", "N")
             .value_parser(value_parser!(u64).range(1..=MOST_SHARDS))
@@ -115,6 +118,10 @@ fn of_the_service() -> [Arg; 6] {
         path("metrics", "FILE").help(
             "write statistics there too, for the textfile collector of Prometheus' node exporter, \
              so often or each 15 seconds",
+        ),
+        option("service-memory", "N").value_parser(value_parser!(u64).range(1..=MOST)).help(
+            "bytes that all services may have together, beside what --memory bounds; a request that \
+             needs more is refused as Memory. By default there is no limit",
         ),
         Arg::new("restart")
             .long("restart")
