@@ -35,6 +35,7 @@ class Talker:
     """A client: a socket, and the lines that it has read."""
 
     def __init__(self, path: str) -> None:
+        self.path = path
         self.socket = socket.socket(socket.AF_UNIX)
         self.socket.settimeout(PATIENCE)
         self.socket.connect(path)
@@ -79,14 +80,15 @@ class Talker:
 
 
 class Front:
-    """A ctfd-front of a test's own."""
+    """A ctfd-front of a test's own, under another program perhaps."""
 
-    def __init__(self, folder: str, *words: str, path: str = "front.sock") -> None:
+    def __init__(self, folder: str, *words: str, path: str = "front.sock",
+                 under: Sequence[str] = ()) -> None:
         self.path = os.path.join(folder, path)
         self._log = Path(folder) / f"{path}.log"
         with self._log.open("wb") as log:
             self.process = subprocess.Popen(
-                [COMMAND, "--socket", self.path, *words, LUA],
+                [*under, COMMAND, "--socket", self.path, *words, LUA],
                 stderr=log, stdout=log, stdin=subprocess.DEVNULL)
 
     @property
