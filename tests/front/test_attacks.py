@@ -153,7 +153,7 @@ class Patience(WithFront):
         until(lambda: "unread 1" in front.tell())
 
     def test_unanswered_lines(self) -> None:
-        front = self.front("--lines", "50", "--unread", "1000").started()
+        front = self.front("--bytes", "1000", "--unread", "1000").started()
         deaf = self.talker(front)
         deaf.number()
         deaf.socket.settimeout(2)

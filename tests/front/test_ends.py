@@ -206,10 +206,11 @@ class Begins(WithFront):
             self.assertIn(words[0], ended.stderr)
 
     def test_words_of_older_scripts(self) -> None:
-        """They named the program of a service, and had it started again: neither is needed."""
-        front = self.front("--service", "/no/ctfd", "--restart").started()
-        for word in ("restart", "service"):
-            self.assertIn(f"--{word} is without effect: the service is in this process", front.said)
+        """They named the program of a service, had it started again, and bounded what waited for
+        it."""
+        front = self.front("--service", "/no/ctfd", "--restart", "--lines", "50").started()
+        for word in ("restart", "service", "lines"):
+            self.assertIn(f"--{word} is without effect: ", front.said)
         self.assertIn(b'"types":526', self.talker(front).ask(TAKE))
 
     def test_program_in_place_of_a_section(self) -> None:

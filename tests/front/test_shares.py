@@ -134,7 +134,7 @@ class Shares(WithFront):
                 self.assertIn(b'"NotPublished"', other.line())
             time.sleep(0.02 * random.random())
         self.assertGreater(rounds, 5)
-        until(lambda: queue.ended() == QUEUED)
+        until(lambda: queue.ended() == QUEUED, 10 * PATIENCE)
         self.assertIn(b'"types":1', others[0].ask(queue.has_begun(QUEUED)))
 
     def test_newcomer_is_not_behind_a_queue(self) -> None:

@@ -17,6 +17,9 @@ The status is 0 if SIGTERM or SIGINT ended it; 1 if a file was refused, 3 if one
 4 if memory is short for one; 2 for a wrong command line; 5 if the socket can't be had; 6 if a \
 shard ended by itself, which is a bug; 7 if all session numbers were given. SIGUSR1 writes statistics to standard error.";
 
+const IN_PROCESS: &str = "the service is in this process";
+const ANSWERED_FIRST: &str = "what is read is answered before more is read";
+
 const MOST_SHARDS: u64 = 256;
 /// The largest number of an option that has no limit of its own.
 const MOST: u64 = u32::MAX as u64 * 1_024;
@@ -35,8 +38,8 @@ pub struct Options {
     pub limits: Limits,
     /// Bytes that all services may have, if that is bounded.
     pub service_memory: Option<u64>,
-    /// Options that mean nothing where the service is in this process.
-    pub ignored: Vec<&'static str>,
+    /// Options of earlier versions that mean nothing now, and why.
+    pub ignored: Vec<(&'static str, &'static str)>,
 }
 
 /// The words of the command line. Wrong ones end the process with status 2.
@@ -44,8 +47,11 @@ pub fn options(words: impl IntoIterator<Item = OsString>) -> Options {
     let matches = command().get_matches_from(words);
     let limits = limits(&matches);
     let files = matches.get_many("files").unwrap_or_default().cloned().collect();
-    let ignored =
-        [("restart", matches.get_flag("restart")), ("service", matches.contains_id("service"))];
+    let ignored = [
+        ("restart", IN_PROCESS, matches.get_flag("restart")),
+        ("service", IN_PROCESS, matches.contains_id("service")),
+        ("lines", ANSWERED_FIRST, matches.contains_id("lines")),
+    ];
     Options {
         files,
         socket: matches.get_one("socket").cloned(),
@@ -57,7 +63,10 @@ pub fn options(words: impl IntoIterator<Item = OsString>) -> Options {
         metrics: matches.get_one("metrics").cloned(),
         limits,
         service_memory: matches.get_one("service-memory").copied(),
-        ignored: ignored.iter().filter(|(_, is_given)| *is_given).map(|(name, _)| *name).collect(),
+        ignored: ignored
+            .into_iter()
+            .filter_map(|(name, why, is_given)| is_given.then_some((name, why)))
+            .collect(),
     }
 }
 
@@ -98,7 +107,7 @@ fn of_the_socket() -> [Arg; 3] {
     ]
 }
 
-fn of_the_service() -> [Arg; 7] {
+fn of_the_service() -> [Arg; 8] {
     [
         option("processes", "N")
             .value_parser(value_parser!(u64).range(1..=MOST_SHARDS))
@@ -128,6 +137,9 @@ fn of_the_service() -> [Arg; 7] {
             .action(ArgAction::SetTrue)
             .help("for older scripts: the service is in this process, and ends with it"),
         option("service", "CTFD").help("for older scripts: the service is in this process"),
+        option("lines", "N")
+            .value_parser(value_parser!(u64).range(1..=MOST))
+            .help("for older scripts: what is read is answered before more is"),
     ]
 }
 
@@ -151,17 +163,16 @@ fn of_counts(limits: &Limits) -> [Arg; 6] {
     ]
 }
 
-fn of_bytes(limits: &Limits) -> [Arg; 6] {
+fn of_bytes(limits: &Limits) -> [Arg; 5] {
     let count = |name, default: usize, help| size(name, default as u64, MOST, help);
     let line = "bytes of a line; a longer one is refused as LongLine";
-    let lines = "unanswered lines of a connection; then it is not read from";
-    let bytes = "unanswered bytes of a connection; then it is not read from";
+    let bytes =
+        "bytes of a connection that are read at once; they are answered before more is read";
     let unread = "bytes of replies that a client has not read; then its next line waits";
     let memory = "bytes kept for all connections; then the one that asked for more is closed";
     let of_user = "bytes kept for one user's connections; then the same";
     [
         size("line", limits.line as u64, LONGEST_LINE as u64, line),
-        count("lines", limits.lines, lines),
         count("bytes", limits.bytes, bytes),
         count("unread", limits.unread, unread),
         count("memory", limits.memory, memory),
@@ -209,7 +220,6 @@ fn limits(matches: &ArgMatches) -> Limits {
         connections: size("connections", defaults.connections),
         user_connections: size("user-connections", defaults.user_connections),
         line: size("line", defaults.line),
-        lines: size("lines", defaults.lines),
         bytes: size("bytes", defaults.bytes),
         unread: size("unread", defaults.unread),
         memory: size("memory", defaults.memory),

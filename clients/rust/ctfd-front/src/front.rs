@@ -57,11 +57,8 @@ struct Front {
 
 /// Serves until it is told to end; the status.
 pub fn run(options: Options, signals: Signals) -> u8 {
-    for name in &options.ignored {
-        say(
-            Level::Notice,
-            format_args!("--{name} is without effect: the service is in this process"),
-        );
+    for (name, why) in &options.ignored {
+        say(Level::Notice, format_args!("--{name} is without effect: {why}"));
     }
     match serve(options, signals) {
         Ok(status) => status,
