@@ -5,8 +5,8 @@ usage: scripts/rust.py [--quiet | --packages | --ahead] [CARGO-WORD..]
 
 `--packages` prints the names of Debian's packages with the crates. `--ahead` compiles the crates
 that others made, which need no library, and says nothing where that can't be done. Without words it builds
-clients/rust/target/release/ctfd-tools, and beside it a link for each command that it is. With words
-it runs cargo with these: `scripts/rust.py test`.
+clients/rust/target/release/ctfd-tools, beside it a link for each command that it is, and ctfd-front.
+With words it runs cargo with these: `scripts/rust.py test`.
 
 The crates that these stand on are taken from the folder clients/rust/vendor that the tarball of the
 sources has, else from Debian's packages (librust-*-dev) where they are installed, else from
@@ -27,6 +27,7 @@ TOP = Path(__file__).resolve().parents[1]
 WORKSPACE = TOP / "clients" / "rust"
 ARCHIVE = TOP / "crates" / "ctf_c" / "out" / "libctfd.a"
 PROGRAM = "ctfd-tools"
+FRONT = "ctfd-front"
 COMMANDS = ("ctfd-convert", "ctfd-debuginfo", "ctfd-diff", "ctfd-explore", "ctfd-show",
             "ctfd-types")
 DEBIAN = Path("/usr/share/cargo/registry")
@@ -91,8 +92,8 @@ def folder() -> Path:
 
 
 def build(*words: str) -> Path:
-    """Builds the commands; the folder with them. Raises NotBuilt."""
-    if run(["build", "--release", "--package", PROGRAM, *words]) != 0:
+    """Builds the commands and the front; the folder with them. Raises NotBuilt."""
+    if run(["build", "--release", "--package", PROGRAM, "--package", FRONT, *words]) != 0:
         raise NotBuilt("cargo has failed: are all of Debian's packages installed that"
                        f" scripts/rust.py needs ({' '.join(PACKAGES)})?")
     for name in COMMANDS:
@@ -126,7 +127,7 @@ def main() -> int:
         if words[:1] in (["-h"], ["--help"]):
             print(__doc__)
             return 0
-        print(f"{build(*words)}: the compiled commands, {', '.join(COMMANDS)}")
+        print(f"{build(*words)}: the compiled commands, {', '.join((*COMMANDS, FRONT))}")
     except NotBuilt as why:
         if words[:1] == ["--ahead"]:
             return 0

@@ -5,7 +5,7 @@
 set -u
 cd "$(dirname "$0")/../docs/man" || exit 1
 compiled=${CARGO_TARGET_DIR:-../../clients/rust/target}/release
-for command in ctfd-convert ctfd-debuginfo ctfd-diff ctfd-explore ctfd-show ctfd-types; do
+for command in ctfd-convert ctfd-debuginfo ctfd-diff ctfd-explore ctfd-front ctfd-show ctfd-types; do
     [ -x "$compiled/$command" ] || { echo "skipped: $command is not compiled"; continue; }
     for option in $("$compiled/$command" --help | grep -oE -e '--[a-z][a-z0-9-]+[a-z0-9]|--c\>' | sort -u); do
         [ "$option" = --help ] || grep -qE "Fl ${option#-}( |\$)" "$command.1" ||
