@@ -12,7 +12,7 @@ from unittest import mock
 import ctfd
 from ctfd.client import trust
 from ctfd.files import anyfile, compiled
-from ctfd.files.compiled import Options
+from ctfd.files.anyfile import Asked
 
 from .support import CONVERT, run
 
@@ -35,14 +35,14 @@ class Compiled(unittest.TestCase):
 
     def test_what_the_command_writes(self) -> None:
         path, out = self.program(), self.folder / "out"
-        kept = compiled.converted(path, Options(form="dwarf"))
+        found = anyfile.read(path, Asked(form="dwarf"))
         self.assertEqual(run(path, str(out), command=CONVERT).returncode, 1)
-        self.assertEqual((kept.ctf, kept.model), (out.read_bytes(), "lp64"))
-        self.assertEqual([line[:24] for line in kept.losses], ["enum wide: its enumerator"[:24]])
+        self.assertEqual((found.sources[0].ctf, found.sources[0].model), (out.read_bytes(), "lp64"))
+        self.assertEqual([line[:24] for line in found.losses], ["enum wide: its enumerator"[:24]])
 
     def test_why_nothing_is_made(self) -> None:
         with self.assertRaisesRegex(ctfd.Unreadable, r"made\.o: it has no section \.BTF .*leave"):
-            compiled.converted(self.program(), Options(form="btf"))
+            anyfile.read(self.program(), Asked(form="btf"))
 
     def test_what_is_not_ours(self) -> None:
         script = self.folder / "ctfd-convert"
@@ -70,7 +70,7 @@ class Compiled(unittest.TestCase):
         path = self.program()
         with mock.patch.object(compiled, "find", return_value=None), \
                 self.assertRaisesRegex(ctfd.Unreadable, r"made\.o: .*ctfd-convert .*: install it"):
-            anyfile.read(path, anyfile.Asked())
+            anyfile.read(path, Asked())
 
 
 if __name__ == "__main__":

@@ -18,7 +18,6 @@ from typing import Callable, Optional, Sequence
 
 from ..client import service
 from ..client.faults import Error
-from ..files import archives, elf
 from ..tools.running import Help, add_version
 from . import listening
 from .front import Front, Options, TROUBLE
@@ -32,6 +31,8 @@ REFUSED = 1
 SPARE_FILES = 32
 FILES_OF_A_PROCESS = 4
 MOST_PROCESSES = 256
+# How programs, libraries, object files and archives begin.
+PROGRAMS = (b"\x7fELF", b"!<arch>\n", b"!<thin>\n")
 STATUSES = """\
 The status is 0 if SIGTERM or SIGINT ended it; that of the service if that ended (1 a file was
 refused, 3 a read or write failed, 4 memory, 128 and more a signal, 6 no reason); 2 for a wrong
@@ -77,7 +78,7 @@ def _is_program(word: str) -> bool:
         if not stat.S_ISREG(os.stat(path).st_mode):
             return False
         with open(path, "rb") as file:
-            return file.read(8).startswith((elf.MAGIC, archives.MAGIC, archives.THIN))
+            return file.read(8).startswith(PROGRAMS)
     except (OSError, ValueError):  # the service tells why
         return False
 
