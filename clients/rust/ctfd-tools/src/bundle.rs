@@ -64,7 +64,11 @@ fn is_thin(image: &Image) -> bool {
     image.data().read_bytes_at(0, length) == Ok(&THIN_MAGIC[..])
 }
 
-fn dictionary<'a>(one: &'a Handed<'_>, lists: &mut Lists<'a>, has_addresses: bool) -> Result<String> {
+fn dictionary<'a>(
+    one: &'a Handed<'_>,
+    lists: &mut Lists<'a>,
+    has_addresses: bool,
+) -> Result<String> {
     let label = opening::label_of_parent(&one.ctf).map_or("null".to_owned(), |label| text(&label));
     let mut made = Object::default();
     made.field("ctf", lists.place(Some(&one.ctf)))
@@ -99,9 +103,8 @@ pub fn description(image: &Image) -> Result<String> {
     }
     let file = Debuggee::of(image)?;
     let section = |name: &str| file.section_of(name).and_then(|at| file.sections.get(at));
-    let has_debug = |name: &&str| {
-        section(name).is_some_and(|one| one.kind != SHT_NOBITS && one.size > 0)
-    };
+    let has_debug =
+        |name: &&str| section(name).is_some_and(|one| one.kind != SHT_NOBITS && one.size > 0);
     let build_id: String = file.build_id().iter().map(|byte| format!("{byte:02x}")).collect();
     let text_at = section(".text").map_or("null".to_owned(), |one| one.address.to_string());
     let mut made = Object::default();
