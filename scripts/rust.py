@@ -37,6 +37,7 @@ PACKAGES = tuple(f"librust-{name}-dev" for name in ("ahash-0.7", "clap", "crc32f
                                                     "gimli", "indicatif", "libc", "memchr", "mio",
                                                     "object", "rayon", "regex", "rustix",
                                                     "signal-hook", "smallvec", "tar"))
+PACKAGES += ("libzstd-dev",)  # without it sections that zstd compressed are not read
 LEAST = (1, 82)
 
 
