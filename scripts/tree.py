@@ -37,7 +37,9 @@ COMPLETIONS = TOP / "clients" / "completions"
 COMMANDS = sorted(path.name for path in CLIENT.glob("ctfd-*"))
 # Those that are compiled alone.
 COMPILED = sorted(set(rust.COMMANDS) - set(COMMANDS))
-HEADERS = ("ctfd.h", "ctfd_libctf.h")
+# Headers, and where they go: GNU's has the name of another header, so it is in a folder of its own.
+HEADERS = {"ctfd.h": "ctfd.h", "ctfd_libctf.h": "ctfd_libctf.h",
+           "gnu/ctf-api.h": "ctfd/gnu/ctf-api.h"}
 DEBIANS = "/usr/bin/python3"
 # What builds and installs a package, by Debian's packages.
 NEEDED = {"pip": "python3-pip", "setuptools": "python3-setuptools", "wheel": "python3-wheel"}
@@ -128,8 +130,8 @@ class Places:
 
     def texts(self) -> Iterator[tuple[Path, Path, int]]:
         """Where each file of this repository goes, from where, and with which mode."""
-        for name in HEADERS:
-            yield self.prefix / "include" / name, TOP / "clients" / "c" / name, 0o644
+        for name, place in HEADERS.items():
+            yield self.prefix / "include" / place, TOP / "clients" / "c" / name, 0o644
         yield self.libraries / "pkgconfig" / "ctfd.pc", TOP / "clients" / "c" / "ctfd.pc.in", 0o644
         for page in sorted((TOP / "docs" / "man").glob("*.[1-9]")):
             yield self.prefix / "share/man" / f"man{page.suffix[1:]}" / page.name, page, 0o644

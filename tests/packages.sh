@@ -77,7 +77,7 @@ used() {
     count "the header's version in $below" says "$version" "$work/header"
     count "pkg-config in $below" env PKG_CONFIG_PATH="$libraries/pkgconfig" \
         pkg-config --exact-version="$version" ctfd
-    for file in include/ctfd_libctf.h lib/systemd/system/ctfd-front.socket; do
+    for file in include/ctfd_libctf.h include/ctfd/gnu/ctf-api.h lib/systemd/system/ctfd-front.socket; do
         count "$file in $below" test -s "$below/$file"
     done
     count "manual pages in $below" says "$(ls "$top/docs/man" | wc -l)" \

@@ -92,6 +92,8 @@ def parts(program: str) -> list[Part]:
         Part("many_types", ["tests/reader/many_types.py", program],
              after=("archive", "compiled")),
         Part("c_library", ["tests/c_library.sh", program], after=("archive", "compiled")),
+        # Dictionaries in the making, by libctf's calls.
+        Part("making", ["tests/making.sh"], after=("archive", "compiled")),
         Part("packages", ["tests/packages.sh", program], after=("archive", "compiled")),
         Part("install", ["tests/install.sh", program], after=("archive", "compiled")),
         Part("rust", ["tests/rust.sh"], after=of_library),

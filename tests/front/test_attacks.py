@@ -10,7 +10,8 @@ import time
 import unittest
 from typing import List
 
-from support import HAND_IN, IS_COMPILED, Front, Talker, WithFront, ask, memory, until
+from support import (HAND_IN, IS_COMPILED, Front, Talker, WithFront, ask, memory, processor,
+                     until)
 
 KIND = ask("kind", d=1, t=1)
 INTEGER = b'{"ok":{"kind":"integer"},"s":1}'
@@ -133,8 +134,10 @@ class Patience(WithFront):
         large = ask("bytes", **{"d": 1, "from": 0, "count": MEBIBYTE})
         writer = threading.Thread(target=pour, args=(deaf, large), daemon=True)
         writer.start()
-        waited = [slowest(other) for _ in range(5)]
-        self.assertLess(min(waited), 0.1, waited)
+        before, questions = used(front), 500
+        for _ in range(questions):
+            self.assertEqual(other.ask(KIND), INTEGER)
+        self.assertLess((used(front) - before) / questions, 0.001)  # seconds of a processor
         self.assertLess(memory(front.process.pid)["VmHWM"], 128 * 1024)
         deaf.socket.shutdown(socket.SHUT_RDWR)  # it wakes the writer
         writer.join()
@@ -260,14 +263,9 @@ def pour(talker: Talker, line: bytes) -> None:
         pass
 
 
-def slowest(talker: Talker) -> float:
-    """The longest of a hundred waits for a reply."""
-    waits = []
-    for _ in range(100):
-        began = time.monotonic()
-        assert talker.ask(KIND) == INTEGER
-        waits.append(time.monotonic() - began)
-    return max(waits)
+def used(front: Front) -> float:
+    """The processor time of a front and its service."""
+    return sum(map(processor, {front.process.pid, front.service()}))
 
 
 def files(front: Front) -> int:

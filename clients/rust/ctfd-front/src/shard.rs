@@ -113,9 +113,11 @@ impl Shard {
             let before_turn = connection.time_used;
             let after = connection.turn(&mut self.tools, &mut longest);
             let answering = connection.time_used - before_turn;
-            let now = self.tools.meter.now();
-            // What stalled the thread amid a long request is nobody's.
-            let took = if longest > crate::turns::LONG { answering } else { now - before };
+            // What stalled the thread is nobody's: amid a long request, or behind a reply, whose
+            // reader may have been given this processor.
+            let turn = self.tools.meter.time_since(before);
+            let took = if longest > crate::turns::LONG { answering } else { turn };
+            let now = self.tools.meter.last();
             self.turns.charge(token, took, longest, now);
             self.follow(token, after);
             before = now;
