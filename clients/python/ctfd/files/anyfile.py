@@ -44,7 +44,14 @@ def read(path: str, asked: Asked) -> Bundle:
     if data is not None:
         found = bundles.parsed(data)
     else:
-        data = compiled.bundle(path, asked)
+        try:
+            data = compiled.bundle(path, asked)
+        except compiled.Missing:
+            is_plain = (asked.number, asked.form, asked.base) == (None, None, None)
+            plain = bundles.plain(path) if is_plain else None
+            if plain is None:
+                raise
+            return plain
         found = bundles.parsed(data)
         if cache and found.is_made and found.is_alone:
             cache.put(named, data)

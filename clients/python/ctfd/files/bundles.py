@@ -10,6 +10,11 @@ from ..client.model import Model
 from .source import Source
 
 
+# How CTF of version 2 begins, its flags, and what its labels say that it is handed in with.
+PLAIN, UNCOMPRESSED = b"\xf1\xcf\2", (b"\0",)
+NAMED = (b"ctfd.model=", b"ctfd.symbols=names,")
+
+
 class Symbol(NamedTuple):
     """A function or an object: its number in the symbol table, and its address in the file."""
 
@@ -67,6 +72,19 @@ def parsed(data: bytes) -> Bundle:
         if addresses is not None and len(sources) == 1:
             symbols = [Symbol(*symbol) for symbol in json.loads(addresses)]
     return Bundle(sources, symbols, head["made"], head["losses"], head["alone"])
+
+
+def plain(path: str) -> Optional[Bundle]:
+    """A dictionary that is handed in as it is, without the command: it is not compressed, and names
+    neither a data model nor symbols of its own. None of any other file."""
+    try:
+        with open(path, "rb") as file:
+            data = file.read()
+    except (OSError, ValueError):
+        return None
+    if data[:3] != PLAIN or data[3:4] not in UNCOMPRESSED or any(word in data for word in NAMED):
+        return None
+    return Bundle([Source(data)])
 
 
 def described(data: bytes) -> Optional[Description]:

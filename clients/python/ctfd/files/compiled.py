@@ -1,7 +1,7 @@
 """The compiled commands that this package runs: `ctfd-convert`, which reads programs for it.
 
-A command is the one beside the command that runs, in `bin` beside the `lib` that this package is in, of
-the clone that this package stands in, or on the PATH. One of another version does not count, nor
+A command is the one beside the command that runs, of the clone that this package stands in, beside the
+program that CTFD names, in `bin` beside the `lib` that this package is in, or on the PATH. One of another version does not count, nor
 one that another user could have put there (trust.py).
 """
 from __future__ import annotations
@@ -11,7 +11,7 @@ import os
 import subprocess
 from typing import TYPE_CHECKING, Iterator, List, Optional
 
-from ..client import trust
+from ..client import service, trust
 from ..client.faults import Unreadable
 from ..version import VERSION
 from . import bundles
@@ -37,14 +37,24 @@ def description(path: str) -> Optional[Description]:
     return bundles.described(_written(path, ["--describe"]))
 
 
-def _written(path: str, words: List[str]) -> bytes:
-    """What the command writes of a file. Raises Unreadable."""
+def label(ctf: bytes) -> Optional[str]:
+    """By what a child names a dictionary as its parent. Raises Unreadable."""
+    written = _written("/dev/stdin", ["--bundle"], ctf)
+    return bundles.parsed(written).sources[0].label
+
+
+class Missing(Unreadable):
+    """There is no such command."""
+
+
+def _written(path: str, words: List[str], data: bytes = b"") -> bytes:
+    """What the command writes of a file, or of what it reads from a pipe. Raises Unreadable."""
     command = find()
     if command is None:
-        raise Unreadable(f"{path}: {missing(NAME, 'its types are read')}")
+        raise Missing(f"{path}: {missing(NAME, 'its types are read')}")
     try:
-        done = subprocess.run([command, *words, "--", path, "-"], stdin=subprocess.DEVNULL,
-                              capture_output=True, check=False)
+        done = subprocess.run([command, *words, "--", path, "-"], input=data, capture_output=True,
+                              check=False)
     except (OSError, ValueError) as error:  # ValueError: a name with a zero byte
         why = error.strerror if isinstance(error, OSError) else error
         raise Unreadable(f"{path}: {command}: {why}") from error
@@ -97,6 +107,9 @@ def _places(name: str) -> Iterator[str]:
         yield os.path.join(folder, name)
     if clone:
         yield os.path.join(clone, BUILT, name)
+    program = service.named()
+    if program and os.path.isabs(program):
+        yield os.path.join(os.path.dirname(program), name)
     parts: List[str] = trust.HERE.split(os.sep)
     if "lib" in parts and not clone:
         last = len(parts) - 1 - parts[::-1].index("lib")

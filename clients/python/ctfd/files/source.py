@@ -56,6 +56,8 @@ def read(path: str, number: Optional[int] = None) -> Source:
 
 def judge_parent(label: str, of: Source) -> None:
     """Raises Unreadable where a dictionary is not the parent that a child names by a label."""
-    if label.startswith(TYPES) and of.label not in (None, label):
+    from . import compiled  # here: it stands on this
+
+    if label.startswith(TYPES) and label != (of.label or compiled.label(of.ctf)):
         raise Unreadable("its types are not those that the child was made over: name the parent's"
                          " file of that day, or let ctfd-convert make the child anew over this one")
