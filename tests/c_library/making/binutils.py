@@ -32,7 +32,7 @@ VERSION = "2.40-2"
 
 def run(*words: object, folder: Optional[Path] = None) -> subprocess.CompletedProcess[str]:
     return subprocess.run([str(word) for word in words], cwd=folder, text=True, errors="replace",
-                          capture_output=True, timeout=300, check=False)
+                          stdin=subprocess.DEVNULL, capture_output=True, timeout=300, check=False)
 
 
 def downloaded(work: Path) -> Optional[Path]:
@@ -140,7 +140,10 @@ def main() -> int:
     libraries, convert = Path(sys.argv[1]).resolve(), Path(sys.argv[2]).absolute()
     with tempfile.TemporaryDirectory() as folder:
         work = Path(folder)
-        sources = Path(sys.argv[3]).resolve() if len(sys.argv) > 3 else downloaded(work)
+        try:
+            sources = Path(sys.argv[3]).resolve() if len(sys.argv) > 3 else downloaded(work)
+        except subprocess.TimeoutExpired:
+            sources = None
         cases = sorted(sources.glob("libctf/testsuite/*/*.lk")) if sources else []
         if not cases:
             print("binutils: the sources of binutils can't be had here")
