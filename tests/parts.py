@@ -79,7 +79,7 @@ def parts(program: str) -> list[Part]:
         # The same tests over the library in process, where the parts above ask a `ctfd serve`.
         Part("client_in_process", ["bash", "-c", IN_PROCESS, python], CLIENT,
              {**over, "CTFD_LIBRARY": str(library())}, ("archive", "compiled")),
-        Part("front", ["tests/front.sh", program], is_alone=True),
+        Part("front", ["tests/front.sh", program], after=("compiled",), is_alone=True),
         Part("gdb", ["tests/gdb.sh", program], after=("compiled",)),
         Part("drgn", [with_package("drgn"), "-m", "unittest", "-v", "tests.test_drgn"],
              CLIENT, over, ("compiled",)),
@@ -92,6 +92,8 @@ def parts(program: str) -> list[Part]:
         Part("many_types", ["tests/reader/many_types.py", program],
              after=("archive", "compiled")),
         Part("c_library", ["tests/c_library.sh", program], after=("archive", "compiled")),
+        # Dictionaries in the making, by libctf's calls.
+        Part("making", ["tests/making.sh"], after=("archive", "compiled")),
         Part("packages", ["tests/packages.sh", program], after=("archive", "compiled")),
         Part("install", ["tests/install.sh", program], after=("archive", "compiled")),
         Part("rust", ["tests/rust.sh"], after=of_library),

@@ -5,8 +5,6 @@
  * where typedefs are followed, what callbacks are given and when ctf_errno changes are libctf's, as
  * illumos has them.
  * Not so are these:
- * - An error is a number of enum ctfd_status, or CTF_SYSTEM_ERROR and a number of <errno.h>. The
- *   names ECTF_* stand for those; some of them are one number here.
  * - A dictionary is judged whole when it is opened, and is refused for any fault in it.
  * - A parent that lacks types which the child names is refused by ctf_import.
  * docs/C.md has a table of all calls, with those that are not here.
@@ -132,45 +130,60 @@ typedef int ctf_object_f(const char *name, ctf_id_t type, ulong_t symbol, void *
 #define CTF_FP_DIMAGRY 11
 #define CTF_FP_LDIMAGRY 12
 
-/* Errors of the system are their errno behind this number. */
-#define CTF_SYSTEM_ERROR 1000
+/* What ctf_errno tells: a number of <errno.h>, or one of these, which are those of libctf. */
+#define ECTF_BASE 1000
 
-/* The part for ELF files, libctfd_elf, is not there; a file without .SUNW_ctf and .ctf; a damaged
- * ELF file; a body that does not inflate to what its header says; a name that does not fit into the
- * caller's buffer. */
-#define ECTF_ZMISSING 900
-#define ECTF_NOCTFDATA 901
-#define ECTF_ELFVERS 902
-#define ECTF_DECOMPRESS 903
-#define ECTF_NAMELEN 904
+/* Behind this, and a number of enum ctfd_status: faults that libctf has no number for. */
+#define ECTF_FAULT 1100
 
-#define ECTF_FMT CTFD_BAD_MAGIC
-#define ECTF_NOCTFBUF CTFD_BAD_MAGIC
-#define ECTF_CTFVERS CTFD_BAD_VERSION
-#define ECTF_CORRUPT CTFD_TRUNCATED
-#define ECTF_NOPARENT CTFD_NO_PARENT
-#define ECTF_DMODEL CTFD_MODEL_DIFFERS
-#define ECTF_BADID CTFD_NO_TYPE
-#define ECTF_SYNTAX CTFD_BAD_SYNTAX
-#define ECTF_NOTYPE CTFD_NOT_FOUND
-#define ECTF_NOTSOU CTFD_WRONG_KIND
-#define ECTF_NOTENUM CTFD_WRONG_KIND
-#define ECTF_NOTARRAY CTFD_WRONG_KIND
-#define ECTF_NOTINTFP CTFD_WRONG_KIND
-#define ECTF_NOTREF CTFD_NOT_REFERENCE
-#define ECTF_NOMEMBNAM CTFD_NO_MEMBER
-#define ECTF_NOENUMNAM CTFD_NO_MEMBER
-#define ECTF_NOSYMTAB CTFD_NO_SYMBOL
-#define ECTF_NOTDATA CTFD_NOT_DATA
-#define ECTF_NOTFUNC CTFD_NOT_FUNCTION
-#define ECTF_NOTYPEDAT CTFD_NO_INFO
-#define ECTF_NOFUNCDAT CTFD_NO_INFO
-#define ECTF_NOLABEL CTFD_NO_LABEL
-#define ECTF_NOLABELDATA CTFD_NO_LABEL
-#define ECTF_RDONLY CTFD_READ_ONLY
-#define ECTF_FULL CTFD_FULL
-#define ECTF_DTFULL CTFD_VLEN_FULL
-#define ECTF_DUPMEMBER CTFD_DUPLICATE
+enum {
+    ECTF_FMT = ECTF_BASE, /* the file is no CTF and no ELF */
+    ECTF_ELFVERS, /* a damaged ELF file */
+    ECTF_CTFVERS, /* not version 2 */
+    ECTF_ENDIAN,
+    ECTF_SYMTAB,
+    ECTF_SYMBAD,
+    ECTF_STRBAD,
+    ECTF_CORRUPT, /* a rule of the format is broken: ctf_fault says which */
+    ECTF_NOCTFDATA, /* an ELF file without .SUNW_ctf and .ctf */
+    ECTF_NOCTFBUF, /* no CTF */
+    ECTF_NOSYMTAB, /* no such symbol */
+    ECTF_NOPARENT,
+    ECTF_DMODEL,
+    ECTF_MMAP,
+    ECTF_ZMISSING, /* the part for ELF files, libctfd_elf, is not there */
+    ECTF_ZINIT,
+    ECTF_ZALLOC,
+    ECTF_DECOMPRESS, /* a body that does not inflate to what its header says */
+    ECTF_STRTAB,
+    ECTF_BADNAME,
+    ECTF_BADID,
+    ECTF_NOTSOU,
+    ECTF_NOTENUM,
+    ECTF_NOTSUE,
+    ECTF_NOTINTFP,
+    ECTF_NOTARRAY,
+    ECTF_NOTREF,
+    ECTF_NAMELEN, /* a name that does not fit into the caller's buffer */
+    ECTF_NOTYPE,
+    ECTF_SYNTAX,
+    ECTF_NOTFUNC,
+    ECTF_NOFUNCDAT,
+    ECTF_NOTDATA,
+    ECTF_NOTYPEDAT,
+    ECTF_NOLABEL,
+    ECTF_NOLABELDATA,
+    ECTF_NOTSUP,
+    ECTF_NOENUMNAM,
+    ECTF_NOMEMBNAM,
+    ECTF_RDONLY,
+    ECTF_DTFULL,
+    ECTF_FULL,
+    ECTF_DUPMEMBER,
+    ECTF_CONFLICT, /* another type of this name is there already */
+    ECTF_REFERENCED,
+    ECTF_NOTDYN
+};
 
 /* ---- errors */
 
@@ -179,6 +192,11 @@ int ctf_errno(ctf_file_t *fp);
 
 /* What an error is, with the name of its fault in front: "NoType: no type has this number". */
 const char *ctf_errmsg(int error);
+
+/* Not one of libctf's: the fault behind the last error of a file, or, of NULL, behind the last call
+ * on this thread that opened nothing; CTFD_OK where it is an error of another sort. Many faults
+ * share a number of libctf's: ctfd_status_name(ctf_fault(NULL)) says which rule is broken. */
+enum ctfd_status ctf_fault(ctf_file_t *fp);
 
 /* The version of the format, which is the only one. */
 int ctf_version(int version);
@@ -196,7 +214,7 @@ ctf_file_t *ctf_bufopen(const ctf_sect_t *ctf, const ctf_sect_t *symbols,
 ctf_file_t *ctf_open(const char *name, int *error);
 ctf_file_t *ctf_fdopen(int fd, int *error);
 
-/* Opens the same dictionary once more, by itself; not a draft. */
+/* Opens the same dictionary once more, by itself; not one in the making. */
 ctf_file_t *ctf_dup(ctf_file_t *fp);
 void ctf_close(ctf_file_t *fp);
 
@@ -205,15 +223,15 @@ int ctf_getmodel(ctf_file_t *fp);
 void ctf_setspecific(ctf_file_t *fp, void *data);
 void *ctf_getspecific(ctf_file_t *fp);
 
-/* The bytes of the dictionary: those that were handed in, or what the last update made. They are
- * there until the file is closed, or, of a draft, until the next of these calls. No bytes, and an
- * error, where there is no memory. */
+/* The bytes of the dictionary: those that were handed in, or, of one in the making, what is visible,
+ * written anew. They are there until the file is closed, or, of one in the making, until the next
+ * of these calls. No bytes, and an error, where it can't be written. */
 void ctf_dataptr(ctf_file_t *fp, const void **bytes, size_t *size);
 
 /* ---- parents */
 
-/* Without a parent, drops the one that was imported. That of a draft is imported before anything is
- * added to it, and stays. */
+/* Without a parent, drops the one that was imported. One in the making imports its parent before
+ * anything is added to it, and keeps it. A child sees what its parent in the making gets. */
 int ctf_import(ctf_file_t *fp, ctf_file_t *parent);
 ctf_file_t *ctf_parent_file(ctf_file_t *fp);
 
@@ -268,8 +286,8 @@ int ctf_type_iter(ctf_file_t *fp, boolean_t hidden, ctf_type_f *each, void *arg)
 /* Qualifiers and blanks in the name are passed over. */
 ctf_id_t ctf_lookup_by_name(ctf_file_t *fp, const char *name);
 
-/* Calls with each string of the dictionary's own table, in order. Those of a draft are there until
- * the call ends. */
+/* Calls with each string of the dictionary's own table, in order. Those of one in the making are
+ * there until the call ends. */
 int ctf_string_iter(ctf_file_t *fp, ctf_string_f *each, void *arg);
 
 /* ---- functions and symbols */
@@ -295,7 +313,12 @@ int ctf_label_iter(ctf_file_t *fp, ctf_label_f *each, void *arg);
 const char *ctf_label_topmost(ctf_file_t *fp);
 int ctf_label_info(ctf_file_t *fp, const char *name, ctf_lblinfo_t *info);
 
-/* ---- drafts */
+/* ---- dictionaries in the making
+ *
+ * What is added is visible from the next ctf_update on; ctf_discard drops what is not. A type may get
+ * members and enumerators at any time. A forward becomes the struct, union or enum of its name that
+ * is added, under its number. Rules that concern the whole dictionary, such as how deep values lie
+ * in each other, are judged when its bytes are wanted. */
 
 ctf_file_t *ctf_create(int *error);
 ctf_id_t ctf_add_integer(ctf_file_t *fp, uint_t flag, const char *name,
@@ -323,11 +346,28 @@ int ctf_add_enumerator(ctf_file_t *fp, ctf_id_t type, const char *name, int valu
 
 /* Adds a label behind those that are there: another position is refused, with ENOTSUP. */
 int ctf_add_label(ctf_file_t *fp, const char *name, ctf_id_t last, uint_t position);
+int ctf_set_array(ctf_file_t *fp, ctf_id_t type, const ctf_arinfo_t *array);
+
+/* Copies a type of another file with all that it needs. A type of the same name, kind and contents
+ * that is there already is used; one that differs is ECTF_CONFLICT. */
+ctf_id_t ctf_add_type(ctf_file_t *fp, ctf_file_t *from, ctf_id_t type);
+
+/* The last type goes; another leaves one of kind unknown, since numbers stay. */
+int ctf_delete_type(ctf_file_t *fp, ctf_id_t type);
 int ctf_update(ctf_file_t *fp);
 int ctf_discard(ctf_file_t *fp);
 
-/* Writes what the last update made, or what was opened. */
+/* Writes what is visible, or what was opened. */
 int ctf_write(ctf_file_t *fp, int fd);
+
+/* Not one of libctf's: the handle of ctfd.h that a file has open, for its calls beside these. It is
+ * there until the file is closed, its model or its parent changes; of one in the making, or a child
+ * of one, until that changes. NULL, and an error, where one in the making can't be written. Only
+ * ask with it: what it opens, creates or closes would be the file's. */
+struct ctfd *ctfd_of(ctf_file_t *fp);
+
+/* Not one of libctf's: the version of the library, CTFD_VERSION when it was compiled. */
+const char *ctfd_version(void);
 
 /* Not one of libctf's: which build this library is, as `ctfd --version` says it of the program:
  * "proved build: " and the kit that checked its proofs, or "quick build: proofs not checked".

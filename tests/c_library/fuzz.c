@@ -415,7 +415,7 @@ static void by_libctf(const struct bytes *dictionary)
         (void)ctf_type_compat(fp, type, fp, (ctf_id_t)below(540));
         (void)ctf_setmodel(fp, CTF_MODEL_ILP32);
         (void)ctf_type_size(fp, -1 - (ctf_id_t)below(3));
-        CHECK(ctf_errno(fp) == CTFD_NO_TYPE);
+        CHECK(ctf_fault(fp) == CTFD_NO_TYPE);
     } else {
         CHECK(error > CTFD_OK && ctf_errmsg(error)[0] != '\0');
     }

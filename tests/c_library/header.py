@@ -7,7 +7,7 @@ Nothing proves that a header says what a crate exports. So each declaration is c
 export of its name: its parameters, in order, by their names and widths; its result; the fields of
 each struct behind a pointer; the names and numbers of statuses, against those of faults; the
 numbers of kinds. With an archive, the names that it defines are compared too: those of the
-crates, and those of clients/c/ctfd_libctf.h. Of libctfd.so beside it nothing else is seen.
+crates, and those of clients/c/ctfd_libctf.h and gnu/ctf-api.h. Of libctfd.so beside it nothing else is seen.
 
 clients/rust/ctfd/src/raw.rs, which declares the same for Rust, is compared in the same way. Each call of
 illumos' libctf and of GNU's (illumos_calls.txt, gnu_calls.txt) has a row in docs/C.md.
@@ -201,7 +201,13 @@ def named(*words: str) -> set[str]:
 def of_libctf() -> set[str]:
     """The calls that ctfd_libctf.h declares."""
     text = (TOP / "clients" / "c" / "ctfd_libctf.h").read_text(encoding="utf-8")
-    return set(re.findall(r"^(?!typedef)(?:\w+ )+\*?(ctf_\w+)\(", text, re.MULTILINE))
+    return set(re.findall(r"^(?!typedef)(?:\w+ )+\*?(ctfd?_\w+)\(", text, re.MULTILINE))
+
+
+def of_gnu() -> set[str]:
+    """The names that gnu/ctf-api.h leads GNU's calls to, where these are not illumos' own."""
+    text = (TOP / "clients" / "c" / "gnu" / "ctf-api.h").read_text(encoding="utf-8")
+    return {f"ctfd_gnu_{name}" for name in re.findall(r'CTFD_GNU\("(\w+)"\)', text)}
 
 
 def without_a_row(page: str) -> list[str]:
@@ -218,7 +224,7 @@ def not_as_declared(archive: Path, calls: set[str]) -> list[str]:
     """What an archive and the shared library beside it define otherwise than the headers say, but
     for the names by which the archive takes memory, and what its own objects share. Those of the
     shared library have its version."""
-    wanted, found = calls | of_libctf(), []
+    wanted, found = calls | of_libctf() | of_gnu(), []
     inside = {name for name in named(str(archive)) if not re.match("rattle_|ctfd__", name)}
     if inside != wanted:
         found.append(f"declared, or defined by the archive: {sorted(inside ^ wanted)}")

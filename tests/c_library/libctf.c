@@ -229,13 +229,13 @@ static void models(const char *file)
         return;
     pointer = ctf_lookup_by_name(fp, "struct lua_State *");
     CHECK(ctf_type_size(fp, pointer) == 8);
-    CHECK(ctf_setmodel(fp, 9) == -1 && ctf_errno(fp) == CTF_SYSTEM_ERROR + EINVAL);
+    CHECK(ctf_setmodel(fp, 9) == -1 && ctf_errno(fp) == EINVAL);
     CHECK(ctf_setmodel(fp, CTF_MODEL_ILP32) == 0 && ctf_type_size(fp, pointer) == 4);
     again = ctf_dup(fp);
     CHECK(again != NULL && ctf_getmodel(again) == CTF_MODEL_ILP32);
     ctf_setspecific(fp, &error);
     CHECK(ctf_getspecific(fp) == &error && ctf_import(fp, fp) == -1);
-    CHECK(ctf_errno(fp) == CTFD_NOT_CHILD && ctf_import(fp, NULL) == 0);
+    CHECK(ctf_fault(fp) == CTFD_NOT_CHILD && ctf_import(fp, NULL) == 0);
     ctf_close(fp);
     CHECK(ctf_type_size(again, pointer) == 4);
     ctf_close(again);
@@ -321,7 +321,7 @@ static void bytes(void)
         return;
     CHECK(ctf_add_integer(fp, CTF_ADD_ROOT, "int", &signed_int) == 1);
     CHECK(ctf_add_label(fp, "one", 1, 0) == 0);
-    CHECK(ctf_add_label(fp, "two", 1, 0) == -1 && ctf_errno(fp) == CTF_SYSTEM_ERROR + ENOTSUP);
+    CHECK(ctf_add_label(fp, "two", 1, 0) == -1 && ctf_errno(fp) == ENOTSUP);
     CHECK(ctf_add_label(fp, "two", 1, (uint_t)CTF_LABEL_LASTIDX) == 0);
     CHECK(ctf_add_label(fp, NULL, 1, 2) == -1 && ctf_update(fp) == 0);
     CHECK(is(ctf_label_topmost(fp), "two"));
@@ -346,17 +346,17 @@ static void refused_files(const char *folder)
     snprintf(fifo, sizeof fifo, "%s/fifo", folder);
     CHECK(mkfifo(fifo, 0600) == 0);
     alarm(60);
-    CHECK(ctf_open(fifo, &error) == NULL && error == CTF_SYSTEM_ERROR + EINVAL);
-    CHECK(ctf_open("/dev/zero", &error) == NULL && error == CTF_SYSTEM_ERROR + EINVAL);
+    CHECK(ctf_open(fifo, &error) == NULL && error == EINVAL);
+    CHECK(ctf_open("/dev/zero", &error) == NULL && error == EINVAL);
     alarm(0);
     CHECK(unlink(fifo) == 0);
-    CHECK(ctf_open("/no/such/file", &error) == NULL && error == CTF_SYSTEM_ERROR + ENOENT);
+    CHECK(ctf_open("/no/such/file", &error) == NULL && error == ENOENT);
     CHECK(is(ctf_errmsg(error), strerror(ENOENT)));
-    CHECK(ctf_open(folder, &error) == NULL && error == CTF_SYSTEM_ERROR + EINVAL);
+    CHECK(ctf_open(folder, &error) == NULL && error == EINVAL);
     CHECK(ctf_open("/proc/self/exe", &error) == NULL);
     CHECK(error == ECTF_NOCTFDATA || error == ECTF_ZMISSING);
     CHECK(strstr(ctf_errmsg(ECTF_ZMISSING), "libctfd_elf") != NULL);
-    CHECK(ctf_bufopen(NULL, NULL, NULL, &error) == NULL && error == CTF_SYSTEM_ERROR + EINVAL);
+    CHECK(ctf_bufopen(NULL, NULL, NULL, &error) == NULL && error == EINVAL);
     CHECK(ctf_version(0) == 2 && ctf_version(3) == -1);
 }
 
@@ -392,8 +392,8 @@ static void drafts(const char *folder)
     CHECK(array == 5 && function == 6);
     CHECK(ctf_add_forward(fp, CTF_ADD_ROOT, "f", CTF_K_INTEGER) == CTF_ERR);
     CHECK(ctf_add_typedef(fp, 9, "t", number) == CTF_ERR);
-    CHECK(ctf_errno(fp) == CTF_SYSTEM_ERROR + EINVAL);
-    CHECK(ctf_add_typedef(fp, CTF_ADD_ROOT, "t", 99) == CTF_ERR && ctf_errno(fp) == CTFD_BAD_REF);
+    CHECK(ctf_errno(fp) == EINVAL);
+    CHECK(ctf_add_typedef(fp, CTF_ADD_ROOT, "t", 99) == CTF_ERR && ctf_fault(fp) == CTFD_BAD_REF);
     CHECK(ctf_update(fp) == 0 && ctf_type_size(fp, node) == 16);
     begin(0);
     CHECK(ctf_type_iter(fp, B_TRUE, on_type, &seen) == 0 && seen.calls == 6);
@@ -406,12 +406,12 @@ static void drafts(const char *folder)
     CHECK(ctf_import(child, fp) == 0 && ctf_parent_file(child) == fp);
     CHECK(ctf_add_volatile(child, CTF_ADD_ROOT, NULL, number) == 32769);
     CHECK(ctf_update(child) == 0 && ctf_type_size(child, 32769) == 4);
-    CHECK(ctf_import(child, fp) == -1 && ctf_errno(child) == CTFD_FIXED_PARENT);
+    CHECK(ctf_import(child, fp) == -1 && ctf_fault(child) == CTFD_FIXED_PARENT);
     CHECK(is(ctf_parent_name(child), "PARENT"));
     snprintf(path, sizeof path, "%s/own.ctf", folder);
     fd = open(path, O_WRONLY | O_CREAT | O_TRUNC, 0600);
     CHECK(fd >= 0 && ctf_write(fp, fd) == 0 && close(fd) == 0);
-    CHECK(ctf_write(fp, -1) == -1 && ctf_errno(fp) == CTF_SYSTEM_ERROR + EBADF);
+    CHECK(ctf_write(fp, -1) == -1 && ctf_errno(fp) == EBADF);
     ctf_close(fp);
     CHECK(ctf_type_size(child, node) == 16);
     ctf_close(child);
@@ -482,8 +482,33 @@ static void lent_names(void)
     begin(0);
     CHECK(ctf_member_iter(child, 2, on_member, &seen) == 0 && is(seen.first_name, "value"));
     CHECK(ctf_enum_value(child, 3, "red", &value) == 0 && value == -1);
-    CHECK(ctf_enum_name(child, 3, 0) == NULL && ctf_errno(child) == CTFD_NO_MEMBER);
+    CHECK(ctf_enum_name(child, 3, 0) == NULL && ctf_fault(child) == CTFD_NO_MEMBER);
     ctf_close(child);
+}
+
+/* One open file for both headers; and which fault stands behind an error that several share. */
+static void both_headers(void)
+{
+    static const char damaged[36] = "\xf1\xcf\x02\x00";
+    ctf_sect_t section;
+    struct ctfd *types = ctfd_of(lua);
+    uint32_t kind = 0;
+    int error = 0;
+    CHECK(types != NULL && ctfd_kind(types, 1, &kind) == CTFD_OK);
+    CHECK((int)kind == ctf_type_kind(lua, 1));
+    memset(&section, 0, sizeof section);
+    section.cts_data = damaged;
+    section.cts_size = 4;
+    CHECK(ctf_bufopen(&section, NULL, NULL, &error) == NULL);
+    CHECK(error == ECTF_NOCTFBUF && ctf_fault(NULL) == CTFD_SHORT_HEADER);
+    section.cts_size = sizeof damaged;
+    CHECK(ctf_bufopen(&section, NULL, NULL, &error) == NULL);
+    CHECK(error == ECTF_CORRUPT && ctf_fault(NULL) == CTFD_BAD_STRINGS);
+    CHECK(ctf_type_size(lua, 70000) == -1 && ctf_fault(lua) == CTFD_NO_TYPE);
+    CHECK(ctf_setmodel(lua, 9) == -1 && ctf_fault(lua) == CTFD_OK && ctf_errno(lua) == EINVAL);
+    CHECK(is(ctf_errmsg(ECTF_FAULT + CTFD_INCOMPLETE),
+        "Incomplete: the type has no size, alignment or value"));
+    CHECK(is(ctfd_version(), CTFD_VERSION));
 }
 
 int main(int argc, char **argv)
@@ -521,6 +546,7 @@ int main(int argc, char **argv)
     snprintf(file, sizeof file, "%s/lua.ctf", argv[1]);
     models(file);
     declarations();
+    both_headers();
     refused_files(argv[2]);
     drafts(argv[2]);
     lent_names();

@@ -13,6 +13,7 @@
 #include "common.h"
 #include "made.h"
 
+#include <errno.h>
 #include <limits.h>
 
 #define MOST 24
@@ -251,7 +252,7 @@ static int same_enumerator(const char *name, int value, void *arg)
 /* The status by which a call has ended; those of libctf leave it in the file. */
 static enum ctfd_status ended(ctf_file_t *fp, long said)
 {
-    return said < 0 ? (enum ctfd_status)ctf_errno(fp) : CTFD_OK;
+    return said < 0 ? ctf_fault(fp) : CTFD_OK;
 }
 
 static void compare_lists(ctf_file_t *fp, struct ctfd *types, ctf_id_t t)
@@ -266,11 +267,11 @@ static void compare_lists(ctf_file_t *fp, struct ctfd *types, ctf_id_t t)
         return;
     members.of = enumerators.of = to;
     if (ended(fp, ctf_member_iter(fp, t, same_member, &members)) != CTFD_OK)
-        CHECK(ctf_errno(fp) == (int)ctfd_member(types, to, 0, text, 0, &member));
+        CHECK(ctf_fault(fp) == ctfd_member(types, to, 0, text, 0, &member));
     else
         CHECK(ctfd_member(types, to, members.len, text, 0, &member) == CTFD_NO_MEMBER);
     if (ended(fp, ctf_enum_iter(fp, t, same_enumerator, &enumerators)) != CTFD_OK)
-        CHECK(ctf_errno(fp) == (int)ctfd_enumerator(types, to, 0, text, 0, &value, &len));
+        CHECK(ctf_fault(fp) == ctfd_enumerator(types, to, 0, text, 0, &value, &len));
     else
         CHECK(ctfd_enumerator(types, to, enumerators.len, text, 0, &value, &len) ==
             CTFD_NO_MEMBER);
@@ -293,7 +294,7 @@ static void compare_enumerators(ctf_file_t *fp, struct ctfd *types, ctf_id_t t)
             continue;
         CHECK((name != NULL) == (status == CTFD_OK) &&
             (name != NULL ? strlen(name) == len && memcmp(name, text, len) == 0 :
-                            ctf_errno(fp) == (int)status));
+                            ctf_fault(fp) == status));
         return;
     }
     for (i = 0; (status = ctfd_enumerator(types, (uint16_t)t, i, text, sizeof text, &value,
@@ -356,7 +357,7 @@ static void compare_found(ctf_file_t *fp, struct ctfd *types)
         uint16_t t = 0;
         enum ctfd_status status = ctfd_find(types, name, strlen(name), &t);
         ctf_id_t found = ctf_lookup_by_name(fp, name);
-        CHECK(status == CTFD_OK ? found == t : found == CTF_ERR && ctf_errno(fp) == (int)status);
+        CHECK(status == CTFD_OK ? found == t : found == CTF_ERR && ctf_fault(fp) == status);
     }
     CHECK(ctf_lookup_by_name(fp, " struct   a ") == ctf_lookup_by_name(fp, "struct a"));
 }
@@ -485,26 +486,26 @@ static void some_calls(struct made *made)
     struct inside in = { fp, (int)made->types, 3, 20 };
     ctf_funcinfo_t info;
     if (fp == NULL) {
-        CHECK(error == CTFD_MEMORY);
+        CHECK(error == ENOMEM);
         return;
     }
     for (t = 1; t <= made->types; t++) {
         CHECK(ctf_type_kind(fp, t) > 0 && ctf_type_resolve(fp, t) >= 0);
         if (ctf_type_cname(fp, t, text, sizeof text, "v") == NULL)
-            CHECK(ctf_errno(fp) == CTFD_MEMORY || ctf_errno(fp) == ECTF_NAMELEN);
+            CHECK(ctf_fault(fp) == CTFD_MEMORY || ctf_errno(fp) == ECTF_NAMELEN);
         (void)ctf_member_iter(fp, t, on_member, &in);
         (void)ctf_enum_iter(fp, t, on_enumerator, &in);
         if (ctf_enum_name(fp, t, 1) == NULL)
-            CHECK(ctf_errno(fp) != CTFD_OK);
+            CHECK(ctf_fault(fp) != CTFD_OK);
         (void)ctf_enum_value(fp, t, "a", NULL);
         (void)ctf_func_info_by_id(fp, t, &info);
         (void)ctf_type_compat(fp, t, fp, 1);
     }
     more = ctf_dup(fp);
     if (more == NULL)
-        CHECK(ctf_errno(fp) == CTFD_MEMORY);
+        CHECK(ctf_fault(fp) == CTFD_MEMORY);
     else if (ctf_type_compat(fp, 1, more, 1) == 0)
-        CHECK(ctf_errno(fp) == CTFD_MEMORY || ctf_errno(more) == CTFD_MEMORY);
+        CHECK(ctf_fault(fp) == CTFD_MEMORY || ctf_fault(more) == CTFD_MEMORY);
     ctf_close(more);
     (void)ctf_setmodel(fp, CTF_MODEL_ILP32);
     (void)ctf_lookup_by_name(fp, "const  struct a");

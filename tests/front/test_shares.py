@@ -7,30 +7,23 @@ import fcntl
 import os
 import random
 import socket
-import statistics
 import struct
-import sys
-import threading
 import time
 import unittest
 from typing import Iterator, List
 
-from support import HAND_IN, PATIENCE, TOP, Front, Talker, WithFront, ask, until
-
-sys.path.insert(0, str(TOP / "clients" / "python"))
-
-from ctfd.front.limits import Limits  # noqa: E402
-from ctfd.front.refusals import Refusal  # noqa: E402
-from ctfd.front.users import Users  # noqa: E402
+from support import HAND_IN, INT, PATIENCE, Front, Talker, WithFront, ask, standing, until
 
 KIND = ask("kind", d=1, t=1)
 INTEGER = b'{"ok":{"kind":"integer"},"s":1}'
-IMPORT = ask("import", d=2, parent=1)
+OTHER = ask("part", section="ctf", bytes=INT.replace("696e74", "696e75")) + ask("open")
 LOOKED_UP = b'{"op":"kind","d":1,"t":1,"s":1}\n'  # one by one, since its s is not in front
 REFUSED = b'{"fault":{"code":%d,"name":"%b","place":0},"s":0}'
 MEBIBYTE = 1 << 20
 MEMBERS = 1023
 UNIONS = int(os.environ.get("UNIONS", "860"))  # 7 MB; 8,000 are the dearest that a list can hold
+QUEUED = 200
+BETWEEN = 2  # imports that may come before a question of another: one that runs, and one chosen
 PART = 1_000_000
 SOMEBODY, ANOTHER = 65_534, 65_533
 
@@ -52,21 +45,49 @@ def handed_in(data: str) -> Iterator[bytes]:
 
 
 def made_dear(talker: Talker, unions: int = UNIONS) -> None:
-    """Hands in a child whose import takes long."""
-    talker.ask(HAND_IN)
+    """Hands in two parents, and a child whose import takes long."""
+    talker.ask(HAND_IN + OTHER)
     for line in handed_in(child(unions).hex()):
         talker.ask(line)
 
 
-def dearest(talker: Talker) -> float:
-    """How long an import takes by the clock: the longest of some, as the machine is loaded now."""
-    took = []
-    for _ in range(4):
-        began = time.monotonic()
-        assert talker.ask(IMPORT) == b'{"ok":{},"s":1}'
-        took.append(time.monotonic() - began)
-        time.sleep(2 * took[-1])
-    return max(took)
+class Queue:
+    """A client with a queue of long requests, which others can count.
+
+    In front of each import is a publication by a name of its own. So whoever takes one of these
+    names learns whether that import has begun, and no clock is needed to tell how many requests of
+    the queue were answered between two others. The parents alternate: an import of the one that a
+    slot has already takes no time.
+    """
+
+    def __init__(self, talker: Talker, unions: int = UNIONS) -> None:
+        made_dear(talker, unions)
+        self.owner, self._talker, self._replies = talker.number(), talker, 0
+        self._rest = b""
+
+    def fill(self, count: int = QUEUED) -> None:
+        """Asks so many imports at once; waits for the first of them."""
+        lines = [ask("publish", d=1, name=f"import-{number}")
+                 + ask("import", d=3, parent=1 + number % 2) for number in range(1, count + 1)]
+        self._talker.send(b"".join(lines))
+        self._talker.socket.setblocking(False)
+        until(lambda: self.ended() > 0)
+
+    def ended(self) -> int:
+        """How many imports it has been replied."""
+        with contextlib.suppress(BlockingIOError):
+            while True:
+                data = self._talker.socket.recv(MEBIBYTE)
+                assert data, "the front has closed it"
+                self._rest += data
+        *lines, self._rest = self._rest.split(b"\n")
+        assert all(line == b'{"ok":{},"s":1}' for line in lines), lines[:3]
+        self._replies += len(lines)
+        return self._replies // 2
+
+    def has_begun(self, number: int) -> bytes:
+        """The request that asks whether an import has begun: it is refused if not."""
+        return ask("take", owner=self.owner, name=f"import-{number}")
 
 
 @contextlib.contextmanager
@@ -90,64 +111,42 @@ class Shares(WithFront):
     """Whoever has used more of the service's time waits for those who used less."""
 
     def test_small_questions_beside_the_dearest_requests(self) -> None:
-        """49 clients that ask small questions, one after the other, beside 200 imports.
+        """49 clients ask small questions again and again beside a queue of 200 imports.
 
-        Other work on the machine may stall any process for a moment, so one good run of three
-        counts; the front by itself has none where a question waits behind another's queue.
+        Each waits for the import that runs, and for one more that may have been chosen already. It
+        is asked while the front stands still, so how busy the machine is makes no difference.
         """
-        for tries_left in (2, 1, 0):
-            try:
-                return self.small_questions_beside_imports(self.front(path=f"{tries_left}.sock"))
-            except AssertionError as why:
-                if not tries_left:
-                    raise
-                print(f"again, since {why}", file=sys.stderr)
-
-    def small_questions_beside_imports(self, front: Front) -> None:
-        front.started()
-        dear, others = self.talker(front), [self.talker(front) for _ in range(49)]
-        made_dear(dear)
+        front = self.front().started()
+        queue = Queue(self.talker(front))
+        others = [self.talker(front) for _ in range(49)]
         for other in others:
             other.ask(HAND_IN)
-        waits: List[float] = []
-        ends = threading.Event()
-        askers = [threading.Thread(target=keep_asking, args=(other, ends, waits))
-                  for other in others]
-        for asker in askers:
-            asker.start()
-        took = dearest(dear)
-        waits.clear()
-        dear.send(200 * IMPORT)
-        time.sleep(max(5.0, 12 * took))
-        ends.set()
-        for asker in askers:
-            asker.join()
-        said = f"{len(waits)} waits, median {statistics.median(waits):.4f}," \
-               f" worst {max(waits):.4f}, import {took:.4f}"
-        print(said, file=sys.stderr)
-        self.assertLess(statistics.median(waits), 0.020, said)
-        self.assertLess(max(waits), 2 * took, said)
+        queue.fill()
+        rounds = 0
+        while queue.ended() < QUEUED - 2 * BETWEEN and rounds < 40:
+            rounds += 1
+            with standing(front):
+                question = queue.has_begun(queue.ended() + BETWEEN + 1)
+                for other in others:
+                    other.send(KIND + question)
+            for other in others:
+                self.assertEqual(other.line(), INTEGER)
+                self.assertIn(b'"NotPublished"', other.line())
+            time.sleep(0.02 * random.random())
+        self.assertGreater(rounds, 5)
+        until(lambda: queue.ended() == QUEUED, 10 * PATIENCE)
+        self.assertIn(b'"types":1', others[0].ask(queue.has_begun(QUEUED)))
 
     def test_newcomer_is_not_behind_a_queue(self) -> None:
+        """Who connects is answered amid the queue: not at its end, however late it is let in."""
         front = self.front().started()
-        dear = self.talker(front)
-        made_dear(dear)
-        took = dearest(dear)
-        dear.send(200 * IMPORT)
-        dear.line()
+        queue = Queue(self.talker(front))
+        queue.fill()
         newcomer = self.talker(front)
-        began = time.monotonic()
-        newcomer.number()
-        self.assertLess(time.monotonic() - began, 2 * took)
-
-
-def keep_asking(talker: Talker, ends: threading.Event, waits: List[float]) -> None:
-    """Asks a small question again and again, with pauses of some milliseconds."""
-    while not ends.is_set():
-        began = time.monotonic()
-        assert talker.ask(KIND) == INTEGER
-        waits.append(time.monotonic() - began)
-        time.sleep(0.005 * random.random())
+        self.assertIn(b'"NotPublished"', newcomer.ask(queue.has_begun(QUEUED // 2)))
+        with standing(front):
+            newcomer.send(queue.has_begun(queue.ended() + BETWEEN + 1))
+        self.assertIn(b'"NotPublished"', newcomer.line())
 
 
 class OneUser(WithFront):
@@ -191,19 +190,6 @@ class OneUser(WithFront):
             self.talker(front).close()
         self.assertEqual(self.talker(front).line(), REFUSED % (101, b"SessionsFull"))
 
-    def test_sessions_come_back_within_the_hour(self) -> None:
-        now = 0.0
-        users = Users(Limits(user_sessions=6), lambda: now)
-        account = users.account(SOMEBODY)
-        for _ in range(6):
-            self.assertIsNone(users.refusal(account))
-            users.begin(account)
-            users.end(account)
-        self.assertIs(users.refusal(users.account(SOMEBODY)), Refusal.SESSIONS)
-        self.assertIsNone(users.refusal(users.account(ANOTHER)))
-        now = 600.0  # the sixth part of an hour
-        self.assertIsNone(users.refusal(users.account(SOMEBODY)))
-
     def test_all_sessions_are_made(self) -> None:
         front = self.front("--sessions", "2").started()
         for _ in range(3):
@@ -246,23 +232,24 @@ class OneUser(WithFront):
         if not may_be_others():
             return
         front = self.several()
-        waits: List[float] = []
         with as_user(SOMEBODY):
             dear = [self.talker(front) for _ in range(5)]
         with as_user(ANOTHER):
             other = self.talker(front)
-        for talker in dear:
-            made_dear(talker, 200)
+        queues = [Queue(talker, 200) for talker in dear]
         other.ask(HAND_IN)
-        took = dearest(dear[0])
-        for talker in dear:
-            talker.send(100 * IMPORT)
-        dear[0].line()
-        for _ in range(30):
-            began = time.monotonic()
-            other.ask(KIND)
-            waits.append(time.monotonic() - began)
-        self.assertLess(statistics.median(waits), 2 * took, (waits, took))
+        for queue in queues:
+            queue.fill(100)
+        for _ in range(10):
+            with standing(front):
+                questions = [queue.has_begun(queue.ended() + more) for queue in queues
+                             for more in range(1, BETWEEN + 2)]
+                other.send(KIND + b"".join(questions))
+            self.assertEqual(other.line(), INTEGER)
+            begun = sum(b'"NotPublished"' not in other.line() for _ in questions)
+            self.assertLessEqual(begun, BETWEEN)
+            other.ask(ask("reset"), HAND_IN)
+        self.assertLess(max(queue.ended() for queue in queues), 100)
 
     def test_lock_that_others_may_open(self) -> None:
         """It is not taken, since another could hold it; no start waits for it."""

@@ -3,16 +3,16 @@
 from __future__ import annotations
 
 import os
+import signal
 import socket
 import subprocess
-import sys
 import time
 import unittest
 import urllib.request
 from pathlib import Path
 from typing import Dict, Tuple
 
-from support import COMMAND, HAND_IN, LUA, Talker, WithFront, ask, until
+from support import COMMAND, HAND_IN, LUA, PATIENCE, Talker, WithFront, ask, until
 
 try:
     from prometheus_client.parser import text_string_to_metric_families
@@ -104,22 +104,22 @@ class Metrics(WithFront):
 
 class Levels(WithFront):
     def said(self, stream: "Tuple[int, int] | None") -> "list[str]":
-        """What a front says whose service is killed, where the journal reads its standard error."""
-        path = os.path.join(self.folder, "s")
-        reading, writing = os.pipe()
-        found = os.fstat(writing)
-        name = f"{found.st_dev}:{found.st_ino}" if stream is None else "1:2"
-        child = subprocess.Popen([sys.executable, str(COMMAND), "--socket", path, LUA],
-                                 stderr=writing, env={**os.environ, "JOURNAL_STREAM": name})
-        os.close(writing)
-        until(lambda: os.path.exists(path))
+        """What a front says, where the journal reads its standard error."""
+        path, log = os.path.join(self.folder, "s"), Path(self.folder) / "log"
+        with log.open("wb") as writing:
+            found = os.fstat(writing.fileno())
+            name = f"{found.st_dev}:{found.st_ino}" if stream is None else "1:2"
+            child = subprocess.Popen([COMMAND, "--socket", path, LUA],
+                                     stderr=writing, env={**os.environ, "JOURNAL_STREAM": name})
+        self.addCleanup(child.wait)
+        self.addCleanup(child.kill)
+        until(lambda: "listening" in log.read_text())
         Talker(path).number()
-        child.send_signal(10)
-        time.sleep(0.3)
+        child.send_signal(signal.SIGUSR1)
+        until(lambda: "connections " in log.read_text())
         child.terminate()
-        child.wait(30)
-        with os.fdopen(reading) as told:
-            return told.read().splitlines()
+        child.wait(PATIENCE)
+        return log.read_text().splitlines()
 
     def test_levels_of_the_journal(self) -> None:
         lines = self.said(None)
@@ -133,7 +133,7 @@ class Levels(WithFront):
 
 def fetched(address: str) -> str:
     """A page, once it is served."""
-    until_then = time.monotonic() + 30
+    until_then = time.monotonic() + PATIENCE
     while True:
         try:
             with urllib.request.urlopen(address, timeout=5) as page:

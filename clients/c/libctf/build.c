@@ -10,3 +10,8 @@ const char *ctf_build(void)
 {
     return CTFD_BUILD;
 }
+
+const char *ctfd_version(void)
+{
+    return CTFD_VERSION;
+}

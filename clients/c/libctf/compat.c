@@ -84,24 +84,24 @@ static bool same_names(const struct walk *walk, struct pair pair)
 static bool same_encodings(const struct walk *walk, struct pair pair)
 {
     struct ctfd_encoding left, right;
-    return ctfd__done(walk->lfp, ctfd_encoding(&walk->lfp->types, pair.left, &left)) == 0 &&
-        ctfd__done(walk->rfp, ctfd_encoding(&walk->rfp->types, pair.right, &right)) == 0 &&
+    return ctfd__done(walk->lfp, ctfd__encoding_of(walk->lfp, pair.left, &left)) == 0 &&
+        ctfd__done(walk->rfp, ctfd__encoding_of(walk->rfp, pair.right, &right)) == 0 &&
         left.encoding == right.encoding && left.offset == right.offset && left.bits == right.bits;
 }
 
 static bool same_arrays(struct walk *walk, struct pair pair)
 {
     struct ctfd_array left, right;
-    return ctfd__done(walk->lfp, ctfd_array(&walk->lfp->types, pair.left, &left)) == 0 &&
-        ctfd__done(walk->rfp, ctfd_array(&walk->rfp->types, pair.right, &right)) == 0 &&
+    return ctfd__done(walk->lfp, ctfd__array_of(walk->lfp, pair.left, &left)) == 0 &&
+        ctfd__done(walk->rfp, ctfd__array_of(walk->rfp, pair.right, &right)) == 0 &&
         left.count == right.count && join(walk, pair, &left, &right);
 }
 
 static bool same_pointers(struct walk *walk, struct pair pair)
 {
     uint16_t left = 0, right = 0;
-    return ctfd__done(walk->lfp, ctfd_reference(&walk->lfp->types, pair.left, &left)) == 0 &&
-        ctfd__done(walk->rfp, ctfd_reference(&walk->rfp->types, pair.right, &right)) == 0 &&
+    return ctfd__done(walk->lfp, ctfd__reference_of(walk->lfp, pair.left, &left)) == 0 &&
+        ctfd__done(walk->rfp, ctfd__reference_of(walk->rfp, pair.right, &right)) == 0 &&
         wait_for(walk, left, right);
 }
 
@@ -109,8 +109,8 @@ static bool same_pointers(struct walk *walk, struct pair pair)
 static bool alike(struct walk *walk, struct pair pair)
 {
     uint32_t left = 0, right = 0;
-    if (ctfd__done(walk->lfp, ctfd_kind(&walk->lfp->types, pair.left, &left)) != 0 ||
-        ctfd__done(walk->rfp, ctfd_kind(&walk->rfp->types, pair.right, &right)) != 0 || left != right ||
+    if (ctfd__done(walk->lfp, ctfd__kind_of(walk->lfp, pair.left, &left)) != 0 ||
+        ctfd__done(walk->rfp, ctfd__kind_of(walk->rfp, pair.right, &right)) != 0 || left != right ||
         !same_names(walk, pair))
         return false;
     switch (left) {
@@ -135,8 +135,8 @@ static bool met(struct walk *walk, struct pair pair)
     uint16_t left = 0, right = 0;
     if (ctf_type_cmp(walk->lfp, pair.left, walk->rfp, pair.right) == 0)
         return true;
-    if ((pair.left != 0 && ctfd__done(walk->lfp, ctfd_resolve(&walk->lfp->types, pair.left, &left))) ||
-        (pair.right != 0 && ctfd__done(walk->rfp, ctfd_resolve(&walk->rfp->types, pair.right, &right))))
+    if ((pair.left != 0 && ctfd__done(walk->lfp, ctfd__resolution_of(walk->lfp, pair.left, &left))) ||
+        (pair.right != 0 && ctfd__done(walk->rfp, ctfd__resolution_of(walk->rfp, pair.right, &right))))
         return false;
     pair.left = left;
     pair.right = right;

@@ -3,6 +3,7 @@
 #include "private.h"
 
 #include <stdlib.h>
+#include <string.h>
 
 /* How many bytes they take at most; tests have fewer. */
 #ifndef MOST_BYTES
@@ -69,6 +70,11 @@ void ctfd__forget(ctf_file_t *fp)
     size_t i;
     fp->generation++;
     ctfd__forget_details(fp);
+    free(fp->definitions);
+    fp->definitions = NULL;
+    if (!fp->has_pages)
+        return;
+    fp->has_pages = false;
     for (i = 0; i < sizeof fp->pages / sizeof fp->pages[0]; i++) {
         free(fp->pages[i]);
         fp->pages[i] = NULL;
@@ -81,6 +87,7 @@ static struct ctfd__page *page_of(ctf_file_t *fp, uint16_t t)
     struct ctfd__page *page = fp->pages[t / CTFD_PAGE];
     if (page == NULL)
         page = fp->pages[t / CTFD_PAGE] = (struct ctfd__page *)calloc(1, sizeof *page);
+    fp->has_pages = true;
     return page;
 }
 
@@ -181,7 +188,10 @@ struct ctfd__details *ctfd__read(ctf_file_t *fp, uint16_t t)
     uint32_t kind = 0;
     uint64_t count = 0;
     struct ctfd__details *made;
-    enum ctfd_status status = ctfd_kind(&fp->types, t, &kind);
+    enum ctfd_status status;
+    if (fp->recipe != NULL)
+        return ctfd__recipe_details(fp, t);
+    status = ctfd__kind_of(fp, t, &kind);
     if (status == CTFD_OK)
         status = count_items(fp, t, kind, &count);
     if (ctfd__done(fp, status) != 0)
@@ -213,7 +223,8 @@ static enum ctfd_status read_name(ctf_file_t *fp, uint16_t t, uint32_t kind, uin
     return status;
 }
 
-const char *ctfd__keep_name(ctf_file_t *fp, uint16_t t, uint32_t i)
+/* Keeps the name of an item; NULL and the error where there is no memory. */
+static const char *keep_name(ctf_file_t *fp, uint16_t t, uint32_t i)
 {
     struct ctfd__details *details = ctfd__details(fp, t);
     uint64_t len = 0;
@@ -226,4 +237,23 @@ const char *ctfd__keep_name(ctf_file_t *fp, uint16_t t, uint32_t i)
             return details->items[i].name = ctfd__kept(fp, (size_t)len);
     } while (ctfd__make_room(fp, len));
     return NULL;
+}
+
+/* A parent in the making keeps its names as long as it has children; of another one the lists may go
+ * before the child does. */
+const char *ctfd__item_name(ctf_file_t *fp, uint16_t t, uint32_t i)
+{
+    ctf_file_t *of = ctfd__owner(fp, t);
+    const struct ctfd__details *details = ctfd__details(of, t);
+    const char *name = details != NULL ? details->items[i].name : NULL;
+    if (details != NULL && name == NULL)
+        name = keep_name(of, t, i);
+    if (of == fp || of->recipe != NULL || name == NULL) {
+        fp->error = name == NULL ? of->error : fp->error;
+        return name;
+    }
+    name = ctfd__keep(fp, name, strlen(name));
+    if (name == NULL)
+        (void)ctfd__fail(fp, CTFD_MEMORY);
+    return name;
 }

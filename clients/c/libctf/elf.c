@@ -33,7 +33,7 @@ static uint64_t number_at(const unsigned char *bytes)
 
 static int zlib_error(int said)
 {
-    return said == Z_MEM_ERROR ? (int)CTFD_MEMORY : ECTF_DECOMPRESS;
+    return said == Z_MEM_ERROR ? (int)CTFD_MEMORY : CTFD__NOT_INFLATED;
 }
 
 /* The header says how long the body is: it has to be just that. */
@@ -60,7 +60,7 @@ int ctfd_elf_inflate(const void *bytes, size_t len, struct ctfd_elf_list *made)
     said = uncompress2(to + HEADER, &body, from + HEADER, &given);
     if (said != Z_OK || body != wanted) {
         free(to);
-        return said != Z_OK ? zlib_error(said) : ECTF_DECOMPRESS;
+        return said != Z_OK ? zlib_error(said) : CTFD__NOT_INFLATED;
     }
     made->at = to;
     made->len = HEADER + (size_t)wanted;
@@ -95,7 +95,7 @@ static Elf_Data *data_of(Elf_Scn *section, int *error)
 {
     GElf_Shdr header;
     Elf_Data *data;
-    *error = ECTF_ELFVERS;
+    *error = CTFD__BAD_ELF;
     if (gelf_getshdr(section, &header) == NULL)
         return NULL;
     if ((header.sh_flags & SHF_COMPRESSED) != 0) {
@@ -335,10 +335,54 @@ static int find_symbols(const struct file *file, Elf_Scn *section, struct ctfd_e
     if (error != 0 || !is_told)
         return error;
     if (!checksum_of(lists, &checksum))
-        return ECTF_ELFVERS;
+        return CTFD__BAD_ELF;
     if (checksum != told.checksum)
         drop_table(lists);
     return 0;
+}
+
+/* GNU's linker keeps types of symbols for those of .dynsym, and makes variables of the others. A
+ * byte for each symbol says which are such; a file that is not linked has none. */
+static int compare_names(const void *a, const void *b)
+{
+    return strcmp(*(const char *const *)a, *(const char *const *)b);
+}
+
+static void find_variables(const struct file *file, struct ctfd_elf_lists *lists)
+{
+    GElf_Ehdr header;
+    GElf_Shdr section;
+    Elf_Scn *table = named(file, ".dynsym");
+    Elf_Data *data = table != NULL ? elf_getdata(table, NULL) : NULL;
+    size_t i, len = 0, count = lists->symbols.len / CTFD_SYMBOL;
+    const Elf64_Sym *symbols = (const Elf64_Sym *)lists->symbols.at;
+    const char **names, *name;
+    GElf_Sym symbol;
+    if (gelf_getehdr(file->elf, &header) == NULL || header.e_type == ET_REL || data == NULL ||
+        gelf_getshdr(table, &section) == NULL || section.sh_entsize == 0 || symbols == NULL)
+        return;
+    names = (const char **)malloc((size_t)(section.sh_size / section.sh_entsize + 1) * sizeof *names);
+    lists->variables.at = malloc(count + 1);
+    if (names == NULL || lists->variables.at == NULL) {
+        free(names);
+        free(lists->variables.at);
+        lists->variables.at = NULL;
+        return;
+    }
+    for (i = 0; gelf_getsym(data, (int)i, &symbol) != NULL; i++) {
+        name = elf_strptr(file->elf, section.sh_link, symbol.st_name);
+        if (name != NULL)
+            names[len++] = name;
+    }
+    qsort(names, len, sizeof *names, compare_names);
+    for (i = 0; i < count; i++) {
+        bool is_there = symbols[i].st_name < lists->strings.len;
+        name = is_there ? (const char *)lists->strings.at + symbols[i].st_name : "";
+        ((unsigned char *)lists->variables.at)[i] =
+            bsearch(&name, names, len, sizeof *names, compare_names) == NULL;
+    }
+    lists->variables.len = count;
+    free(names);
 }
 
 /* ---- files */
@@ -350,16 +394,20 @@ static int read_elf(const struct file *file, struct ctfd_elf_lists *lists)
     if (section == NULL)
         section = named(file, ".ctf");
     if (section == NULL)
-        return ECTF_NOCTFDATA;
+        return CTFD__NO_SECTION;
     lists->ilp32 = gelf_getclass(file->elf) == ELFCLASS32;
     error = take_dictionary(section, &lists->ctf);
-    return error != 0 ? error : find_symbols(file, section, lists);
+    if (error == 0)
+        error = find_symbols(file, section, lists);
+    if (error == 0)
+        find_variables(file, lists);
+    return error;
 }
 
 int ctfd_elf_read(int fd, struct ctfd_elf_lists *lists)
 {
     struct file file;
-    int error = ECTF_ELFVERS;
+    int error = CTFD__BAD_ELF;
     memset(lists, 0, sizeof *lists);
     if (elf_version(EV_CURRENT) == EV_NONE)
         return error;

@@ -10,8 +10,9 @@
 
 ctf_file_t *ctfd__refused(int *error, int why)
 {
+    ctfd__note_refusal(why);
     if (error != NULL)
-        *error = why;
+        *error = ctfd__number(why);
     return NULL;
 }
 
@@ -19,9 +20,11 @@ void ctfd__free(ctf_file_t *fp)
 {
     size_t i;
     ctfd__forget(fp);
+    ctfd__free_recipe(fp);
     ctfd__free_texts(&fp->texts);
     for (i = 0; i < 3; i++)
         free(fp->owned[i]);
+    free(fp->variables);
     free(fp->bytes);
     free(fp->room);
     free(fp);
@@ -41,12 +44,33 @@ ctf_file_t *ctfd__new(int *error)
     return ctfd__refused(error, CTFD_MEMORY);
 }
 
+/* An opened child of one in the making is told when that changes. */
+static void join_parent(ctf_file_t *fp)
+{
+    if (fp->recipe != NULL || fp->parent == NULL || fp->parent->recipe == NULL)
+        return;
+    fp->sibling = fp->parent->children;
+    fp->parent->children = fp;
+}
+
+static void leave_parent(ctf_file_t *fp)
+{
+    ctf_file_t **at = fp->parent != NULL ? &fp->parent->children : NULL;
+    while (at != NULL && *at != NULL && *at != fp)
+        at = &(*at)->sibling;
+    if (at != NULL && *at != NULL)
+        *at = fp->sibling;
+    fp->sibling = NULL;
+}
+
 /* Ends a use of a file, and closes it with the last one. */
 static void end_use(ctf_file_t *fp)
 {
     while (fp != NULL && --fp->uses == 0) {
         ctf_file_t *parent = fp->parent;
+        leave_parent(fp);
         ctfd_close(&fp->types);
+        ctfd_close(&fp->behind);
         ctfd__free(fp);
         fp = parent;
     }
@@ -55,7 +79,7 @@ static void end_use(ctf_file_t *fp)
 /* Where children keep the file, its names are no longer those in the caller's lists. */
 void ctf_close(ctf_file_t *fp)
 {
-    if (fp != NULL && fp->uses > 1 && !fp->is_left) {
+    if (fp != NULL && fp->recipe == NULL && fp->uses > 1 && !fp->is_left) {
         fp->is_left = true;
         ctfd__forget_details(fp);
     }
@@ -65,27 +89,31 @@ void ctf_close(ctf_file_t *fp)
 /* ---- sections */
 
 /* Opens the lists that were handed in, behind a handle that has nothing open. */
-static enum ctfd_status open_lists(const struct ctfd__lists *lists, int model, struct ctfd *types)
+static enum ctfd_status open_lists(const ctf_file_t *fp, int model, struct ctfd *types)
 {
+    const struct ctfd__lists *lists = &fp->lists;
     uint64_t place;
-    return ctfd_open(types, lists->data[0], lists->len[0], lists->data[1], lists->len[1],
-        lists->data[2], lists->len[2], lists->has[1], lists->has[2], model == CTF_MODEL_ILP32,
-        &place);
+    return (fp->keeps_lists ? ctfd_open_lent : ctfd_open)(types, lists->data[0], lists->len[0],
+        lists->data[1], lists->len[1], lists->data[2], lists->len[2], lists->has[1],
+        lists->has[2], model == CTF_MODEL_ILP32, &place);
 }
 
 /* Opens them again, for another model or another parent; a refusal leaves all as it was. */
 static int reopen(ctf_file_t *fp, int model, ctf_file_t *parent)
 {
-    struct ctfd types = CTFD_NONE;
+    struct ctfd types = CTFD_NONE, *of_parent;
     uint64_t place;
-    enum ctfd_status status = open_lists(&fp->lists, model, &types);
+    enum ctfd_status status = open_lists(fp, model, &types);
     if (status == CTFD_OK && parent != NULL)
-        status = ctfd_import(&types, &parent->types, &place);
+        status = ctfd__opened(parent, &of_parent);
+    if (status == CTFD_OK && parent != NULL)
+        status = ctfd_import(&types, of_parent, &place);
     if (status != CTFD_OK) {
         ctfd_close(&types);
         return ctfd__done(fp, status);
     }
     ctfd_close(&fp->types);
+    ctfd_close(&fp->behind);
     ctfd__forget(fp);
     fp->types = types;
     fp->model = model;
@@ -147,29 +175,36 @@ static int open_inflated(ctf_file_t *fp)
     struct ctfd_elf_list made = { NULL, 0 };
     int error;
     if (ctfd_elf_inflate == NULL)
-        return ECTF_ZMISSING;
+        return CTFD__NO_PART;
     error = ctfd_elf_inflate(fp->lists.data[0], fp->lists.len[0], &made);
     if (error != 0)
         return error;
     own_list(fp, 0, made.at, made.len);
-    return (int)open_lists(&fp->lists, fp->model, &fp->types);
+    return (int)open_lists(fp, fp->model, &fp->types);
 }
 
 ctf_file_t *ctf_bufopen(const ctf_sect_t *ctf, const ctf_sect_t *symbols,
     const ctf_sect_t *strings, int *error)
 {
+    return ctfd__open(ctf, symbols, strings, false, error);
+}
+
+ctf_file_t *ctfd__open(const ctf_sect_t *ctf, const ctf_sect_t *symbols,
+    const ctf_sect_t *strings, bool is_kept, int *error)
+{
     int failed;
     ctf_file_t *fp;
     if (ctf == NULL || (symbols == NULL) != (strings == NULL))
-        return ctfd__refused(error, CTF_SYSTEM_ERROR + EINVAL);
+        return ctfd__refused(error, CTFD__SYSTEM + EINVAL);
     fp = ctfd__new(error);
     if (fp == NULL)
         return NULL;
+    fp->keeps_lists = is_kept;
     take_list(&fp->lists, 0, ctf);
     take_list(&fp->lists, 2, strings);
     failed = (int)take_symbols(fp, symbols);
     if (failed == CTFD_OK)
-        failed = (int)open_lists(&fp->lists, fp->model, &fp->types);
+        failed = (int)open_lists(fp, fp->model, &fp->types);
     if (failed == CTFD_COMPRESSED)
         failed = open_inflated(fp);
     if (failed == CTFD_OK)
@@ -182,18 +217,16 @@ ctf_file_t *ctf_bufopen(const ctf_sect_t *ctf, const ctf_sect_t *symbols,
 
 int ctf_setmodel(ctf_file_t *fp, int model)
 {
-    uint64_t place;
     if (model != CTF_MODEL_ILP32 && model != CTF_MODEL_LP64)
         return (int)ctfd__system(fp, EINVAL);
     if (model == fp->model)
         return 0;
-    if (!fp->is_draft)
+    if (fp->recipe == NULL)
         return reopen(fp, model, fp->parent);
     if (fp->is_touched)
         return ctfd__done(fp, CTFD_MODEL_DIFFERS);
-    if (ctfd__done(fp, ctfd_create(&fp->types, model == CTF_MODEL_ILP32, &place)) != 0)
-        return (int)CTF_ERR;
-    ctfd__forget(fp);
+    fp->recipe->written.is_stale = true;
+    ctfd__change(fp);
     fp->model = model;
     return 0;
 }
@@ -213,20 +246,22 @@ void *ctf_getspecific(ctf_file_t *fp)
     return fp->specific;
 }
 
-/* The bytes of what the last update of a draft made, in a block that the file keeps. */
-static const void *draft_bytes(ctf_file_t *fp, size_t *size)
+/* The bytes of one in the making, in a block that the file keeps. */
+static const void *recipe_bytes(ctf_file_t *fp, size_t *size)
 {
     uint64_t len = 0;
     char none;
     void *made;
-    if (ctfd__done(fp, ctfd_bytes(&fp->types, 0, &none, 0, &len)) != 0)
+    struct ctfd *types = &fp->recipe->draft;
+    if (ctfd__done(fp, ctfd__write(fp)) != 0 ||
+        ctfd__done(fp, ctfd_bytes(types, 0, &none, 0, &len)) != 0)
         return NULL;
     made = malloc((size_t)len + 1);
     if (made == NULL) {
         (void)ctfd__fail(fp, CTFD_MEMORY);
         return NULL;
     }
-    if (ctfd__done(fp, ctfd_bytes(&fp->types, 0, made, (size_t)len, &len)) != 0) {
+    if (ctfd__done(fp, ctfd_bytes(types, 0, made, (size_t)len, &len)) != 0) {
         free(made);
         return NULL;
     }
@@ -238,8 +273,8 @@ static const void *draft_bytes(ctf_file_t *fp, size_t *size)
 
 void ctf_dataptr(ctf_file_t *fp, const void **bytes, size_t *size)
 {
-    size_t len = fp->is_draft ? 0 : fp->lists.len[0];
-    const void *data = fp->is_draft ? draft_bytes(fp, &len) : fp->lists.data[0];
+    size_t len = fp->recipe != NULL ? 0 : fp->lists.len[0];
+    const void *data = fp->recipe != NULL ? recipe_bytes(fp, &len) : fp->lists.data[0];
     if (bytes != NULL)
         *bytes = data;
     if (size != NULL)
@@ -264,7 +299,7 @@ int ctf_string_iter(ctf_file_t *fp, ctf_string_f *each, void *arg)
     ctf_dataptr(fp, &data, &size);
     if (data == NULL)
         return (int)CTF_ERR;
-    /* Those of a draft are taken, since a callback may ask for newer ones. */
+    /* Those of one in the making are taken, since a callback may ask for newer ones. */
     own = fp->bytes;
     fp->bytes = NULL;
     at = (const char *)data + 36 + number_at((const unsigned char *)data + 28);
@@ -282,32 +317,55 @@ int ctf_string_iter(ctf_file_t *fp, ctf_string_f *each, void *arg)
 
 /* ---- parents */
 
-/* Why a dictionary is not its own parent. */
-static enum ctfd_status own_parent(ctf_file_t *fp)
+/* Whether a file names a parent. */
+static enum ctfd_status is_child(ctf_file_t *fp, bool *child)
 {
-    uint32_t child = 0;
-    enum ctfd_status status = ctfd_child(&fp->types, &child);
-    if (status != CTFD_OK)
-        return status;
-    return child != 0 ? CTFD_PARENT_IS_CHILD : CTFD_NOT_CHILD;
+    struct ctfd *types;
+    uint32_t names = fp->parent != NULL;
+    enum ctfd_status status = fp->recipe != NULL ? CTFD_OK : ctfd__opened(fp, &types);
+    if (status == CTFD_OK && fp->recipe == NULL)
+        status = ctfd_child(types, &names);
+    *child = names != 0;
+    return status;
 }
 
+/* Why a file does not get a parent, but for what the parent has. */
+static enum ctfd_status refusal_of_parent(ctf_file_t *fp, ctf_file_t *parent)
+{
+    bool child = false;
+    enum ctfd_status status = is_child(parent, &child);
+    if (status != CTFD_OK)
+        return status;
+    if (fp == parent)
+        return child ? CTFD_PARENT_IS_CHILD : CTFD_NOT_CHILD;
+    if (fp->recipe == NULL)
+        return CTFD_OK;
+    if (fp->is_touched || fp->parent != NULL)
+        return CTFD_FIXED_PARENT;
+    return child ? CTFD_PARENT_IS_CHILD : CTFD_OK;
+}
+
+/* An opened child of one in the making imports what is visible there. */
 static enum ctfd_status import_parent(ctf_file_t *fp, ctf_file_t *parent)
 {
+    struct ctfd *types, *of_parent;
     uint64_t place;
-    if (fp == parent)
-        return own_parent(fp);
-    if (fp->is_draft && !fp->is_touched)
-        return ctfd_create_child(&fp->types, &parent->types, "PARENT", 6, "", 0, &place);
-    return ctfd_import(&fp->types, &parent->types, &place);
+    enum ctfd_status status = refusal_of_parent(fp, parent);
+    if (status != CTFD_OK || fp->recipe != NULL)
+        return status;
+    status = ctfd__opened(parent, &of_parent);
+    if (status == CTFD_OK)
+        status = ctfd__opened(fp, &types);
+    return status == CTFD_OK ? ctfd_import(types, of_parent, &place) : status;
 }
 
 int ctf_import(ctf_file_t *fp, ctf_file_t *parent)
 {
+    ctf_file_t *old = fp->parent;
     if (parent == NULL) {
-        if (fp->is_draft && fp->parent != NULL)
+        if (fp->recipe != NULL && old != NULL)
             return ctfd__done(fp, CTFD_FIXED_PARENT);
-        if (fp->parent != NULL && reopen(fp, fp->model, NULL) != 0)
+        if (old != NULL && reopen(fp, fp->model, NULL) != 0)
             return (int)CTF_ERR;
     } else {
         if (ctfd__done(fp, import_parent(fp, parent)) != 0)
@@ -317,8 +375,10 @@ int ctf_import(ctf_file_t *fp, ctf_file_t *parent)
         fp->model = parent->model;
     }
     ctfd__forget(fp);
-    end_use(fp->parent);
+    leave_parent(fp);
     fp->parent = parent;
+    join_parent(fp);
+    end_use(old);
     return 0;
 }
 
@@ -329,13 +389,19 @@ ctf_file_t *ctf_parent_file(ctf_file_t *fp)
 
 const char *ctf_parent_name(ctf_file_t *fp)
 {
-    const char *name = ctfd__told(fp, ctfd_parent_name);
+    const char *name;
+    if (fp->recipe != NULL)
+        return fp->parent != NULL ? "PARENT" : NULL;
+    name = ctfd__told(fp, ctfd_parent_name);
     return name != NULL && *name != '\0' ? name : NULL;
 }
 
 const char *ctf_parent_label(ctf_file_t *fp)
 {
-    const char *name = ctfd__told(fp, ctfd_parent_label);
+    const char *name;
+    if (fp->recipe != NULL)
+        return NULL;
+    name = ctfd__told(fp, ctfd_parent_label);
     return name != NULL && *name != '\0' ? name : NULL;
 }
 
@@ -361,17 +427,17 @@ static bool copy_owned(ctf_file_t *made, const ctf_file_t *fp)
 ctf_file_t *ctf_dup(ctf_file_t *fp)
 {
     ctf_file_t *made;
-    int error = 0;
-    if (fp->is_draft) {
+    if (fp->recipe != NULL) {
         (void)ctfd__system(fp, ENOTSUP);
         return NULL;
     }
-    made = ctfd__new(&error);
+    made = ctfd__new(NULL);
     if (made == NULL) {
-        (void)ctfd__fail(fp, error);
+        (void)ctfd__fail(fp, CTFD_MEMORY);
         return NULL;
     }
     made->lists = fp->lists;
+    made->keeps_lists = fp->keeps_lists;
     if (!copy_owned(made, fp) || reopen(made, fp->model, fp->parent) != 0) {
         (void)ctfd__fail(fp, made->error != 0 ? made->error : CTFD_MEMORY);
         ctf_close(made);
@@ -380,5 +446,6 @@ ctf_file_t *ctf_dup(ctf_file_t *fp)
     made->parent = fp->parent;
     if (made->parent != NULL)
         made->parent->uses++;
+    join_parent(made);
     return made;
 }

@@ -4,13 +4,15 @@
 #include <errno.h>
 #include <string.h>
 
-/* ---- labels */
 /* The label of a number, with its name kept; NULL behind the last, or on an error. */
 static const char *label_at(ctf_file_t *fp, size_t i)
 {
     struct ctfd_label out;
+    struct ctfd *types;
+    if (ctfd__done(fp, ctfd__opened(fp, &types)) != 0)
+        return NULL;
     do {
-        enum ctfd_status status = ctfd_label(&fp->types, i, fp->room, fp->room_len, &out);
+        enum ctfd_status status = ctfd_label(types, i, fp->room, fp->room_len, &out);
         if (ctfd__done(fp, status) != 0)
             return NULL;
         if (out.name_len < fp->room_len)
@@ -19,13 +21,20 @@ static const char *label_at(ctf_file_t *fp, size_t i)
     return NULL;
 }
 
+static enum ctfd_status count_labels(ctf_file_t *fp, uint64_t *count)
+{
+    struct ctfd *types;
+    enum ctfd_status status = ctfd__opened(fp, &types);
+    return status == CTFD_OK ? ctfd_label_count(types, count) : status;
+}
+
 int ctf_label_iter(ctf_file_t *fp, ctf_label_f *each, void *arg)
 {
     uint64_t i, count = 0;
-    if (ctfd__done(fp, ctfd_label_count(&fp->types, &count)) != 0)
+    if (ctfd__done(fp, count_labels(fp, &count)) != 0)
         return (int)CTF_ERR;
     if (count == 0)
-        return (int)ctfd__fail(fp, CTFD_NO_LABEL);
+        return (int)ctfd__fail(fp, CTFD__NO_LABELS);
     for (i = 0; i < count; i++) {
         const char *name = label_at(fp, (size_t)i);
         int said = name == NULL ? (int)CTF_ERR : each(name, arg);
@@ -39,10 +48,10 @@ int ctf_label_iter(ctf_file_t *fp, ctf_label_f *each, void *arg)
 const char *ctf_label_topmost(ctf_file_t *fp)
 {
     uint64_t count = 0;
-    if (ctfd__done(fp, ctfd_label_count(&fp->types, &count)) != 0)
+    if (ctfd__done(fp, count_labels(fp, &count)) != 0)
         return NULL;
     if (count == 0) {
-        (void)ctfd__fail(fp, CTFD_NO_LABEL);
+        (void)ctfd__fail(fp, CTFD__NO_LABELS);
         return NULL;
     }
     return label_at(fp, (size_t)count - 1);
@@ -51,7 +60,11 @@ const char *ctf_label_topmost(ctf_file_t *fp)
 int ctf_label_info(ctf_file_t *fp, const char *name, ctf_lblinfo_t *info)
 {
     uint32_t last = 0;
-    if (ctfd__done(fp, ctfd_label_last(&fp->types, name, strlen(name), &last)) != 0)
+    struct ctfd *types;
+    enum ctfd_status status = ctfd__opened(fp, &types);
+    if (status == CTFD_OK)
+        status = ctfd_label_last(types, name, strlen(name), &last);
+    if (ctfd__done(fp, status) != 0)
         return (int)CTF_ERR;
     info->ctb_typeidx = (ctf_id_t)last;
     return 0;
@@ -64,7 +77,9 @@ int ctf_add_label(ctf_file_t *fp, const char *name, ctf_id_t last, uint_t positi
         return (int)ctfd__system(fp, EINVAL);
     if (position < fp->labels)
         return (int)ctfd__system(fp, ENOTSUP);
-    if (ctfd__done(fp, ctfd_add_label(&fp->types, name, strlen(name), (uint32_t)last)) != 0)
+    if (fp->recipe == NULL)
+        return (int)ctfd__fail(fp, CTFD_READ_ONLY);
+    if (ctfd__done(fp, ctfd__add_mark(fp, name, (uint32_t)last)) != 0)
         return (int)CTF_ERR;
     fp->labels++;
     fp->is_touched = true;

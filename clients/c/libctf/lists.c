@@ -3,36 +3,23 @@
 
 #include <string.h>
 
-/* Where a named member lies, and its type. */
-int ctf_member_info(ctf_file_t *fp, ctf_id_t type, const char *name,
-    ctf_membinfo_t *member)
-{
-    uint64_t offset = 0;
-    uint16_t to = 0;
-    if (!ctfd__is_type(fp, type))
-        return (int)CTF_ERR;
-    if (ctfd__done(fp, ctfd_field(&fp->types, (uint16_t)type, name, strlen(name), &offset, &to)))
-        return (int)CTF_ERR;
-    member->ctm_type = (ctf_id_t)to;
-    member->ctm_offset = (ulong_t)offset;
-    return 0;
-}
-
 /* The details of a type of which a call may be asked; NULL, and the error, for another. */
 static struct ctfd__details *details_of(ctf_file_t *fp, uint16_t t, bool is_of_enum)
 {
     struct ctfd__details *details = ctfd__details(fp, t);
-    if (details == NULL ||
+    if (details != NULL &&
         (is_of_enum ? details->kind == CTFD_ENUM : ctfd__has_members(details)))
         return details;
-    (void)ctfd__fail(fp, CTFD_WRONG_KIND);
+    if (details != NULL || fp->error == CTFD_WRONG_KIND)
+        (void)ctfd__fail(fp, is_of_enum ? CTFD__NOT_ENUM : CTFD_WRONG_KIND);
     return NULL;
 }
 
 /* A list of items that is walked. */
 struct walk {
-    ctf_file_t *fp;
-    const struct ctfd__details *details; /* as they are while the file has dropped no more */
+    ctf_file_t *fp, *of; /* the file that is asked, and the one that has the type */
+    const struct ctfd__details *details; /* as they are while that has dropped no more */
+    const char *name; /* of the item that was found last */
     uint64_t dropped;
     uint16_t t;
     bool is_of_enum;
@@ -40,7 +27,7 @@ struct walk {
 
 static struct walk walk_of(ctf_file_t *fp, uint16_t t, bool is_of_enum)
 {
-    struct walk walk = { fp, NULL, 0, t, is_of_enum };
+    struct walk walk = { fp, ctfd__owner(fp, t), NULL, NULL, 0, t, is_of_enum };
     return walk;
 }
 
@@ -49,15 +36,18 @@ static struct walk walk_of(ctf_file_t *fp, uint16_t t, bool is_of_enum)
 static inline const struct ctfd__item *item_at(struct walk *walk, uint32_t i, bool *left)
 {
     const struct ctfd__item *item;
-    if (walk->details == NULL || walk->dropped != walk->fp->dropped) {
+    if (walk->details == NULL || walk->dropped != walk->of->dropped) {
         walk->details = details_of(walk->fp, walk->t, walk->is_of_enum);
-        walk->dropped = walk->fp->dropped;
+        walk->dropped = walk->of->dropped;
     }
     *left = walk->details == NULL || i < walk->details->count;
     if (walk->details == NULL || !*left)
         return NULL;
     item = &walk->details->items[i];
-    return item->name != NULL || ctfd__keep_name(walk->fp, walk->t, i) != NULL ? item : NULL;
+    walk->name = item->name;
+    if (walk->name == NULL || walk->of != walk->fp)
+        walk->name = ctfd__item_name(walk->fp, walk->t, i);
+    return walk->name != NULL ? item : NULL;
 }
 
 int ctf_member_iter(ctf_file_t *fp, ctf_id_t type, ctf_member_f *each, void *arg)
@@ -71,7 +61,7 @@ int ctf_member_iter(ctf_file_t *fp, ctf_id_t type, ctf_member_f *each, void *arg
         return (int)CTF_ERR;
     walk = walk_of(fp, (uint16_t)type, false);
     for (i = 0; (item = item_at(&walk, i, &left)) != NULL; i++) {
-        int said = each(item->name, (ctf_id_t)item->type, (ulong_t)item->at, arg);
+        int said = each(walk.name, (ctf_id_t)item->type, (ulong_t)item->at, arg);
         if (said != 0)
             return said;
     }
@@ -95,7 +85,7 @@ int ctf_enum_iter(ctf_file_t *fp, ctf_id_t type, ctf_enum_f *each, void *arg)
         return (int)CTF_ERR;
     walk = walk_of(fp, (uint16_t)type, true);
     for (i = 0; (item = item_at(&walk, i, &left)) != NULL; i++) {
-        int said = each(item->name, value_of(item), arg);
+        int said = each(walk.name, value_of(item), arg);
         if (said != 0)
             return said;
     }
@@ -106,16 +96,18 @@ int ctf_enum_iter(ctf_file_t *fp, ctf_id_t type, ctf_enum_f *each, void *arg)
 const char *ctf_enum_name(ctf_file_t *fp, ctf_id_t type, int value)
 {
     struct ctfd__details *details;
+    ctf_file_t *of;
     uint32_t i;
     type = ctf_type_resolve(fp, type);
     if (type == CTF_ERR || (details = details_of(fp, (uint16_t)type, true)) == NULL)
         return NULL;
-    i = ctfd__of_value(fp, details, (int32_t)value);
-    if (i < details->count && details->items[i].name != NULL)
+    of = ctfd__owner(fp, (uint16_t)type);
+    i = ctfd__of_value(of, details, (int32_t)value);
+    if (i < details->count && details->items[i].name != NULL && of == fp)
         return details->items[i].name;
     if (i < details->count)
-        return ctfd__keep_name(fp, (uint16_t)type, i);
-    (void)ctfd__fail(fp, CTFD_NO_MEMBER);
+        return ctfd__item_name(fp, (uint16_t)type, i);
+    (void)ctfd__fail(fp, CTFD__NO_ENUMERATOR);
     return NULL;
 }
 
@@ -123,10 +115,11 @@ const char *ctf_enum_name(ctf_file_t *fp, ctf_id_t type, int value)
 static enum ctfd_status find_value(ctf_file_t *fp, uint16_t t, struct ctfd__details *details,
     const char *name, int32_t *value)
 {
+    ctf_file_t *of = ctfd__owner(fp, t);
     uint32_t i;
-    if (!ctfd__is_lent(fp, t))
-        return ctfd_enum_value(&fp->types, t, name, strlen(name), value);
-    i = ctfd__of_name(fp, details, name);
+    if (of->recipe == NULL && !ctfd__is_lent(of, t))
+        return ctfd_enum_value(&of->types, t, name, strlen(name), value);
+    i = ctfd__of_name(of, details, name);
     if (i == details->count)
         return CTFD_NO_MEMBER;
     *value = (int32_t)value_of(&details->items[i]);
@@ -140,8 +133,8 @@ int ctf_enum_value(ctf_file_t *fp, ctf_id_t type, const char *name, int *value)
     type = ctf_type_resolve(fp, type);
     if (type == CTF_ERR || (details = details_of(fp, (uint16_t)type, true)) == NULL)
         return (int)CTF_ERR;
-    if (ctfd__done(fp, find_value(fp, (uint16_t)type, details, name, &found)) != 0)
-        return (int)CTF_ERR;
+    if (find_value(fp, (uint16_t)type, details, name, &found) != CTFD_OK)
+        return (int)ctfd__fail(fp, CTFD__NO_ENUMERATOR);
     if (value != NULL)
         *value = (int)found;
     return 0;

@@ -24,7 +24,7 @@ int ctfd_elf_read(int fd, struct ctfd_elf_lists *lists)
 {
     int (*call)(int, struct ctfd_elf_lists *);
     if (!found("ctfd_elf_read", &call, sizeof call))
-        return ECTF_ZMISSING;
+        return CTFD__NO_PART;
     return call(fd, lists);
 }
 
@@ -32,6 +32,6 @@ int ctfd_elf_inflate(const void *bytes, size_t len, struct ctfd_elf_list *made)
 {
     int (*call)(const void *, size_t, struct ctfd_elf_list *);
     if (!found("ctfd_elf_inflate", &call, sizeof call))
-        return ECTF_ZMISSING;
+        return CTFD__NO_PART;
     return call(bytes, len, made);
 }

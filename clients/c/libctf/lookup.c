@@ -56,19 +56,50 @@ static size_t plain(const char *name, char *made)
     return len;
 }
 
+/* The definition in place of a forward, and the pointers to it: of a name with a tag alone. */
+static uint16_t defined(ctf_file_t *fp, const char *name, size_t len, uint16_t t)
+{
+    size_t base = len, stars = 0;
+    uint16_t at = t, to = 0;
+    uint32_t kind = 0;
+    if (*name != 's' && *name != 'u' && *name != 'e')
+        return t;
+    for (; base > 0 && (name[base - 1] == '*' || name[base - 1] == ' '); base--)
+        stars += name[base - 1] == '*';
+    if (stars != 0 && ctfd__type_named(fp, name, base, &at) != CTFD_OK)
+        return t;
+    if (ctfd__kind_of(fp, at, &kind) != CTFD_OK || kind != CTFD_FORWARD)
+        return t;
+    at = ctfd__definition_of(fp, at);
+    for (; stars > 0 && ctfd__pointer_of(fp, at, &to) == CTFD_OK; stars--)
+        at = to;
+    return stars == 0 ? at : t;
+}
+
+static enum ctfd_status find(ctf_file_t *fp, const char *name, size_t len, uint16_t *t)
+{
+    enum ctfd_status status;
+    if (fp->recipe != NULL)
+        return ctfd__recipe_find(fp, name, len, t);
+    status = ctfd__type_named(fp, name, len, t);
+    if (status == CTFD_OK)
+        *t = defined(fp, name, len, *t);
+    return status;
+}
+
 /* The name as it stands comes first: it may be one of a type that has blanks in it. */
 ctf_id_t ctf_lookup_by_name(ctf_file_t *fp, const char *name)
 {
     size_t len = strlen(name), plain_len;
     uint16_t t = 0;
-    enum ctfd_status status = ctfd_find(&fp->types, name, len, &t);
+    enum ctfd_status status = find(fp, name, len, &t);
     if (status == CTFD_NOT_FOUND || status == CTFD_BAD_SYNTAX) {
         /* A star in front of a word gains a blank at most where it lost none. */
         if (!ctfd__make_room(fp, 2 * (uint64_t)len))
             return CTF_ERR;
         plain_len = plain(name, fp->room);
         if (plain_len != len || memcmp(fp->room, name, len) != 0)
-            status = ctfd_find(&fp->types, fp->room, plain_len, &t);
+            status = find(fp, fp->room, plain_len, &t);
     }
     return ctfd__done(fp, status) == 0 ? (ctf_id_t)t : CTF_ERR;
 }

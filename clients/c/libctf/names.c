@@ -169,6 +169,21 @@ const char *ctfd__kept(ctf_file_t *fp, size_t len)
     return NULL;
 }
 
+const char *ctfd__keep(ctf_file_t *fp, const char *text, size_t len)
+{
+    const struct ctfd__text *kept = len == 0 ? NULL : kept_in(&fp->texts, text, len);
+    return kept != NULL ? kept->text : len == 0 ? "" : NULL;
+}
+
+const char *ctfd__kept_text(ctf_file_t *fp, const char *text, size_t len)
+{
+    const struct ctfd__text *kept;
+    if (len == 0 || fp->texts.heads_len == 0)
+        return NULL;
+    kept = text_in(&fp->texts, ctfd__hash(&fp->texts, text, len), text, len);
+    return kept != NULL ? kept->text : NULL;
+}
+
 void ctfd__free_texts(struct ctfd__texts *texts)
 {
     size_t i;
@@ -185,8 +200,11 @@ void ctfd__free_texts(struct ctfd__texts *texts)
 const char *ctfd__told(ctf_file_t *fp, ctfd__text_f *call)
 {
     uint64_t len = 0;
+    struct ctfd *types;
+    if (ctfd__done(fp, ctfd__opened(fp, &types)) != 0)
+        return NULL;
     do {
-        if (ctfd__done(fp, call(&fp->types, fp->room, fp->room_len, &len)) != 0)
+        if (ctfd__done(fp, call(types, fp->room, fp->room_len, &len)) != 0)
             return NULL;
         if (len < fp->room_len)
             return ctfd__kept(fp, (size_t)len);
@@ -197,8 +215,11 @@ const char *ctfd__told(ctf_file_t *fp, ctfd__text_f *call)
 const char *ctfd__numbered(ctf_file_t *fp, ctfd__numbered_f *call, uint32_t number)
 {
     uint64_t len = 0;
+    struct ctfd *types;
+    if (ctfd__done(fp, ctfd__opened(fp, &types)) != 0)
+        return NULL;
     do {
-        if (ctfd__done(fp, call(&fp->types, number, fp->room, fp->room_len, &len)) != 0)
+        if (ctfd__done(fp, call(types, number, fp->room, fp->room_len, &len)) != 0)
             return NULL;
         if (len < fp->room_len)
             return ctfd__kept(fp, (size_t)len);
@@ -206,11 +227,31 @@ const char *ctfd__numbered(ctf_file_t *fp, ctfd__numbered_f *call, uint32_t numb
     return NULL;
 }
 
+/* The name of a type of one in the making, or of its parent. */
+static const char *recipe_name(ctf_file_t *fp, uint16_t t)
+{
+    ctf_file_t *of = ctfd__owner(fp, t);
+    const struct ctfd__type *type = of == fp ? ctfd__visible_type(fp, t) : NULL;
+    const char *name = NULL;
+    if (type != NULL)
+        return type->name;
+    if (of != fp)
+        name = ctfd__declared(of, t);
+    if (name == NULL)
+        (void)ctfd__fail(fp, of != fp ? of->error : CTFD_NO_TYPE);
+    return name;
+}
+
 const char *ctfd__declared(ctf_file_t *fp, uint16_t t)
 {
     uint64_t len = 0;
+    struct ctfd *types;
+    if (fp->recipe != NULL)
+        return recipe_name(fp, t);
+    if (ctfd__done(fp, ctfd__opened(fp, &types)) != 0)
+        return NULL;
     do {
-        enum ctfd_status status = ctfd_declared_name(&fp->types, t, fp->room, fp->room_len, &len);
+        enum ctfd_status status = ctfd_declared_name(types, t, fp->room, fp->room_len, &len);
         if (ctfd__done(fp, status) != 0)
             return NULL;
         if (len < fp->room_len)

@@ -51,7 +51,8 @@ static ctf_file_t *open_owned(struct ctfd_elf_lists *lists, int *error)
     bool has_symbols = lists->symbols.at != NULL && lists->strings.at != NULL;
     ctf_file_t *fp;
     symbols.cts_entsize = CTFD_SYMBOL;
-    fp = ctf_bufopen(&ctf, has_symbols ? &symbols : NULL, has_symbols ? &strings : NULL, error);
+    fp = ctfd__open(&ctf, has_symbols ? &symbols : NULL, has_symbols ? &strings : NULL, true,
+        error);
     if (fp != NULL && fp->owned[0] == NULL) {
         fp->owned[0] = lists->ctf.at;
         lists->ctf.at = NULL;
@@ -61,6 +62,11 @@ static ctf_file_t *open_owned(struct ctfd_elf_lists *lists, int *error)
         fp->owned[2] = lists->strings.at;
         lists->symbols.at = lists->strings.at = NULL;
     }
+    if (fp != NULL && fp->lists.len[1] / CTFD_SYMBOL == lists->variables.len) {
+        fp->variables = (unsigned char *)lists->variables.at;
+        lists->variables.at = NULL;
+    }
+    free(lists->variables.at);
     free(lists->ctf.at);
     free(lists->symbols.at);
     free(lists->strings.at);
@@ -86,7 +92,7 @@ static ctf_file_t *open_section(int fd, size_t size, int *error)
     failed = read_front(fd, (char *)lists.ctf.at, size, &lists.ctf.len);
     if (failed != 0) {
         free(lists.ctf.at);
-        return ctfd__refused(error, CTF_SYSTEM_ERROR + failed);
+        return ctfd__refused(error, CTFD__SYSTEM + failed);
     }
     return open_owned(&lists, error);
 }
@@ -96,7 +102,7 @@ static ctf_file_t *open_elf(int fd, int *error)
     struct ctfd_elf_lists lists;
     int failed;
     memset(&lists, 0, sizeof lists);
-    failed = ctfd_elf_read == NULL ? ECTF_ZMISSING : ctfd_elf_read(fd, &lists);
+    failed = ctfd_elf_read == NULL ? CTFD__NO_PART : ctfd_elf_read(fd, &lists);
     return failed != 0 ? ctfd__refused(error, failed) : open_owned(&lists, error);
 }
 
@@ -107,12 +113,12 @@ ctf_file_t *ctf_fdopen(int fd, int *error)
     size_t got;
     int failed;
     if (fstat(fd, &about) != 0)
-        return ctfd__refused(error, CTF_SYSTEM_ERROR + errno);
+        return ctfd__refused(error, CTFD__SYSTEM + errno);
     if (!S_ISREG(about.st_mode))
-        return ctfd__refused(error, CTF_SYSTEM_ERROR + EINVAL);
+        return ctfd__refused(error, CTFD__SYSTEM + EINVAL);
     failed = read_front(fd, magic, sizeof magic, &got);
     if (failed != 0)
-        return ctfd__refused(error, CTF_SYSTEM_ERROR + failed);
+        return ctfd__refused(error, CTFD__SYSTEM + failed);
     if (got == sizeof magic && memcmp(magic, "\177ELF", sizeof magic) == 0)
         return open_elf(fd, error);
     return open_section(fd, (size_t)about.st_size, error);
@@ -126,10 +132,10 @@ ctf_file_t *ctf_open(const char *name, int *error)
     ctf_file_t *fp;
     int fd;
     if (stat(name, &about) == 0 && !S_ISREG(about.st_mode))
-        return ctfd__refused(error, CTF_SYSTEM_ERROR + EINVAL);
+        return ctfd__refused(error, CTFD__SYSTEM + EINVAL);
     fd = open(name, O_RDONLY | O_NONBLOCK | O_NOCTTY | O_CLOEXEC);
     if (fd < 0)
-        return ctfd__refused(error, CTF_SYSTEM_ERROR + errno);
+        return ctfd__refused(error, CTFD__SYSTEM + errno);
     fp = ctf_fdopen(fd, error);
     (void)close(fd);
     return fp;

@@ -57,6 +57,7 @@ static void append_turned(struct grown *text, const char *piece)
 struct declaration {
     struct grown front, left, right;
     bool is_named;
+    bool repeats; /* qualifiers that are there twice are put twice, as the proved part does */
     uint32_t of_pointer;
     uint16_t base;
 };
@@ -64,7 +65,7 @@ struct declaration {
 static uint32_t kind_of(ctf_file_t *fp, uint16_t t)
 {
     uint32_t kind = CTFD_UNKNOWN;
-    return t != 0 && ctfd_kind(&fp->types, t, &kind) == CTFD_OK ? kind : CTFD_UNKNOWN;
+    return t != 0 && ctfd__kind_of(fp, t, &kind) == CTFD_OK ? kind : CTFD_UNKNOWN;
 }
 
 static const char *qualifier_of(uint32_t kind)
@@ -86,10 +87,10 @@ static bool inner_of(ctf_file_t *fp, uint16_t t, uint32_t kind, uint16_t *to)
 {
     struct ctfd_array array;
     if (kind == CTFD_POINTER || qualifier_of(kind) != NULL)
-        return ctfd_reference(&fp->types, t, to) == CTFD_OK;
+        return ctfd__reference_of(fp, t, to) == CTFD_OK;
     if (kind == CTFD_FUNCTION)
-        return ctfd_return(&fp->types, t, to) == CTFD_OK;
-    if (kind != CTFD_ARRAY || ctfd_array(&fp->types, t, &array) != CTFD_OK)
+        return ctfd__return_of(fp, t, to) == CTFD_OK;
+    if (kind != CTFD_ARRAY || ctfd__array_of(fp, t, &array) != CTFD_OK)
         return false;
     *to = array.contents;
     return true;
@@ -164,7 +165,7 @@ static void put_qualifier(ctf_file_t *fp, struct declaration *made, uint32_t kin
         append(&made->front, " ", 1);
         return;
     }
-    if ((made->of_pointer & 1u << kind) != 0)
+    if (!made->repeats && (made->of_pointer & 1u << kind) != 0)
         return;
     made->of_pointer |= 1u << kind;
     if (made->is_named || made->left.len != 0 || made->right.len != 0 || is_array)
@@ -178,7 +179,7 @@ static bool put_step(ctf_file_t *fp, struct declaration *made, uint16_t t, uint1
     uint32_t kind = kind_of(fp, t);
     struct ctfd_array array;
     char count[16];
-    if (kind == CTFD_ARRAY && ctfd_array(&fp->types, t, &array) == CTFD_OK) {
+    if (kind == CTFD_ARRAY && ctfd__array_of(fp, t, &array) == CTFD_OK) {
         append(&made->right, count, (size_t)sprintf(count, "[%u]", array.count));
         *to = array.contents;
         return true;
@@ -208,12 +209,45 @@ static ssize_t spelled(ctf_file_t *fp, uint16_t t, char *text, size_t size)
 {
     char none;
     uint64_t len = 0;
-    enum ctfd_status status = ctfd_name(&fp->types, t, size == 0 ? &none : text, size, &len);
+    struct ctfd *types;
+    enum ctfd_status status = ctfd__opened(fp, &types);
+    if (status == CTFD_OK)
+        status = ctfd_name(types, t, size == 0 ? &none : text, size, &len);
     if (ctfd__done(fp, status) != 0)
         return (ssize_t)CTF_ERR;
     if (size > 0)
         text[len < size ? len : size - 1] = '\0';
     return (ssize_t)len;
+}
+
+static void append_qualifier(struct grown *text, const char *qualifier)
+{
+    if (qualifier == NULL)
+        return;
+    append(text, qualifier, strlen(qualifier));
+    append(text, "`", 1);
+}
+
+/* The same of one in the making. */
+static bool append_recipe_base(ctf_file_t *fp, struct grown *text, uint16_t base, uint32_t kind,
+    const char *qualifier)
+{
+    const char *name = ctfd__declared(fp, base);
+    uint32_t tag = kind;
+    if (name == NULL)
+        return false;
+    if (kind == CTFD_FORWARD)
+        (void)ctfd__tag_of(fp, base, &tag);
+    if (tag == CTFD_STRUCT)
+        append(text, "struct ", 7);
+    else if (tag == CTFD_UNION)
+        append(text, "union ", 6);
+    else if (tag == CTFD_ENUM)
+        append(text, "enum ", 5);
+    append_qualifier(text, qualifier);
+    name = *name != '\0' ? name : "(anon)";
+    append(text, name, strlen(name));
+    return true;
 }
 
 /* Appends the name that a declaration begins with, a qualifier in front of the type's own name. */
@@ -226,6 +260,8 @@ static bool append_base(ctf_file_t *fp, struct grown *text, uint16_t base, const
         append(text, "void", 4);
         return true;
     }
+    if (fp->recipe != NULL)
+        return append_recipe_base(fp, text, base, kind, qualifier);
     while ((len = spelled(fp, base, fp->room, fp->room_len)) >= (ssize_t)fp->room_len) {
         if (!ctfd__make_room(fp, (uint64_t)len))
             return false;
@@ -237,10 +273,7 @@ static bool append_base(ctf_file_t *fp, struct grown *text, uint16_t base, const
         word = blank != NULL ? (size_t)(blank - fp->room) + 1 : 0;
     }
     append(text, fp->room, word);
-    if (qualifier != NULL) {
-        append(text, qualifier, strlen(qualifier));
-        append(text, "`", 1);
-    }
+    append_qualifier(text, qualifier);
     append(text, fp->room + word, (size_t)len - word);
     return true;
 }
@@ -287,10 +320,12 @@ static ssize_t spell(ctf_file_t *fp, ctf_id_t type, char *text, size_t size,
     uint32_t kind = CTFD_UNKNOWN;
     ssize_t len = (ssize_t)CTF_ERR;
     if (!ctfd__is_type(fp, type) ||
-        ctfd__done(fp, ctfd_kind(&fp->types, (uint16_t)type, &kind)) != 0)
+        ctfd__done(fp, ctfd__kind_of(fp, (uint16_t)type, &kind)) != 0)
         return (ssize_t)CTF_ERR;
     memset(&made, 0, sizeof made);
     made.is_named = *name != '\0';
+    made.repeats = fp->recipe != NULL && qualifier == NULL && !made.is_named &&
+        !is_misspelled(fp, (uint16_t)type);
     declare(fp, &made, (uint16_t)type);
     if (assemble(fp, &made, &whole, qualifier, name))
         len = put(&whole, text, size);
@@ -305,7 +340,7 @@ static ssize_t spell(ctf_file_t *fp, ctf_id_t type, char *text, size_t size,
 static ssize_t measured(ctf_file_t *fp, ssize_t len, size_t size)
 {
     if (len >= 0 && (size_t)len >= size)
-        (void)ctfd__fail(fp, ECTF_NAMELEN);
+        (void)ctfd__fail(fp, CTFD__NAME_LONG);
     return len;
 }
 
@@ -313,7 +348,7 @@ ssize_t ctf_type_lname(ctf_file_t *fp, ctf_id_t type, char *text, size_t size)
 {
     if (!ctfd__is_type(fp, type))
         return (ssize_t)CTF_ERR;
-    if (is_misspelled(fp, (uint16_t)type))
+    if (fp->recipe != NULL || is_misspelled(fp, (uint16_t)type))
         return measured(fp, spell(fp, type, text, size, NULL, ""), size);
     return measured(fp, spelled(fp, (uint16_t)type, text, size), size);
 }

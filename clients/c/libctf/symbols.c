@@ -6,14 +6,6 @@
 /* How many arguments are read by one call. */
 #define ROWS 32
 
-static bool is_symbol(ctf_file_t *fp, ulong_t symbol)
-{
-    if (symbol <= 0xffffffffUL)
-        return true;
-    (void)ctfd__fail(fp, CTFD_NO_SYMBOL);
-    return false;
-}
-
 /* What is told of a function, as libctf has it. */
 static void tell_function(ctf_funcinfo_t *info, const struct ctfd_function *out)
 {
@@ -26,36 +18,82 @@ int ctf_func_info_by_id(ctf_file_t *fp, ctf_id_t type, ctf_funcinfo_t *info)
 {
     struct ctfd_function out;
     if (!ctfd__is_type(fp, type) ||
-        ctfd__done(fp, ctfd_signature(&fp->types, (uint16_t)type, &out)) != 0)
+        ctfd__done_of(fp, ctfd__signature_of(fp, (uint16_t)type, &out), CTFD__NOT_SIGNATURE) != 0)
         return (int)CTF_ERR;
     tell_function(info, &out);
     return 0;
+}
+
+/* Arguments of a type of one in the making. */
+static void recipe_arguments(const struct ctfd__type *type, uint64_t count, ctf_id_t *argv)
+{
+    uint64_t i;
+    for (i = 0; i < count; i++)
+        argv[i] = (ctf_id_t)type->details->items[i].type;
 }
 
 int ctf_func_args_by_id(ctf_file_t *fp, ctf_id_t type, uint_t argc, ctf_id_t *argv)
 {
     uint16_t rows[ROWS];
     struct ctfd_function out;
-    uint64_t all, count;
-    uint_t i, from;
+    struct ctfd *types;
+    uint64_t all, count, from, i;
     if (!ctfd__is_type(fp, type) ||
-        ctfd__done(fp, ctfd_signature(&fp->types, (uint16_t)type, &out)) != 0)
+        ctfd__done_of(fp, ctfd__signature_of(fp, (uint16_t)type, &out), CTFD__NOT_SIGNATURE) != 0)
         return (int)CTF_ERR;
-    count = out.arguments;
-    for (from = 0; from < argc && from < count; from += ROWS) {
-        if (ctfd__done(fp, ctfd_arguments(&fp->types, (uint16_t)type, from, rows, ROWS, &all)) != 0)
+    fp = ctfd__owner(fp, (uint16_t)type);
+    count = out.arguments < argc ? out.arguments : argc;
+    if (fp->recipe != NULL) {
+        recipe_arguments(ctfd__visible_type(fp, (uint16_t)type), count, argv);
+        return 0;
+    }
+    if (ctfd__done(fp, ctfd__opened(fp, &types)) != 0)
+        return (int)CTF_ERR;
+    for (from = 0; from < count; from += ROWS) {
+        if (ctfd__done(fp, ctfd_arguments(types, (uint16_t)type, from, rows, ROWS, &all)) != 0)
             return (int)CTF_ERR;
-        for (i = 0; i < ROWS && from + i < argc && from + i < count; i++)
+        for (i = 0; i < ROWS && from + i < count; i++)
             argv[from + i] = (ctf_id_t)rows[i];
     }
     return 0;
 }
 
+/* What an opened file answers of a symbol; one in the making has no symbol table. */
+static enum ctfd_status symbol_table(ctf_file_t *fp, ulong_t symbol, struct ctfd **types)
+{
+    if (symbol > 0xffffffffUL || fp->recipe != NULL)
+        return CTFD_NO_SYMBOL;
+    return ctfd__opened(fp, types);
+}
+
+static enum ctfd_status function_of(ctf_file_t *fp, ulong_t symbol, struct ctfd_function *out)
+{
+    struct ctfd *types;
+    enum ctfd_status status = symbol_table(fp, symbol, &types);
+    if (status == CTFD_OK)
+        status = ctfd_function(types, (uint32_t)symbol, out);
+    return status;
+}
+
+static enum ctfd_status object_of(ctf_file_t *fp, ulong_t symbol, uint16_t *t)
+{
+    struct ctfd *types;
+    enum ctfd_status status = symbol_table(fp, symbol, &types);
+    return status == CTFD_OK ? ctfd_object(types, (uint32_t)symbol, t) : status;
+}
+
+/* The error of a function of which nothing is told is one of its own in libctf. */
+static int done_of_function(ctf_file_t *fp, enum ctfd_status status)
+{
+    if (status == CTFD_OK)
+        return 0;
+    return (int)ctfd__fail(fp, status == CTFD_NO_INFO ? CTFD__NO_FUNCTION_INFO : (int)status);
+}
+
 int ctf_func_info(ctf_file_t *fp, ulong_t symbol, ctf_funcinfo_t *info)
 {
     struct ctfd_function out;
-    if (!is_symbol(fp, symbol) ||
-        ctfd__done(fp, ctfd_function(&fp->types, (uint32_t)symbol, &out)) != 0)
+    if (done_of_function(fp, function_of(fp, symbol, &out)) != 0)
         return (int)CTF_ERR;
     tell_function(info, &out);
     return 0;
@@ -64,14 +102,15 @@ int ctf_func_info(ctf_file_t *fp, ulong_t symbol, ctf_funcinfo_t *info)
 int ctf_func_args(ctf_file_t *fp, ulong_t symbol, uint_t argc, ctf_id_t *argv)
 {
     uint16_t rows[ROWS];
+    struct ctfd *types;
     uint64_t count = 0;
     uint_t i, from = 0;
-    if (!is_symbol(fp, symbol))
-        return (int)CTF_ERR;
+    enum ctfd_status status = symbol_table(fp, symbol, &types);
     do {
         uint_t more = argc - from < ROWS ? argc - from : ROWS;
-        if (ctfd__done(fp, ctfd_function_arguments(&fp->types, (uint32_t)symbol, from, rows, more,
-                               &count)) != 0)
+        if (status == CTFD_OK)
+            status = ctfd_function_arguments(types, (uint32_t)symbol, from, rows, more, &count);
+        if (done_of_function(fp, status) != 0)
             return (int)CTF_ERR;
         for (i = 0; i < more && from + i < count; i++)
             argv[from + i] = (ctf_id_t)rows[i];
@@ -83,10 +122,7 @@ int ctf_func_args(ctf_file_t *fp, ulong_t symbol, uint_t argc, ctf_id_t *argv)
 ctf_id_t ctf_lookup_by_symbol(ctf_file_t *fp, ulong_t symbol)
 {
     uint16_t t = 0;
-    if (!is_symbol(fp, symbol) ||
-        ctfd__done(fp, ctfd_object(&fp->types, (uint32_t)symbol, &t)) != 0)
-        return CTF_ERR;
-    return (ctf_id_t)t;
+    return ctfd__done(fp, object_of(fp, symbol, &t)) == 0 ? (ctf_id_t)t : CTF_ERR;
 }
 
 /* A symbol's name, which lives as long as the file. */
@@ -98,11 +134,14 @@ static const char *symbol_name(ctf_file_t *fp, uint32_t symbol)
 /* NULL where it does not fit. */
 char *ctf_symbol_name(ctf_file_t *fp, ulong_t symbol, char *text, size_t size)
 {
-    const char *name = is_symbol(fp, symbol) ? symbol_name(fp, (uint32_t)symbol) : NULL;
+    struct ctfd *types;
+    const char *name = NULL;
+    if (ctfd__done(fp, symbol_table(fp, symbol, &types)) == 0)
+        name = symbol_name(fp, (uint32_t)symbol);
     if (name == NULL)
         return NULL;
     if (strlen(name) >= size) {
-        (void)ctfd__fail(fp, ECTF_NAMELEN);
+        (void)ctfd__fail(fp, CTFD__NAME_LONG);
         return NULL;
     }
     memcpy(text, name, strlen(name) + 1);
@@ -117,7 +156,7 @@ int ctf_object_iter(ctf_file_t *fp, ctf_object_f *each, void *arg)
         uint16_t t;
         const char *name;
         int said;
-        if (ctfd_object(&fp->types, i, &t) != CTFD_OK)
+        if (object_of(fp, i, &t) != CTFD_OK)
             continue;
         name = symbol_name(fp, i);
         if (name == NULL)
@@ -137,7 +176,7 @@ int ctf_function_iter(ctf_file_t *fp, ctf_function_f *each, void *arg)
         ctf_funcinfo_t info;
         const char *name;
         int said;
-        if (ctfd_function(&fp->types, i, &out) != CTFD_OK)
+        if (function_of(fp, i, &out) != CTFD_OK)
             continue;
         name = symbol_name(fp, i);
         if (name == NULL || ctf_func_info(fp, i, &info) != 0)

@@ -29,9 +29,13 @@ struct visit {
 /* Fills the rows. */
 static enum ctfd_status fill(struct visit *visit)
 {
+    struct ctfd *types;
+    enum ctfd_status status = ctfd__opened(visit->fp, &types);
     visit->generation = visit->fp->generation;
     visit->counted = 0;
-    return ctfd_visit(&visit->fp->types, visit->t, visit->rows, visit->rows_len, &visit->count);
+    if (status != CTFD_OK)
+        return status;
+    return ctfd_visit(types, visit->t, visit->rows, visit->rows_len, &visit->count);
 }
 
 /* Asks for twice as many rows. */
@@ -108,15 +112,64 @@ static void tell_missing(ctf_file_t *fp, uint16_t t)
         (void)ctfd__fail(fp, CTFD_NO_TYPE);
 }
 
+/* ---- of one in the making: by its lists, and those of its parent */
+
+/* Where a visit stands: a member's name, type and place. */
+struct step {
+    const char *name;
+    uint16_t type;
+    uint64_t offset;
+    int depth;
+};
+
+static int visit_step(ctf_file_t *fp, struct step at, ctf_visit_f *each, void *arg);
+
+/* The members of a struct or union, as they are when each is come to. */
+static int visit_members(ctf_file_t *fp, uint16_t t, struct step at, ctf_visit_f *each, void *arg)
+{
+    const struct ctfd__details *details;
+    uint32_t i;
+    for (i = 0; (details = ctfd__details(fp, t)) != NULL && i < details->count; i++) {
+        struct ctfd__item item = details->items[i];
+        struct step in = { ctfd__item_name(fp, t, i), item.type, at.offset + item.at,
+            at.depth + 1 };
+        int said = in.name == NULL ? (int)CTF_ERR : visit_step(fp, in, each, arg);
+        if (said != 0)
+            return said;
+    }
+    return details != NULL ? 0 : (int)CTF_ERR;
+}
+
+static int visit_step(ctf_file_t *fp, struct step at, ctf_visit_f *each, void *arg)
+{
+    uint16_t t = 0;
+    uint32_t kind = 0;
+    int said;
+    enum ctfd_status status = ctfd__resolution_of(fp, at.type, &t);
+    if (status == CTFD_OK)
+        status = t == 0 ? CTFD_NO_TYPE : ctfd__kind_of(fp, t, &kind);
+    if (status == CTFD_OK && at.depth >= DEEPEST)
+        status = CTFD_VALUE_DEEP;
+    if (status != CTFD_OK)
+        return (int)ctfd__fail(fp, (int)status);
+    said = each(at.name, (ctf_id_t)at.type, (ulong_t)at.offset, at.depth, arg);
+    if (said != 0 || (kind != CTFD_STRUCT && kind != CTFD_UNION))
+        return said;
+    return visit_members(fp, t, at, each, arg);
+}
+
 int ctf_type_visit(ctf_file_t *fp, ctf_id_t type, ctf_visit_f *each, void *arg)
 {
     const struct ctfd_visit_row *row;
+    struct step first = { "", (uint16_t)type, 0, 0 };
     struct visit visit;
     enum ctfd_status status;
     size_t i;
     int said = 0;
     if (!ctfd__is_type(fp, type))
         return (int)CTF_ERR;
+    if (fp->recipe != NULL)
+        return visit_step(fp, first, each, arg);
     visit.fp = fp;
     visit.t = (uint16_t)type;
     visit.rows = visit.first;

@@ -12,6 +12,7 @@ import unittest
 from pathlib import Path
 from typing import List, NamedTuple
 
+from .elf import named
 from .support import (EXAMPLES, PROGRAM, TOOLS, dictionary, integer, object_file, pointer,
                       staged)
 from .tools import RUST
@@ -65,14 +66,6 @@ FILES = [
          r"/lua: --only luaL_reg: it has no type of this name; did you mean .*luaL_Reg.*\?"),
     Case("its own input", "ctfd-convert {}/lua {}/lua", 2, r"/lua: it is an input, .*another file"),
     Case("a folder that is not there", "ctfd-convert {}/lua {}/no/out", 2, r"cannot write \S*/no/out: No"),
-    Case("no service", "ctfd-front --service {}/nowhere --socket {}/socket lua={}/lua", 5,
-         r"/nowhere, named by --service, is no program: name the built ctfd"),
-    Case("another program", "ctfd-front --service {}/other --socket {}/socket lua={}/lua", 5,
-         r"/other is no ctfd: it does not print a version"),
-    Case("another protocol", "ctfd-front --service {}/newer --socket {}/socket lua={}/lua", 5,
-         r"/newer is ctfd 7\.0\.1, which speaks another protocol.*: install the client of that"),
-    Case("a service that ends", "ctfd-front --service {}/ends --socket {}/socket lua={}/lua", 3,
-         r"the service ended with status 3 .*: .*start ctfd-front again"),
     Case("no such file", "ctfd-debuginfo {}/nowhere {}/out", 2, r"/nowhere: No such file"),
     Case("no dictionary", "ctfd-debuginfo {}/text {}/out", 2,
          r"/text: neither an ELF file nor a CTF section: it begins with 706c6169"),
@@ -137,17 +130,9 @@ DEBUG = [
 ]
 
 
-def script(path: Path, text: str) -> None:
-    path.write_text(f"#!/bin/sh\n{text}\n")
-    path.chmod(0o755)
-
-
 def damaged_elf(data: bytes) -> bytes:
     """The file with zeros in place of the abbreviations of its debug information."""
-    from ctfd.files.elf import Elf
-
-    section = Elf(data).named(".debug_abbrev")
-    assert section is not None
+    section = named(data, ".debug_abbrev")
     start = section.offset
     return data[:start] + bytes(section.size) + data[start + section.size:]
 
@@ -173,9 +158,6 @@ class Messages(unittest.TestCase):
         }
         for name, data in files.items():
             (place / name).write_bytes(data)
-        script(place / "other", "echo hello")
-        script(place / "newer", "echo ctfd 7.0.1")
-        script(place / "ends", '[ "$1" = --version ] && exec echo ctfd 0.2.0; exit 3')
 
     def say(self, cases: List[Case]) -> None:
         for case in cases:
@@ -234,13 +216,9 @@ class Messages(unittest.TestCase):
 
     def squeeze(self, path: Path) -> None:
         """Sets the flag of the section's header that says that it is compressed."""
-        from ctfd.files.elf import Elf
-
         data = bytearray(path.read_bytes())
-        file = Elf(bytes(data))
-        number = [section.name for section in file.sections].index(".SUNW_ctf")
-        start = struct.unpack_from("<Q", data, 40)[0] + 64 * number + 8
-        struct.pack_into("<Q", data, start, file.sections[number].flags | 0x800)
+        section = named(bytes(data), ".SUNW_ctf")
+        struct.pack_into("<Q", data, section.header + 8, section.flags | 0x800)
         path.write_bytes(data)
 
 

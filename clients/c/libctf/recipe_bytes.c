@@ -1,0 +1,240 @@
+/* recipe_bytes.c - the bytes of a dictionary in the making. All that is visible is added to a draft
+ * of the proved part in the order in which it was added here; that judges it and writes it. Where
+ * only types came since the last time, only these are added. */
+#include "private.h"
+
+#include <stdlib.h>
+#include <string.h>
+
+const char *const ctfd__symbol_labels[CTFD_SORTS] = { "ctfd.data:", "ctfd.function:",
+    "ctfd.variable:" };
+
+static enum ctfd_status put_item(ctf_file_t *fp, struct ctfd *to, const struct ctfd__put *put)
+{
+    const struct ctfd__type *in = &fp->recipe->types[put->in];
+    const struct ctfd__item *item = &in->details->items[put->item];
+    uint16_t t = ctfd__number_of(fp, put->in);
+    size_t len = strlen(item->name);
+    uint64_t at;
+    if (in->kind == CTFD_ENUM)
+        return ctfd_add_enumerator(to, t, item->name, len, (int32_t)(uint32_t)item->at);
+    return ctfd_add_member(to, t, item->name, len, item->type, true, item->at, &at);
+}
+
+static enum ctfd_status put_function(struct ctfd *to, const struct ctfd__type *type)
+{
+    const struct ctfd__details *details = type->details;
+    uint16_t t, arguments[CTF_MAX_VLEN + 1];
+    uint32_t i;
+    for (i = 0; i < details->count; i++)
+        arguments[i] = details->items[i].type;
+    return ctfd_add_function(to, type->name, strlen(type->name), type->root != 0,
+        type->is.returned, arguments, details->count, &t);
+}
+
+/* The call that adds a type which leads to another. */
+typedef enum ctfd_status add_reference_f(struct ctfd *, const char *, size_t, bool, uint16_t,
+    uint16_t *);
+
+static add_reference_f *adder_of(uint32_t kind)
+{
+    switch (kind) {
+    case CTFD_POINTER:
+        return ctfd_add_pointer;
+    case CTFD_TYPEDEF:
+        return ctfd_add_typedef;
+    case CTFD_VOLATILE:
+        return ctfd_add_volatile;
+    case CTFD_CONST:
+        return ctfd_add_const;
+    case CTFD_RESTRICT:
+        return ctfd_add_restrict;
+    default:
+        return NULL;
+    }
+}
+
+static enum ctfd_status put_type(struct ctfd *to, const struct ctfd__type *type)
+{
+    const struct ctfd_encoding *encoding = &type->is.encoding;
+    const struct ctfd_array *array = &type->is.array;
+    const char *name = type->name;
+    uint16_t t;
+    size_t len = strlen(name);
+    bool root = type->root != 0;
+    switch (type->kind) {
+    case CTFD_INTEGER:
+        return ctfd_add_integer(to, name, len, root, (uint8_t)encoding->encoding,
+            (uint8_t)encoding->offset, (uint16_t)encoding->bits, type->size, &t);
+    case CTFD_FLOAT:
+        return ctfd_add_float(to, name, len, root, (uint8_t)encoding->encoding,
+            (uint8_t)encoding->offset, (uint16_t)encoding->bits, type->size, &t);
+    case CTFD_ARRAY:
+        return ctfd_add_array(to, name, len, root, array->contents, array->index, array->count,
+            &t);
+    case CTFD_FUNCTION:
+        return put_function(to, type);
+    case CTFD_STRUCT:
+        return ctfd_add_struct(to, name, len, root, type->stated_size, &t);
+    case CTFD_UNION:
+        return ctfd_add_union(to, name, len, root, type->stated_size, &t);
+    case CTFD_ENUM:
+        return ctfd_add_enum(to, name, len, root, type->size, &t);
+    case CTFD_FORWARD:
+        return ctfd_add_forward(to, name, len, root, type->tag, &t);
+    case CTFD_UNKNOWN:
+        return ctfd_add_unknown(to, name, len, root, &t);
+    default:
+        return adder_of(type->kind)(to, name, len, root, type->is.to, &t);
+    }
+}
+
+/* How many types, items and labels a draft has. */
+struct stand {
+    uint32_t types, puts, marks;
+};
+
+/* Adds what is behind a stand, in order. A forward that was promoted is added as what it became. */
+static enum ctfd_status put_all(ctf_file_t *fp, struct ctfd *to, struct stand from)
+{
+    const struct ctfd__recipe *of = fp->recipe;
+    enum ctfd_status status = CTFD_OK;
+    while (status == CTFD_OK && (from.types < of->visible || from.puts < of->puts_len)) {
+        const struct ctfd__put *put = from.puts < of->puts_len ? &of->puts[from.puts] : NULL;
+        if (put == NULL || (put->types > from.types && from.types < of->visible)) {
+            status = put_type(to, &of->types[from.types++]);
+            continue;
+        }
+        if (put->in < of->visible)
+            status = put_item(fp, to, put);
+        from.puts++;
+    }
+    for (; status == CTFD_OK && from.marks < of->marks_visible; from.marks++)
+        status = ctfd_add_label(to, of->marks[from.marks].name,
+            strlen(of->marks[from.marks].name), of->marks[from.marks].last);
+    return status;
+}
+
+static int by_names(const void *a, const void *b)
+{
+    const struct ctfd__symbol *left = (const struct ctfd__symbol *)a;
+    const struct ctfd__symbol *right = (const struct ctfd__symbol *)b;
+    return left->sort != right->sort ? left->sort - right->sort : strcmp(left->name, right->name);
+}
+
+/* Labels of the symbols, in the order of their names. */
+static enum ctfd_status put_symbols(ctf_file_t *fp, struct ctfd *to)
+{
+    struct ctfd__recipe *of = fp->recipe;
+    enum ctfd_status status = CTFD_OK;
+    uint32_t i;
+    if (of->symbols_len != 0)
+        qsort(of->symbols, of->symbols_len, sizeof *of->symbols, by_names);
+    for (i = 0; status == CTFD_OK && i < of->symbols_len; i++) {
+        const char *begin = ctfd__symbol_labels[of->symbols[i].sort];
+        size_t first = strlen(begin), len = first + strlen(of->symbols[i].name);
+        if (!ctfd__make_room(fp, len))
+            return CTFD_MEMORY;
+        memcpy(fp->room, begin, first);
+        memcpy(fp->room + first, of->symbols[i].name, len - first);
+        status = ctfd_add_label(to, fp->room, len, of->symbols[i].type);
+    }
+    return status;
+}
+
+/* A draft with nothing in it, over the parent as it stands. */
+static enum ctfd_status begin(ctf_file_t *fp, struct ctfd *draft)
+{
+    uint64_t place;
+    struct ctfd *parent;
+    enum ctfd_status status;
+    if (fp->parent == NULL)
+        return ctfd_create(draft, fp->model == CTF_MODEL_ILP32, &place);
+    status = ctfd__opened(fp->parent, &parent);
+    return status == CTFD_OK ? ctfd_create_child(draft, parent, "PARENT", 6, "", 0, &place)
+                             : status;
+}
+
+/* Whether the draft gives structs and unions the sizes that the recipe has answered. It lets one
+ * grow by what a member's type is now, and a type of the parent may have grown since the member was
+ * added: then the bytes would say another size. */
+static bool has_sizes(ctf_file_t *fp, struct ctfd *draft)
+{
+    const struct ctfd__recipe *of = fp->recipe;
+    uint32_t i;
+    for (i = 0; i < of->visible; i++) {
+        uint64_t bytes = 0;
+        if (of->types[i].kind != CTFD_STRUCT && of->types[i].kind != CTFD_UNION)
+            continue;
+        if (ctfd_size(draft, ctfd__number_of(fp, i), &bytes) != CTFD_OK ||
+            bytes != of->types[i].size)
+            return false;
+    }
+    return true;
+}
+
+/* Writes all anew, in place of what was written. */
+static enum ctfd_status write_anew(ctf_file_t *fp)
+{
+    struct ctfd draft = CTFD_NONE;
+    struct stand none = { 0, 0, 0 };
+    uint64_t types, place;
+    enum ctfd_status status = begin(fp, &draft);
+    if (status == CTFD_OK)
+        status = put_all(fp, &draft, none);
+    if (status == CTFD_OK)
+        status = put_symbols(fp, &draft);
+    if (status == CTFD_OK)
+        status = ctfd_update(&draft, &types, &place);
+    if (status == CTFD_OK && !has_sizes(fp, &draft))
+        status = (enum ctfd_status)CTFD__GROWN;
+    if (status != CTFD_OK) {
+        ctfd_close(&draft);
+        return status;
+    }
+    ctfd_close(&fp->recipe->draft);
+    fp->recipe->draft = draft;
+    return CTFD_OK;
+}
+
+/* Writes what came behind what was written. */
+static enum ctfd_status write_more(ctf_file_t *fp)
+{
+    struct ctfd__recipe *of = fp->recipe;
+    struct stand from = { of->written.types, of->written.puts, of->written.marks };
+    uint64_t types, place;
+    enum ctfd_status status = put_all(fp, &of->draft, from);
+    if (status == CTFD_OK)
+        status = ctfd_update(&of->draft, &types, &place);
+    if (status != CTFD_OK)
+        (void)ctfd_discard(&of->draft, &types);
+    return status;
+}
+
+enum ctfd_status ctfd__write(ctf_file_t *fp)
+{
+    struct ctfd__recipe *of = fp->recipe;
+    uint64_t of_parent = 0;
+    bool is_anew;
+    enum ctfd_status status;
+    if (fp->parent != NULL && fp->parent->recipe != NULL) {
+        status = ctfd__write(fp->parent);
+        if (status != CTFD_OK)
+            return status;
+        of_parent = 1 + fp->parent->recipe->changes;
+    }
+    is_anew = !of->draft.full || of->written.is_stale || of_parent != of->written.of_parent;
+    if (!is_anew && of->written.changes == 1 + of->changes)
+        return CTFD_OK;
+    status = is_anew ? write_anew(fp) : write_more(fp);
+    if (status != CTFD_OK)
+        return status;
+    /* What was put into types that are pending is put again from the beginning: seldom. */
+    of->written.is_stale = of->visible != of->count;
+    of->written.types = of->visible;
+    of->written.puts = of->puts_len;
+    of->written.marks = of->marks_visible;
+    of->written.changes = 1 + of->changes;
+    of->written.of_parent = of_parent;
+    return CTFD_OK;
+}

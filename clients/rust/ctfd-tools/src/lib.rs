@@ -1,0 +1,59 @@
+//! The commands of ctfd, in one program: the name by which it is started says which command it is.
+//!
+//! One program, since all commands share the reader and the library: apart they would each carry
+//! both. A link may have any name: then that of the file counts, and else the first word is the
+//! command's.
+
+mod arguments;
+mod bundle;
+mod convert;
+mod debuginfo;
+mod diff;
+mod explore;
+mod interrupts;
+mod messages;
+mod output;
+mod progress;
+mod show;
+mod standard;
+mod types;
+
+use std::ffi::OsString;
+use std::path::{Path, PathBuf};
+use std::process::ExitCode;
+
+/// A command: from its words, the program's name first, to its exit status.
+type Command = fn(Vec<OsString>) -> ExitCode;
+
+const COMMANDS: [(&str, Command); 6] = [
+    ("ctfd-convert", convert::main),
+    ("ctfd-debuginfo", debuginfo::main),
+    ("ctfd-diff", diff::main),
+    ("ctfd-explore", explore::main),
+    ("ctfd-show", show::main),
+    ("ctfd-types", types::main),
+];
+
+/// Runs the command that the words of the process name; its exit status.
+pub fn main() -> ExitCode {
+    progress::begin();
+    let mut words: Vec<OsString> = std::env::args_os().collect();
+    // A link may have another name, so the file that runs counts too.
+    let file = std::env::current_exe().map(PathBuf::into_os_string).unwrap_or_default();
+    if let Some(command) = words.first().and_then(command_of).or_else(|| command_of(&file)) {
+        return command(words);
+    }
+    if let Some(command) = words.get(1).and_then(command_of) {
+        words.remove(0);
+        return command(words);
+    }
+    let known: Vec<&str> = COMMANDS.iter().map(|(name, _)| *name).collect();
+    messages::warn("ctfd-tools", format!("say which command: {}", known.join(", ")));
+    ExitCode::from(messages::REFUSED)
+}
+
+/// The command of the name that a path ends in.
+fn command_of(word: &OsString) -> Option<Command> {
+    let name = Path::new(word).file_name()?;
+    COMMANDS.iter().find(|(known, _)| name == *known).map(|(_, command)| *command)
+}
