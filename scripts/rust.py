@@ -4,9 +4,9 @@
 usage: scripts/rust.py [--quiet | --packages | --ahead] [CARGO-WORD..]
 
 `--packages` prints the names of Debian's packages with the crates. `--ahead` compiles the crates
-that others made, which need no library, and says nothing where that can't be done. Without words it builds
-clients/rust/target/release/ctfd-tools, beside it a link for each command that it is, and ctfd-front.
-With words it runs cargo with these: `scripts/rust.py test`.
+that others made, which need no library, and says nothing where that can't be done. Without words it
+builds clients/rust/target/release/ctfd-tools, beside it a link for each command that it is, and
+ctfd-front. With words it runs cargo with these: `scripts/rust.py test`.
 
 The crates that these stand on are taken from the folder clients/rust/vendor that the tarball of the
 sources has, else from Debian's packages (librust-*-dev) where they are installed, else from

@@ -15,7 +15,8 @@ publishes. Each NAME=FILE is published for all, who take it from owner 0.";
 const STATUSES: &str = "\
 The status is 0 if SIGTERM or SIGINT ended it; 1 if a file was refused, 3 if one can't be read and \
 4 if memory is short for one; 2 for a wrong command line; 5 if the socket can't be had; 6 if a \
-shard ended by itself, which is a bug; 7 if all session numbers were given. SIGUSR1 writes statistics to standard error.";
+shard ended by itself, which is a bug; 7 if all session numbers were given. SIGUSR1 writes \
+statistics to standard error.";
 
 const IN_PROCESS: &str = "the service is in this process";
 const ANSWERED_FIRST: &str = "what is read is answered before more is read";
@@ -129,8 +130,8 @@ fn of_the_service() -> [Arg; 8] {
              so often or each 15 seconds",
         ),
         option("service-memory", "N").value_parser(value_parser!(u64).range(1..=MOST)).help(
-            "bytes that all services may have together, beside what --memory bounds; a request that \
-             needs more is refused as Memory. By default there is no limit",
+            "bytes that all services may have together, beside what --memory bounds; a request \
+             that needs more is refused as Memory. By default there is no limit",
         ),
         Arg::new("restart")
             .long("restart")
