@@ -15,10 +15,9 @@ from pathlib import Path
 TOP = Path(__file__).resolve().parents[1]
 sys.path.insert(0, str(TOP / "clients" / "python"))
 import ctfd  # noqa: E402
-from ctfd.files.compiled import Options, converted  # noqa: E402
-from ctfd.layout.from_ctf import table_of  # noqa: E402
 from ctfd.layout.records import Table  # noqa: E402
-from ctfd.layout.written import written  # noqa: E402
+from tests.whole.from_ctf import table_of  # noqa: E402
+from tests.whole.written import written  # noqa: E402
 
 
 def chosen(table: Table, count: int) -> list[int]:
@@ -41,7 +40,7 @@ def main() -> int:
         print(__doc__, file=sys.stderr)
         return 2
     count, program, out = sys.argv[1:]
-    table = table_of(converted(program, Options()).ctf)
+    table = table_of(ctfd.read(program).ctf)
     table.objects, table.functions, table.labels = [], [], []
     Path(out).write_bytes(written(table.kept(chosen(table, int(count)))))
     with ctfd.connect() as client:

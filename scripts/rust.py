@@ -3,10 +3,11 @@
 
 usage: scripts/rust.py [--quiet | --packages | --ahead] [CARGO-WORD..]
 
-`--packages` prints the names of Debian's packages with the crates. `--ahead` compiles the crates
-that others made, which need no library, and says nothing where that can't be done. Without words it
-builds clients/rust/target/release/ctfd-tools, beside it a link for each command that it is, and
-ctfd-front. With words it runs cargo with these: `scripts/rust.py test`.
+`--packages` prints the names of Debian's packages with the crates. `--ahead` compiles all but the
+programs that are linked with the library, which need not be there yet; it says nothing, since what
+fails is told without it. Without words it builds clients/rust/target/release/ctfd-tools, beside it a
+link for each command that it is, and ctfd-front. With words it runs cargo with these:
+`scripts/rust.py test`.
 
 The crates that these stand on are taken from the folder clients/rust/vendor that the tarball of the
 sources has, else from Debian's packages (librust-*-dev) where they are installed, else from
@@ -26,8 +27,9 @@ from typing import Optional, Sequence
 TOP = Path(__file__).resolve().parents[1]
 WORKSPACE = TOP / "clients" / "rust"
 ARCHIVE = TOP / "crates" / "ctf_c" / "out" / "libctfd.a"
-PROGRAM = "ctfd-tools"
+PROGRAM, PACKAGE, LIBRARY = "ctfd-tools", "ctfd-commands", "ctfd-tools"
 FRONT = "ctfd-front"
+LATER = {"CTFD_LINKED_LATER": "1"}  # the library is linked with the programs, and read by no crate
 COMMANDS = ("ctfd-convert", "ctfd-debuginfo", "ctfd-diff", "ctfd-explore", "ctfd-show",
             "ctfd-types")
 DEBIAN = Path("/usr/share/cargo/registry")
@@ -36,6 +38,7 @@ PACKAGES = tuple(f"librust-{name}-dev" for name in ("ahash-0.7", "clap", "crc32f
                                                     "gimli", "indicatif", "libc", "memchr", "mio",
                                                     "object", "rayon", "regex", "rustix",
                                                     "signal-hook", "smallvec", "tar"))
+PACKAGES += ("libzstd-dev",)  # without it sections that zstd compressed are not read
 LEAST = (1, 82)
 
 
@@ -69,11 +72,11 @@ def cargo() -> str:
     return found
 
 
-def run(words: Sequence[str], archive: Optional[Path] = None) -> int:
-    """Runs cargo in the workspace; its status. Raises NotBuilt."""
-    environment = dict(os.environ)
+def run(words: Sequence[str], more: Optional[dict[str, str]] = None) -> int:
+    """Runs cargo in the workspace, with more in its environment; its status. Raises NotBuilt."""
+    environment = {**os.environ, **(more or {})}
     if "DOCS_RS" not in environment:
-        environment.setdefault("CTFD_ARCHIVE", str(archive or ARCHIVE))
+        environment.setdefault("CTFD_ARCHIVE", str(ARCHIVE))
     command = [cargo(), words[0], *sources(), *words[1:]]
     return subprocess.run(command, cwd=WORKSPACE, env=environment, check=False).returncode
 
@@ -93,7 +96,7 @@ def folder() -> Path:
 
 def build(*words: str) -> Path:
     """Builds the commands and the front; the folder with them. Raises NotBuilt."""
-    if run(["build", "--release", "--package", PROGRAM, "--package", FRONT, *words]) != 0:
+    if run(["build", "--release", "--package", PACKAGE, "--package", FRONT, *words], LATER) != 0:
         raise NotBuilt("cargo has failed: are all of Debian's packages installed that"
                        f" scripts/rust.py needs ({' '.join(PACKAGES)})?")
     for name in COMMANDS:
@@ -104,13 +107,10 @@ def build(*words: str) -> Path:
 
 
 def compile_ahead() -> None:
-    """Compiles the crates that others made."""
-    text = (WORKSPACE / "Cargo.toml").read_text("utf-8")
-    crates = re.findall(r"^([a-z][\w-]*) = (?!.*path)", text.split("dependencies]")[1].split("\n[")[0],
-                        re.MULTILINE)
-    subprocess.run([cargo(), "build", *sources(), "--release", "--quiet",
-                    *(word for name in crates for word in ("--package", name))],
-                   cwd=WORKSPACE, check=False, stderr=subprocess.DEVNULL)
+    """Compiles all but the program."""
+    silence = os.open(os.devnull, os.O_WRONLY)
+    os.dup2(silence, sys.stderr.fileno())
+    run(["build", "--release", "--quiet", "--lib", "--package", LIBRARY], LATER)
 
 
 def main() -> int:

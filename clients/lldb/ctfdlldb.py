@@ -18,6 +18,7 @@ sys.path.insert(0, str(pathlib.Path(__file__).resolve().parents[1] / "python"))
 
 import ctfd  # noqa: E402
 from ctfd.client import aliases  # noqa: E402
+from ctfd.files import compiled  # noqa: E402
 from ctfd.plugin.debug_files import Writer  # noqa: E402
 from ctfd.text import printable  # noqa: E402
 
@@ -50,12 +51,8 @@ def load(debugger: lldb.SBDebugger, words: str, result: lldb.SBCommandReturnObje
 def refuse_object_file(path: str) -> None:
     """lldb 14 puts the symbols of an object file's separate debug file at the wrong addresses,
     those of the compiler's too."""
-    try:
-        with open(path, "rb") as file:
-            kind = file.read(18)[16:]
-    except OSError as error:
-        raise ctfd.Error(f"{path}: {error.strerror}") from error
-    if kind == b"\1\0":
+    image = compiled.description(path)
+    if image is not None and image.kind == "object":
         raise ctfd.Error(f"{path} is an object file, in which lldb takes addresses from no"
                          " separate debug file: ctfd-debuginfo writes OUT, then `target create"
                          " OUT` and `target modules load -f OUT .text ADDRESS`")

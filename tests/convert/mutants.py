@@ -32,8 +32,7 @@ from typing import Dict, Iterator, List, NamedTuple, Optional, Tuple
 HERE = Path(__file__).resolve().parent
 sys.path.insert(0, str(HERE.parents[1] / "clients/python"))
 
-from ctfd.client.faults import Unreadable  # noqa: E402
-from ctfd.files import elf  # noqa: E402
+from tests import elf  # noqa: E402
 from command import COMMAND, FOLDER  # noqa: E402
 
 TYPES = FOLDER / "ctfd-types"
@@ -105,12 +104,11 @@ def parts(data: bytes) -> List[Part]:
     """The parts of a file: of an ELF file its header, the section headers, and the sections that
     are read."""
     try:
-        file = elf.Elf(data)
-    except Unreadable:
+        sections = elf.sections(data)
+    except elf.DAMAGED:
         return [Part(0, min(64, len(data))), Part(0, len(data))]
-    start = struct.unpack_from("<Q" if file.model == "lp64" else "<I", data, file.form.sections)[0]
-    found = [Part(0, 64), Part(start, len(data))]
-    for section in file.sections:
+    found = [Part(0, 64), Part(sections[0].header, len(data))]
+    for section in sections:
         if section.size and section.kind != elf.NOBITS and (
                 section.name.startswith((".debug", ".BTF", ".ctf", ".SUNW", ".rela.debug", ".gnu_"))
                 or section.name in (".symtab", ".strtab", ".dynsym")):

@@ -1,9 +1,11 @@
 """What `ctfd-convert` makes of what compilers write: nothing else, or a line that says what."""
 from __future__ import annotations
 
+import json
 import subprocess
 import unittest
 from pathlib import Path
+from typing import Any
 
 from .support import SERVICE, Case, Outcome, run, tool
 
@@ -167,6 +169,45 @@ class Tags(Conversion):
         self.assertEqual(done.status, 1, done.text)
         self.assertRegex(done.errors, "tag 0x44.*unknown")
         self.assertIn("unknown", self.dumped())
+
+
+class ForPrograms(Conversion):
+    def bundle(self, *words: str) -> "tuple[dict[str, Any], bytes]":
+        """The head of a bundle, and what stands behind it."""
+        done = subprocess.run([tool("convert"), "--bundle", *words, "-"], capture_output=True)
+        self.assertEqual(done.returncode, 0, done.stderr)
+        head, _, lists = done.stdout.partition(b"\n")
+        return json.loads(head), lists
+
+    def test_a_bundle_has_what_goes_with_the_types(self) -> None:
+        made = self.compiled("struct s { int a; } shown; int f(struct s *s) { return s->a; }", "-g")
+        head, lists = self.bundle("--addresses", str(made))
+        (one,) = head["dictionaries"]
+        self.assertEqual((head["made"], head["alone"], head["losses"]), (True, True, []))
+        self.assertEqual((one["how"], one["model"], sum(head["lists"])),
+                         ("named", "lp64", len(lists)))
+        self.assertEqual(self.converted(made, "--lossy").status, 0)
+        self.assertEqual(lists[:head["lists"][one["ctf"]]], (self.folder / "out.ctf").read_bytes())
+        listed = json.loads(lists[len(lists) - head["lists"][one["addresses"]]:])
+        self.assertEqual({(name, is_function) for name, _, _, is_function in listed},
+                         {("shown", False), ("f", True)})
+        again, others = self.bundle(str(self.folder / "out.ctf"))
+        self.assertEqual((again["made"], again["dictionaries"][0]["label"], others[:4]),
+                         (False, one["label"], b"\xf1\xcf\2\0"))
+
+    def test_what_a_file_is(self) -> None:
+        made = self.compiled("int shown;", "-g")
+        told = json.loads(run(tool("convert"), "--describe", made, "-").output)
+        self.assertEqual((told["kind"], told["model"], told["has_ctf"], told["has_debug"]),
+                         ("object", "lp64", False, True))
+        self.assertEqual(self.converted(made, "--section").status, 0)
+        told = json.loads(run(tool("convert"), "--describe", self.folder / "out.ctf", "-").output)
+        self.assertTrue(told["has_ctf"])
+        (self.folder / "text").write_text("no ELF file")
+        self.assertEqual(run(tool("convert"), "--describe", self.folder / "text", "-").output,
+                         "null\n")
+        for words in (("--bundle", "--describe"), ("--bundle", "--section"), ("--addresses",)):
+            self.assertEqual(run(tool("convert"), *words, made, "-").status, 2)
 
 
 class SymbolsOfGnu(Conversion):

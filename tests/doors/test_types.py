@@ -5,6 +5,7 @@ import subprocess
 import unittest
 from pathlib import Path
 
+from . import writers as w
 from .support import Case, run, tool
 
 # One tag as a forward in one file, and as two definitions in others.
@@ -18,6 +19,35 @@ LISTS = {
                "union list_of { struct user user; } of;\n",
     "main.c": "int main(void) { return 0; }\n",
 }
+
+
+class Names(Case):
+    def test_a_long_name_that_many_types_share(self) -> None:
+        """12 GB of names, each told by itself: one is printed, and all are refused."""
+        types = [w.record(9, w.STRUCT, 1, 4, w.member(1, 1, 0)) for _ in range(30_000)]
+        names = b"\0int\0ab\0\0" + b"s" * 400_000 + b"\0"
+        path = self.folder / "shared.ctf"
+        path.write_bytes(w.ctf(b"".join([w.record(1, w.INTEGER, 0, 4, w.INT), *types]), names))
+        for words in (("--sizes",), ("--c",), ("--json",), ("--reorganize",), ("--svg-sizes",),
+                      ("--holes", "1"), ("--members", "int"), ("--contains", "int"),
+                      ("--uses", "int"), ("--functions", "int"), ("--complete", "s")):
+            done = run(tool("types"), *words, path)
+            self.assert_tame(done, words)
+            self.assertEqual((done.status, done.output), (1, ""), done.text)
+            self.assertRegex(done.errors, "its names share their bytes")
+        for words in ((), ("--number", "2")):
+            done = run(tool("types"), *words, path)
+            self.assert_tame(done, words)
+            self.assertEqual((done.status, done.errors), (0, ""))
+
+    def test_a_name_without_its_word_is_offered(self) -> None:
+        self.needs("gcc")
+        made = self.compiled("struct packet { int length; } p; enum color { RED } c;", "-g", "-c")
+        for words, near in (("pakcet", "struct packet"), ("struct pakcet", "struct packet"),
+                            ("colour", "enum color")):
+            done = run(tool("types"), made, words)
+            self.assertEqual(done.status, 1, done.text)
+            self.assertIn(f"; did you mean {near}?", done.errors)
 
 
 class Compilable(Case):

@@ -20,7 +20,7 @@ import traceback
 import gdb
 
 sys.path.insert(0, str(pathlib.Path(__file__).resolve().parents[2] / "clients/python"))
-from ctfd.files.elf import Elf  # noqa: E402
+from tests import elf  # noqa: E402
 
 (INTEGER, FLOAT, POINTER, ARRAY, FUNCTION, STRUCT, UNION, ENUM, FORWARD, TYPEDEF, VOLATILE, CONST,
  RESTRICT) = range(1, 14)
@@ -204,10 +204,10 @@ def described(t):
 
 def symbols(program):
     """The kind and name of each symbol of which a dictionary tells something."""
-    file = Elf(program.read_bytes(), str(program))
-    table = file.named(".symtab")
-    data, strings = file.bytes(table), file.bytes(file.numbered(table.link))
-    entry, parts = SYMBOLS[file.model]
+    whole = program.read_bytes()
+    table = elf.named(whole, ".symtab")
+    data, strings = table.bytes(whole), elf.sections(whole)[table.link].bytes(whole)
+    entry, parts = SYMBOLS[elf.model(whole)]
     for at, info, section, value in map(parts, entry.iter_unpack(data)):
         name = strings[at:strings.index(b"\0", at)].decode()
         kind = info & 15

@@ -6,7 +6,7 @@ usage: tests/reader/mutants.py [--count N] [--seed N] [PROGRAM..]
 Bytes of a program's debug information, of its types and of its headers are changed, sections are cut
 and parts of them are moved, as a seed says. The command ends within 5 s with status 0, 1 or 2,
 without a panic or a signal, and takes no more memory than 64 MiB and 64 times the file. Without programs some are compiled: C, C++ and Rust,
-type units, old DWARF, GNU's CTF, BTF, big-endian. Needs gcc and the compiled commands.
+type units, old DWARF, GNU's CTF, BTF, big-endian, compressed sections. Needs gcc and the compiled commands.
 """
 from __future__ import annotations
 
@@ -55,6 +55,11 @@ def compiled(folder: Path) -> Iterator[Path]:
         words = [*command.split(), "-o", str(folder / name)]
         if shutil.which(words[0]) and subprocess.run(words, capture_output=True).returncode == 0:
             yield folder / name
+    for form in ("zlib", "zstd"):
+        words = ["objcopy", f"--compress-debug-sections={form}", folder / "classes", folder / form]
+        if (folder / "classes").exists() and shutil.which("objcopy") \
+                and subprocess.run(words, capture_output=True).returncode == 0:
+            yield folder / form
     yield TOP / "examples" / "lua.ctf"
 
 

@@ -10,9 +10,9 @@ from unittest import mock
 
 import ctfd
 from ctfd.client.gather import ALL_LISTS
-from ctfd.files import anyfile
+from ctfd.files import anyfile, compiled as compiled_command
 from ctfd.files.anyfile import Asked
-from ctfd.files.cache import Cache, Kept, key, user_cache
+from ctfd.files.cache import Cache, key, user_cache
 from ctfd.files.opening import Opener
 
 from .support import EXAMPLES, compiles, run
@@ -73,10 +73,10 @@ class Programs(Folder):
     def test_a_kept_one_is_taken(self) -> None:
         made = self.program()
         self.names(made)
-        with mock.patch.object(anyfile, "converted", side_effect=AssertionError):
+        with mock.patch.object(compiled_command, "bundle", side_effect=AssertionError):
             kept = anyfile.read(made, Asked(cache=user_cache))
-        self.assertTrue(kept.is_made and kept.source.sym)
-        self.assertEqual(kept.source.how, "named")
+        self.assertTrue(kept.is_made and kept.sources[0].sym)
+        self.assertEqual(kept.sources[0].how, "named")
 
     def test_nothing_is_kept_where_nothing_is_to_be(self) -> None:
         self.names(self.program(), keeps=False)
@@ -126,40 +126,43 @@ class Programs(Folder):
 class Caches(Folder):
     def test_what_was_kept_comes_back(self) -> None:
         cache = Cache(self.cache)
-        kept = Kept(b"\xf1\xcf\x02\n\n", "lp64", ["a loss"])
+        kept = b"\xf1\xcf\x02\n\n"
         self.assertIsNone(cache.get("name"))
         cache.put("name", kept)
         self.assertEqual(cache.get("name"), kept)
 
     def test_a_damaged_one_counts_as_none(self) -> None:
         cache = Cache(self.cache)
-        for data in (b"", b"\n", b"{}\nx", b'{"sum":"0"}\nx', b"[]\n", b'{"sum":1,"x":2}\n'):
-            cache.put("name", Kept(b"x"))
+        for data in (b"", b"\n", b"{}\nx", b"0" * 32 + b"\nx", b"\xff\nx", b"x"):
+            cache.put("name", b"x")
             (self.cache / "name.ctf").write_bytes(data)
             self.assertIsNone(cache.get("name"))
 
     def test_the_oldest_go(self) -> None:
         cache = Cache(self.cache, 10_000)
         for number in range(8):
-            cache.put(f"name{number}", Kept(bytes(3000)))
+            cache.put(f"name{number}", bytes(3000))
             os.utime(self.cache / f"name{number}.ctf", (number, number))
         names = sorted(path.name for path in self.cache.iterdir())
         self.assertEqual(names, ["name5.ctf", "name6.ctf", "name7.ctf"])
-        cache.put("large", Kept(bytes(20_000)))
+        cache.put("large", bytes(20_000))
         self.assertIsNone(cache.get("large"))
 
     def test_a_folder_of_others_is_not_used(self) -> None:
         self.cache.mkdir(parents=True)
         self.cache.chmod(0o777)
         cache = Cache(self.cache)
-        cache.put("name", Kept(b"x"))
+        cache.put("name", b"x")
         self.assertEqual(list(self.cache.iterdir()), [])
         self.assertIsNone(Cache(Path("/proc/nowhere")).get("name"))
-        Cache(Path("/proc/nowhere")).put("name", Kept(b"x"))
+        Cache(Path("/proc/nowhere")).put("name", b"x")
 
     def test_a_key_is_of_the_bytes_and_of_what_was_asked(self) -> None:
-        keys = {key(b"a", "a"), key(b"b", "a"), key(b"a", "a", ["dwarf"]), key(b"", "a")}
-        self.assertEqual(len(keys), 4)
+        paths = [Path(self.folder, str(number)) for number in range(4)]
+        for path, data in zip(paths, (b"a", b"b", b"", b"a")):
+            path.write_bytes(data)
+        keys = [*map(key, map(str, paths)), key(str(paths[0]), ["dwarf"])]
+        self.assertEqual((len(set(keys)), keys[0]), (4, keys[3]))
 
 
 if __name__ == "__main__":

@@ -12,8 +12,8 @@ from typing import List, Tuple
 
 import ctfd
 from ctfd.layout.records import Part, Record, Table
-from ctfd.layout.written import written
 
+from .whole.written import written
 from .support import (CONVERT, EXAMPLES, TOOLS, WithService, dictionary, integer, object_file,
                       pointer, run)
 

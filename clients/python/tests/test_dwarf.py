@@ -13,6 +13,7 @@ import ctfd
 from ctfd.values.program import open_program
 from ctfd.view.declare import function
 
+from . import elf
 from .support import TOOLS, compiles
 from .test_convert import CODE, WithFiles
 
@@ -158,8 +159,33 @@ class Forms(WithFiles):
         at = whole.index(struct.pack("<IIQ", 1, 0, 0)[:8], 64)
         whole[at] = 2
         self.assertRegex(self.converted(self.file("zstd.o", bytes(whole)), status=2)[1],
-                         r"is compressed by zstd, which is not read: objcopy"
-                         r" --decompress-debug-sections")
+                         r"\.debug_\w+ does not inflate to the bytes that it says: damage"
+                         r"|built without libzstd: objcopy --decompress-debug-sections")
+
+    def test_sections_that_zstd_compressed(self) -> None:
+        """Each cut off, too long, and made to be of more bytes than it could be."""
+        for options in ("-g", "-gdwarf-4 -fdebug-types-section", "-m32 -g"):
+            if not compiles(*options.split()):
+                continue
+            path = self.compiled("code.o", CODE, *options.split())
+            packed = str(self.folder / "packed.o")
+            done = subprocess.run(["objcopy", "--compress-debug-sections=zstd", path, packed])
+            if done.returncode:
+                self.skipTest("this objcopy has no zstd")
+            data = Path(packed).read_bytes()
+            found = elf.named(data, ".debug_info")
+            self.assertTrue(found.flags & 0x800 and found.bytes(data)[0] == 2)
+            out, said = self.converted(packed, "--lossy")
+            if "built without libzstd" in said:
+                self.skipTest("the commands were built without libzstd")
+            self.assertEqual(Path(out).read_bytes(),
+                             Path(self.converted(path, "--lossy")[0]).read_bytes())
+            size = found.offset + (8 if elf.model(data) == "lp64" else 4)
+            for more in (1, 1 << 20, 1 << 31):
+                wrong = bytearray(data)
+                struct.pack_into("<I", wrong, size, more)
+                self.assertIn("does not inflate to the bytes that it says: damage",
+                              self.converted(self.file("wrong.o", bytes(wrong)), status=2)[1])
 
     def test_archives(self) -> None:
         self.linked("program", "-g")

@@ -64,6 +64,13 @@ class Quotes(unittest.TestCase):
         self.assertEqual(quoted(b"c" * 300, 4, 0), '"' + "c" * 300 + '"')
         self.assertEqual(quoted(b"", 4, 10), '""')
 
+    def test_a_digit_behind_a_number_is_no_part_of_it(self) -> None:
+        """As gdb has it of L"\\x3b1" "ag" and alike."""
+        for codes, text in (([0x3b1, 0x61, 0x67], 'L"\\x3b1\\141g"'), ([0x3b1, 0x67, 0x61], 'L"\\x3b1ga"'),
+                            ([0o777, 0x61], 'L"\\777a"'), ([0x3b1, 0x3b2, 0x46], 'L"\\x3b1\\x3b2\\106"'),
+                            ([0x3b1] + 11 * [0x61], 'L"\\x3b1", L\'\\141\' <repeats 11 times>')):
+            self.assertEqual(quoted(codes, 200, 10, False, "L"), text)
+
 
 class Flags(unittest.TestCase):
     def test_an_enum_of_single_bits(self) -> None:

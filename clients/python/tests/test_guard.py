@@ -12,8 +12,7 @@ import unittest
 from pathlib import Path
 from typing import List, NamedTuple
 
-from ctfd.files.elf import Elf
-
+from .elf import sections
 from .support import compiles
 from .tools import CONVERTS, WHY_NOT, command
 
@@ -216,7 +215,7 @@ class Guard(unittest.TestCase):
         script = Path(self.folder, "map")
         script.write_text("V1 { global: find; gone; local: *; };\n")
         whole = Path(self.library("whole", CODE, f"-Wl,--version-script={script}")).read_bytes()
-        places = [section for section in Elf(whole).sections if section.name in (
+        places = [section for section in sections(whole) if section.name in (
             ".dynsym", ".dynstr", ".gnu.version", ".gnu.version_d", ".dynamic")]
         chance, damaged = random.Random(5), Path(self.folder, "damaged")
         for _ in range(300):

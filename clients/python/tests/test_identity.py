@@ -10,16 +10,13 @@ from pathlib import Path
 from typing import List
 
 import ctfd
-from ctfd.files import identity, several, source, symbols
-from ctfd.files.elf import Elf
-from ctfd.files.symbols import DYNSYM, Names, SYMTAB, Wanted, considered, made_table
 from ctfd.layout.records import Record, Table
-from ctfd.layout.written import written
 from ctfd.values.program import open_program
 
 from .support import CONVERT, TOOLS, compiles
 from .test_convert import CODE, WithFiles
 from .tools import command
+from .whole.written import written
 
 PROGRAM = CODE + "int shown = 3; int main(void) { return add(first, 1) + shown; }\n"
 OTHER = "struct other { long l; } second; long more(struct other *one) { return one->l; }\n"
@@ -59,8 +56,8 @@ class Symbols(WithPrograms):
                 subprocess.run(["strip", how, stripped], check=True)
                 said = self.declared(stripped, "add")
                 self.assertTrue(said == right or "symbols are left out" in said, said)
-                has_table = considered(Elf(Path(stripped).read_bytes())).listed
-                self.assertEqual(said == right, bool(has_table))
+                listed = subprocess.run(["nm", stripped], capture_output=True, text=True).stdout
+                self.assertEqual(said == right, " T add\n" in listed)
                 listed = command("ctfd-types", stripped, "struct node").stdout
                 self.assertIn("struct node *", listed)
 
@@ -92,27 +89,6 @@ class Symbols(WithPrograms):
         out, told = self.converted(other, "--section")
         self.assertIn("it is stripped of .symtab: symbols are left out", told)
         self.assertIn("symbols are left out", self.declared(out, "add"))
-
-    def test_the_checksum_goes_by_kinds_and_names(self) -> None:
-        file = Elf(Path(self.program("program", "-rdynamic")).read_bytes())
-        whole = considered(file, SYMTAB)
-        for changed in (whole.listed[1:], whole.listed[::-1],
-                        (whole.listed[0]._replace(name="x"), *whole.listed[1:]),
-                        (whole.listed[0]._replace(is_function=not whole.listed[0].is_function),
-                         *whole.listed[1:])):
-            self.assertNotEqual(whole._replace(listed=changed).identity, whole.identity)
-        moved = tuple(one._replace(address=one.address + 1) for one in whole.listed)
-        self.assertEqual(whole._replace(listed=moved).identity, whole.identity)
-        self.assertNotEqual(considered(file, DYNSYM).identity, whole.identity)
-
-    def test_names_alone_make_the_table_that_symbols_make(self) -> None:
-        for names in (Names([], []), Names([b"one", b""], []), Names([], [b"f", b"\xff"]),
-                      Names([b"one", b"two"], [b"f"])):
-            listed = tuple(Wanted(name.decode("utf-8", "surrogateescape"), 0, place >= of)
-                           for of in [len(names.objects)]
-                           for place, name in enumerate([*names.objects, *names.functions]))
-            self.assertEqual(names.handed, made_table(listed))
-            self.assertEqual(names.checksum, symbols.Symbols("names", listed).identity.checksum)
 
     def test_a_debugger_tells_no_wrong_symbol(self) -> None:
         made = self.with_section(self.program("program", "-rdynamic"))
@@ -171,10 +147,15 @@ class Several(WithPrograms):
 
     def test_one_by_itself_is_whole(self) -> None:
         ctf = Path(self.converted(self.compiled("code.o", CODE))[0]).read_bytes()
-        self.assertEqual(several.each(ctf), [ctf])
-        self.assertEqual(several.each(ctf + bytes(3) + ctf), [ctf, ctf])
-        self.assertEqual(several.each(ctf + b"more"), [ctf + b"more"])
-        self.assertEqual(len(several.each(ctf * 3)), 3)
+        for count, data in ((1, ctf), (1, ctf + b"more"), (2, ctf + bytes(3) + ctf), (3, ctf * 3)):
+            path = self.file("listed", data)
+            if count == 1:
+                self.assertEqual(ctfd.read(path).ctf, data)
+                continue
+            with self.assertRaisesRegex(ctfd.Unreadable, f"it has {count} dictionaries"):
+                ctfd.read(path)
+            for number in range(1, count + 1):
+                self.assertEqual(ctfd.read(path, number).ctf, ctf)
 
 
 @unittest.skipUnless(TOOLS, "no gcc or objcopy here")
@@ -182,7 +163,7 @@ class Of(WithPrograms):
     @unittest.skipUnless(compiles("-m32"), "no gcc with -m32 here")
     def test_a_dictionary_of_32_bits_says_so(self) -> None:
         out, _ = self.converted(self.compiled("short.o", CODE, "-g", "-m32"), "--lossy")
-        self.assertEqual((source.read(out).model, self.types(out).model), ("ilp32", "ilp32"))
+        self.assertEqual((ctfd.read(out).model, self.types(out).model), ("ilp32", "ilp32"))
         self.assertEqual(self.types(out).find("struct node").size, 20)
         said = command("ctfd-types", "--model", "lp64", out).stderr
         self.assertIn("it says that it is of ilp32, and lp64 was asked for: leave the model out",
@@ -214,7 +195,6 @@ class Of(WithPrograms):
         path = self.file("labelled", written(table))
         out, _ = self.converted(path, "--self-contained")
         self.assertEqual(self.types(out).labels(), [("release-7", 1)])
-        self.assertEqual(identity.symbols(Path(out).read_bytes()), None)
 
 
 class Btf(WithFiles):
@@ -243,7 +223,7 @@ class Btf(WithFiles):
         out, _ = self.converted(self.file("plain.btf", self.btf()))
         data = Path(out).read_bytes()
         changed = self.file("changed", data.replace(b"\0count\0", b"\0cOunt\0"))
-        self.assertEqual(source.read(changed).sym, None)
+        self.assertEqual(ctfd.read(changed).sym, None)
 
     @unittest.skipUnless(TOOLS and shutil.which("pahole"), "no gcc or pahole here")
     def test_functions_of_a_file_by_its_symbols(self) -> None:

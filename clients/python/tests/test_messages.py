@@ -12,6 +12,7 @@ import unittest
 from pathlib import Path
 from typing import List, NamedTuple
 
+from .elf import named
 from .support import (EXAMPLES, PROGRAM, TOOLS, dictionary, integer, object_file, pointer,
                       staged)
 from .tools import RUST
@@ -131,10 +132,7 @@ DEBUG = [
 
 def damaged_elf(data: bytes) -> bytes:
     """The file with zeros in place of the abbreviations of its debug information."""
-    from ctfd.files.elf import Elf
-
-    section = Elf(data).named(".debug_abbrev")
-    assert section is not None
+    section = named(data, ".debug_abbrev")
     start = section.offset
     return data[:start] + bytes(section.size) + data[start + section.size:]
 
@@ -218,13 +216,9 @@ class Messages(unittest.TestCase):
 
     def squeeze(self, path: Path) -> None:
         """Sets the flag of the section's header that says that it is compressed."""
-        from ctfd.files.elf import Elf
-
         data = bytearray(path.read_bytes())
-        file = Elf(bytes(data))
-        number = [section.name for section in file.sections].index(".SUNW_ctf")
-        start = struct.unpack_from("<Q", data, 40)[0] + 64 * number + 8
-        struct.pack_into("<Q", data, start, file.sections[number].flags | 0x800)
+        section = named(bytes(data), ".SUNW_ctf")
+        struct.pack_into("<Q", data, section.header + 8, section.flags | 0x800)
         path.write_bytes(data)
 
 

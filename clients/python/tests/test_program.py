@@ -5,7 +5,6 @@ from pathlib import Path
 
 from ctfd.client.faults import Error
 from ctfd.client.types import Type
-from ctfd.files import elf
 from ctfd.values.operands import Code, Located, Steps
 from ctfd.values.program import Program, open_program
 from ctfd.view.declare import declaration
@@ -62,7 +61,7 @@ class Lua(WithService):
 
     def test_a_section_by_itself(self) -> None:
         program = self.opened(LUA)
-        self.assertEqual((program.image, program.symbols, program.text), (None, {}, None))
+        self.assertEqual((program.image, program.symbols), (None, {}))
 
     def test_a_program_of_32_bits_says_its_model_and_has_no_symbols(self) -> None:
         program = self.opened(file_of(LUA, 2, SYMBOLS, STRINGS, BITS_32))
@@ -74,11 +73,11 @@ class Lua(WithService):
         self.assertEqual((program.types.how, program.symbols), ("refused", {}))
 
 
-class Tables(unittest.TestCase):
     def test_a_table_that_is_cut_off(self) -> None:
-        whole = list(elf.symbols(SYMBOLS, STRINGS))
-        self.assertEqual(list(elf.symbols(SYMBOLS + b"rest", STRINGS)), whole)
-        self.assertTrue(all(symbol.name for symbol in whole))
+        whole = self.opened(file_of(LUA, 2, SYMBOLS, STRINGS))
+        cut = self.opened(file_of(LUA, 0, SYMBOLS + b"rest", STRINGS))
+        self.assertTrue(whole.symbols and all(whole.symbols))
+        self.assertEqual((cut.types.how, cut.symbols), ("refused", {}))
 
 
 if __name__ == "__main__":

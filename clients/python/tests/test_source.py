@@ -6,8 +6,8 @@ import zlib
 from typing import NamedTuple
 
 import ctfd
-from ctfd.files import source
-from ctfd.files.elf import Elf
+from ctfd.files import compiled
+from ctfd.files.bundles import Description
 
 from .support import (EXAMPLES, POINTER, TOOLS, WithService, compiles, dictionary, integer,
                       object_file, record)
@@ -49,74 +49,75 @@ def elf(ctf: bytes, link: int = 2, sym: bytes = b"", strings: bytes = b"\0",
     return b"\x7fELF" + bytes([shape.number, 1, 1]) + bytes(9) + rest + body + headers
 
 
-class Inflating(unittest.TestCase):
-    def test_a_compressed_section(self) -> None:
-        self.assertEqual(source.inflate(compressed(LUA)), LUA)
-        self.assertEqual(source.inflate(LUA), LUA)
+class WithFile(unittest.TestCase):
+    """A test of what is handed in for some bytes as a file."""
 
-    def test_the_header_bounds_what_is_inflated(self) -> None:
-        bomb = compressed(LUA, bytes(100_000_000))
-        with self.assertRaisesRegex(ctfd.Unreadable, "more than 22979 bytes"):
-            source.inflate(bomb)
-        with self.assertRaisesRegex(ctfd.Unreadable, "inflates to 5 bytes"):
-            source.inflate(compressed(LUA, b"short"))
-        with self.assertRaisesRegex(ctfd.Unreadable, "the service takes"):
-            source.inflate(compressed(LUA[:28] + struct.pack("<II", 1 << 31, 1 << 31)))
+    def of_bytes(self, data: bytes) -> ctfd.Source:
+        with tempfile.NamedTemporaryFile() as file:
+            file.write(data)
+            file.flush()
+            return ctfd.read(file.name)
 
-    def test_damage(self) -> None:
-        with self.assertRaisesRegex(ctfd.Unreadable, "damage"):
-            source.inflate(compressed(LUA)[:36] + b"no zlib")
-        with self.assertRaisesRegex(ctfd.Unreadable, "where its header says"):
-            source.inflate(compressed(LUA)[:200])
-
-
-class Foreign(unittest.TestCase):
     def told(self, data: bytes, words: str) -> None:
         with self.assertRaisesRegex(ctfd.Unreadable, words):
-            source.of_bytes(data)
+            self.of_bytes(data)
 
+
+class Inflating(WithFile):
+    def test_a_compressed_section(self) -> None:
+        self.assertEqual(self.of_bytes(compressed(LUA)), self.of_bytes(LUA))
+        self.assertEqual(self.of_bytes(LUA).ctf, LUA)
+
+    def test_the_header_bounds_what_is_inflated(self) -> None:
+        self.told(compressed(LUA, bytes(100_000_000)), "inflates to more than 22979 bytes")
+        self.told(compressed(LUA, b"short"), "inflates to 5 bytes")
+        self.told(compressed(LUA[:28] + struct.pack("<II", 1 << 31, 1 << 31)), "67108864")
+
+    def test_damage(self) -> None:
+        self.told(compressed(LUA)[:36] + b"no zlib", "does not inflate .*: damage")
+        self.told(compressed(LUA)[:200], "does not inflate .*: damage")
+
+
+class Foreign(WithFile):
     def test_formats_are_told_as_what_they_are(self) -> None:
-        self.told(b"\xf2\xdf\x04\0" + bytes(60), "GNU CTF .*format number 4")
-        self.told(b"\xdf\xf2\x04\0" + bytes(60), "big-endian GNU CTF")
-        self.told(struct.pack("<Q", 0x8B47F2A4D7623EEB), "archive of GNU CTF")
-        self.told(b"\xcf\xf1\x02\0" + bytes(60), "big-endian machine")
-        self.told(b"\xf1\xcf\x01\0" + bytes(60), "CTF version 1, as very old tools")
-        self.told(b"\xf1\xcf\x03\0" + bytes(60), "CTF version 3, as newer releases of FreeBSD")
-        self.told(b"", "begins with nothing")
+        for data in (b"\xf2\xdf\x04\0", b"\xdf\xf2\x04\0", b"\xcf\xf1\x02\0", b"\xf1\xcf\x03\0"):
+            self.told(data + bytes(60), "no named types of C")
+        self.told(struct.pack("<Q", 0x8B47F2A4D7623EEB), "GNU CTF is damaged or cut off")
+        self.told(b"\xf1\xcf\x01\0" + bytes(60), "CTF version 1, which is not read")
+        self.told(b"", "it is empty")
         self.told(b"#!/bin/sh", "begins with 23212f62")
-        self.told(b"\x7fELF\x02\x02" + bytes(60), "big-endian ELF")
-        for damaged in (b"", b"\x02", b"\x03\x01", b"\x01\x03"):
-            self.told(b"\x7fELF" + damaged, "header is damaged or cut off")
+        self.told(b"BC\xc0\xde", "bitcode")
+        for damaged in (b"\x02\x02" + bytes(60), b"", b"\x02", b"\x03\x01", b"\x01\x03"):
+            self.told(b"\x7fELF" + damaged, "a damaged ELF file")
 
     def test_a_foreign_section_in_an_elf_file(self) -> None:
-        self.told(elf(b"\xf2\xdf\x04\0" + bytes(60)), "SUNW_ctf: GNU CTF")
+        self.told(elf(b"\xf2\xdf\x04\0" + bytes(60)), "it has no debug information")
 
     def test_no_such_file(self) -> None:
-        with self.assertRaisesRegex(ctfd.Unreadable, "No such file"):
-            source.read("/nowhere/at/all")
+        for name, why in (("/nowhere/at/all", "No such file"), ("/", "it is a folder"),
+                          ("/dev/null", "no file with contents"), ("a\0b", "null byte")):
+            with self.assertRaisesRegex(ctfd.Unreadable, why):
+                ctfd.read(name)
 
 
-class ElfFiles(WithService):
+class ElfFiles(WithService, WithFile):
     def test_strings_and_symbols_by_the_link(self) -> None:
-        whole = source.of_bytes(elf(LUA, 2, bytes(24), b"\0s\0"))
-        self.assertEqual(whole, ctfd.Source(LUA, bytes(24), b"\0s\0", "linked", "lp64"))
-        only = source.of_bytes(elf(LUA, 3, bytes(24), b"\0s\0"))
-        self.assertEqual(only, ctfd.Source(LUA, None, b"\0s\0", "linked", "lp64"))
-        guess = source.of_bytes(elf(LUA, 0, bytes(24), b"\0s\0"))
-        self.assertEqual(guess, ctfd.Source(LUA, bytes(24), b"\0s\0", "guessed", "lp64"))
-        self.assertEqual(source.of_bytes(LUA), ctfd.Source(LUA))
+        label = self.of_bytes(LUA).label
+        for link, sym, how in ((2, bytes(24), "linked"), (3, None, "linked"),
+                               (0, bytes(24), "guessed")):
+            found = self.of_bytes(elf(LUA, link, bytes(24), b"\0s\0"))
+            self.assertEqual(found, ctfd.Source(LUA, sym, b"\0s\0", how, "lp64", label))
+        self.assertEqual(self.of_bytes(LUA), ctfd.Source(LUA, label=label))
 
     def test_symbols_of_32_bits_are_left_out_and_their_strings_are_not(self) -> None:
-        for link in (0, 2):
-            found = source.of_bytes(elf(LUA, link, bytes(16), b"\0s\0", BITS_32))
-            self.assertEqual(found, ctfd.Source(LUA, None, b"\0s\0", "unread", "ilp32"))
-        only = source.of_bytes(elf(LUA, 3, bytes(16), b"\0s\0", BITS_32))
-        self.assertEqual(only, ctfd.Source(LUA, None, b"\0s\0", "linked", "ilp32"))
+        for link, how in ((0, "unread"), (2, "unread"), (3, "linked")):
+            found = self.of_bytes(elf(LUA, link, bytes(16), b"\0s\0", BITS_32))
+            self.assertEqual(found[:5], (LUA, None, b"\0s\0", how, "ilp32"))
 
     def test_a_file_of_32_bits(self) -> None:
         """int *, and the name of int in the strings of the file's symbol table."""
         ctf = dictionary([integer(0x8000_0001), record(POINTER, 0, 1)])
-        slot = ctfd.open_source(self.session, source.of_bytes(
+        slot = ctfd.open_source(self.session, self.of_bytes(
             elf(ctf, 2, bytes(16), b"\0int\0", BITS_32)))
         self.assertEqual((slot.model, slot.how), ("ilp32", "unread"))
         self.assertEqual((slot.type(1).name, slot.type(2).size), ("int", 4))
@@ -130,36 +131,38 @@ class ElfFiles(WithService):
             whole = elf(LUA[:60], 2, bytes(24), b"\0s\0", shape)
             for length in range(len(whole)):
                 with self.assertRaises(ctfd.Unreadable):
-                    source.of_bytes(whole[:length])
+                    self.of_bytes(whole[:length])
 
-    def test_a_header(self) -> None:
+    def test_what_a_file_is(self) -> None:
         for shape, model in ((BITS_32, "ilp32"), (BITS_64, "lp64")):
-            file = Elf(elf(LUA, shape=shape))
-            self.assertEqual((file.model, file.entry, file.is_fixed), (model, ENTRY, False))
-            self.assertEqual([section.name for section in file.sections],
-                             ["", ".SUNW_ctf", ".symtab", ".strtab", ".strtab"])
+            with tempfile.NamedTemporaryFile() as file:
+                file.write(elf(LUA, shape=shape))
+                file.flush()
+                found = compiled.description(file.name)
+            self.assertEqual(found, Description("object", model, ENTRY, None, "", True, False))
+        self.assertIsNone(compiled.description(str(EXAMPLES / "lua.ctf")))
 
     def test_symbols_answer_by_name(self) -> None:
         sym, strings = ((EXAMPLES / f"lua.{s}").read_bytes() for s in ("sym", "str"))
         whole = elf(compressed(LUA), 2, sym, strings)
-        slot = ctfd.open_source(self.session, source.of_bytes(whole))
+        slot = ctfd.open_source(self.session, self.of_bytes(whole))
         said = slot.symbol("closepaux")
         assert isinstance(said, ctfd.Signature)
         self.assertEqual([t.spelled for t in said.arguments], ["lua_State *", "void *"])
 
     def test_guessed_symbols_that_do_not_fit_are_left_out(self) -> None:
-        slot = ctfd.open_source(self.session, source.of_bytes(elf(LUA, 0, bytes(23))))
+        slot = ctfd.open_source(self.session, self.of_bytes(elf(LUA, 0, bytes(23))))
         self.assertEqual((slot.how, slot.own), ("refused", 526))
         with self.assertRaises(ctfd.BadSymbols):
-            ctfd.open_source(self.session, source.of_bytes(elf(LUA, 2, bytes(23))))
+            ctfd.open_source(self.session, self.of_bytes(elf(LUA, 2, bytes(23))))
 
     @unittest.skipUnless(TOOLS, "no gcc or objcopy here")
     def test_an_object_file_of_gcc(self) -> None:
-        for section in source.SECTIONS:
+        for section in (".SUNW_ctf", ".ctf"):
             for ctf in (LUA, compressed(LUA)):
                 with tempfile.TemporaryDirectory() as folder:
                     made = object_file(folder, ctf, section)
-                    found = source.read(str(made))
+                    found = ctfd.read(str(made))
                 self.assertEqual((found.ctf, found.how), (LUA, "guessed"))
                 slot = ctfd.open_source(self.session, found)
                 self.assertEqual(slot.find("struct lua_State").size, 200)
@@ -168,7 +171,7 @@ class ElfFiles(WithService):
     def test_an_object_file_of_32_bits(self) -> None:
         with tempfile.TemporaryDirectory() as folder:
             made = object_file(folder, LUA, code="int counter;", options=["-m32"])
-            found = source.read(str(made))
+            found = ctfd.read(str(made))
         self.assertEqual((found.ctf, found.sym, found.how, found.model),
                          (LUA, None, "unread", "ilp32"))
         self.assertIn(b"\0counter\0", found.strings or b"")
@@ -177,8 +180,8 @@ class ElfFiles(WithService):
     def test_an_object_file_without_a_section(self) -> None:
         with tempfile.TemporaryDirectory() as folder:
             made = object_file(folder, LUA, ".other")
-            with self.assertRaisesRegex(ctfd.Unreadable, "without .SUNW_ctf or .ctf"):
-                source.read(str(made))
+            with self.assertRaisesRegex(ctfd.Unreadable, "it has no debug information"):
+                ctfd.read(str(made))
 
 
 if __name__ == "__main__":

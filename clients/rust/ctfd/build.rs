@@ -35,6 +35,15 @@ fn found(name: &str, word: &str) -> PathBuf {
     library
 }
 
+/// Names an archive that is still being made: who links a program waits for it. Nothing is compiled
+/// anew where it changes, so a program sees to it itself that it is linked anew.
+fn name_archive() {
+    let archive = env::var_os("CTFD_ARCHIVE").map(PathBuf::from).unwrap_or_default();
+    let folder = archive.parent().expect("CTFD_ARCHIVE names a file");
+    println!("cargo:rustc-link-search=native={}", folder.display());
+    println!("cargo:rustc-link-lib=static:-bundle=ctfd");
+}
+
 /// A copy of the archive by itself, since beside it stands the shared library, which is preferred.
 fn link_archive() {
     let archive = found("libctfd.a", "CTFD_ARCHIVE");
@@ -66,6 +75,8 @@ fn main() {
     }
     if env::var_os("CARGO_FEATURE_SHARED").is_some() {
         link_shared();
+    } else if env::var_os("CTFD_LINKED_LATER").is_some() {
+        name_archive();
     } else {
         link_archive();
     }

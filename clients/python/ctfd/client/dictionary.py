@@ -3,7 +3,7 @@ from __future__ import annotations
 
 from typing import Any, Callable, Dict, Iterable, Iterator, List, Optional, Tuple, Union
 
-from ..files import identity, source
+from ..files import source
 from ..files.source import Source
 from .. import text
 from . import aliases
@@ -33,26 +33,19 @@ WORDS = {
 def open_file(session: Session, path: str, sym: Optional[bytes] = None,
               strings: Optional[bytes] = None, model: Optional[Model] = None,
               number: Optional[int] = None) -> Dictionary:
-    """Opens the dictionary of a file (see `ctfd.files.source`).
+    """Opens the dictionary of a file, converted where it needs that (see `ctfd.files.source`).
 
     Where symbols or strings are given, they stand in place of the file's symbols, and a model in
     place of the file's. `number` chooses one of several dictionaries that stand behind each other.
     Raises Unreadable where the dictionary says another model.
     """
-    return open_found(session, source.read(path, number), path, sym, strings, model)
+    from ..files.anyfile import Asked, read  # here: who has lists of his own needs none of these
 
-
-def open_found(session: Session, found: Source, path: str, sym: Optional[bytes] = None,
-               strings: Optional[bytes] = None, model: Optional[Model] = None) -> Dictionary:
-    """As `open_file`, of what was found in a file."""
-    said = identity.model(found.ctf)
-    if model and said and model != said:
-        raise Unreadable(f"{path}: it says that it is of {said}, and {model} was asked for: leave"
-                         " the model out")
+    found = read(path, Asked(model=model, number=number)).sources[0]
     if sym is not None or strings is not None:
         beside = found.strings if strings is None else strings
         found = found._replace(sym=sym, strings=beside, how="given")
-    return open_source(session, found._replace(model=model or found.model))
+    return open_source(session, found)
 
 
 def open_source(session: Session, found: Source) -> Dictionary:
@@ -106,18 +99,11 @@ class Dictionary:
     def import_parent(self, parent: Dictionary) -> None:
         """Gives a child its parent, a dictionary of the same session. Raises Unreadable where the
         child says that its parent is another."""
-        if self.is_child:
-            why = identity.not_its_parent(self.parent_label, parent.types_label)
-            if why:
-                raise Unreadable(why)
+        if self.is_child and parent.handed_in:
+            source.judge_parent(self.parent_label, parent.handed_in)
         self.session.ask("import", d=self.slot, parent=parent.slot)
         self.parent = parent
         self._told = None
-
-    @property
-    def types_label(self) -> Optional[str]:
-        """What a child names it by as its parent, where its lists are known."""
-        return identity.of_types(self.handed_in.ctf) if self.handed_in else None
 
     @property
     def pointer_size(self) -> int:

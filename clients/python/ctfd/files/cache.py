@@ -1,4 +1,4 @@
-"""Dictionaries that were made of programs, kept for the next time.
+"""What was made of programs, kept for the next time.
 
 They stand in `$XDG_CACHE_HOME/ctfd`, or `~/.cache/ctfd`, a file for each, and the oldest go when
 there are too many bytes. A folder that others can write to is not used, and a file that was changed
@@ -8,74 +8,57 @@ from __future__ import annotations
 
 import contextlib
 import hashlib
-import json
 import os
 import stat
 from pathlib import Path
-from typing import Iterable, List, NamedTuple, Optional, Sequence, Tuple
+from typing import Iterable, List, Optional, Tuple
 
-from ..client.faults import Unreadable
 from ..version import VERSION
-from . import elf
-from .elf import Elf
-from .mapped import Mapped
 
 MOST_BYTES = 512 << 20
 SUFFIX = ".ctf"
-FORMAT = 3  # of the kept files and of what is made of a program; another number is another name
+FORMAT = 4  # of the kept files and of what is made of a program; another number is another name
 PIECE = 1 << 20
-# Of a file that is larger, and that has a build id, that and its size and time stand for its bytes.
 LARGE = 256 << 20
 
 
-class Kept(NamedTuple):
-    """What was made of a program: a dictionary, its data model, and what CTF could not hold."""
-
-    ctf: bytes
-    model: Optional[str] = None
-    losses: Sequence[str] = ()
-
-
 class Cache:
-    """The kept dictionaries in a folder, `most` bytes at most."""
+    """What is kept in a folder, `most` bytes at most."""
 
     def __init__(self, folder: Path, most: int = MOST_BYTES) -> None:
         self.folder = folder
         self.most = most
 
-    def get(self, key: str) -> Optional[Kept]:
-        """What was kept by a key; None where there is nothing that holds."""
-        path = self._path(key)
+    def get(self, name: str) -> Optional[bytes]:
+        """What was kept by a name; None where there is nothing that holds."""
+        path = self._path(name)
         try:
             if not self._is_mine():
                 return None
-            head, _, ctf = path.read_bytes().partition(b"\n")
-            said = json.loads(head)
-            if said.pop("sum") != _sum(ctf):
+            said, _, data = path.read_bytes().partition(b"\n")
+            if said.decode("ascii") != _sum(data):
                 return None
             os.utime(path)
-            return Kept(ctf, **said)
-        except (OSError, ValueError, TypeError, KeyError, AttributeError) as error:
+            return data
+        except (OSError, ValueError) as error:
             _log(path, error)
             return None
 
-    def put(self, key: str, kept: Kept) -> None:
+    def put(self, name: str, data: bytes) -> None:
         """Keeps what was made, and lets the oldest go."""
-        said = {name: value for name, value in kept._asdict().items() if name != "ctf"}
-        head = json.dumps({"sum": _sum(kept.ctf), **said}).encode("ascii")
-        data = head + b"\n" + kept.ctf
-        if len(data) > self.most:
+        kept = _sum(data).encode("ascii") + b"\n" + data
+        if len(kept) > self.most:
             return
         try:
             self.folder.mkdir(mode=0o700, parents=True, exist_ok=True)
             if self._is_mine():
-                self._write(self._path(key), data)
+                self._write(self._path(name), kept)
                 self._bound()
         except OSError as error:
             _log(self.folder, error)
 
-    def _path(self, key: str) -> Path:
-        return self.folder / f"{key}{SUFFIX}"
+    def _path(self, name: str) -> Path:
+        return self.folder / f"{name}{SUFFIX}"
 
     def _is_mine(self) -> bool:
         """Whether nobody else can have put a file there."""
@@ -120,29 +103,19 @@ def user_cache() -> Optional[Cache]:
     return Cache(Path(home, ".cache", "ctfd")) if os.path.isabs(home) else None
 
 
-def key(data: Mapped, path: str, words: Iterable[object] = ()) -> str:
-    """By what a dictionary is kept: the bytes of its file, what was asked of it, and what made it.
-    """
-    found = hashlib.blake2b(digest_size=24)
-    found.update(repr((FORMAT, VERSION, *words)).encode())
-    build = _build_id(data, path) if len(data) > LARGE else ""
-    if build:
-        told = os.stat(path)
-        found.update(repr((build, told.st_size, told.st_mtime_ns)).encode())
-    else:
-        with memoryview(data) as view:
-            for start in range(0, len(view), PIECE):
-                found.update(view[start:start + PIECE])
+def key(path: str, words: Iterable[object] = ()) -> str:
+    """By what a file's types are kept: its bytes, what was asked of it, and what made them. Of a
+    large file its place and times stand for its bytes. Raises OSError."""
+    found = hashlib.blake2b(repr((FORMAT, VERSION, *words)).encode(), digest_size=24)
+    with open(path, "rb") as file:
+        told = os.fstat(file.fileno())
+        if told.st_size > LARGE:
+            found.update(repr((told.st_dev, told.st_ino, told.st_size, told.st_mtime_ns,
+                               told.st_ctime_ns)).encode())
+        else:
+            for piece in iter(lambda: file.read(PIECE), b""):
+                found.update(piece)
     return found.hexdigest()
-
-
-def _build_id(data: Mapped, path: str) -> str:
-    if data[:4] != elf.MAGIC:
-        return ""
-    try:
-        return elf.build_id(Elf(data, path))
-    except Unreadable:
-        return ""
 
 
 def _log(path: Path, error: Exception) -> None:

@@ -1,7 +1,7 @@
 """The compiled commands that this package runs: `ctfd-convert`, which reads programs for it.
 
-A command is the one beside the command that runs, in `bin` beside the `lib` that this package is in, of
-the clone that this package stands in, or on the PATH. One of another version does not count, nor
+A command is the one beside the command that runs, of the clone that this package stands in, beside the
+program that CTFD names, in `bin` beside the `lib` that this package is in, or on the PATH. One of another version does not count, nor
 one that another user could have put there (trust.py).
 """
 from __future__ import annotations
@@ -9,60 +9,58 @@ from __future__ import annotations
 import functools
 import os
 import subprocess
-import tempfile
-from typing import Iterator, List, NamedTuple, Optional, Sequence
+from typing import TYPE_CHECKING, Iterator, List, Optional
 
-from ..client import trust
+from ..client import service, trust
 from ..client.faults import Unreadable
-from ..client.model import Model
 from ..version import VERSION
-from . import elf
-from .cache import Kept
-from .symbols import DYNSYM, SYMTAB
+from . import bundles
+from .bundles import Description
+
+if TYPE_CHECKING:
+    from .anyfile import Asked
 
 NAME = "ctfd-convert"
 BUILT = "clients/rust/target/release"
-WRITTEN = (0, 1)
-LOST, READ = "lost: ", "read: "
+ELF = b"\x7fELF"  # how a compiled program begins
 
 
-class Options(NamedTuple):
-    """What the caller says of a file: `number` is that of one of several dictionaries in it, and
-    `symbols` names the symbol table that is wanted."""
-
-    model: Optional[Model] = None
-    form: Optional[str] = None
-    base: Optional[str] = None
-    folders: Sequence[str] = ()
-    number: Optional[int] = None
-    symbols: str = SYMTAB
-    is_one: bool = True  # else more types than a dictionary holds become several in an archive
+def bundle(path: str, asked: Asked) -> bytes:
+    """What the command hands over for a file, as `bundles` reads it. Raises Unreadable where that is
+    nothing."""
+    words = [*_words(asked), "--bundle"]
+    return _written(path, [*words, "--addresses"] if asked.with_addresses else words)
 
 
-def converted(path: str, options: Options) -> Kept:
-    """What the command makes of a file. Raises Unreadable where that is nothing."""
+def description(path: str) -> Optional[Description]:
+    """What an ELF file is; None of any other file. Raises Unreadable."""
+    return bundles.described(_written(path, ["--describe"]))
+
+
+def label(ctf: bytes) -> Optional[str]:
+    """By what a child names a dictionary as its parent. Raises Unreadable."""
+    written = _written("/dev/stdin", ["--bundle"], ctf)
+    return bundles.parsed(written).sources[0].label
+
+
+class Missing(Unreadable):
+    """There is no such command."""
+
+
+def _written(path: str, words: List[str], data: bytes = b"") -> bytes:
+    """What the command writes of a file, or of what it reads from a pipe. Raises Unreadable."""
     command = find()
     if command is None:
-        raise Unreadable(f"{path}: {missing(NAME, 'its types are read')}")
-    with tempfile.TemporaryDirectory() as folder:
-        made, told = os.path.join(folder, "made"), os.path.join(folder, "told")
-        words = [command, *_words(options), "--report", told, "--", path, made]
-        try:
-            done = subprocess.run(words, stdin=subprocess.DEVNULL, stdout=subprocess.DEVNULL,
-                                  stderr=subprocess.PIPE, check=False)
-            if done.returncode not in WRITTEN:
-                raise Unreadable(reason(path, done, NAME))
-            with open(made, "rb") as ctf, open(told, encoding="utf-8", errors="replace") as report:
-                lines = report.read().split("\n")
-                losses = [line[len(LOST):] for line in lines if line.startswith(LOST)]
-                return Kept(ctf.read(), _model(lines), losses)
-        except OSError as error:
-            raise Unreadable(f"{path}: {command}: {error.strerror}") from error
-
-
-def _model(lines: Sequence[str]) -> Optional[str]:
-    """The data model that a report tells at the end of its first line."""
-    return next((line.rpartition(", ")[2] for line in lines if line.startswith(READ)), None)
+        raise Missing(f"{path}: {missing(NAME, 'its types are read')}")
+    try:
+        done = subprocess.run([command, *words, "--", path, "-"], input=data, capture_output=True,
+                              check=False)
+    except (OSError, ValueError) as error:  # ValueError: a name with a zero byte
+        why = error.strerror if isinstance(error, OSError) else error
+        raise Unreadable(f"{path}: {command}: {why}") from error
+    if done.returncode != 0:
+        raise Unreadable(reason(path, done, NAME))
+    return done.stdout
 
 
 def missing(name: str, what: str) -> str:
@@ -80,21 +78,19 @@ def reason(path: str, done: "subprocess.CompletedProcess[bytes]", name: str) -> 
     return f"{path}: {name} ended with status {done.returncode}{': ' + said if said else ''}"
 
 
-def _words(options: Options) -> Iterator[str]:
+def _words(asked: Asked) -> Iterator[str]:
     """The options of the command, each a word."""
-    if options.is_one:
+    if not asked.takes_parts:
         yield "--one"
-    if options.model:
-        yield f"--model={options.model}"
-    if options.form:
-        yield f"--from={options.form}"
-    if options.base:
-        yield f"--base={options.base}"
-    yield from (f"--debug-folder={folder}" for folder in options.folders)
-    if options.number is not None:
-        yield f"--dictionary={options.number}"
-    if options.symbols == DYNSYM:
-        yield "--symbols=dynsym"
+    if asked.model:
+        yield f"--model={asked.model}"
+    if asked.form:
+        yield f"--from={asked.form}"
+    if asked.base:
+        yield f"--base={asked.base}"
+    yield from (f"--debug-folder={folder}" for folder in asked.folders)
+    if asked.number is not None:
+        yield f"--dictionary={asked.number}"
 
 
 def find(name: str = NAME) -> Optional[str]:
@@ -111,6 +107,9 @@ def _places(name: str) -> Iterator[str]:
         yield os.path.join(folder, name)
     if clone:
         yield os.path.join(clone, BUILT, name)
+    program = service.named()
+    if program and os.path.isabs(program):
+        yield os.path.join(os.path.dirname(program), name)
     parts: List[str] = trust.HERE.split(os.sep)
     if "lib" in parts and not clone:
         last = len(parts) - 1 - parts[::-1].index("lib")
@@ -125,7 +124,7 @@ def _is_ours(path: str, name: str) -> bool:
     """Whether it is the compiled command of a name, of this package's version."""
     try:
         with open(path, "rb") as file:
-            if file.read(len(elf.MAGIC)) != elf.MAGIC:
+            if file.read(len(ELF)) != ELF:
                 return False
         said = subprocess.run([path, "--version"], stdin=subprocess.DEVNULL, check=False,
                               capture_output=True).stdout

@@ -4,13 +4,13 @@ from __future__ import annotations
 import contextlib
 from typing import Dict, Iterator, List, Optional
 
-from ..client.dictionary import Dictionary, open_file, open_found, open_source
+from ..client.dictionary import Dictionary, open_file, open_source
 from ..client.faults import BadSymbols, Error, Refused, Unreadable
 from ..client.session import Session
-from . import anyfile, archives, source
-from .anyfile import Asked, Read
-from .cache import Kept
-from .mapped import Mapped, contents
+from . import anyfile
+from .anyfile import Asked
+from .bundles import Bundle
+from .source import Source
 
 ALONE = ("a parent goes with a dictionary, and this file's types are converted first: leave the"
          " parent out, or make the dictionary by ctfd-convert (--parent makes a child)")
@@ -23,17 +23,15 @@ class Opener:
     def __init__(self, session: Session, asked: Asked = Asked()) -> None:
         self.session = session
         self.asked = asked
-        self.read: Dict[str, Read] = {}
         self._parents: Dict[str, Dictionary] = {}
 
     def open(self, path: str, parent: Optional[str] = None) -> Dictionary:
         """The dictionary of a file, over its parent where one is named."""
         with told_of(path):
             found = anyfile.read(path, self.asked)
-            self.read[path] = found
             if found.is_made and parent is not None:
                 raise Unreadable(f"{path}: {ALONE}")
-            types = self._opened(found, path)
+            types = self._opened(found, found.sources[0], path)
         if parent is not None:
             if parent not in self._parents:
                 with told_of(parent):
@@ -45,43 +43,25 @@ class Opener:
     def open_all(self, path: str) -> List[Dictionary]:
         """The dictionaries of a file: one, or a parent and its children where it is in parts."""
         with told_of(path):
-            data = contents(path)
-            if anyfile.is_in_parts(data):
-                return self._parts(path, data, None)
             found = anyfile.read(path, self.asked)
-            self.read[path] = found
-            if found.source.how == anyfile.PARTS:
-                return self._parts(path, found.source.ctf, found)
-            return [self._opened(found, path)]
+            made: List[Dictionary] = []
+            for one in found.sources:
+                part = self._opened(found, one, path)
+                if made:
+                    part.import_parent(made[0])
+                made.append(part)
+            return made
 
-    def _parts(self, path: str, archive: Mapped, of: Optional[Read]) -> List[Dictionary]:
-        """The dictionaries in an archive, each with the symbols of the program that it is of."""
-        made: List[Dictionary] = []
-        for member in archives.members(path, archive):
-            name = f"{path}({member.name})"
-            handed = None
-            if of is not None:
-                handed = anyfile.attached(path, of.data, Kept(member.data, of.source.model))
-            handed = handed or source.of_bytes(member.data, name)
-            part = self._opened(Read(source.with_symbols(handed), member.data, True), name)
-            if made:
-                part.import_parent(made[0])
-            made.append(part)
-        return made
-
-    def _opened(self, found: Read, path: str) -> Dictionary:
-        """The dictionary of a file; one that was converted without what does not fit its symbols.
-        """
+    def _opened(self, found: Bundle, one: Source, path: str) -> Dictionary:
+        """A dictionary of a file; one that was converted without what does not fit its symbols."""
         try:
-            return open_found(self.session, found.source, path, model=self.asked.model)
+            return open_source(self.session, one)
         except BadSymbols:
             if not found.is_made:
                 raise
             self.asked.warn(f"{path}: the types of its symbols do not fit its symbol table:"
                             " symbols are left out")
-            bare = found.source._replace(sym=None, strings=None, how="none")
-            self.read[path] = found._replace(source=bare)
-            return open_source(self.session, bare)
+            return open_source(self.session, one._replace(sym=None, strings=None, how="none"))
 
 
 @contextlib.contextmanager

@@ -13,7 +13,7 @@ from ..values.operands import BadExpression, Code, Located, Number, Operand, Ste
 from ..view.declare import declaration, declarator, function
 
 from . import native
-from .debug_files import has_types
+from .debug_files import with_types
 from .inferior import Inferior, has_program
 from .loaded import Loaded
 from .state import STATE, bounds, style
@@ -177,7 +177,7 @@ class Load(Command):
             gdb.events.new_objfile.connect(lambda event: self.follow_one(event.new_objfile))
 
     def follow_one(self, one: gdb.Objfile) -> None:
-        if one.owner is None and one.filename and has_types(one.filename):
+        if one.owner is None and one.filename and with_types(one.filename):
             self.give(one.filename)
 
 

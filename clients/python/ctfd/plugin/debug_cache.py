@@ -17,7 +17,6 @@ from pathlib import Path
 from typing import Iterable
 
 from ..client.faults import Error
-from ..files.mapped import Mapped
 from ..version import VERSION
 
 MOST_FILES, MOST_BYTES = 64, 1 << 30
@@ -44,12 +43,18 @@ def folder() -> Path:
     return place
 
 
-def key(build_id: str, read: Iterable[Mapped]) -> str:
-    """The name of the file that is made of what was read: of the build's, where one is told."""
+def key(build_id: str, paths: Iterable[str]) -> str:
+    """The name of the file that is made of some files: of the build's, where one is told. Raises
+    Error."""
     found = hashlib.sha256(f"{FORMAT} {VERSION}".encode())
-    for data in read:
-        found.update(len(data).to_bytes(8, "little"))
-        found.update(data)
+    for path in paths:
+        try:
+            with open(path, "rb") as file:
+                found.update(os.fstat(file.fileno()).st_size.to_bytes(8, "little"))
+                for piece in iter(lambda: file.read(PIECE), b""):
+                    found.update(piece)
+        except OSError as error:
+            raise Error(f"{path}: {error.strerror}") from error
     return f"{build_id or 'none'}-{found.hexdigest()[:32]}{SUFFIX}"
 
 

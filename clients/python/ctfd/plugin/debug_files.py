@@ -9,9 +9,7 @@ from typing import Callable, List, Optional
 
 from ..client.faults import Error, Unreadable
 from ..files import compiled
-from ..files.elf import Elf, MAGIC, build_id
-from ..files.mapped import contents
-from ..files.source import SECTIONS
+from ..files.bundles import Description
 from ..text import printable
 from . import debug_cache
 
@@ -28,8 +26,9 @@ class Writer:
 
     def debug_file(self, path: str, parent: Optional[str] = None) -> Path:
         """The debug file of a program. What is to be known of a new one is said. Raises Error."""
-        read = [contents(one) for one in (path, parent) if one]
-        name = debug_cache.key(build_id(Elf(read[0], path)), read)
+        image = compiled.description(path)
+        name = debug_cache.key(image.build_id if image else "",
+                               [one for one in (path, parent) if one])
         place = self._place()
         if debug_cache.known(place, name):
             return place / name
@@ -77,11 +76,10 @@ def _notes(errors: bytes) -> List[str]:
     return [line[len(front):] if line.startswith(front) else line for line in lines]
 
 
-def has_types(path: str) -> bool:
-    """Whether a file is an ELF file with CTF."""
+def with_types(path: str) -> Optional[Description]:
+    """An ELF file with CTF; None where a file is none."""
     try:
-        data = contents(path)
-        file = Elf(data, path) if data[:4] == MAGIC else None
+        image = compiled.description(path)
     except Unreadable:
-        return False
-    return file is not None and any(file.named(name) for name in SECTIONS)
+        return None
+    return image if image and image.has_ctf else None

@@ -10,8 +10,8 @@ import gdb
 import ctfd
 from ..client import aliases
 from ..text import printable
-from ..files import source
-from ..files.elf import RELOCATABLE, Elf
+from ..files import compiled, source
+from ..files.bundles import Description
 from ..values.operands import BadExpression, Code, Located, Operand
 from ..values.program import Program
 from ..view.declare import declaration, function
@@ -54,7 +54,7 @@ class Loaded:
 
     def symbol(self, name: str) -> Operand:
         """What a name stands for, where that is in memory. Raises NotFound."""
-        if self.program.image is None or self.program.image.kind != RELOCATABLE:
+        if self.program.image is None or self.program.image.kind != "object":
             return self.program.symbol(name, self.slide())
         if len(self.program.symbols.get(name, [])) > 1:
             raise BadExpression(f"{self.program.path} is an object file with several symbols"
@@ -79,8 +79,9 @@ class Loaded:
         """By where gdb says that its section .text is."""
         for line in gdb.execute("info sharedlibrary", to_string=True).splitlines():
             found = _LIBRARY.match(line)
-            if found and self.program.text is not None and _same(found[2], self.program.path):
-                return int(found[1], 16) - self.program.text
+            text = self.program.image.text if self.program.image else None
+            if found and text is not None and _same(found[2], self.program.path):
+                return int(found[1], 16) - text
         return None
 
     def told(self) -> str:
@@ -149,14 +150,13 @@ def _is_main(program: Program) -> bool:
     if _same(main, program.path):
         return True
     try:
-        with open(main, "rb") as file:
-            image = Elf(file.read(), main)
-    except (OSError, ctfd.Unreadable):
+        image = compiled.description(main)
+    except ctfd.Unreadable:
         return False
-    return bool(image.entry) and image.entry == program.image.entry
+    return image is not None and bool(image.entry) and image.entry == program.image.entry
 
 
-def _slide_of_main(image: Elf) -> int:
+def _slide_of_main(image: Description) -> int:
     """By the auxiliary vector of a process or a core file, else by where gdb has put the file."""
     try:
         found = _ENTRY.search(gdb.execute("info auxv", to_string=True))

@@ -10,10 +10,7 @@ from typing import Optional
 import gdb
 
 import ctfd
-from ..files.debugfiles import has_debug
-from ..files.elf import Elf
-from ..files.mapped import contents
-from .debug_files import Writer, has_types
+from .debug_files import Writer, with_types
 
 
 class Given(gdb.Parameter):
@@ -60,15 +57,15 @@ def give(path: str, parent: Optional[str] = None) -> str:
     """Gives gdb the types of a file that it has read; a line on what it has of them, "" where it
     has no such file, or the file has no CTF. Raises Error."""
     one = objfile_of(path)
-    if one is None or not has_types(path):
+    image = with_types(path) if one else None
+    if one is None or image is None:
         return ""
     made = WRITER.debug_file(path, parent)
-    has_own = has_debug(Elf(contents(path), path))
     try:
         one.add_separate_debug_file(str(made))
     except gdb.error as error:
         raise ctfd.Error(f"{path}: gdb does not take its debug file: {error}") from error
     told = "gdb's own commands know these types too: print, ptype/o, break ... if"
-    if has_own:
+    if image.has_debug:
         told += "; the program has debug information of its own, which comes first"
     return told

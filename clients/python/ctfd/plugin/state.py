@@ -12,8 +12,8 @@ from ..client.model import Model
 from ..text import printable
 from ..files import anyfile
 from ..files.anyfile import Asked
+from ..files.bundles import Bundle, Description
 from ..files.cache import user_cache
-from ..files.source import Source
 from ..values import formats, program, reading
 from ..values.operands import BadExpression
 from ..values.program import Program
@@ -56,8 +56,7 @@ class State:
         self.client()
         assert self.service
         path = os.path.expanduser(path)
-        return program.open_program(self.service[1], path, model or model_of_program(),
-                                    _converted)
+        return program.open_program(self.service[1], path, model or model_of_program(), _read)
 
     def close(self) -> None:
         """Ends the service, and with it all that was loaded."""
@@ -79,15 +78,16 @@ class State:
         return Inferior(self.loaded)
 
 
-def _converted(path: str) -> Source:
-    """What is made of a program's debug information, and said of that."""
-    print(f"Reading types from the debug information of {printable(path)}...")
-    gdb.flush()
-    found = anyfile.read(path, Asked(cache=user_cache, tells_losses=False))
+def _read(path: str, image: Optional[Description]) -> Bundle:
+    """What is handed in for a file; where its types are made of debug information, that is said."""
+    if image is not None and not image.has_ctf:
+        print(f"Reading types from the debug information of {printable(path)}...")
+        gdb.flush()
+    found = anyfile.read(path, Asked(cache=user_cache, tells_losses=False, with_addresses=True))
     if found.losses:
         print(f"(CTF can't hold all of them: \"ctfd-convert {printable(path)} OUT\" tells the"
               f" {len(found.losses)} that it can't)")
-    return found.source
+    return found
 
 
 STATE = State()

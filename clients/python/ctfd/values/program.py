@@ -5,33 +5,29 @@ from dataclasses import dataclass, field
 from typing import Callable, Dict, List, Optional
 
 from ..client.dictionary import Dictionary, open_source
-from ..client.faults import Error, NotFound, Unreadable
+from ..client.faults import Error, NotFound
 from ..client.model import Model
 from ..client.session import Session
-from ..files import elf, source
-from ..files.elf import Elf, Symbol
-from ..files.source import Source
+from ..files import anyfile, compiled
+from ..files.anyfile import Asked
+from ..files.bundles import Bundle, Description, Symbol
 from .operands import Code, Located, Operand
+
+Reader = Callable[[str, Optional[Description]], Bundle]
 
 
 @dataclass
 class Program:
     """A file, its types and its symbols by their names.
 
-    `image` is the ELF file, None where the file is a section by itself: then no name has an
+    `image` describes the ELF file, None where the file is a section by itself: then no name has an
     address.
     """
 
     path: str
     types: Dictionary
-    image: Optional[Elf] = None
+    image: Optional[Description] = None
     symbols: Dict[str, List[Symbol]] = field(default_factory=dict)
-
-    @property
-    def text(self) -> Optional[int]:
-        """The address in the file of the section .text, by which a library is placed."""
-        section = self.image.named(".text") if self.image else None
-        return section.address if section else None
 
     def symbol(self, name: str, slide: int) -> Operand:
         """What a name stands for in a program that runs `slide` bytes behind its addresses.
@@ -50,26 +46,21 @@ class Program:
         raise refused
 
 
-def open_program(session: Session, path: str, model: Optional[Model] = None,
-                 convert: Optional[Callable[[str], Source]] = None) -> Program:
-    """Opens the dictionary of a file; `model` is that of a section by itself.
+def read_program(path: str, _: Optional[Description] = None) -> Bundle:
+    """What is handed in for a file, with the addresses of its symbols. Raises Unreadable."""
+    return anyfile.read(path, Asked(with_addresses=True))
 
-    Where an ELF file has no section that is read, `convert` makes what is handed in for it.
+
+def open_program(session: Session, path: str, model: Optional[Model] = None,
+                 read: Reader = read_program) -> Program:
+    """Opens the dictionary of a file, which `read` reads; `model` is that of a section by itself.
     """
-    try:
-        with open(path, "rb") as file:
-            data = file.read()
-    except OSError as error:
-        raise Error(f"{path}: {error.strerror}") from error
-    try:
-        found = source.of_bytes(data, path)
-    except Unreadable:
-        if convert is None or data[:4] != elf.MAGIC:
-            raise
-        found = convert(path)
-    types = open_source(session, found._replace(model=found.model or model))
-    program = Program(path, types, Elf(data, path) if data[:4] == elf.MAGIC else None)
-    if found.sym and found.strings and types.how != "refused":
-        for symbol in elf.symbols(found.sym, found.strings):
+    image = compiled.description(path)
+    found = read(path, image)
+    source = found.sources[0]
+    types = open_source(session, source._replace(model=source.model or model))
+    program = Program(path, types, image)
+    if types.how != "refused":
+        for symbol in found.symbols:
             program.symbols.setdefault(symbol.name, []).append(symbol)
     return program

@@ -2,6 +2,7 @@
 from __future__ import annotations
 
 from itertools import groupby
+from string import hexdigits
 from typing import Optional, Sequence
 
 from ..client.types import QUALIFIERS, Type
@@ -33,6 +34,18 @@ def character(code: int, quote: str) -> str:
     return ("\\" if chr(code) in ("\\", quote) else "") + chr(code)
 
 
+def _characters(codes: Sequence[int], is_behind_number: bool) -> str:
+    """Characters in a text, behind each other: one that could belong to the number in front of it
+    is escaped."""
+    made = ""
+    for code in codes:
+        is_digit = code < 0x7F and chr(code) in hexdigits
+        # gdb escapes the quote of texts everywhere
+        made += f"\\{code:03o}" if is_digit and is_behind_number else character(code, '"')
+        is_behind_number = code > 0o777
+    return made
+
+
 def _escaped(code: int) -> str:
     return f"\\{code:03o}" if code <= 0o777 else f"\\x{code:x}"
 
@@ -49,7 +62,7 @@ def quoted(codes: Sequence[int], limit: int, repeats: int, more: bool = False,
     It ends with the character at which the limit is reached, and all that repeat it. `more` says
     that it goes on behind what is here.
     """
-    printed, segments, plain = 0, [], ""
+    printed, segments, plain, is_behind_number = 0, [], "", False
     for code, group in groupby(codes):
         if printed >= limit:
             more = True
@@ -58,11 +71,12 @@ def quoted(codes: Sequence[int], limit: int, repeats: int, more: bool = False,
         printed += length
         if repeats and length > repeats:
             segments += [_plain(plain, before)] if plain else []
-            told = character(code, '"')  # gdb escapes the quote of the text here too
+            told = _characters([code], is_behind_number)
             segments.append(f"{before}'{told}' <repeats {length} times>")
             plain = ""
         else:
-            plain += character(code, '"') * length
+            plain += _characters([code] * length, is_behind_number)
+        is_behind_number = code > 0o777
     if plain or not segments:
         segments.append(_plain(plain, before))
     return ", ".join(segments) + (DOTS if more else "")

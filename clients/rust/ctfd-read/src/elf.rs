@@ -1,21 +1,17 @@
 //! ELF files: their sections, the files that have their debug information, and their symbols.
 
 use crate::bytes::Names;
+use crate::compressed;
 use crate::error::{refuse, Result};
 use crate::image::{Data, Elf, ElfSection, Image};
 use crate::symbols::{Symbol, SymbolTable, Symbols};
 use gimli::{Endianity as _, RunTimeEndian};
 use object::read::elf::{FileHeader, SectionHeader, Sym as _};
-use object::{
-    elf, Architecture, CompressedData, CompressedFileRange, CompressionFormat, Endianness,
-};
-use object::{Object, ObjectKind, ObjectSection, ObjectSymbol};
+use object::{elf, Architecture, Endianness, Object, ObjectKind, ObjectSection, ObjectSymbol};
 use object::{Relocation, RelocationKind, RelocationTarget, SectionIndex};
 use std::borrow::Cow;
 use std::path::{Component, Path, PathBuf};
 
-/// What deflate makes of one byte at most: a header that says more is damaged.
-const MOST_INFLATED: u64 = 1032;
 const FOLDER: &str = "/usr/lib/debug";
 const PAGE: u64 = 4096;
 
@@ -169,10 +165,7 @@ pub fn section<'a>(image: &'a Image, file: &Elf<'a>, name: &str) -> Result<Cow<'
         if called != name.as_bytes() && zipped.as_deref().map(str::as_bytes) != Some(called) {
             continue;
         }
-        let mut data = match one.compressed_file_range()? {
-            packed if packed.format == CompressionFormat::None => Cow::Borrowed(one.data()?),
-            packed => inflate(image, name, &packed)?,
-        };
+        let mut data = compressed::whole_bytes(image, file, &one, name)?;
         if file.kind() == ObjectKind::Relocatable {
             relocate(file, &one, data.to_mut())?;
         }
@@ -182,17 +175,6 @@ pub fn section<'a>(image: &'a Image, file: &Elf<'a>, name: &str) -> Result<Cow<'
         });
     }
     Ok(made.unwrap_or_default())
-}
-
-/// What a compressed section holds. The bytes in the file are not kept.
-fn inflate(image: &Image, name: &str, packed: &CompressedFileRange) -> Result<Cow<'static, [u8]>> {
-    if packed.uncompressed_size > MOST_INFLATED.saturating_mul(packed.compressed_size) {
-        return refuse(format!("{name} does not inflate to the bytes that it says: damage"));
-    }
-    let data = image.passing(packed.offset, packed.compressed_size)?;
-    let (format, uncompressed_size) = (packed.format, packed.uncompressed_size);
-    let data = CompressedData { format, data: &data, uncompressed_size };
-    Ok(Cow::Owned(data.decompress()?.into_owned()))
 }
 
 /// Writes in an object file what the linker would.

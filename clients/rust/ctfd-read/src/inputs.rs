@@ -114,6 +114,9 @@ pub struct Options {
     pub listener: Listener,
     /// Whether the files in which types are defined are wanted.
     pub has_sources: bool,
+    /// Whether one dictionary is wanted also of more types than it holds: those without room are
+    /// left out then.
+    pub is_one: bool,
 }
 
 /// What a file has: its types, those of them that are wanted for themselves, and the number of types
@@ -192,6 +195,11 @@ pub(crate) fn foreign(bytes: &[u8]) -> String {
             "CTF version {version}, which is not read: versions 2 and 3 are; ctfd-convert makes CTF \
              of version 2 from the program's debug information"
         ),
+        _ if bytes.starts_with(b"BC\xc0\xde") => {
+            "LLVM's bitcode, as clang -flto writes it, which has no types that are read before it is \
+             linked: name the linked program"
+                .to_owned()
+        }
         _ => {
             let begins: String = bytes.iter().take(4).map(|byte| format!("{byte:02x}")).collect();
             format!(

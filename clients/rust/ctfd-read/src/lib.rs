@@ -12,6 +12,7 @@ pub mod beside;
 pub mod beyond;
 mod btf;
 mod bytes;
+mod compressed;
 pub mod core_file;
 mod ctf;
 pub mod debuggee;

@@ -15,6 +15,12 @@ fn bare(name: &str) -> &str {
     }
 }
 
+/// How alike two names are; a word in front counts where both have one.
+fn likeness(name: &str, other: &str) -> f64 {
+    let other = if bare(name) == name { bare(other) } else { other };
+    strsim::normalized_damerau_levenshtein(name, other)
+}
+
 /// Words for a message: `; did you mean a, b or c?`, or none where nothing is near. First come names of
 /// the same letters under another word, then those that differ in few.
 pub fn suggestion(name: &str, names: impl Iterator<Item = String>) -> String {
@@ -27,7 +33,7 @@ pub fn suggestion(name: &str, names: impl Iterator<Item = String>) -> String {
         .collect();
     let mut close: Vec<(f64, &str)> = known
         .iter()
-        .map(|one| (strsim::normalized_damerau_levenshtein(name, one), one.as_str()))
+        .map(|one| (likeness(name, one), one.as_str()))
         .filter(|&(alike, one)| alike >= LEAST && !found.contains(&one))
         .collect();
     close.sort_by(|(one, _), (other, _)| other.total_cmp(one)); // a stable sort

@@ -52,6 +52,21 @@ pub enum Origin {
 }
 
 impl Origin {
+    /// The word for it.
+    pub fn word(self) -> &'static str {
+        match self {
+            Origin::None => "none",
+            Origin::Named => "named",
+            Origin::Linked => "linked",
+            Origin::Guessed => "guessed",
+            Origin::Given => "given",
+            Origin::Refused => "refused",
+            Origin::Differs => "differs",
+            Origin::Stripped => "stripped",
+            Origin::Unread => "unread",
+        }
+    }
+
     /// What a user should know of symbols that were found so.
     pub fn warning(self) -> &'static str {
         match self {
@@ -176,6 +191,11 @@ pub fn has_dictionary(image: &Image) -> bool {
 /// The data model that a dictionary names.
 pub fn model_named(ctf: &[u8]) -> Option<Model> {
     Sections::of(ctf).ok().and_then(|sections| labels::model(&sections))
+}
+
+/// The label by which a child names a dictionary as its parent; None of one that is cut off.
+pub fn label_of_parent(ctf: &[u8]) -> Option<Vec<u8>> {
+    Sections::of(ctf).ok().map(|sections| labels::of_types(&sections))
 }
 
 /// Why a dictionary is not the parent that a child names; None where it may be.
@@ -409,7 +429,7 @@ fn converted<'a>(image: &'a Image, options: &Options) -> Result<Handed<'a>> {
             true => fitted(select_in_full(found, &[]).map_err(named)?.0),
             false => (select(found, &[]).map_err(named)?.0, None),
         };
-        if found.table.len() > MOST_TYPES {
+        if found.table.len() > MOST_TYPES && !options.is_one {
             return in_parts(image, found, is_ilp32).map_err(named);
         }
         let mut dictionary = alone(found.table, found.symbols);

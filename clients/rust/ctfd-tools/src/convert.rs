@@ -1,6 +1,7 @@
 //! `ctfd-convert`: writes a program's types as a dictionary of CTF version 2.
 
 use crate::arguments;
+use crate::bundle;
 use crate::interrupts;
 use crate::messages::{warn, LOSSY, REFUSED};
 use crate::output;
@@ -34,6 +35,10 @@ GNU's CTF or CTF, an archive of object files, or the bytes of such a section; th
 DWARF and GNU's CTF that it has is read. Each construct that CTF cannot represent is reported, with
 what replaces it: the status is then 1, and OUT is written. It is 2 if nothing was written, and OUT
 is as it was.";
+
+/// Options of written dictionaries alone.
+const OF_TYPES: [&str; 7] =
+    ["only", "parent", "split", "section", "self-contained", "report", "verify"];
 
 /// The command; its exit status.
 pub fn main(words: Vec<OsString>) -> ExitCode {
@@ -69,8 +74,19 @@ struct Words {
     is_section: bool,
     is_self_contained: bool,
     is_lossy: bool,
-    is_one: bool,
     is_verified: bool,
+    answer: Answer,
+}
+
+/// What is written.
+#[derive(Clone, Copy, PartialEq, Eq)]
+enum Answer {
+    /// A dictionary, or several in one file.
+    Types,
+    /// A bundle, with the addresses of its symbols or without.
+    Bundle { has_addresses: bool },
+    /// What an ELF file is.
+    Description,
 }
 
 impl Words {
@@ -98,6 +114,7 @@ impl Words {
                 is_in_full: false,
                 listener: Listener::new(Arc::new(Bar::new(format!("reading {}", input.display())))),
                 has_sources: false,
+                is_one: matches.get_flag("one"),
             },
             input,
             only: only
@@ -111,8 +128,12 @@ impl Words {
             is_section: matches.get_flag("section"),
             is_self_contained: matches.get_flag("self-contained"),
             is_lossy: matches.get_flag("lossy"),
-            is_one: matches.get_flag("one"),
             is_verified: matches.get_flag("verify"),
+            answer: match (matches.get_flag("bundle"), matches.get_flag("describe")) {
+                (true, _) => Answer::Bundle { has_addresses: matches.get_flag("addresses") },
+                (false, true) => Answer::Description,
+                (false, false) => Answer::Types,
+            },
         }
     }
 
@@ -217,7 +238,7 @@ fn of_reading() -> [Arg; 7] {
 }
 
 /// The options that say what is written.
-fn of_writing() -> [Arg; 9] {
+fn of_writing() -> [Arg; 12] {
     [
         path("parent").long("parent").value_name("FILE").help(
             "a dictionary: OUT is a child of it, with only the types that it lacks",
@@ -240,6 +261,16 @@ fn of_writing() -> [Arg; 9] {
             "compare what is written with each unit of the debug information (DWARF), and refuse it \
              where they differ",
         ),
+        flag("bundle").conflicts_with_all(OF_TYPES).help(
+            "for programs: OUT is a line of JSON, then the dictionary, symbols and strings that it \
+             counts",
+        ),
+        flag("addresses")
+            .requires("bundle")
+            .help("with --bundle: the addresses of functions and variables, as JSON, too"),
+        flag("describe").conflicts_with_all(OF_TYPES).conflicts_with("bundle").help(
+            "for programs: OUT is JSON that says what the ELF file IN is, and whether it has types",
+        ),
         flag("lossy").help("end with status 0 even if CTF can't hold everything"),
         path("service")
             .long("service")
@@ -256,6 +287,14 @@ fn convert(words: &Words) -> Result<Vec<String>> {
         .build_global()
         .map_err(|error| Error(format!("the threads can't be started: {error}")))?;
     let image = Image::open(&words.input)?;
+    match words.answer {
+        Answer::Types => {}
+        Answer::Bundle { has_addresses } => return write_bundle(words, &image, has_addresses),
+        Answer::Description => {
+            let description = bundle::description(&image)?;
+            return output::write(&words.output, description.as_bytes()).map(|()| Vec::new());
+        }
+    }
     if words.is_section && !image.is_elf() {
         return refuse(format!(
             "{}: --section needs an ELF file, and this is none: leave --section out",
@@ -297,6 +336,13 @@ fn convert(words: &Words) -> Result<Vec<String>> {
             Ok(made.table.losses)
         })
     })
+}
+
+/// Writes a bundle, whose reader is told there what was lost.
+fn write_bundle(words: &Words, image: &Image, has_addresses: bool) -> Result<Vec<String>> {
+    let handed = bundle::handed(image, &words.reading)?;
+    output::write(&words.output, &bundle::bundle(image, &handed, has_addresses)?)?;
+    Ok(Vec::new())
 }
 
 /// Refuses what is not as the units of the program have it, where that is asked.
@@ -346,7 +392,7 @@ fn with_dictionary<T>(
         return run(Made::One(made));
     }
     let Some(path) = &words.parent else {
-        if table.len() > dictionary::MOST_TYPES && !words.is_section && !words.is_one {
+        if table.len() > dictionary::MOST_TYPES && !words.is_section && !words.reading.is_one {
             return run(Made::InParts(parts::write(table, symbols, image, &words.output)?));
         }
         return run(Made::One(dictionary::alone(table, symbols)));

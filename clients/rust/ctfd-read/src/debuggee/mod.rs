@@ -3,7 +3,7 @@
 
 mod symbols;
 
-pub use symbols::ProgramSymbol;
+pub use symbols::{listed_symbols, ProgramSymbol};
 
 use crate::bytes::Names;
 use crate::error::{refuse, Error, Result};

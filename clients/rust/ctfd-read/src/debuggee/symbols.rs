@@ -82,31 +82,36 @@ impl<'a> Debuggee<'a> {
     /// The functions and objects of a table of which a dictionary may tell something, in its order.
     pub fn symbols(&self, table: &Section<'_>) -> Result<Vec<ProgramSymbol<'a>>> {
         let names = Names(self.strings(table)?);
-        let entries = self.entries(table)?;
-        let mut left = MOST_TIMES * (names.0.len() + ENTRY * entries.len()) as u64;
-        let mut listed = Vec::new();
-        let mut source: &[u8] = &[];
-        for (number, one) in entries.iter().enumerate() {
-            let is_told = matches!(one.kind, elf::STT_OBJECT | elf::STT_FUNC);
-            if !is_told && one.kind != elf::STT_FILE {
-                continue;
-            }
-            let name = names.at(one.name.into()).unwrap_or_default();
-            left = left.saturating_sub(name.len() as u64);
-            if left == 0 {
-                let path = self.path();
-                return refuse(format!(
-                    "{path}: the names of its symbols are damaged: many are one"
-                ));
-            }
-            if one.kind == elf::STT_FILE {
-                source = name;
-            } else if one.is_described(name) {
-                listed.push(one.symbol(number as u32, name, source));
-            }
-        }
-        Ok(listed)
+        described(&self.entries(table)?, names).map_err(|error| error.of(self.path()))
     }
+}
+
+/// The same of the lists that go with a dictionary, whose table is one of ELF64.
+pub fn listed_symbols<'a>(table: &[u8], strings: &'a [u8]) -> Result<Vec<ProgramSymbol<'a>>> {
+    described(&entries_of::<FileHeader64<Endianness>>(table)?, Names(strings))
+}
+
+fn described<'a>(entries: &[Entry], names: Names<'a>) -> Result<Vec<ProgramSymbol<'a>>> {
+    let mut left = MOST_TIMES * (names.0.len() + ENTRY * entries.len()) as u64;
+    let mut listed = Vec::new();
+    let mut source: &[u8] = &[];
+    for (number, one) in entries.iter().enumerate() {
+        let is_told = matches!(one.kind, elf::STT_OBJECT | elf::STT_FUNC);
+        if !is_told && one.kind != elf::STT_FILE {
+            continue;
+        }
+        let name = names.at(one.name.into()).unwrap_or_default();
+        left = left.saturating_sub(name.len() as u64);
+        if left == 0 {
+            return refuse("the names of its symbols are damaged: many are one");
+        }
+        if one.kind == elf::STT_FILE {
+            source = name;
+        } else if one.is_described(name) {
+            listed.push(one.symbol(number as u32, name, source));
+        }
+    }
+    Ok(listed)
 }
 
 impl Entry {

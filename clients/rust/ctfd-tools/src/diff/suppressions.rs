@@ -9,7 +9,7 @@ use crate::types::open::shown;
 use crate::types::text::printable;
 use ctfd::Kind;
 use ctfd_read::declared::SourceFiles;
-use regex::bytes::Regex;
+use regex::bytes::{Regex, RegexBuilder};
 use std::path::Path;
 
 const BARE: &str = "a section says nothing of what it is about: give it a name, or leave it out";
@@ -247,7 +247,8 @@ impl Rule {
 }
 
 fn pattern(value: &str) -> Result<Regex, String> {
-    Regex::new(value).map_err(|_| format!("{value} is no regular expression"))
+    let made = RegexBuilder::new(value).unicode(false).build(); // of bytes, as names are
+    made.map_err(|_| format!("{value} is no regular expression"))
 }
 
 fn listed(value: &str) -> Vec<Vec<u8>> {

@@ -9,6 +9,8 @@ use ctfd::{Dictionary, EnumeratorRow, Kind, MemberRow, TypeRow};
 const TIMES: u64 = 16;
 const AT_LEAST: u64 = 1 << 20;
 const AT_ONCE: usize = 256;
+/// The bytes that a type, a member or an enumerator has at least.
+const LEAST_OF_A_NAMED: u64 = 8;
 /// What is said of such a file.
 pub const CROWDED: &str =
     "its names share their bytes, and are too large each by itself: no compiler \
@@ -24,7 +26,12 @@ pub fn is_crowded(catalog: &Catalog<'_>) -> bool {
 
 /// Whether a dictionary's own names are, beside the lists that they stand in.
 pub fn has_crowded_names(volume: &Volume<'_>) -> bool {
-    let left = TIMES * volume.lists.length() as u64 + AT_LEAST;
+    let length = volume.lists.length() as u64;
+    let left = TIMES * length + AT_LEAST;
+    // As most files have it: no names, of all that could be there, are too large together.
+    if volume.lists.longest_name() as u64 * (length / LEAST_OF_A_NAMED) <= left {
+        return false;
+    }
     let mut room = Room { types: volume.types, left };
     room.with_types().is_none()
 }

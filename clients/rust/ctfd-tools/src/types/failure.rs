@@ -1,7 +1,7 @@
 //! Why there is no answer.
 
 use ctfd_read::error::Error;
-use std::fmt::Display;
+use std::fmt::{self, Display};
 use std::io;
 
 /// Why a file has no answer.
@@ -13,6 +13,15 @@ pub enum Failure {
     Refused(String),
     /// What was printed can't be written.
     Unwritten(io::Error),
+}
+
+impl Display for Failure {
+    fn fmt(&self, to: &mut fmt::Formatter<'_>) -> fmt::Result {
+        match self {
+            Failure::Unknown(line) | Failure::Refused(line) => line.fmt(to),
+            Failure::Unwritten(error) => error.fmt(to),
+        }
+    }
 }
 
 /// What a question answers.

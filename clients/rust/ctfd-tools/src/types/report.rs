@@ -1,6 +1,7 @@
 //! What is told of one file.
 
 use super::catalog::{Catalog, Number};
+use super::crowded::{is_crowded, CROWDED};
 use super::embeds::Embeds;
 use super::failure::{told, Failure, Outcome};
 use super::figures::{table, Order};
@@ -91,6 +92,9 @@ impl<'a, 'd> Answer<'a, 'd> {
     fn on_all(&self, output: &mut dyn Write) -> Outcome<bool> {
         if let Some(why) = self.without_parent() {
             return Err(Failure::Refused(why));
+        }
+        if is_crowded(self.catalog()) {
+            return Err(Failure::Refused(format!("{}: {CROWDED}", shown(self.path))));
         }
         let names = Names::new(self.catalog());
         let whole = Whole::new(self.path.as_os_str().as_bytes(), &names);

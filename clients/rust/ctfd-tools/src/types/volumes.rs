@@ -3,6 +3,7 @@
 
 use ctfd::{Dictionary, Fault, Refusal, Type};
 use std::collections::HashMap;
+use std::ops::Range;
 
 /// The number of a type: that of its dictionary. Those of the children of a program in parts have
 /// the child's place, counted from 1, in front of the 16 bits of that.
@@ -11,6 +12,9 @@ pub type Number = u32;
 /// The number from which on a child's types are its own.
 const CHILD: u16 = 0x8000;
 const PLACE: u32 = 16;
+/// The bytes of a dictionary's header, and where it says how far behind it the names are.
+const HEADER: usize = 36;
+const NAMES_PLACE: Range<usize> = 28..32;
 
 /// The lists that a dictionary was opened with, where names of members stand.
 #[derive(Clone, Copy)]
@@ -25,6 +29,17 @@ impl<'d> Lists<'d> {
     /// How many bytes they have.
     pub fn length(&self) -> usize {
         self.ctf.len() + self.strings.len()
+    }
+
+    /// How many bytes the longest of all names has at most.
+    pub fn longest_name(&self) -> usize {
+        let names_at = |ctf: &[u8]| {
+            let place = ctf.get(NAMES_PLACE)?.try_into().ok()?;
+            Some(HEADER + u32::from_le_bytes(place) as usize)
+        };
+        let names = names_at(self.ctf).and_then(|at| self.ctf.get(at..)).unwrap_or(self.ctf);
+        let of_list = |list: &[u8]| list.split(|&byte| byte == 0).map(<[u8]>::len).max();
+        [names, self.strings].into_iter().filter_map(of_list).max().unwrap_or(0)
     }
 
     /// The name at a place of one of the lists, as rows of members have it.

@@ -5,6 +5,7 @@
 //! command's.
 
 mod arguments;
+mod bundle;
 mod convert;
 mod debuginfo;
 mod diff;
@@ -33,7 +34,8 @@ const COMMANDS: [(&str, Command); 6] = [
     ("ctfd-types", types::main),
 ];
 
-fn main() -> ExitCode {
+/// Runs the command that the words of the process name; its exit status.
+pub fn main() -> ExitCode {
     progress::begin();
     let mut words: Vec<OsString> = std::env::args_os().collect();
     // A link may have another name, so the file that runs counts too.

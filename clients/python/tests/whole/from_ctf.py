@@ -7,12 +7,11 @@ from __future__ import annotations
 import struct
 from typing import List, Optional, Sequence, Tuple
 
-from ..client.faults import Unreadable
-from ..client.model import Model
-from ..client.types import Encoding, Enumerator
-from ..files.source import HEADER
-from ..files.strings import Strings
-from .records import Part, Record, Table
+from ctfd.client.faults import Unreadable
+from ctfd.client.model import Model
+from ctfd.client.types import Encoding, Enumerator
+from ctfd.layout.records import Part, Record, Table
+
 from .written import CHILD, KINDS, LONG_MEMBERS, LONG_SIZE
 
 

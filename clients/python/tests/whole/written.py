@@ -5,8 +5,8 @@ import itertools
 import struct
 from typing import Dict, List, Optional
 
-from ..text import raw
-from .records import Record, Table
+from ctfd.layout.records import Record, Table
+from ctfd.text import raw
 
 KINDS = ("unknown", "integer", "float", "pointer", "array", "function", "struct", "union", "enum",
          "forward", "typedef", "volatile", "const", "restrict")
