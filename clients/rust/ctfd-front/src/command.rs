@@ -8,8 +8,7 @@ use std::time::Duration;
 
 const ABOUT: &str = "Lets many clients use one ctfd, over a socket.
 
-Each connection is a session of its own: the front writes its number into each line, whatever the \
-client writes. A line without `s` is answered with that number; others take by it what it \
+Each connection is a session of its own, whatever number the client writes. A line without `s` is answered with that number; others take by it what it \
 publishes. Each NAME=FILE is published for all, who take it from owner 0.";
 
 const STATUSES: &str = "\
@@ -277,7 +276,7 @@ mod tests {
 
     #[test]
     fn wrong_words_are_refused() {
-        for words in [["--line", "1048562"], ["--lines", "0"], ["--idle", "-1"], ["--mode", "9"]] {
+        for words in [["--line", "1048577"], ["--lines", "0"], ["--idle", "-1"], ["--mode", "9"]] {
             let words = ["ctfd-front"].iter().chain(&words);
             let why = command().try_get_matches_from(words).unwrap_err();
             assert!(why.use_stderr(), "{why}");
