@@ -1,105 +1,96 @@
 #!/usr/bin/env python3
-"""Measures how many lines pass through ctfd-front in a second, beside a pipe to `ctfd serve`.
+"""Measures how fast ctfd-front answers, beside redis-server answering PING, and an echo.
 
-usage: front.py PROGRAM [--word kind|record] [--lines N] [--library libctfd.a]
-                [--nginx /usr/sbin/nginx]
+usage: front.py [--front CTFD-FRONT] [--program CTFD] [--seconds N] [--runs N] [--held] [--calls]
 
-The lines are questions of `kind`, or of `record`, on a dictionary of one type: 200,000 in all, by one client and by
-50, written without waiting for replies, while replies are read. The pipe is written and read in the
-same way. Then 50 clients each wait for a reply before they ask again, and then lines are written to
-four services behind one front. The clock counts, and the best of three runs, since three processes
-are at work: this one, the front and the service. Printed are lines a second, and the processor time
-of the front, and of the services, for a line. With --library, the same lines are answered in this
-process too, by the library for C through ctypes: the call and its reply alone, without a socket.
+bench/lines.c is the client of all: it is compiled by cc. Each way is a server on a Unix socket: the
+front with one shard and with four, over a dictionary of a kernel's size (32,766 types), redis-server
+where it is installed, and an echo of the client's own loop. Each is asked in bursts of 100 lines by
+50 clients, and line by line by 1, 50 and 500. A pipe to `ctfd serve` is asked line by line too.
+All ways are tried in turn, and the best of the runs by the clock is printed: lines a second, the
+server's processor time for a line and how much of that the system took, and within which time half
+of the bursts, and 99 of 100, were answered. --held asks over 9,500 connections that are open, 500
+at a time. --calls counts the calls of the system by strace, which slows all.
 """
 from __future__ import annotations
 
 import argparse
 import contextlib
-import ctypes
 import os
-import selectors
-import socket
+import re
+import shutil
+import signal
+import struct
 import subprocess
 import sys
 import tempfile
 import time
 from dataclasses import dataclass
 from pathlib import Path
-from typing import Callable, Dict, Iterator, List, Optional, Sequence, Tuple
-
-from streams import INT
+from typing import Dict, Iterator, List, Optional, Sequence
 
 TOP = Path(__file__).resolve().parents[1]
-COMMAND = TOP / "clients" / "python" / "ctfd-front"
-# The line that is asked, which --word names. The front batches `kind` in this spelling alone.
-ASKED = {word: b'{"s":7,"op":"%s","d":1,"t":1}\n' % word.encode() for word in ("kind", "record")}
-asked = ASKED["kind"]
-BEGIN = b'{"s":7,"op":"part","section":"ctf","bytes":"%s"}\n{"s":7,"op":"open"}\n' % INT.encode()
-PIECE = 65_536
-RUNS = 3
-SERVICES = 4
-NGINX = """load_module /usr/lib/nginx/modules/ngx_stream_module.so;
-daemon off;
-master_process off;
-pid {folder}/pid;
-error_log {folder}/errors;
-events {{ worker_connections 1024; }}
-stream {{ server {{ listen unix:{folder}/front; proxy_pass unix:{folder}/back; }} }}
-"""
-Ends = Tuple[int, int]  # a file that is written and one that is read; neither blocks
+FRONT = TOP / "clients" / "rust" / "target" / "release" / "ctfd-front"
+PROGRAM = TOP / "crates" / "ctfd" / "out" / "ctfd"
+TAKE = '{"s":1,"op":"take","owner":0,"name":"types"}\n'
+TYPES = 32_766
+LINES = {
+    "kind": '{"s":1,"op":"kind","d":1,"t":30000}\n',
+    "record": '{"s":1,"op":"record","d":1,"t":30000}\n',
+    "members": '{"s":1,"op":"members","d":1,"t":30000}\n',
+    "find": '{"s":1,"op":"find","d":1,"text":"struct s30000"}\n',
+    "mixed": '{ "op" : "kind", "d": 1, "t": 30000, "s" : 1 }\n'
+             '{"op":"record","t":30000,"d":1,"s":1}\n{"s":1,"d":1,"op":"members","t":30000}\n'
+             '{"op":"find","text":"struct s30000","d":1,"s":1}\n',
+}
+PING = "PING\r\n"
+BURST = 100
+HELD = 9_500
 
 
-@dataclass(frozen=True, order=True)
+@dataclass(frozen=True)
+class Server:
+    """A way to be asked: its process, its socket, and what is sent first."""
+
+    name: str
+    pid: int
+    path: str
+    begin: str
+    lines: Dict[str, str]
+
+
+@dataclass(frozen=True)
 class Measured:
-    """How long a way took, by the clock and by the processor, in seconds."""
+    """What a run took; times in microseconds."""
 
-    clock: float
-    service: float
-    front: Optional[float] = None
+    per_second: float
+    processor: float
+    system: float
+    half: float
+    most: float
 
-
-def pipelined(ends: Sequence[Ends], lines: int) -> None:
-    """Writes so many lines to each end, and reads their replies meanwhile."""
-    data = BEGIN + lines * asked
-    left = {written: memoryview(data) for written, _ in ends}
-    owed = {read: lines + 2 for _, read in ends}
-    with selectors.DefaultSelector() as ready:
-        for written, read in ends:
-            ready.register(written, selectors.EVENT_WRITE)
-            ready.register(read, selectors.EVENT_READ)
-        while owed:
-            for key, _ in ready.select():
-                if key.fd in left:
-                    left[key.fd] = left[key.fd][os.write(key.fd, left[key.fd][:PIECE]):]
-                    if not left[key.fd]:
-                        ready.unregister(key.fd)
-                        del left[key.fd]
-                else:
-                    owed[key.fd] -= os.read(key.fd, 4 * PIECE).count(b"\n")
-                    if not owed[key.fd]:
-                        ready.unregister(key.fd)
-                        del owed[key.fd]
+    def __str__(self) -> str:
+        return (f"{self.per_second:12,.0f} lines/s, {self.processor:6.2f} us of a processor,"
+                f" {100 * self.system:3.0f} % the system; {self.half:9,.1f}; {self.most:9,.1f} us")
 
 
-def one_by_one(ends: Sequence[Ends], lines: int) -> None:
-    """Each end is asked again when it has answered."""
-    pipelined(ends, 0)
-    writes = {read: written for written, read in ends}
-    left = dict.fromkeys(writes, lines)
-    with selectors.DefaultSelector() as ready:
-        for written, read in ends:
-            ready.register(read, selectors.EVENT_READ)
-            os.write(written, asked)
-        while left:
-            for key, _ in ready.select():
-                os.read(key.fd, PIECE)
-                left[key.fd] -= 1
-                if left[key.fd]:
-                    os.write(writes[key.fd], asked)
-                else:
-                    ready.unregister(key.fd)
-                    del left[key.fd]
+def dictionary(types: int = TYPES) -> bytes:
+    """Structs of three members each, and an int."""
+    names = bytearray(b"\0int\0a\0b\0c\0")
+    records = bytearray(struct.pack("<IHHI", 1, 1 << 11 | 1 << 10, 4, 1 << 24 | 32))
+    for number in range(2, types + 1):
+        place = len(names)
+        names += f"s{number}\0".encode()
+        records += struct.pack("<IHH", place, 6 << 11 | 1 << 10 | 3, 12)
+        records += b"".join(struct.pack("<IHH", name, 1, 32 * at)
+                            for at, name in enumerate((5, 7, 9)))
+    head = struct.pack("<8I", 0, 0, 0, 0, 0, 0, len(records), len(names))
+    return b"\xf1\xcf\x02\0" + head + bytes(records) + bytes(names)
+
+
+def ticks(pid: int) -> List[int]:
+    """Ticks that a process has used by itself, and in the system."""
+    return list(map(int, Path(f"/proc/{pid}/stat").read_text().rsplit(")", 1)[1].split()[11:13]))
 
 
 def used(pid: int) -> float:
@@ -107,167 +98,147 @@ def used(pid: int) -> float:
     return time.clock_gettime(~pid << 3 | 2)  # as clock_getcpuclockid(3) has it
 
 
-def started_by(parent: int) -> Iterator[int]:
-    """The processes that another has started."""
-    for stat in Path("/proc").glob("[0-9]*/stat"):
-        with contextlib.suppress(OSError):
-            if int(stat.read_text().rsplit(")", 1)[1].split()[1]) == parent:
-                yield int(stat.parent.name)
-
-
-def by_pipe(program: str, lines: int) -> Measured:
-    child = subprocess.Popen([program, "serve"], stdin=subprocess.PIPE, stdout=subprocess.PIPE)
-    assert child.stdin and child.stdout
-    ends = child.stdin.fileno(), child.stdout.fileno()
-    for end in ends:
-        os.set_blocking(end, False)
-    began = time.monotonic()
-    pipelined([ends], lines)
-    measured = Measured(time.monotonic() - began, used(child.pid))
-    child.stdin.close()
-    child.wait()
-    return measured
-
-
 @contextlib.contextmanager
-def connected(path: str, clients: int) -> Iterator[List[Ends]]:
-    """Clients of a socket."""
-    sockets = [socket.socket(socket.AF_UNIX) for _ in range(clients)]
-    ends: List[Ends] = []
+def running(words: Sequence[str]) -> Iterator[subprocess.Popen[bytes]]:
+    process = subprocess.Popen(words, stdout=subprocess.DEVNULL, stderr=subprocess.DEVNULL)
     try:
-        for one in sockets:
-            one.connect(path)
-            one.setblocking(False)
-            ends.append((one.fileno(), os.dup(one.fileno())))
-        yield ends
+        yield process
     finally:
-        for one in sockets:
-            one.close()
-        for _, read in ends:
-            os.close(read)
+        process.send_signal(signal.SIGTERM)
+        process.wait(30)
 
 
-def wait_for(path: str) -> None:
-    """Waits until somebody listens at a path, for two seconds at most."""
-    for _ in range(200):
-        with socket.socket(socket.AF_UNIX) as one, contextlib.suppress(OSError):
-            one.connect(path)
-            return
-        time.sleep(0.01)
-    sys.exit(f"nobody listens at {path}")
+class Bench:
+    """The servers that are there, and how each is asked."""
+
+    def __init__(self, folder: str, given: argparse.Namespace, ends: contextlib.ExitStack) -> None:
+        self.folder, self.given = folder, given
+        self.client = f"{folder}/lines"
+        subprocess.run(["cc", "-O2", "-o", self.client, str(TOP / "bench" / "lines.c")], check=True)
+        Path(folder, "types.ctf").write_bytes(dictionary())
+        self.servers = [*self._fronts(ends), *self._others(ends)]
+
+    def _fronts(self, ends: contextlib.ExitStack) -> Iterator[Server]:
+        for shards in (1, 4):
+            path = f"{self.folder}/front-{shards}"
+            words = [self.given.front, "--socket", path, "--processes", str(shards),
+                     "--connections", "20000", "--user-connections", "20000",
+                     "--user-sessions", "10000000", f"types={self.folder}/types.ctf"]
+            name = f"front, {shards} shard{'s' * (shards > 1)}"
+            yield Server(name, ends.enter_context(running(words)).pid, path, TAKE, LINES)
+
+    def _others(self, ends: contextlib.ExitStack) -> Iterator[Server]:
+        redis = shutil.which("redis-server")
+        if redis:
+            path = f"{self.folder}/redis"
+            words = [redis, "--port", "0", "--unixsocket", path, "--save", "", "--maxclients",
+                     "20000"]
+            yield Server("redis, PING", ends.enter_context(running(words)).pid, path, "",
+                         {"kind": PING})
+        path = f"{self.folder}/echo"
+        process = ends.enter_context(running([self.client, "--echo", path]))
+        yield Server("echo", process.pid, path, "", {"kind": LINES["kind"]})
+
+    def ask(self, server: Server, word: str, clients: int, burst: int,
+            held: int = 0) -> Measured:
+        """One run."""
+        line = server.lines[word]
+        count = line.count("\n")
+        words = [self.client, server.path, str(held or clients), str(clients),
+                 str(max(1, burst // count)), str(self.given.seconds), server.begin, line]
+        with subprocess.Popen(words, stdin=subprocess.PIPE, stdout=subprocess.PIPE,
+                              text=True) as client:
+            assert client.stdin and client.stdout
+            client.stdout.readline()
+            before, ticks_before = used(server.pid), ticks(server.pid)
+            told = client.communicate("\n")[0].split()
+        seconds = used(server.pid) - before
+        own, system = (after - was for after, was in zip(ticks(server.pid), ticks_before))
+        lines = int(told[0])
+        return Measured(lines / float(told[1]), 1e6 * seconds / lines,
+                        system / max(1, own + system), float(told[2]), float(told[3]))
+
+    def calls(self, server: Server, word: str, clients: int, burst: int) -> Optional[float]:
+        """Calls of the system for a line, under strace."""
+        out = f"{self.folder}/calls"
+        tracer = subprocess.Popen(["strace", "-f", "-c", "-U", "calls,name", "-o", out, "-p",
+                                   str(server.pid)], stderr=subprocess.DEVNULL)
+        time.sleep(1)
+        words = [self.client, server.path, str(clients), str(clients), str(burst), "2",
+                 server.begin, server.lines[word]]
+        told = subprocess.run(words, check=True, capture_output=True, text=True,
+                              input="\n").stdout.split()[1:]
+        tracer.send_signal(signal.SIGINT)
+        tracer.wait()
+        total = re.search(r"^\s*(\d+) total", Path(out).read_text(), re.MULTILINE)
+        return int(total[1]) / int(told[0]) if total else None
 
 
-@contextlib.contextmanager
-def running(*command: object) -> Iterator[subprocess.Popen[bytes]]:
-    """A program that runs, and is ended."""
-    child = subprocess.Popen([str(word) for word in command], stderr=subprocess.PIPE)
-    try:
-        yield child
-    finally:
-        child.terminate()
-        child.wait()
-        assert child.stderr
-        child.stderr.close()
+def by_pipe(program: str, folder: str, seconds: float) -> Measured:
+    """Lines one by one through a pipe; the client's own time is in it."""
+    with subprocess.Popen([program, "serve", f"types={folder}/types.ctf"], stdin=subprocess.PIPE,
+                          stdout=subprocess.PIPE) as child:
+        assert child.stdin and child.stdout
+        to, back = child.stdin.fileno(), child.stdout.fileno()
+        os.write(to, TAKE.encode())
+        os.read(back, 65_536)
+        waits, line, before = [], LINES["kind"].encode(), used(child.pid)
+        began = moment = time.perf_counter()
+        while moment - began < seconds:
+            os.write(to, line)
+            os.read(back, 65_536)
+            after = time.perf_counter()
+            waits.append(after - moment)
+            moment = after
+        waits.sort()
+        count = len(waits)
+        return Measured(count / (moment - began), 1e6 * (used(child.pid) - before) / count, 0,
+                        1e6 * waits[count // 2], 1e6 * waits[count * 99 // 100])
 
 
-def by_front(program: str, lines: int, clients: int, services: int = 1,
-             exchange: Callable[[Sequence[Ends], int], None] = pipelined) -> Measured:
-    with tempfile.TemporaryDirectory() as folder:
-        path = f"{folder}/front"
-        with running(sys.executable, COMMAND, "--service", program, "--socket", path,
-                     "--processes", services) as child:
-            assert child.stderr
-            child.stderr.readline()  # it listens
-            with connected(path, clients) as ends:
-                before, began = used(child.pid), time.monotonic()
-                exchange(ends, lines // clients)
-                return Measured(time.monotonic() - began, sum(map(used, started_by(child.pid))),
-                                used(child.pid) - before)
+def measure(bench: Bench, title: str, word: str, clients: int, burst: int, held: int = 0) -> None:
+    """All servers in turn, some times; the best run of each."""
+    able = [server for server in bench.servers if word in server.lines]
+    runs = [[bench.ask(server, word, clients, burst, held) for server in able]
+            for _ in range(bench.given.runs)]
+    print(f"{title}, {word}:")
+    for server, found in zip(able, zip(*runs)):
+        print(f"  {server.name:16} {max(found, key=lambda run: run.per_second)}", flush=True)
 
 
-def by_nginx(nginx: str, lines: int, clients: int,
-             exchange: Callable[[Sequence[Ends], int], None] = pipelined) -> Measured:
-    """Through nginx's stream proxy, to a process that gives back what it reads."""
-    with tempfile.TemporaryDirectory() as folder:
-        path, back, settings = (f"{folder}/{name}" for name in ("front", "back", "nginx.conf"))
-        Path(settings).write_text(NGINX.format(folder=folder), encoding="ascii")
-        with running(sys.executable, Path(__file__).with_name("echo.py"), back) as echo, \
-                running(nginx, "-p", folder, "-c", settings) as proxy:
-            for listening in (back, path):
-                wait_for(listening)
-            with connected(path, clients) as ends:
-                before, service, began = used(proxy.pid), used(echo.pid), time.monotonic()
-                exchange(ends, lines // clients)
-                return Measured(time.monotonic() - began, used(echo.pid) - service,
-                                used(proxy.pid) - before)
-
-
-class Handle(ctypes.Structure):
-    """A `struct ctfd_service` of ctfd.h."""
-
-    _fields_ = [("full", ctypes.c_bool), ("at", ctypes.c_void_p)]
-
-
-def in_process(archive: str, lines: int) -> Measured:
-    """The lines are answered by the library, in this process."""
-    room, length, handle = ctypes.create_string_buffer(PIECE), ctypes.c_uint64(), Handle()
-    with tempfile.TemporaryDirectory() as folder:
-        shared = f"{folder}/libctfd.so"
-        subprocess.run(["gcc", "-shared", "-o", shared, "-Wl,--whole-archive", archive,
-                        "-Wl,--no-whole-archive"], check=True)
-        library = ctypes.CDLL(shared)
-        library.ctfd_begin(ctypes.byref(handle))
-        answer = library.ctfd_line
-        answer.argtypes = [ctypes.c_void_p, ctypes.c_char_p, ctypes.c_size_t, ctypes.c_void_p,
-                           ctypes.c_size_t, ctypes.c_void_p]
-        at, text, told = map(ctypes.addressof, (handle, room, length))
-
-        def replied(line: bytes) -> bytes:
-            answer(at, line, len(line), text, PIECE, told)
-            return ctypes.string_at(text, length.value)
-
-        for line in BEGIN.splitlines():
-            replied(line)
-        before, began = time.process_time(), time.monotonic()
-        for _ in range(lines):
-            replied(asked[:-1])
-        measured = Measured(time.monotonic() - began, time.process_time() - before)
-        library.ctfd_end(ctypes.byref(handle))
-    return measured
+def all_ways(bench: Bench) -> None:
+    for word in LINES:
+        measure(bench, f"50 clients, bursts of {BURST}", word, 50, BURST)
+    for clients in (1, 50, 500):
+        for word in ("kind", "record"):
+            measure(bench, f"{clients} clients, line by line", word, clients, 1)
+    given = bench.given
+    print(f"a pipe, line by line: {by_pipe(given.program, bench.folder, given.seconds)}")
+    if given.held:
+        for burst, title in ((BURST, f"bursts of {BURST}"), (1, "line by line")):
+            measure(bench, f"{HELD} connections, 500 at a time, {title}", "record", 500, burst,
+                    HELD)
+    if given.calls:
+        for clients, burst in ((1, 1), (50, 1), (50, BURST)):
+            told = bench.calls(bench.servers[0], "kind", clients, burst)
+            print(f"{bench.servers[0].name}: {clients} clients, bursts of {burst}:"
+                  f" {told:.2f} calls of the system a line")
 
 
 def main() -> int:
-    global asked
-    parser = argparse.ArgumentParser(description=__doc__,
-                                     formatter_class=argparse.RawDescriptionHelpFormatter)
-    parser.add_argument("program")
-    parser.add_argument("--word", choices=list(ASKED), default="kind")
-    parser.add_argument("--lines", type=int, default=200_000)
-    parser.add_argument("--library", metavar="libctfd.a")
-    parser.add_argument("--nginx", metavar="nginx")
+    assert __doc__
+    parser = argparse.ArgumentParser(description=__doc__.split("\n")[0])
+    parser.add_argument("--front", default=str(FRONT))
+    parser.add_argument("--program", default=str(PROGRAM))
+    parser.add_argument("--seconds", type=float, default=2)
+    parser.add_argument("--runs", type=int, default=3)
+    parser.add_argument("--held", action="store_true")
+    parser.add_argument("--calls", action="store_true")
     given = parser.parse_args()
-    asked = ASKED[given.word]
-    program, lines = os.path.abspath(given.program), given.lines
-    ways: Dict[str, Callable[[], Measured]] = {
-        "pipe": lambda: by_pipe(program, lines),
-        "1 client": lambda: by_front(program, lines, 1),
-        "50 clients": lambda: by_front(program, lines, 50),
-        "50 that wait": lambda: by_front(program, lines, 50, exchange=one_by_one),
-        f"50, {SERVICES} services": lambda: by_front(program, lines, 50, SERVICES)}
-    if given.nginx:
-        ways.update({
-            "nginx, 1": lambda: by_nginx(given.nginx, lines, 1),
-            "nginx, 50": lambda: by_nginx(given.nginx, lines, 50),
-            "nginx, 50 wait": lambda: by_nginx(given.nginx, lines, 50, one_by_one)})
-    if given.library:
-        ways["in process"] = lambda: in_process(given.library, lines)
-    for name, way in ways.items():
-        best = min(way() for _ in range(RUNS))
-        told = f"service {1e6 * best.service / lines:.2f}"
-        if best.front is not None:
-            told += f", front {1e6 * best.front / lines:.2f}"
-        print(f"{name:15} {lines / best.clock:10,.0f} lines/s; microseconds of a processor for a"
-              f" line: {told}", flush=True)
+    load = os.getloadavg()
+    print(f"load {load[0]:.1f} on {os.cpu_count()} processors")
+    with tempfile.TemporaryDirectory() as folder, contextlib.ExitStack() as ends:
+        all_ways(Bench(folder, given, ends))
     return 0
 
 

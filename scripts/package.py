@@ -7,7 +7,7 @@ usage: scripts/package.py deb|dist|release [--into FOLDER] [--program PROGRAM] [
 (tarball.sh), a wheel of the Python package by itself, and, where cargo is, a tarball of the sources
 in Rust with all crates that they stand on, which builds where no registry is reached. The first two
 have the program, the library for C,
-headers, manual pages, units, the Python package and its commands. `release` makes all of these,
+headers, manual pages, units, the commands and the Python package. `release` makes all of these,
 of the build that the kit made with its proofs (`make prove`) and of no other. Times in them are that of the
 commit, or that of SOURCE_DATE_EPOCH. Needs dpkg-deb for `deb`, git, and what builds a wheel
 (scripts/tree.py).
@@ -121,7 +121,7 @@ def deb(made: Made, into: Path, seconds: int) -> list[Path]:
     with tempfile.TemporaryDirectory() as folder:
         stage = Path(folder)
         tree.put(made, Places(usr, usr / "lib/python3/dist-packages", usr / "lib/x86_64-linux-gnu",
-                              stage, python=tree.DEBIANS))
+                              stage))
         for page in (stage / "usr/share/man").glob("man*/*"):
             write(page.with_name(f"{page.name}.gz"), packed(page.read_bytes()))
             page.unlink()
@@ -141,7 +141,7 @@ def dist(made: Made, into: Path, seconds: int) -> list[Path]:
     with tempfile.TemporaryDirectory() as folder:
         stage = Path(folder, name)
         stage.mkdir()
-        # The package stands in a folder of its own, where the commands of any Python find it.
+        # The package stands in a folder of its own, for any Python.
         tree.put(made, Places(Path("/"), Path("/lib/ctfd"), Path("/lib"), stage))
         listed = "".join(f"{path.relative_to(stage)}\n" for path in files(stage) if path.is_file())
         write(stage / "FILES", listed.encode())

@@ -4,10 +4,10 @@
 usage: scripts/rust.py [--quiet | --packages | --ahead] [CARGO-WORD..]
 
 `--packages` prints the names of Debian's packages with the crates. `--ahead` compiles all but the
-program that is linked with the library, which need not be there yet; it says nothing, since what
-fails is told without it. Without words it builds
-clients/rust/target/release/ctfd-tools, and beside it a link for each command that it is. With words
-it runs cargo with these: `scripts/rust.py test`.
+programs that are linked with the library, which need not be there yet; it says nothing, since what
+fails is told without it. Without words it builds clients/rust/target/release/ctfd-tools, beside it a
+link for each command that it is, and ctfd-front. With words it runs cargo with these:
+`scripts/rust.py test`.
 
 The crates that these stand on are taken from the folder clients/rust/vendor that the tarball of the
 sources has, else from Debian's packages (librust-*-dev) where they are installed, else from
@@ -28,7 +28,8 @@ TOP = Path(__file__).resolve().parents[1]
 WORKSPACE = TOP / "clients" / "rust"
 ARCHIVE = TOP / "crates" / "ctf_c" / "out" / "libctfd.a"
 PROGRAM, PACKAGE, LIBRARY = "ctfd-tools", "ctfd-commands", "ctfd-tools"
-LATER = {"CTFD_LINKED_LATER": "1"}  # the library is linked with the program, and read by no crate
+FRONT = "ctfd-front"
+LATER = {"CTFD_LINKED_LATER": "1"}  # the library is linked with the programs, and read by no crate
 COMMANDS = ("ctfd-convert", "ctfd-debuginfo", "ctfd-diff", "ctfd-explore", "ctfd-show",
             "ctfd-types")
 DEBIAN = Path("/usr/share/cargo/registry")
@@ -94,8 +95,8 @@ def folder() -> Path:
 
 
 def build(*words: str) -> Path:
-    """Builds the commands; the folder with them. Raises NotBuilt."""
-    if run(["build", "--release", "--package", PACKAGE, *words], LATER) != 0:
+    """Builds the commands and the front; the folder with them. Raises NotBuilt."""
+    if run(["build", "--release", "--package", PACKAGE, "--package", FRONT, *words], LATER) != 0:
         raise NotBuilt("cargo has failed: are all of Debian's packages installed that"
                        f" scripts/rust.py needs ({' '.join(PACKAGES)})?")
     for name in COMMANDS:
@@ -126,7 +127,7 @@ def main() -> int:
         if words[:1] in (["-h"], ["--help"]):
             print(__doc__)
             return 0
-        print(f"{build(*words)}: the compiled commands, {', '.join(COMMANDS)}")
+        print(f"{build(*words)}: the compiled commands, {', '.join((*COMMANDS, FRONT))}")
     except NotBuilt as why:
         if words[:1] == ["--ahead"]:
             return 0

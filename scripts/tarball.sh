@@ -1,9 +1,8 @@
 #!/bin/sh
 # Puts what stands beside this script below a prefix, or takes it away again.
 # usage: ./install.sh [--remove] [PREFIX]
-# PREFIX is /usr/local where it is not said. Commands are run by the python3 that is first on the
-# path, of 3.9 or later. For `import ctfd` by that Python, put PREFIX/lib/ctfd on its path, or
-# install the wheel.
+# PREFIX is /usr/local where it is not said. For `import ctfd` by a Python of 3.9 or later, put
+# PREFIX/lib/ctfd on its path, or install the wheel.
 set -eu
 remove=
 [ "${1:-}" != --remove ] || { remove=yes; shift; }

@@ -5,20 +5,17 @@ usage: scripts/tree.py --prefix PREFIX [--root FOLDER] [--program PROGRAM] [--ar
                        [--packages FOLDER] [--remove]
 
 That is the program, the libraries for C with their headers and a file for pkg-config, the manual
-pages, the units for systemd, the Python package and its commands. A command that is compiled, as
-scripts/rust.py does where cargo is, goes there in place of the one in Python, if there is one.
-FOLDER of --root, if it is given, goes in front of all, as DESTDIR does.
+pages, the units for systemd, the Python package, and the commands in Rust, which scripts/rust.py
+compiles where cargo is. FOLDER of --root, if it is given, goes in front of all, as DESTDIR does.
 
 pip installs the package. It and setuptools and wheel are those of the Python that PYTHON in the
 environment names, else of `python3` or Debian's, whichever has them. The package goes where that
-Python looks for packages below the prefix, or into --packages, below the prefix too. The commands
-find it by where they stand themselves, so they run under any Python from 3.9 on.
+Python looks for packages below the prefix, or into --packages, below the prefix too.
 """
 from __future__ import annotations
 
 import argparse
 import os
-import re
 import shutil
 import subprocess
 import sys
@@ -34,9 +31,8 @@ from version import TOP, differing, version
 
 CLIENT = TOP / "clients" / "python"
 COMPLETIONS = TOP / "clients" / "completions"
-COMMANDS = sorted(path.name for path in CLIENT.glob("ctfd-*"))
-# Those that are compiled alone.
-COMPILED = sorted(set(rust.COMMANDS) - set(COMMANDS))
+# What is compiled in Rust.
+COMMANDS = sorted((*rust.COMMANDS, rust.FRONT))
 # Headers, and where they go: GNU's has the name of another header, so it is in a folder of its own.
 HEADERS = {"ctfd.h": "ctfd.h", "ctfd_libctf.h": "ctfd_libctf.h",
            "gnu/ctf-api.h": "ctfd/gnu/ctf-api.h"}
@@ -53,23 +49,6 @@ if sys.argv[1].rstrip("/") == "/usr":
 print(of_site[0] if of_site else sysconfig.get_path("purelib", "posix_prefix",
                                                     {"base": sys.argv[1]}))
 """
-COMMAND = '''#!{python}
-"""{text}"""
-import sys
-from pathlib import Path
-
-# The package's folder comes first for the package alone.
-FOLDER = str((Path(__file__).resolve().parent / "{packages}").resolve())
-sys.path.insert(0, FOLDER)
-
-from {module} import main  # noqa: E402
-
-sys.path.remove(FOLDER)
-sys.path.append(FOLDER)
-
-if __name__ == "__main__":
-    sys.exit(main())
-'''
 
 
 class Lacking(Exception):
@@ -91,9 +70,11 @@ class Made:
 
     @property
     def compiled(self) -> dict[str, Path]:
-        """The compiled commands by name: one program, which goes by the name that it has."""
-        program = rust.folder() / rust.PROGRAM
-        return {name: program for name in rust.COMMANDS if program.exists()}
+        """The commands by name: a program of many names, which goes by the one that it has, and
+        the front."""
+        program, front = (rust.folder() / name for name in (rust.PROGRAM, rust.FRONT))
+        places = {**dict.fromkeys(rust.COMMANDS, program), rust.FRONT: front}
+        return {name: path for name, path in places.items() if path.exists()}
 
     def judge(self) -> None:
         """Raises Lacking where something is not there, or tells another version."""
@@ -104,7 +85,7 @@ class Made:
                 raise Lacking(f"there is no {path}: `make` builds it")
         judge_version("ctfd", self.program)
         for name, path in self.compiled.items():
-            judge_version(name, path, name)
+            judge_version(name, path, *([] if name == rust.FRONT else [name]))
 
 
 def judge_version(name: str, path: Path, *words: str) -> None:
@@ -117,13 +98,12 @@ def judge_version(name: str, path: Path, *words: str) -> None:
 
 @dataclass(frozen=True)
 class Places:
-    """Where things go below a prefix. `root` goes in front of all; `python` runs the commands."""
+    """Where things go below a prefix. `root` goes in front of all."""
 
     prefix: Path
     packages: Path
     libraries: Path
     root: Path = Path("/")
-    python: str = "/usr/bin/env python3"
 
     def real(self, path: Path) -> Path:
         return self.root / path.relative_to("/")
@@ -137,31 +117,20 @@ class Places:
             yield self.prefix / "share/man" / f"man{page.suffix[1:]}" / page.name, page, 0o644
         for unit in sorted((TOP / "clients" / "units").iterdir()):
             yield self.prefix / "lib/systemd/system" / unit.name, unit, 0o644
-        for name in COMMANDS:
-            yield self.prefix / "bin" / name, CLIENT / name, 0o755
         completions = self.prefix / "share/bash-completion/completions"
-        for name in (*COMMANDS, *COMPILED, "ctfd"):
+        for name in (*COMMANDS, "ctfd"):
             yield completions / name, COMPLETIONS / "ctfd.bash", 0o644
         yield self.prefix / "share/zsh/site-functions/_ctfd", COMPLETIONS / "_ctfd", 0o644
 
-    def text(self, path: Path, source: Path) -> str:
+    def text(self, source: Path) -> str:
         """What a file has in its place."""
         text = source.read_text(encoding="utf-8")
-        if source.name in COMMANDS:
-            return self.command(path, text)
         libraries = os.path.relpath(self.libraries, self.prefix)
         # The system's loader looks below /usr by itself.
         run_path = "" if self.prefix == Path("/usr") else "-Wl,-rpath,${libdir} "
         return (text.replace("@PREFIX@", str(self.prefix)).replace("@LIBRARIES@", libraries)
                 .replace("@RUNPATH@", run_path)
                 .replace("@VERSION@", version()).replace("@BIN@", str(self.prefix / "bin")))
-
-    def command(self, path: Path, text: str) -> str:
-        """A command that finds the package by where it stands itself."""
-        told, module = re.search(r'"""(.*)"""', text), re.search(r"from (\S+) import main", text)
-        assert told and module
-        return COMMAND.format(python=self.python, text=told[1], module=module[1],
-                              packages=os.path.relpath(self.packages, path.parent))
 
 
 def python() -> str:
@@ -208,7 +177,7 @@ def wheel(into: Path) -> Path:
         copy = Path(folder, "python")
         shutil.copytree(CLIENT, copy, ignore=not_sources)
         for path in copy.rglob("*"):
-            path.chmod(0o755 if path.is_dir() or path.name in COMMANDS else 0o644)
+            path.chmod(0o755 if path.is_dir() else 0o644)
         run(python(), "-m", "pip", "wheel", "--quiet", "--no-index", "--no-deps",
             "--no-build-isolation", "--no-cache-dir", "--disable-pip-version-check",
             "--wheel-dir", into, copy)
@@ -223,7 +192,7 @@ def not_sources(folder: str, names: list[str]) -> set[str]:
 
 
 def put_package(places: Places) -> None:
-    """Has pip install the package, whose commands stand elsewhere."""
+    """Has pip install the package."""
     folder = places.real(places.packages)
     remove_package(places)
     with tempfile.TemporaryDirectory() as made:
@@ -232,7 +201,6 @@ def put_package(places: Places) -> None:
         run(python(), "-m", "pip", "install", "--quiet", "--no-index", "--no-deps", "--no-compile",
             "--no-warn-script-location", "--disable-pip-version-check", "--find-links", made,
             "--target", installed, f"ctfd=={version()}", PIP_ROOT_USER_ACTION="ignore")
-        shutil.rmtree(installed / "bin", ignore_errors=True)
         shutil.copytree(installed, folder, dirs_exist_ok=True)
         for path in owned(folder):
             path.chmod(0o755 if path.is_dir() else 0o644)
@@ -257,11 +225,9 @@ def put(made: Made, places: Places) -> None:
         places.real(path).chmod(mode)
     put_shared(made, places.real(places.libraries))
     for path, source, mode in places.texts():
-        if source in (CLIENT / name for name in made.compiled):
-            continue
         real = places.real(path)
         real.parent.mkdir(parents=True, exist_ok=True)
-        real.write_text(places.text(path, source), encoding="utf-8")
+        real.write_text(places.text(source), encoding="utf-8")
         real.chmod(mode)
 
 
@@ -299,7 +265,7 @@ def remove_package(places: Places) -> None:
 def remove(places: Places) -> None:
     """Takes every file away, and the package's own folders."""
     remove_package(places)
-    binaries = (places.prefix / "bin" / name for name in ("ctfd", *COMPILED))
+    binaries = (places.prefix / "bin" / name for name in ("ctfd", *COMMANDS))
     for path in (*binaries, places.libraries / "libctfd.a", *shared(places),
                  *(path for path, _, _ in places.texts())):
         places.real(path).unlink(missing_ok=True)

@@ -9,7 +9,7 @@ parts only these run; `tests/all.py no_such_part` lists them. With --whole those
 a share of their cases (growths, front and convert) try all.
 
 With --prove, `rt ci` comes first, and prints as it goes; a line tells the processor time it took.
-Each mutant that it refused at a written proof alone is named behind it, since that may say nothing
+Each mutant that it refused at a written proof alone is named behind it, and fails: it may say nothing
 (tests/emptied.py). What the kit built by it is then what is built, and the parts run over that. One
 more part, `quick`, builds the program and the library without their proofs and compares the two
 (tests/quick.sh). With --prove-only no part follows.
@@ -88,6 +88,7 @@ def prove(tally: Tally) -> bool:
     print(f"rt ci took {processor_minutes() - before:.0f} processor minutes")
     for mutant in weak:
         print(f"weak  {mutant}: refused at a written proof alone (tests/emptied.py)")
+        tally.add(False)
     counts = COUNTS.fullmatch(last)
     if counts:
         tally.passed += int(counts[1])
@@ -96,7 +97,7 @@ def prove(tally: Tally) -> bool:
         print(f"rt ci ended with status {gate.returncode}, and {last!r}")
         tally.add(False)
         return False
-    return gate.returncode == 0
+    return gate.returncode == 0 and not weak
 
 
 def proved(tally: Tally, run: Lanes) -> None:

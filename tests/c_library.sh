@@ -15,7 +15,8 @@
 #   and rows as by the single calls; a visit goes from a child into its parent.
 # - A visit of each type has the same rows by both headers and by GNU libctf of the same types
 #   (c_library/peer.py).
-# - Lines are answered as by the service.
+# - Lines are answered as by the service, also as a session's, under any number and under none; a
+#   million sessions that come and go leave no memory.
 # - What is refused writes no result and closes nothing; so does each allocation that is refused.
 # - Dictionaries that were made to cost much cost a time that is linear in their bytes, and a visit
 #   one that is linear in its rows: twice as many types, names or rows take at most 2.2 times the
@@ -106,7 +107,7 @@ count "compile build.c" compile build.c build
 count "the library says which build it is" \
     sh -c './build | grep -q "^proved build: rattle-kit-\|^quick build: proofs not checked$"'
 
-for name in dump answers rows visits lines refusals refuse libctf hostile; do
+for name in dump answers rows visits lines sessions refusals refuse libctf hostile; do
     count "compile $name.c" compile "$tests/$name.c" $name
 done
 for name in ctfdump first; do
@@ -221,6 +222,8 @@ for file in "$top"/examples/*.jsonl; do
     ./lines < "$file" > seen
     count "the lines of ${file##*/}" same wanted seen
 done
+
+count sessions ./sessions "$top/examples" 1000000 "$top"/examples/*.jsonl
 
 echo 'struct lua_State: 200 bytes' > wanted
 (cd "$top" && "$work/first") > seen

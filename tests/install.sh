@@ -6,8 +6,8 @@
 #
 # Installed is into a folder by DESTDIR and PREFIX, and into another by PREFIX alone. From each a C
 # file of a few lines is built by what `pkg-config --cflags --libs ctfd` says, and a Rust one by the
-# crate. The program, the Python package with its commands, and the manual pages are used where they
-# were put; commands find package and program by where they stand. After `make uninstall` no file is
+# crate. The program, the Python package, the commands and the manual pages are used where they were
+# put; the package finds program and library by where it stands. After `make uninstall` no file is
 # left. PREFIX=/usr, and what is said where pip or wheel is missing, are tried too.
 # Prints what was wrong, and counts; the status is 1 where something was wrong.
 set -eu
@@ -84,10 +84,9 @@ used() {
     count "run in C" says 200 "$work/own_c" "$lua" "struct lua_State"
     count "the version" says "$(cat "$top/VERSION")" pkg-config --modversion ctfd
     count "the program" says "$("$program" --version)" "$below/bin/ctfd" --version
-    for command in "$top"/clients/python/ctfd-*; do
-        count "${command##*/}" "$below/bin/${command##*/}" --help
-    done
     if [ -f "$compiled" ]; then
+        count "ctfd-front, compiled" cmp "${compiled%tools}front" "$below/bin/ctfd-front"
+        count "ctfd-front" says "ctfd-front $(cat "$top/VERSION")" "$below/bin/ctfd-front" --version
         for command in ctfd-convert ctfd-debuginfo ctfd-diff ctfd-explore ctfd-show ctfd-types; do
             count "$command, compiled" cmp "$compiled" "$below/bin/$command"
         done
@@ -138,8 +137,6 @@ count "install" made install PREFIX="$work/prefix"
 )
 read -r checks wrong < "$work/counts"
 cd /
-ln -s "$work/prefix/bin/ctfd-front" "$work/linked"
-count "a command by a link" env -u CTFD PATH="/usr/bin:/bin" "$work/linked" --help
 ln -s "$work/prefix/bin/ctfd-convert" "$work/to_ctf"
 count "ctfd-convert by a link" env -u CTFD PATH="/usr/bin:/bin" \
     "$work/to_ctf" "$top/examples/lua.ctf" "$work/converted"

@@ -16,7 +16,8 @@ import sys
 from pathlib import Path
 
 PAGES = Path(__file__).resolve().parents[1] / "docs" / "man"
-COMMANDS = ("ctfd-convert", "ctfd-debuginfo", "ctfd-diff", "ctfd-explore", "ctfd-show", "ctfd-types")
+COMMANDS = ("ctfd-convert", "ctfd-debuginfo", "ctfd-diff", "ctfd-explore", "ctfd-front", "ctfd-show",
+            "ctfd-types")
 # In a help: an option, and whether a value stands behind it. In a page: an item that begins so.
 HELPED = re.compile(r"^ +(?:-\w, )?--([a-z][\w-]*)( <)?", re.MULTILINE)
 PAGED = re.compile(r"Fl -([a-z][\w-]*)( (?:Op )?Ar)?")

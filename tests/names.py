@@ -28,13 +28,13 @@ IN_A_MANUAL = re.compile(r"\bFl (-[a-z-]+)")
 OPTION = re.compile(r"(?<![\w-])--[a-z][a-z-]*[a-z]")
 # Fields and a header of libctf that we do not have; a part of an address; a unit's option of
 # systemd; files that stand for the reader's own; what each statistic of the front begins with; a
-# module that is named as a file with an ending; types of other programs; options of pahole,
-# ctfdump, abidiff, cargo, pip and rt.
+# module that is named as a file with an ending; types of other programs; words of nginx; options
+# of pahole, ctfdump, abidiff, cargo, pip and rt.
 FOREIGN = {
     "ctfd_front_",
     "own.c", "specs/TOPIC.antt", "sys/ctf.h",
     "ADDR", "MemoryMax", "ctb_type",
-    "ctfd.replies",
+    "ctfd.replies", "limit_conn", "proxy_ssl",
     "PyInterpreterState", "PyObject_Repr", "_PyRuntimeState", "task_struct",
     "--anew", "--btf", "--cacheline", "--class", "--compile", "--ctf", "--open", "--prettify",
     "--suppressions", "--system-site-packages",
@@ -84,9 +84,7 @@ def missing(page: Path, known: Known) -> Iterator[str]:
             if not known.has_file(quoted):
                 yield quoted
         elif CODE.fullmatch(quoted):
-            # Prometheus has counters end in `_total`, which the front puts behind their names.
-            names = {it: it.removesuffix("_total") for it in WORD.findall(quoted)}
-            yield from (it for it, name in names.items() if name not in known.words)
+            yield from (it for it in WORD.findall(quoted) if it not in known.words)
 
 
 def pages() -> list[Path]:

@@ -58,6 +58,19 @@ cc -g -o "$work/own" "$work/own.c"
 printf '#include <ctfd.h>\n#include <stdio.h>\nint main(void)\n{\n    %s\n}\n' \
     'return puts(CTFD_VERSION) < 0 || ctfd_status_name(CTFD_OK)[0] == 0;' > "$work/header.c"
 
+# answers_by_front FRONT: a dictionary is taken from it, over its socket.
+answers_by_front() {
+    env -i "$1" --socket "$work/socket" "own=$work/own.ctf" 2> "$work/front" &
+    local front=$! tries=0
+    while [ ! -S "$work/socket" ] && [ $tries -lt 200 ]; do sleep 0.1; tries=$((tries + 1)); done
+    python3 -c 'import socket, sys
+with socket.socket(socket.AF_UNIX) as front:
+    front.connect(sys.argv[1])
+    front.sendall(b"{\"op\":\"take\",\"owner\":0,\"name\":\"own\"}\n")
+    assert b"\"d\":1" in front.recv(999)' "$work/socket" || { kill $front; return 1; }
+    kill $front && wait $front
+}
+
 # used BELOW LIBRARIES: the types of an own program, by what stands below a folder.
 used() {
     local below=$1 libraries=$2
@@ -67,6 +80,7 @@ used() {
         for command in ctfd-convert ctfd-debuginfo ctfd-diff ctfd-explore ctfd-show ctfd-types; do
             count "$command, compiled, in $below" cmp "$compiled" "$below/bin/$command"
         done
+        count "ctfd-front in $below" answers_by_front "$below/bin/ctfd-front"
         env -i "$below/bin/ctfd-types" "$work/own.ctf" "struct point" > "$work/types" 2>&1 || true
         count "ctfd-types in $below" grep -q 'size: 32, cachelines: 1, members: 4' "$work/types"
         count "ctfd-diff in $below" env -i "$below/bin/ctfd-diff" "$work/own" "$work/own"
@@ -136,6 +150,7 @@ without_python() {
         chroot "$bare" /usr/bin/ctfd-diff --all /own.ctf /own.ctf &&
         chroot "$bare" /usr/bin/ctfd-debuginfo /own.ctf /own.debug &&
         chroot "$bare" /usr/bin/ctfd-explore /own.ctf -o /types.html &&
+        chroot "$bare" /usr/bin/ctfd-front --version | grep -q "ctfd-front $version" &&
         test -s "$bare/types.html" && test -z "$(find "$bare" -name 'python*' -type f -perm -100)"
 }
 if [ "$(id -u)" = 0 ] && [ -f "$compiled" ]; then

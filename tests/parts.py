@@ -79,7 +79,7 @@ def parts(program: str) -> list[Part]:
         # The same tests over the library in process, where the parts above ask a `ctfd serve`.
         Part("client_in_process", ["bash", "-c", IN_PROCESS, python], CLIENT,
              {**over, "CTFD_LIBRARY": str(library())}, ("archive", "compiled")),
-        Part("front", ["tests/front.sh", program], is_alone=True),
+        Part("front", ["tests/front.sh", program], after=("compiled",), is_alone=True),
         Part("gdb", ["tests/gdb.sh", program], after=("compiled",)),
         Part("drgn", [with_package("drgn"), "-m", "unittest", "-v", "tests.test_drgn"],
              CLIENT, over, ("compiled",)),

@@ -589,7 +589,7 @@ enum ctfd_status ctfd_bytes(struct ctfd *handle, uint64_t from, void *bytes, siz
 /* ---- the line protocol in process
  *
  * A service answers lines of JSON as `ctfd serve` does (docs/PROTOCOL.md), all its sessions in this
- * process. All these calls but ctfd_end and ctfd_reply take memory.
+ * process. ctfd_end, ctfd_reply and ctfd_leave take no memory, the others may.
  */
 
 /* Begins a service in which no session holds anything, in place of the one that was there. */
@@ -603,6 +603,20 @@ void ctfd_end(struct ctfd_service *handle);
  * than `text_len`, ctfd_reply gives it again. */
 enum ctfd_status ctfd_line(struct ctfd_service *handle, const char *line, size_t line_len,
     char *text, size_t text_len, uint64_t *len);
+
+/* Answers a line as a session's, whatever number its `s` names; the reply has that number. An object
+ * without `s` has the session's. Session 0 makes no requests: CTFD_BAD_REQUEST, and nothing is
+ * written. */
+enum ctfd_status ctfd_line_as(struct ctfd_service *handle, uint32_t session, const char *line,
+    size_t line_len, char *text, size_t text_len, uint64_t *len);
+
+/* Publishes a CTF section for session 0, as `ctfd serve NAME=FILE` does, under a name that has none
+ * yet. The section is copied. */
+enum ctfd_status ctfd_load(struct ctfd_service *handle, const char *name, size_t name_len,
+    const void *ctf, size_t ctf_len);
+
+/* Forgets all that a session has and published. Others keep what they took from it. */
+enum ctfd_status ctfd_leave(struct ctfd_service *handle, uint32_t session);
 
 /* Gives the last reply again. */
 enum ctfd_status ctfd_reply(struct ctfd_service *handle, char *text, size_t text_len,

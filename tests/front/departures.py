@@ -1,13 +1,12 @@
-"""Ends at any moment: the front is told to end, or a service dies, while clients come and leave.
+"""Ends at any moment: the front is told to end, or is killed, while clients come and leave.
 
 usage: departures.py [RUNS [SEED]]
 
 Each run starts a front and some clients. Some read all their replies, some slowly, some never; some
 leave with lines in flight and replies unread, some amid a line. At a random moment the front is
-told to end, or a service is killed, or both. Then the front has to end with the status that its
-manual page says, without a traceback, with no service and no file left behind; and whoever reads
-has been sent whole lines, each the reply to its next line. CTFD in the environment names the
-program.
+told to end, or killed. Then it has to end with the status that its manual page says, without a
+panic, and with no file left behind where it was not killed; and whoever reads has been sent whole
+lines, each the reply to its next line. CTFD in the environment names the program.
 """
 from __future__ import annotations
 
@@ -20,15 +19,14 @@ import sys
 import tempfile
 import threading
 import time
-from typing import Iterator, List, Optional, Sequence
+from typing import Iterator, List, Optional
 
-from support import PATIENCE, Front, ask, children, serve
+from support import PATIENCE, Front, ask, serve
 
 TAKE = ask("take", owner=0, name="lua")
 KIND = ask("kind", d=1, t=218)
 LARGE = ask("bytes", **{"d": 1, "from": 0, "count": 20_000})
 REPLIES = dict(zip((TAKE, KIND, LARGE), serve(TAKE + KIND + LARGE)))
-KILLED = 128 + signal.SIGKILL
 
 
 class Client(threading.Thread):
@@ -57,7 +55,7 @@ class Client(threading.Thread):
                 writer.join()
         self._socket.close()
 
-    def wrong(self) -> Optional[str]:
+    def wrong(self, is_killed: bool) -> Optional[str]:
         """What is wrong with what it was sent, if anything."""
         *lines, last = self.read.split(b"\n")
         for line, asked in zip(lines, self.sent):
@@ -65,7 +63,7 @@ class Client(threading.Thread):
                 return f"{self.way}: {line[:80]!r} in reply to {asked!r}"
         if len(lines) > len(self.sent):
             return f"{self.way}: {len(lines)} replies to {len(self.sent)} lines"
-        if last and self.way in ("reads", "waits"):
+        if last and self.way in ("reads", "waits") and not is_killed:
             return f"{self.way}: a piece of a line, {last[:80]!r}"
         return None
 
@@ -102,9 +100,7 @@ class Run:
     def __init__(self, folder: str, seed: int) -> None:
         self.chance = random.Random(seed)
         self.processes = self.chance.choice((1, 1, 2))
-        self.restarts = self.chance.random() < 0.3
         words = ["--grace", "5", "--processes", str(self.processes)]
-        words += ["--restart"] if self.restarts else []
         words += ["--withdraw"] if self.chance.random() < 0.5 else []
         self.front = Front(folder, *words, path=f"front{seed}").started()
         self.clients = [Client(self.front.path, self.chance) for _ in range(8)]
@@ -113,49 +109,32 @@ class Run:
         """Runs it; what was wrong."""
         for client in self.clients:
             client.start()
-        services = children(self.front.process.pid)
         time.sleep(self.chance.uniform(0, 0.06))
-        allowed = self._end(services)
+        how = self.chance.choice((signal.SIGTERM, signal.SIGTERM, signal.SIGINT, signal.SIGKILL))
+        is_killed = how is signal.SIGKILL
+        self.front.process.send_signal(how)
         try:
             status = self.front.process.wait(PATIENCE)
         except Exception as error:
             self.front.end(signal.SIGKILL)
             yield f"it does not end: {error}"
             return
-        if status not in allowed:
-            yield f"status {status}, and not one of {allowed}"
-        yield from self._left_behind(services)
+        if status != (-how if is_killed else 0):
+            yield f"status {status} after {how.name}"
+        yield from self._left_behind(is_killed)
 
-    def _end(self, services: Sequence[int]) -> Sequence[int]:
-        """Ends something; the statuses that are right then."""
-        ways = ("SIGTERM", "SIGINT", "kill", "kill and SIGTERM")
-        way = self.chance.choice(ways if services else ways[:2])
-        if way.startswith("kill"):
-            with contextlib.suppress(OSError):
-                os.kill(self.chance.choice(services), signal.SIGKILL)
-            if way == "kill" and not self.restarts:
-                return [KILLED]
-            time.sleep(self.chance.choice((0, 0.001, 0.02)))
-        how = signal.SIGINT if way == "SIGINT" else signal.SIGTERM
-        self.front.process.send_signal(how)
-        return [0, KILLED] if way.startswith("kill") else [0]
-
-    def _left_behind(self, services: Sequence[int]) -> Iterator[str]:
+    def _left_behind(self, is_killed: bool) -> Iterator[str]:
         """What should not be there afterwards."""
         said = self.front.said
-        if "Traceback" in said or "Error" in said:
+        if "panicked" in said or "rror" in said:
             yield said[-2000:]
-        for path in (self.front.path, f"{self.front.path}.lock"):
-            if os.path.exists(path):
-                yield f"{path} is left"
-        for service in services:
-            if os.path.exists(f"/proc/{service}"):
-                yield f"the service {service} is left"
+        files = [self.front.path] * (not is_killed) + [f"{self.front.path}.lock"]
+        yield from (f"{path} is left" for path in files if os.path.exists(path))
         for client in self.clients:
             client.join(PATIENCE)
             if client.is_alive():
                 yield f"{client.way}: it is not told of the end"
-            wrong = client.wrong()
+            wrong = client.wrong(is_killed)
             if wrong:
                 yield wrong
 

@@ -1,26 +1,23 @@
 """What the tests of the front share: fronts to start, and clients that are plain sockets."""
 from __future__ import annotations
 
+import contextlib
 import json
 import os
 import re
 import signal
 import socket
 import subprocess
-import sys
 import tempfile
 import time
 import unittest
 from pathlib import Path
-from typing import Any, Callable, Dict, List, Sequence
+from typing import Any, Callable, Dict, Iterator, List, Sequence
 
 TOP = Path(__file__).resolve().parents[2]
 PROGRAM = os.environ.get("CTFD", "")
-# A front that is judged in the place of this one has its service in its own process.
-IS_COMPILED = "CTFD_FRONT" in os.environ
-IN_PROCESS = "no process of a service is there to be killed"
-COMMAND = (Path(__file__).parent / "compiled.py" if IS_COMPILED
-           else TOP / "clients" / "python" / "ctfd-front")
+TARGET = Path(os.environ.get("CARGO_TARGET_DIR") or TOP / "clients" / "rust" / "target")
+COMMAND = os.environ.get("CTFD_FRONT", str(TARGET / "release" / "ctfd-front"))
 LUA = f"lua={TOP / 'examples' / 'lua.ctf'}"
 INT = ("f1cf0200" + 24 * "00" + "0c00000005000000" "01000000000c040020000001" "00696e7400")
 PATIENCE = float(os.environ.get("PATIENCE", "60"))
@@ -38,6 +35,7 @@ class Talker:
     """A client: a socket, and the lines that it has read."""
 
     def __init__(self, path: str) -> None:
+        self.path = path
         self.socket = socket.socket(socket.AF_UNIX)
         self.socket.settimeout(PATIENCE)
         self.socket.connect(path)
@@ -82,14 +80,15 @@ class Talker:
 
 
 class Front:
-    """A ctfd-front of a test's own."""
+    """A ctfd-front of a test's own, under another program perhaps."""
 
-    def __init__(self, folder: str, *words: str, path: str = "front.sock") -> None:
+    def __init__(self, folder: str, *words: str, path: str = "front.sock",
+                 under: Sequence[str] = ()) -> None:
         self.path = os.path.join(folder, path)
         self._log = Path(folder) / f"{path}.log"
         with self._log.open("wb") as log:
             self.process = subprocess.Popen(
-                [sys.executable, str(COMMAND), "--socket", self.path, *words, LUA],
+                [*under, COMMAND, "--socket", self.path, *words, LUA],
                 stderr=log, stdout=log, stdin=subprocess.DEVNULL)
 
     @property
@@ -107,16 +106,9 @@ class Front:
         """What it tells at SIGUSR1."""
         before = self.said
         self.process.send_signal(signal.SIGUSR1)
-        until(lambda: len(self.said) > len(before))
+        until(lambda: len(self.said) > len(before) or self.process.poll() is not None)
+        assert self.process.poll() is None, f"it has ended with {self.process.poll()}: {self.said}"
         return self.said[len(before):]
-
-    def service(self) -> int:
-        """The process of its service."""
-        if IS_COMPILED:
-            return self.process.pid
-        found = children(self.process.pid)
-        assert len(found) == 1, found
-        return found[0]
 
     def end(self, how: signal.Signals = signal.SIGTERM) -> int:
         """Ends it; the status."""
@@ -144,18 +136,28 @@ class WithFront(unittest.TestCase):
         return talker
 
 
-def children(process: int) -> List[int]:
-    """The processes that another has started."""
-    return [pid for pid in map(int, filter(str.isdigit, os.listdir("/proc")))
-            if parent(pid) == process]
-
-
-def parent(pid: int) -> int:
-    """The process that started another; 0 where that has gone."""
+@contextlib.contextmanager
+def standing(front: Front) -> Iterator[None]:
+    """The front stands still meanwhile."""
+    front.process.send_signal(signal.SIGSTOP)
     try:
-        return int(Path(f"/proc/{pid}/stat").read_text().rsplit(")", 1)[1].split()[1])
+        until(lambda: all(state(task) == "T" for task in tasks(front)))
+        yield
+    finally:
+        front.process.send_signal(signal.SIGCONT)
+
+
+def tasks(front: Front) -> List[Path]:
+    """The threads of a front."""
+    return list(Path(f"/proc/{front.process.pid}/task").iterdir())
+
+
+def state(task: Path) -> str:
+    """Whether a thread runs, sleeps or is stopped."""
+    try:
+        return (task / "stat").read_text().rsplit(")", 1)[1].split()[0]
     except OSError:
-        return 0
+        return "T"  # it has ended
 
 
 def until(holds: Callable[[], bool], patience: float = PATIENCE) -> None:

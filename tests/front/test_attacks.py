@@ -3,6 +3,7 @@ from __future__ import annotations
 
 import contextlib
 import json
+import os
 import resource
 import socket
 import threading
@@ -10,8 +11,7 @@ import time
 import unittest
 from typing import List
 
-from support import (HAND_IN, IS_COMPILED, Front, Talker, WithFront, ask, memory, processor,
-                     until)
+from support import HAND_IN, Front, Talker, WithFront, ask, memory, processor, until
 
 KIND = ask("kind", d=1, t=1)
 INTEGER = b'{"ok":{"kind":"integer"},"s":1}'
@@ -98,7 +98,6 @@ class Patience(WithFront):
         self.assertEqual(talker.ask(ask("reset", 9)), b'{"ok":{},"s":9}')
         after = memory(front.process.pid)["VmHWM"]
         self.assertLess(after - before, 16 * 1024)
-        self.assertLess(memory(front.service())["VmHWM"], 32 * 1024)
 
     def test_half_a_line_and_a_hang(self) -> None:
         front = self.front("--stalled", "1").started()
@@ -134,10 +133,11 @@ class Patience(WithFront):
         large = ask("bytes", **{"d": 1, "from": 0, "count": MEBIBYTE})
         writer = threading.Thread(target=pour, args=(deaf, large), daemon=True)
         writer.start()
-        before, questions = used(front), 500
+        before, questions = processor(front.process.pid), 500
         for _ in range(questions):
             self.assertEqual(other.ask(KIND), INTEGER)
-        self.assertLess((used(front) - before) / questions, 0.001)  # seconds of a processor
+        used = processor(front.process.pid) - before
+        self.assertLess(used / questions, 0.001)  # seconds of a processor
         self.assertLess(memory(front.process.pid)["VmHWM"], 128 * 1024)
         deaf.socket.shutdown(socket.SHUT_RDWR)  # it wakes the writer
         writer.join()
@@ -153,7 +153,7 @@ class Patience(WithFront):
         until(lambda: "unread 1" in front.tell())
 
     def test_unanswered_lines(self) -> None:
-        front = self.front("--lines", "50", "--unread", "1000").started()
+        front = self.front("--bytes", "1000", "--unread", "1000").started()
         deaf = self.talker(front)
         deaf.number()
         deaf.socket.settimeout(2)
@@ -172,10 +172,12 @@ class Patience(WithFront):
         until(lambda: "memory " in front.tell())
         self.assertLess(memory(front.process.pid)["VmHWM"], 64 * 1024)
 
-    @unittest.skipUnless(IS_COMPILED, "of the compiled front")
     def test_memory_that_the_system_refuses(self) -> None:
-        """It ends nothing: who asked for more is told so, and others are answered."""
-        front = self.front("--memory", str(1 << 30), "--user-memory", str(1 << 30)).started()
+        """It ends nothing: who asked for more is told so, others are answered, and statistics are
+        told, or said to find no memory."""
+        path = os.path.join(self.folder, "front.prom")
+        front = self.front("--memory", str(1 << 30), "--user-memory", str(1 << 30),
+                           "--metrics", path).started()
         honest = self.talker(front)
         honest.ask(HAND_IN)
         resource.prlimit(front.process.pid, resource.RLIMIT_AS, 2 * (64 * MEBIBYTE,))
@@ -184,6 +186,7 @@ class Patience(WithFront):
             with contextlib.suppress(OSError):
                 other.send(1_000_000 * b" ")
         self.assertEqual(honest.ask(KIND), INTEGER)
+        self.assertIn("connections ", front.tell())
         for other in others:
             other.socket.shutdown(socket.SHUT_WR)
         told = [other.line() for other in others]
@@ -191,6 +194,22 @@ class Patience(WithFront):
         self.assertIn(b'"name":"NotJson"', b"".join(told))
         self.assertEqual(honest.ask(KIND), INTEGER)
         self.assertEqual(front.end(), 0)
+
+    def test_memory_of_the_services(self) -> None:
+        """What needs more is refused as Memory; what is held stays, and the rest goes on."""
+        front = self.front("--service-memory", str(48 * MEBIBYTE), "--memory", str(4 * MEBIBYTE),
+                           "--connections", "20").started()
+        honest, greedy = self.talker(front), self.talker(front)
+        honest.ask(HAND_IN)
+        part = ask("part", section="str", bytes="61" * 400_000)
+        told = [greedy.ask(part) for _ in range(150)]
+        refused = [b'"name":"Memory"' in reply for reply in told]
+        self.assertIn(True, refused)
+        self.assertGreater(refused.index(True), 20)
+        self.assertEqual(honest.ask(KIND), INTEGER)
+        self.assertEqual(greedy.ask(ask("clear")), b'{"ok":{},"s":1}')
+        self.assertIn(b'"ok"', greedy.ask(part))
+        self.assertGreater(self.talker(front).number(), 2)
 
     def test_turns(self) -> None:
         """One line of each in turn: who has a thousand waiting does not come before who has one."""
@@ -263,14 +282,8 @@ def pour(talker: Talker, line: bytes) -> None:
         pass
 
 
-def used(front: Front) -> float:
-    """The processor time of a front and its service."""
-    return sum(map(processor, {front.process.pid, front.service()}))
-
-
 def files(front: Front) -> int:
     """How many files a front has open."""
-    import os
     return len(os.listdir(f"/proc/{front.process.pid}/fd"))
 
 

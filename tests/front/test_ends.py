@@ -1,7 +1,6 @@
 """How the front begins and ends, and what becomes of clients when a process is killed."""
 from __future__ import annotations
 
-import contextlib
 import os
 import signal
 import socket
@@ -12,10 +11,9 @@ import threading
 import time
 import unittest
 from pathlib import Path
-from typing import List
 
-from support import (COMMAND, HAND_IN, IN_PROCESS, IS_COMPILED, LUA, PATIENCE, Front, Talker,
-                     WithFront, ask, until)
+from support import (COMMAND, HAND_IN, LUA, PATIENCE, Front, Talker, WithFront, ask, standing,
+                     until)
 
 TAKE = ask("take", owner=0, name="lua")
 KIND = ask("kind", d=1, t=1)
@@ -53,42 +51,18 @@ class Load:
 class Kills(WithFront):
     """A process is killed in the middle of a load."""
 
-    @unittest.skipIf(IS_COMPILED, IN_PROCESS)
-    def test_service(self) -> None:
-        front = self.front().started()
-        load = Load(front)
-        os.kill(front.service(), signal.SIGKILL)
-        self.assertTrue(load.has_ended())
-        self.assertEqual(front.process.wait(PATIENCE), 128 + 9)
-        self.assertIn("the service ended by signal 9 (SIGKILL), and 4 connections with it",
-                      front.said)
-        self.assertFalse(os.path.exists(front.path))
-        self.assertTrue(self.front().started().end() == 0)
-
-    @unittest.skipIf(IS_COMPILED, IN_PROCESS)
-    def test_service_with_restart(self) -> None:
-        front = self.front("--restart").started()
-        load = Load(front)
-        before = self.talker(front).number()
-        for _ in range(2):
-            os.kill(front.service(), signal.SIGKILL)
-            self.assertTrue(load.has_ended())
-            load = Load(front)
-        talker = self.talker(front)
-        self.assertGreater(talker.number(), before)
-        self.assertIn(b'"types":526', talker.ask(TAKE))
-        self.assertEqual(front.end(), 0)
-        self.assertIn("a new service is started", front.said)
-
     def test_front(self) -> None:
-        front = self.front().started()
-        load, service = Load(front), front.service()
-        front.process.kill()
-        self.assertTrue(load.has_ended())
-        until(lambda: not is_running(service))
-        self.assertTrue(os.path.exists(front.path))
-        after = self.front().started()
-        self.assertIn(b'"types":526', self.talker(after).ask(TAKE))
+        """Clients are told by their sockets, and the next front, with the same words, begins anew
+        at the same path: that is what a unit does with Restart=on-failure."""
+        for _ in range(3):
+            front = self.front().started()
+            load = Load(front)
+            front.process.kill()
+            self.assertTrue(load.has_ended())
+            self.assertTrue(os.path.exists(front.path))
+        talker = self.talker(self.front().started())
+        self.assertEqual(talker.number(), 1)
+        self.assertIn(b'"types":526', talker.ask(TAKE))
 
     def test_clients(self) -> None:
         front = self.front("--withdraw").started()
@@ -136,32 +110,24 @@ class Ends(WithFront):
         self.assertTrue(load.has_ended())
 
     def test_beside_a_client_that_has_left(self) -> None:
-        """Its lines are still in the service, and the others' replies come all the same."""
+        """It left with lines that are not answered, and the others' replies come all the same."""
         front = self.front().started()
         gone, honest = Talker(front.path), self.talker(front)
-        service = front.service()
         large = ask("bytes", **{"d": 1, "from": 0, "count": 20_000})
         for talker in (gone, honest):
             talker.ask(TAKE)
         gone.send(KIND)  # a reply that it does not read, so that its end breaks the connection
         until(lambda: "lines 3," in front.tell())
-        os.kill(service, signal.SIGSTOP)
-        self.addCleanup(resume, service)
-        for talker in (gone, honest):
-            talker.send(50 * large)
-        time.sleep(0.3)
-        gone.close()
-        time.sleep(0.3)
-        front.process.terminate()
-        time.sleep(0.3)
-        os.kill(service, signal.SIGCONT)
-        try:
-            for _ in range(50):
-                self.assertIn(b'"length"', honest.line())
-            self.assertEqual(honest.line(), b"")
-            self.assertEqual(front.process.wait(PATIENCE), 0)
-        finally:
-            self.assertNotIn("Traceback", front.said)
+        with standing(front):
+            for talker in (gone, honest):
+                talker.send(50 * large)
+            gone.close()
+            front.process.terminate()
+        for _ in range(50):
+            self.assertIn(b'"length"', honest.line())
+        self.assertEqual(honest.line(), b"")
+        self.assertEqual(front.process.wait(PATIENCE), 0)
+        self.assertNotIn("panicked", front.said)
 
     def test_client_that_does_not_read_holds_up_no_end(self) -> None:
         front = self.front("--grace", "1").started()
@@ -234,13 +200,25 @@ class Begins(WithFront):
 
     def test_wrong_words(self) -> None:
         for words in (["--line", "1048562"], ["--lines", "0"], ["--idle", "-1"], ["--mode", "9"]):
-            ended = subprocess.run([sys.executable, str(COMMAND), "--socket", "x", *words],
+            ended = subprocess.run([COMMAND, "--socket", "x", *words],
                                    capture_output=True, text=True)
             self.assertEqual(ended.returncode, 2)
             self.assertIn(words[0], ended.stderr)
 
+    def test_words_of_older_scripts(self) -> None:
+        """They named the program of a service, had it started again, and bounded what waited for
+        it."""
+        front = self.front("--service", "/no/ctfd", "--restart", "--lines", "50").started()
+        for word in ("restart", "service", "lines"):
+            self.assertIn(f"--{word} is without effect: ", front.said)
+        self.assertIn(b'"types":526', self.talker(front).ask(TAKE))
+
+    def test_program_in_place_of_a_section(self) -> None:
+        said = self.refused(f"own={COMMAND}", status=1)
+        self.assertIn(f"`ctfd-convert {COMMAND} OUT`", said)
+
     def test_no_socket(self) -> None:
-        ended = subprocess.run([sys.executable, str(COMMAND)], capture_output=True, text=True)
+        ended = subprocess.run([COMMAND], capture_output=True, text=True)
         self.assertEqual(ended.returncode, 5)
         self.assertIn("name one by --socket PATH", ended.stderr)
 
@@ -260,8 +238,8 @@ class Begins(WithFront):
             code = ("import os, sys\n"
                     f"os.dup2({made.fileno()}, 3)\n"
                     "os.environ.update(LISTEN_FDS='1', LISTEN_PID=str(os.getpid()))\n"
-                    "os.execv(sys.executable, [sys.executable, *sys.argv[1:]])\n")
-            child = subprocess.Popen([sys.executable, "-c", code, str(COMMAND), LUA],
+                    "os.execv(sys.argv[1], sys.argv[1:])\n")
+            child = subprocess.Popen([sys.executable, "-c", code, COMMAND, LUA],
                                      pass_fds=[made.fileno()], stderr=subprocess.PIPE)
         self.addCleanup(child.communicate)
         talker = Talker(path)
@@ -276,8 +254,8 @@ class Begins(WithFront):
                 "made = socket.socket(socket.AF_UNIX)\n"
                 "os.dup2(made.fileno(), 9); os.dup2(9, 3)\n"
                 "os.environ.update(LISTEN_FDS='1', LISTEN_PID=str(os.getpid()))\n"
-                "os.execv(sys.executable, [sys.executable, *sys.argv[1:]])\n")
-        ended = subprocess.run([sys.executable, "-c", code, str(COMMAND)], capture_output=True,
+                "os.execv(sys.argv[1], sys.argv[1:])\n")
+        ended = subprocess.run([sys.executable, "-c", code, COMMAND], capture_output=True,
                                text=True)
         self.assertEqual(ended.returncode, 5)
         self.assertIn("does not listen", ended.stderr)
@@ -298,18 +276,6 @@ class Told(WithFront):
     def test_again_and_again(self) -> None:
         front = self.front("--stats", "0.2").started()
         until(lambda: front.said.count("connections 0 of 0") >= 3)
-
-
-def resume(pid: int) -> None:
-    with contextlib.suppress(OSError):
-        os.kill(pid, signal.SIGCONT)
-
-
-def is_running(pid: int) -> bool:
-    try:
-        return Path(f"/proc/{pid}/stat").read_text().split(")")[1].split()[0] != "Z"
-    except OSError:
-        return False
 
 
 if __name__ == "__main__":

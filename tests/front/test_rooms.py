@@ -1,16 +1,12 @@
-"""Several services behind one front: rooms, where clients meet, and what becomes of the others when
-one service ends."""
+"""Several services in one front: rooms, where clients meet."""
 from __future__ import annotations
 
 import json
-import os
-import signal
 import sys
 import unittest
-from typing import Dict, Set
+from typing import Set
 
-from support import (HAND_IN, IN_PROCESS, IS_COMPILED, PATIENCE, TOP, Front, Talker, WithFront,
-                     ask, children, until)
+from support import HAND_IN, TOP, Front, Talker, WithFront, ask, tasks
 
 sys.path.insert(0, str(TOP / "clients" / "python"))
 
@@ -50,8 +46,8 @@ class Rooms(WithFront):
 
     def test_operator_is_met_anywhere(self) -> None:
         front = self.front("--processes", str(SERVICES)).started()
-        processes = 0 if IS_COMPILED else SERVICES
-        self.assertEqual(len(children(front.process.pid)), processes)
+        names = [(task / "comm").read_text() for task in tasks(front)]
+        self.assertEqual(sum(name.startswith("shard ") for name in names), SERVICES)
         talkers = [self.talker(front) for _ in range(2 * SERVICES)]
         for talker in talkers:
             self.assertIn(b'"types":526', talker.ask(TAKE))
@@ -84,30 +80,6 @@ class Rooms(WithFront):
         self.assertEqual([b'"room"' in told[0], b'"d":1' in told[1], b'"struct"' in told[2],
                           b'"child"' in told[3]], [True] * 4, told)
 
-    @unittest.skipIf(IS_COMPILED, IN_PROCESS)
-    def test_service_that_ends_takes_its_own_alone(self) -> None:
-        front = self.front("--processes", "2", "--restart").started()
-        first, second = self.talker(front), self.talker(front)
-        for talker in (first, second):
-            talker.ask(TAKE)
-        by_service: Dict[str, Talker] = {}
-        gone = children(front.process.pid)[0]
-        os.kill(gone, signal.SIGKILL)
-        until(lambda: "a new service is started" in front.said)
-        ended = [talker for talker in (first, second) if not is_answered(talker)]
-        self.assertEqual(len(ended), 1, by_service)
-        until(lambda: len(children(front.process.pid)) == 2)
-        for _ in range(4):
-            self.assertIn(b'"types":526', self.talker(front).ask(TAKE))
-        self.assertEqual(front.end(), 0)
-
-    @unittest.skipIf(IS_COMPILED, IN_PROCESS)
-    def test_service_that_ends_without_restart(self) -> None:
-        """The front ends with its status; the others' lines are answered first."""
-        front = self.front("--processes", "2").started()
-        os.kill(children(front.process.pid)[0], signal.SIGKILL)
-        self.assertEqual(front.process.wait(PATIENCE), 128 + 9)
-
     def test_python_client(self) -> None:
         front = self.front("--processes", str(SERVICES)).started()
         path = str(TOP / "examples" / "lua.ctf")
@@ -121,14 +93,6 @@ class Rooms(WithFront):
         with self.assertRaises(ctfd.Gone) as caught:
             ctfd.Client(socket=front.path, room="no name")
         self.assertIn("is no name of a room", str(caught.exception))
-
-
-def is_answered(talker: Talker) -> bool:
-    """Whether its service is there still."""
-    try:
-        return b'"struct"' in talker.ask(ask("kind", d=1, t=218))
-    except (OSError, IndexError):
-        return False
 
 
 if __name__ == "__main__":

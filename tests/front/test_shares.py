@@ -6,22 +6,13 @@ import contextlib
 import fcntl
 import os
 import random
-import signal
 import socket
 import struct
-import sys
 import time
 import unittest
-from pathlib import Path
 from typing import Iterator, List
 
-from support import HAND_IN, INT, PATIENCE, TOP, Front, Talker, WithFront, ask, until
-
-sys.path.insert(0, str(TOP / "clients" / "python"))
-
-from ctfd.front.limits import Limits  # noqa: E402
-from ctfd.front.refusals import Refusal  # noqa: E402
-from ctfd.front.users import Users  # noqa: E402
+from support import HAND_IN, INT, PATIENCE, Front, Talker, WithFront, ask, standing, until
 
 KIND = ask("kind", d=1, t=1)
 INTEGER = b'{"ok":{"kind":"integer"},"s":1}'
@@ -100,29 +91,6 @@ class Queue:
 
 
 @contextlib.contextmanager
-def standing(front: Front) -> Iterator[None]:
-    """The front stands still meanwhile."""
-    front.process.send_signal(signal.SIGSTOP)
-    try:
-        until(lambda: all(state(task) == "T" for task in tasks(front)))
-        yield
-    finally:
-        front.process.send_signal(signal.SIGCONT)
-
-
-def tasks(front: Front) -> List[Path]:
-    return list(Path(f"/proc/{front.process.pid}/task").iterdir())
-
-
-def state(task: Path) -> str:
-    """Whether a thread runs, sleeps or is stopped."""
-    try:
-        return (task / "stat").read_text().rsplit(")", 1)[1].split()[0]
-    except OSError:
-        return "T"  # it has ended
-
-
-@contextlib.contextmanager
 def as_user(number: int) -> Iterator[None]:
     """What is connected here is another user's."""
     os.seteuid(number)
@@ -166,7 +134,7 @@ class Shares(WithFront):
                 self.assertIn(b'"NotPublished"', other.line())
             time.sleep(0.02 * random.random())
         self.assertGreater(rounds, 5)
-        until(lambda: queue.ended() == QUEUED)
+        until(lambda: queue.ended() == QUEUED, 10 * PATIENCE)
         self.assertIn(b'"types":1', others[0].ask(queue.has_begun(QUEUED)))
 
     def test_newcomer_is_not_behind_a_queue(self) -> None:
@@ -221,19 +189,6 @@ class OneUser(WithFront):
         for _ in range(5):
             self.talker(front).close()
         self.assertEqual(self.talker(front).line(), REFUSED % (101, b"SessionsFull"))
-
-    def test_sessions_come_back_within_the_hour(self) -> None:
-        now = 0.0
-        users = Users(Limits(user_sessions=6), lambda: now)
-        account = users.account(SOMEBODY)
-        for _ in range(6):
-            self.assertIsNone(users.refusal(account))
-            users.begin(account)
-            users.end(account)
-        self.assertIs(users.refusal(users.account(SOMEBODY)), Refusal.SESSIONS)
-        self.assertIsNone(users.refusal(users.account(ANOTHER)))
-        now = 600.0  # the sixth part of an hour
-        self.assertIsNone(users.refusal(users.account(SOMEBODY)))
 
     def test_all_sessions_are_made(self) -> None:
         front = self.front("--sessions", "2").started()

@@ -6,7 +6,6 @@ import os
 import signal
 import socket
 import subprocess
-import sys
 import time
 import unittest
 import urllib.request
@@ -110,7 +109,7 @@ class Levels(WithFront):
         with log.open("wb") as writing:
             found = os.fstat(writing.fileno())
             name = f"{found.st_dev}:{found.st_ino}" if stream is None else "1:2"
-            child = subprocess.Popen([sys.executable, str(COMMAND), "--socket", path, LUA],
+            child = subprocess.Popen([COMMAND, "--socket", path, LUA],
                                      stderr=writing, env={**os.environ, "JOURNAL_STREAM": name})
         self.addCleanup(child.wait)
         self.addCleanup(child.kill)

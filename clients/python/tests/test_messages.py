@@ -66,14 +66,6 @@ FILES = [
          r"/lua: --only luaL_reg: it has no type of this name; did you mean .*luaL_Reg.*\?"),
     Case("its own input", "ctfd-convert {}/lua {}/lua", 2, r"/lua: it is an input, .*another file"),
     Case("a folder that is not there", "ctfd-convert {}/lua {}/no/out", 2, r"cannot write \S*/no/out: No"),
-    Case("no service", "ctfd-front --service {}/nowhere --socket {}/socket lua={}/lua", 5,
-         r"/nowhere, named by --service, is no program: name the built ctfd"),
-    Case("another program", "ctfd-front --service {}/other --socket {}/socket lua={}/lua", 5,
-         r"/other is no ctfd: it does not print a version"),
-    Case("another protocol", "ctfd-front --service {}/newer --socket {}/socket lua={}/lua", 5,
-         r"/newer is ctfd 7\.0\.1, which speaks another protocol.*: install the client of that"),
-    Case("a service that ends", "ctfd-front --service {}/ends --socket {}/socket lua={}/lua", 3,
-         r"the service ended with status 3 .*: .*start ctfd-front again"),
     Case("no such file", "ctfd-debuginfo {}/nowhere {}/out", 2, r"/nowhere: No such file"),
     Case("no dictionary", "ctfd-debuginfo {}/text {}/out", 2,
          r"/text: neither an ELF file nor a CTF section: it begins with 706c6169"),
@@ -138,11 +130,6 @@ DEBUG = [
 ]
 
 
-def script(path: Path, text: str) -> None:
-    path.write_text(f"#!/bin/sh\n{text}\n")
-    path.chmod(0o755)
-
-
 def damaged_elf(data: bytes) -> bytes:
     """The file with zeros in place of the abbreviations of its debug information."""
     section = named(data, ".debug_abbrev")
@@ -171,9 +158,6 @@ class Messages(unittest.TestCase):
         }
         for name, data in files.items():
             (place / name).write_bytes(data)
-        script(place / "other", "echo hello")
-        script(place / "newer", "echo ctfd 7.0.1")
-        script(place / "ends", '[ "$1" = --version ] && exec echo ctfd 0.2.0; exit 3')
 
     def say(self, cases: List[Case]) -> None:
         for case in cases:

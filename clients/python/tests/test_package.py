@@ -11,7 +11,6 @@ import unittest
 from pathlib import Path
 
 import ctfd
-from ctfd.front import journal
 from ctfd.tools import running
 
 CLIENT = Path(__file__).resolve().parents[1]
@@ -69,16 +68,6 @@ class Messages(unittest.TestCase):
         with self.assertLogs("ctfd", "WARNING") as seen, contextlib.redirect_stderr(said):
             running.warn("ctfd-diff", "once")
         self.assertEqual([record.getMessage() for record in seen.records], ["once"])
-
-    def test_the_front(self) -> None:
-        said = io.StringIO()
-        with contextlib.redirect_stderr(said):
-            journal.say("it began")
-        self.assertEqual(said.getvalue(), "ctfd-front: it began\n")
-        with self.assertLogs("ctfd.front", "WARNING") as seen:
-            journal.say("a line", journal.Level.WARNING)
-            journal.say("more", journal.Level.INFO)
-        self.assertEqual([record.getMessage() for record in seen.records], ["a line"])
 
     def test_the_collector_is_as_it_was(self) -> None:
         import gc

@@ -10,15 +10,12 @@ from typing import Iterator
 
 CLIENT = Path(__file__).resolve().parents[1]
 PACKAGE = CLIENT / "ctfd"
-# A front is a command alone, which has its own folder in place of the current one.
-ELSEWHERE = {"asyncio", "gdb", "drgn", "pycparser"}
+ELSEWHERE = {"gdb", "drgn", "pycparser"}
 
 
 def names() -> Iterator[str]:
-    """Of each module of the package but the front's, the modules of others that it imports."""
+    """Of each module of the package, the modules of others that it imports."""
     for path in PACKAGE.rglob("*.py"):
-        if path.parent.name == "front":
-            continue
         for node in ast.walk(ast.parse(path.read_text(encoding="utf-8"))):
             if isinstance(node, ast.Import):
                 yield from (one.name.split(".")[0] for one in node.names)

@@ -1,5 +1,5 @@
 //! The libraries of all sessions.
-ghost use Rattle.std.specs.Prelude.{◌≡◌, ◌≢◌, ℕ, true, false};
+ghost use Rattle.std.specs.Prelude.{◌≡◌, ◌≢◌, ℕ, None, true, false};
 ghost use Rattle.ctf_protocol.specs.sessions.Runs.{Answered, IsGranted, Steps};
 ghost use Rattle.ctf_protocol.specs.sessions.State.{empty_state};
 ghost use Rattle.ctf_protocol.specs.sessions.SlotQuestions.{answer_to};
@@ -13,7 +13,7 @@ ghost use Rattle.ctf_laws.specs.Good.{AreGood, FitsChange};
 ghost use Rattle.ctf_library.specs.Telling.{makes_text};
 
 use crate::held::Held;
-use crate::libraries::{found_by, publish_in, step_in};
+use crate::libraries::{drop_new, found_by, publish_in, step_in};
 use ctf_answers::{Answer, Counts};
 use ctf_library::{Loaded, MODEL_UNSAID, Pool};
 use ctf_protocol::{Bytes, Change, Fault, Parts, PublicationName, Question, SlotNumber, placeless};
@@ -105,6 +105,16 @@ impl Broker {
         }
     }
 
+    /// Forgets all that a session holds and has published. Others keep what they took from it.
+    pub fn leave(&mut self, session: u32)
+        ensures own { kept_for self.new session ≡ None }
+        ensures others { (other : ℕ) → other ≢ session
+            → kept_for self.new other ≡ kept_for self.old other }
+        ensures good { AreGood (library_at self.old) → AreGood (library_at self.new) }
+    {
+        self.libraries.remove(&session);
+    }
+
     /// Makes the step of a change: the session's own library makes it, with what its owner has
     /// published for a take, and all others stay.
     ///
@@ -123,8 +133,12 @@ impl Broker {
         // Good libraries stay good, where the numbers of what is added have their fields' widths.
         ensures good { AreGood (library_at self.old) → FitsChange change.now
             → AreGood (library_at self.new) }
+        // A session whose library is as new takes no memory.
+        ensures spare { library_at self.new session ≡ empty_state → kept_for self.new session ≡ None }
     {
-        self.make(session, change)
+        let outcome = self.make(session, change);
+        drop_new(&mut self.libraries, session);
+        outcome
     }
 
     fn make(&mut self, session: u32, change: &Change) -> Result<Counts, Fault>

@@ -1,5 +1,5 @@
 //! Sessions and their libraries.
-ghost use Rattle.std.specs.Prelude.{◌≡◌, ◌≢◌, ℕ, IfOk, OnErr, true, false};
+ghost use Rattle.std.specs.Prelude.{◌≡◌, ◌≢◌, ℕ, IfOk, None, OnErr, true, false};
 ghost use Rattle.ctf_answers.specs.Replies.{said, said_to};
 ghost use Rattle.ctf_protocol.specs.sessions.Runs.{Answered, IsGranted, Steps, found_in};
 ghost use Rattle.ctf_protocol.specs.sessions.State.{empty_state};
@@ -33,6 +33,24 @@ pub fn found_by(
     match held.library().published(name.as_slice()) {
         Some(loaded) => Ok(Some(loaded.share()?)),
         None => Ok(None),
+    }
+}
+
+/// Gives back the memory of a session's library that is as new.
+pub fn drop_new(libraries: &mut BTreeMap<u32, Held>, session: u32)
+    ensures own { library_at libraries.new.entries session
+        ≡ library_at libraries.old.entries session }
+    ensures others { (other : ℕ) → other ≢ session
+        → kept_for libraries.new.entries other ≡ kept_for libraries.old.entries other }
+    ensures spare { library_at libraries.new.entries session ≡ empty_state
+        → kept_for libraries.new.entries session ≡ None }
+{
+    let is_new = match libraries.get(&session) {
+        Some(held) => held.library().is_new(),
+        None => false,
+    };
+    if is_new {
+        libraries.remove(&session);
     }
 }
 

@@ -1,4 +1,5 @@
 pub mod Given
+pub mod Operating
 pub mod Owned
 pub mod Served
 pub mod OptionBoxes

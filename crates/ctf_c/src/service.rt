@@ -2,15 +2,18 @@
 
 ghost use Rattle.std.specs.Prelude.{◌≡◌, None};
 ghost use Rattle.ctf_c.specs.service.Given.{Begins, Repeats, Serves};
+ghost use Rattle.ctf_c.specs.service.Operating.{Leaves, LoadsNamed, OfOpen, ServesAs};
 
 mod given;
 mod handle;
 mod state;
 
+use crate::given::status;
 use crate::handles::OptionBox;
 use crate::service::given::tell;
 use crate::service::handle::Handle;
 use crate::service::state::Service;
+use ctf_protocol::{Fault, PublicationName, placeless};
 use std::alloc::Global;
 
 /// The status where nothing is open.
@@ -66,6 +69,105 @@ pub extern "C" fn ctfd_line(handle: &mut Handle, line: &[u8], text: &mut [u8], l
         handle.new.held.service }
 {
     answer(handle.option_box(), line, text, len)
+}
+
+/// Answers a line as a session by the service that is open.
+fn answer_as(
+    service: &mut OptionBox<Service>,
+    session: u32,
+    line: &[u8],
+    text: &mut [u8],
+    len: &mut u64,
+) -> u32
+    ensures { ServesAs session service.old.held.value line.now result
+        (record { text = text.old; len = len.old }) (record { text = text.new; len = len.new })
+        service.new.held.value }
+{
+    let Some(service) = service.get_mut() else {
+        return NOT_OPEN;
+    };
+    if session == 0 {
+        return status(placeless(Fault::BAD_REQUEST));
+    }
+    service.answer_as(session, line);
+    tell(service.reply(), text, len);
+    0
+}
+
+/// Answers a line as a session, whatever number it names; the reply has the number that it names.
+/// Session 0 is the operator's, which makes no requests.
+#[unsafe(no_mangle)]
+pub extern "C" fn ctfd_line_as(
+    handle: &mut Handle,
+    session: u32,
+    line: &[u8],
+    text: &mut [u8],
+    len: &mut u64,
+) -> u32
+    ensures { ServesAs session handle.old.held.service line.now result
+        (record { text = text.old; len = len.old }) (record { text = text.new; len = len.new })
+        handle.new.held.service }
+{
+    answer_as(handle.option_box(), session, line, text, len)
+}
+
+/// Publishes a CTF section for the operator, whose name is a text of the caller.
+fn load(alloc: Global, service: &mut Service, name: &[u8], ctf: &[u8]) -> u32
+    ensures { LoadsNamed name.now ctf.now result service.old service.new }
+{
+    let Ok(name) = Vec::from_slice(alloc, name) else {
+        return MEMORY;
+    };
+    let Some(name) = PublicationName::new(name) else {
+        return status(placeless(Fault::BAD_REQUEST));
+    };
+    let Ok(ctf) = Vec::from_slice(alloc, ctf) else {
+        return MEMORY;
+    };
+    service.load(&name, ctf)
+}
+
+/// The same by the service that is open.
+fn load_open(alloc: Global, service: &mut OptionBox<Service>, name: &[u8], ctf: &[u8]) -> u32
+    ensures { OfOpen (LoadsNamed name.now ctf.now result) service.old.held.value result
+        service.new.held.value }
+{
+    match service.get_mut() {
+        Some(service) => load(alloc, service, name, ctf),
+        None => NOT_OPEN,
+    }
+}
+
+/// Publishes a CTF section for the operator, session 0, under a name that has none yet.
+#[unsafe(no_mangle)]
+pub extern "C" fn ctfd_load(alloc: Global, handle: &mut Handle, name: &[u8], ctf: &[u8]) -> u32
+    ensures { OfOpen (LoadsNamed name.now ctf.now result) handle.old.held.service result
+        handle.new.held.service }
+{
+    load_open(alloc, handle.option_box(), name, ctf)
+}
+
+/// Forgets a session by the service that is open.
+fn leave(service: &mut OptionBox<Service>, session: u32) -> u32
+    ensures { OfOpen (λ s after. (result ≡ 0) × Leaves session s after) service.old.held.value
+        result service.new.held.value }
+{
+    match service.get_mut() {
+        Some(service) => {
+            service.leave(session);
+            0
+        }
+        None => NOT_OPEN,
+    }
+}
+
+/// Forgets all that a session holds and has published. Others keep what they took from it.
+#[unsafe(no_mangle)]
+pub extern "C" fn ctfd_leave(handle: &mut Handle, session: u32) -> u32
+    ensures { OfOpen (λ s after. (result ≡ 0) × Leaves session s after) handle.old.held.service
+        result handle.new.held.service }
+{
+    leave(handle.option_box(), session)
 }
 
 /// Gives the last reply again.

@@ -1,6 +1,6 @@
 -- What keeps publications right.
 use Rattle.std.proofs.Common.{◌≡◌, ℕ, ◌+◌, ◌-◌, ◌≤◌, List, [], ◌∷◌, ◌++◌, map, sum_by, Option, None, Some, refl, sym, ◌∙◌, ap, subst, Vec, arith}
-use Rattle.std.specs.Prelude.{nat_lt, option_map, true}
+use Rattle.std.specs.Prelude.{Bool, false, nat_lt, option_map, true, if◌then◌else◌}
 use Rattle.std.specs.List.{list_all}
 use Rattle.std.specs.BTreeMap.{BTreeMap, IsOrdered, insert_entry, is_at}
 use Rattle.std.specs.Map.{lookup, remove_entry, values_of}
@@ -11,7 +11,7 @@ use Rattle.std.proofs.lemmas.Map.Entries.{sum_by-remove_entry}
 use Rattle.ctf_library.proofs.ByName.{added, all_removed, at, by_bytes, found, removed, turned}
 use Rattle.ctf_library.proofs.InTurn.{in_turn_sum}
 use Rattle.ctf_library.specs.Published.{IsKept, Named, publication_of, published_in}
-use Rattle.ctf_library.specs.Turns.{in_turn}
+use Rattle.ctf_library.specs.Turns.{in_turn, placed}
 use Rattle.ctf_library.specs.declared.publication.Publication as own
 use Rattle.ctf_model.specs.opened.Sizes.{kept_bytes}
 use Rattle.ctf_model.specs.spaces.Kept.{Kept}
@@ -39,6 +39,21 @@ nothing = refl
 
 pub none_published : (es : List Named) → es ≡ [] → published_in es ≡ []
 none_published es none = ap published_in none ∙ nothing
+
+-- what stands in its turn is something
+placed_by : {X Y : Type 0} (shown : X → Y) (x other : X) (front others : List X) → (first : Bool) → map shown (if first then x ∷ other ∷ others else other ∷ front) ≡ [] → ⊥
+placed_by shown x other front others true none = let clash : shown x ∷ map shown (other ∷ others) ≡ [] = none in cc
+placed_by shown x other front others false none = let clash : shown other ∷ map shown front ≡ [] = none in cc
+
+some_placed : {X Y : Type 0} (shown : X → Y) (turn : X → ℕ) (x : X) (xs : List X) → map shown (placed turn x xs) ≡ [] → ⊥
+some_placed shown turn x [] none = let clash : shown x ∷ [] ≡ [] = none in cc
+some_placed shown turn x (other ∷ others) none = placed_by shown x other (placed turn x others) others (nat_lt (turn x) (turn other)) none
+
+pub published_none : (es : List Named) → published_in es ≡ [] → es ≡ []
+unfolding in_turn
+published_none [] none = refl
+published_none (e ∷ es) none =
+    absurd (some_placed publication_of (λ (named : Named). named.1.turn) e (in_turn (λ (named : Named). named.1.turn) es) none)
 
 pub none_kept : (m : Kept_map) → IsOrdered by_bytes m → m.entries ≡ [] → IsKept m 0 0
 none_kept m ordered none =

@@ -1,5 +1,5 @@
 //! The library of one session.
-ghost use Rattle.std.specs.Prelude.{◌≡◌, ◌⊎◌, ◌+◌, ◌≤◌, None, Some, Ok, Err, IfOk, IfErr, OnOk, true, false, is_some, option_map, option_and_then, option_copied};
+ghost use Rattle.std.specs.Prelude.{◌≡◌, ◌↔◌, IsTrue, ◌⊎◌, ◌+◌, ◌≤◌, None, Some, Ok, Err, IfOk, IfErr, OnOk, true, false, is_some, option_map, option_and_then, option_copied};
 ghost use Rattle.ctf_protocol.specs.sessions.Charges.{charge, slot_bytes};
 ghost use Rattle.ctf_protocol.specs.sessions.Publications.{published_as};
 ghost use Rattle.ctf_protocol.specs.sessions.State.{empty_state};
@@ -81,6 +81,22 @@ impl Library {
             stage: Stage::new(),
             published: Publications::new(),
         }
+    }
+
+    /// Whether it is as a new one.
+    pub fn is_new(&self) -> bool
+        ensures { IsTrue result ↔ (self.now ≡ empty_state) }
+    {
+        if !self.slots.is_empty() {
+            return false;
+        }
+        if self.next != 1 {
+            return false;
+        }
+        if !self.stage.is_empty() {
+            return false;
+        }
+        self.published.is_empty()
     }
 
     /// What it has published under a name.

@@ -1,5 +1,5 @@
 //! Dictionaries under names, in the order of the names.
-ghost use Rattle.std.specs.Prelude.{◌≡◌, ◌+◌, ◌<◌, ◌^◌, ◌++◌, [], ◌∷◌, None, OnErr, OnOk, is_some, option_map, sum_by};
+ghost use Rattle.std.specs.Prelude.{◌≡◌, ◌+◌, ◌<◌, ◌^◌, ◌++◌, [], ◌∷◌, None, OnErr, OnOk, is_some, option_map, sum_by, ◌↔◌, IsTrue};
 ghost use Rattle.ctf_model.specs.opened.Sizes.{kept_bytes};
 ghost use Rattle.ctf_protocol.specs.sessions.Charges.{publication_bytes};
 ghost use Rattle.ctf_protocol.specs.sessions.Publications.{published_as, published_without};
@@ -44,6 +44,13 @@ impl PublicationMap {
             turns: 0,
             bytes: 0,
         }
+    }
+
+    /// Whether nothing is published.
+    pub fn is_empty(&self) -> bool
+        ensures { IsTrue result ↔ (self.now ≡ []) }
+    {
+        self.by_name.is_empty()
     }
 
     /// How many bytes all of them have.

@@ -1,5 +1,5 @@
 //! What a session published, which takes memory of its own from the first publication on.
-ghost use Rattle.std.specs.Prelude.{◌≡◌, ◌+◌, ◌<◌, ◌^◌, ◌++◌, [], ◌∷◌, None, OnErr, OnOk, is_some, option_map, sum_by};
+ghost use Rattle.std.specs.Prelude.{◌≡◌, ◌+◌, ◌<◌, ◌^◌, ◌++◌, [], ◌∷◌, None, OnErr, OnOk, is_some, option_map, sum_by, ◌↔◌, IsTrue};
 ghost use Rattle.ctf_model.specs.opened.Sizes.{kept_bytes};
 ghost use Rattle.ctf_protocol.specs.sessions.Charges.{publication_bytes};
 ghost use Rattle.ctf_protocol.specs.sessions.Publications.{published_as, published_without};
@@ -32,6 +32,16 @@ impl Publications {
         ensures { result ≡ [] }
     {
         Publications { map: None }
+    }
+
+    /// Whether nothing is published.
+    pub fn is_empty(&self) -> bool
+        ensures { IsTrue result ↔ (self.now ≡ []) }
+    {
+        match &self.map {
+            Some(map) => map.is_empty(),
+            None => true,
+        }
     }
 
     /// How many bytes all of them have.

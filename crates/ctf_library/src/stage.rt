@@ -1,5 +1,5 @@
 //! The stage of a session, which takes memory of its own from the first part on.
-ghost use Rattle.std.specs.Prelude.{true, ◌≡◌, ◌≤◌, ◌⊎◌, ◌++◌, length, Some, None, OnOk, OnErr, IfOk, IfErr, IfSome};
+ghost use Rattle.std.specs.Prelude.{true, ◌↔◌, IsTrue, ◌≡◌, ◌≤◌, ◌⊎◌, ◌++◌, length, Some, None, OnOk, OnErr, IfOk, IfErr, IfSome};
 ghost use Rattle.ctf_check.specs.Stages.{fault_before_chains};
 ghost use Rattle.ctf_model.specs.rules.Faults.{first_fault as fault_of};
 ghost use Rattle.ctf_model.specs.format.Lists.{no_lists};
@@ -44,6 +44,16 @@ impl Stage {
         ensures { result ≡ no_lists }
     {
         Stage { staged: None }
+    }
+
+    /// Whether the lists are as before the first part.
+    pub fn is_empty(&self) -> bool
+        ensures { IsTrue result ↔ (self.now ≡ no_lists) }
+    {
+        match &self.staged {
+            Some(staged) => staged.is_empty(),
+            None => true,
+        }
     }
 
     /// How many bytes the lists have.

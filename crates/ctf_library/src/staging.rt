@@ -1,5 +1,5 @@
 //! Staged lists, and what is known of them.
-ghost use Rattle.std.specs.Prelude.{true, ◌≡◌, ◌≢◌, ◌≤◌, ◌<◌, ◌⊎◌, ◌++◌, length, [], Some, None, OnOk, OnErr, IfOk, IfErr, IfSome, unwrap_or};
+ghost use Rattle.std.specs.Prelude.{true, ◌↔◌, IsTrue, ◌≡◌, ◌≢◌, ◌≤◌, ◌<◌, ◌⊎◌, ◌++◌, length, [], Some, None, OnOk, OnErr, IfOk, IfErr, IfSome, unwrap_or};
 ghost use Rattle.ctf_check.specs.Stages.{fault_before_chains};
 ghost use Rattle.ctf_model.specs.rules.Faults.{first_fault as fault_of};
 ghost use Rattle.ctf_model.specs.format.Lists.{no_lists};
@@ -157,6 +157,19 @@ impl Staged {
     {
         let Staged { parts, .. } = mem::replace(self, Staged::new(alloc));
         parts
+    }
+
+    /// Whether they are as before the first part.
+    pub fn is_empty(&self) -> bool
+        ensures { IsTrue result ↔ (self.now ≡ no_lists) }
+    {
+        if !self.parts.ctf.is_empty() {
+            return false;
+        }
+        if self.parts.sym.is_some() {
+            return false;
+        }
+        self.parts.strs.is_none()
     }
 
     /// How many bytes they have.

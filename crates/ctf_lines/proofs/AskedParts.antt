@@ -11,6 +11,7 @@ use Rattle.ctf_json.specs.Told.{is_one_of}
 use Rattle.ctf_json.specs.Values.{are, is_small, is_text, keys}
 use Rattle.ctf_json.specs.declared.wanted.Wanted.{Wanted}
 use Rattle.ctf_json.specs.declared.wanted.Wanted.TheVariants.{Texts, Numbers, Nothing}
+use Rattle.ctf_lines.specs.Numbered.{number_or, value_asked_or}
 use Rattle.ctf_model.specs.declared.numbers.TypeNum.{TypeNum}
 use Rattle.ctf_model.specs.spaces.Kept.{model_unsaid}
 use Rattle.ctf_protocol.specs.declared.addables.Addable.{Addable}
@@ -386,6 +387,10 @@ module _ (a b : Data) (same : (key : List ℕ) → is_one_of key keys ≡ true �
   asked_by None = refl
   asked_by (Some s) = ap (asks.or_bad_request s) request
 
+  -- its number, or that which is given
+  session_or : (given : Option ℕ) → number_or given a ≡ number_or given b
+  session_or given = λ i. if unsaid (codes "s") refl i then given else number 1 4294967295 (codes "s") refl i
+
   -- the same is asked
-  pub asked-same : asks.value_asked (Some a) ≡ asks.value_asked (Some b)
-  asked-same = ap (asks.asked_by a) (number 1 4294967295 (codes "s") refl) ∙ asked_by (fields.number_in 1 4294967295 (codes "s") b)
+  pub asked_or-same : (given : Option ℕ) → value_asked_or given (Some a) ≡ value_asked_or given (Some b)
+  asked_or-same given = ap (asks.asked_by a) (session_or given) ∙ asked_by (number_or given b)

@@ -14,3 +14,4 @@ pub mod Decimals
 pub mod AskedParts
 pub mod Needing
 pub mod Pushed
+pub mod Numbered

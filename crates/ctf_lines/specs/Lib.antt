@@ -5,3 +5,4 @@ pub mod Putting
 pub mod Rows
 pub mod LineBuffers
 pub mod Memory
+pub mod Numbered

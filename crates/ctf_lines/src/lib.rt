@@ -25,5 +25,5 @@ mod writing;
 pub use ctf_json::Scratch;
 pub use line_traits::{FromLine, ToLine};
 pub use no_memory::memory_line;
-pub use reading::LONGEST_LINE;
+pub use reading::{LONGEST_LINE, read_as};
 pub use writing::{SHORT_LINE, SHORT_PASS, write_change};

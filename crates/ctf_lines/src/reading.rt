@@ -1,11 +1,14 @@
 //! Reads the request of a line.
-ghost use Rattle.std.specs.Prelude.{◌≡◌, ◌≢◌, ◌≤◌, IfSome, Option, None, Some, IfOk, IfErr, Ok, Err, codes, option_map, option_and_then, OnErr, true};
+ghost use Rattle.std.specs.Prelude.{◌≡◌, ◌≢◌, ◌≤◌, ◌<◌, IfSome, Option, length, None, Some, IfOk, IfErr, Ok, Err, codes, option_map, option_and_then, OnErr, true};
 ghost use Rattle.serde_json.specs.Find.{as_array, as_number, as_u64, get};
 ghost use Rattle.serde_json.specs.Read.{read as read_json};
 ghost use Rattle.ctf_joined.specs.Joined.{texts};
 ghost use Rattle.ctf_json.specs.Values.{line_said as view, texts_said, value_said as value_view};
+ghost use Rattle.std.specs.Option.{ForSome};
 ghost use Rattle.ctf_lines.specs.Memory.{keeps_text, takes_memory, word_keeps_text};
-ghost use Rattle.ctf_protocol.specs.lines.Ask.{ask, open_asked, list_named, close_asked, import_asked, publication_asked, publish_asked, take_asked, withdraw_asked, about_type as type_question_asked, about_slot as slot_question_asked, about_held as held_question_asked, bytes_asked, symbol_asked, show_asked, names_asked, part_asked, word_asked, asked_with, value_asked};
+ghost use Rattle.ctf_lines.specs.Numbered.{ask_as, ask_or, begins_object as starts_object, given_to as number_given, is_blank as blank, number_or, value_asked_or};
+ghost use Rattle.ctf_protocol.specs.lines.Lines.{longest_line};
+ghost use Rattle.ctf_protocol.specs.lines.Ask.{ask, open_asked, list_named, close_asked, import_asked, publication_asked, publish_asked, take_asked, withdraw_asked, about_type as type_question_asked, about_slot as slot_question_asked, about_held as held_question_asked, bytes_asked, symbol_asked, show_asked, names_asked, part_asked, word_asked, asked_with};
 ghost use Rattle.ctf_protocol.specs.lines.LineFields.{names_spelled, in_range, number_in, text_in, slot_under as slot_named, slot_in, type_asked, name_under as name_asked, from_asked, count_asked, window_asked};
 ghost use Rattle.ctf_protocol.specs.words.Words.{word_named, words};
 ghost use Rattle.ctf_model.specs.rules.Refusals.{placeless, out_of_memory};
@@ -45,17 +48,90 @@ impl FromLine for Request {
         scratch: &mut Scratch,
         line: &[u8],
     ) -> Result<(u32, Request), (u32, Fault)> {
-        if line.len() > LONGEST_LINE {
-            return Err((0, placeless(Fault::LONG_LINE)));
+        read_or(alloc, scratch, line, None)
+    }
+}
+
+#[inline(always)]
+fn is_blank(c: u8) -> bool
+    ensures { result ≡ blank c }
+{
+    (c == b' ') | (c == b'\t') | (c == b'\n') | (c == b'\r')
+}
+
+/// Whether a text begins with a brace, behind blanks.
+fn begins_object(text: &[u8]) -> bool
+    ensures { result ≡ starts_object text.now }
+{
+    for byte in text {
+        if !is_blank(*byte) {
+            return *byte == b'{';
         }
-        let Ok(text) = str::from_utf8(line) else {
-            return Err((0, placeless(Fault::NOT_JSON)));
-        };
-        if line.len() <= LONGEST_KEPT {
-            read_text(alloc, scratch, text)
-        } else {
-            read_text(alloc, &mut Scratch::new(alloc), text)
-        }
+    }
+    false
+}
+
+/// The number that is given to a line of a session: none where that is no object.
+fn given_to(session: u32, line: &[u8]) -> Option<u32>
+    ensures { result ≡ number_given session line.now }
+{
+    if begins_object(line) {
+        Some(session)
+    } else {
+        None
+    }
+}
+
+/// Reads a line of a session, given without its newline: an object that names no number has the
+/// session's.
+pub fn read_as(
+    alloc: Global,
+    scratch: &mut Scratch,
+    session: u32,
+    line: &[u8],
+) -> Result<(u32, Request), (u32, Fault)>
+    requires { session ≢ 0 }
+    ensures ok { IfOk result (λ said. ask_as session line.now ≡ Ok said) }
+    ensures session { IfOk result (λ said. said.0 ≢ 0) }
+    ensures refused { IfErr result (λ refusal. refusal.1.code ≢ MEMORY
+        → ask_as session line.now ≡ Err refusal) }
+    ensures memory { IfErr result (λ refusal. refusal.1.code ≡ MEMORY
+        → refusal ≡ (0, out_of_memory)) }
+    ensures needed { IfErr result (λ refusal. refusal.1.code ≡ MEMORY
+        → takes_memory line.now ≡ true) }
+    ensures long { longest_line < length line.now → ask_as session line.now ≡ result }
+{
+    read_or(alloc, scratch, line, given_to(session, line))
+}
+
+/// Reads a line, which has the number that is given where it names none.
+fn read_or(
+    alloc: Global,
+    scratch: &mut Scratch,
+    line: &[u8],
+    given: Option<u32>,
+) -> Result<(u32, Request), (u32, Fault)>
+    requires { ForSome given (λ n. n ≢ 0) }
+    ensures ok { IfOk result (λ said. ask_or given line.now ≡ Ok said) }
+    ensures session { IfOk result (λ said. said.0 ≢ 0) }
+    ensures refused { IfErr result (λ refusal. refusal.1.code ≢ MEMORY
+        → ask_or given line.now ≡ Err refusal) }
+    ensures memory { IfErr result (λ refusal. refusal.1.code ≡ MEMORY
+        → refusal ≡ (0, out_of_memory)) }
+    ensures needed { IfErr result (λ refusal. refusal.1.code ≡ MEMORY
+        → takes_memory line.now ≡ true) }
+    ensures long { longest_line < length line.now → ask_or given line.now ≡ result }
+{
+    if line.len() > LONGEST_LINE {
+        return Err((0, placeless(Fault::LONG_LINE)));
+    }
+    let Ok(text) = str::from_utf8(line) else {
+        return Err((0, placeless(Fault::NOT_JSON)));
+    };
+    if line.len() <= LONGEST_KEPT {
+        read_text(alloc, scratch, text, given)
+    } else {
+        read_text(alloc, &mut Scratch::new(alloc), text, given)
     }
 }
 
@@ -64,11 +140,13 @@ fn read_text(
     alloc: Global,
     scratch: &mut Scratch,
     text: &str,
+    given: Option<u32>,
 ) -> Result<(u32, Request), (u32, Fault)>
-    ensures ok { IfOk result (λ said. value_asked (read_json text.now) ≡ Ok said) }
+    requires { ForSome given (λ n. n ≢ 0) }
+    ensures ok { IfOk result (λ said. value_asked_or given (read_json text.now) ≡ Ok said) }
     ensures session { IfOk result (λ said. said.0 ≢ 0) }
     ensures refused { IfErr result (λ refusal. refusal.1.code ≢ MEMORY
-        → value_asked (read_json text.now) ≡ Err refusal) }
+        → value_asked_or given (read_json text.now) ≡ Err refusal) }
     ensures memory { IfErr result (λ refusal. refusal.1.code ≡ MEMORY
         → refusal ≡ (0, out_of_memory)) }
     ensures needed { IfErr result (λ refusal. refusal.1.code ≡ MEMORY
@@ -76,33 +154,51 @@ fn read_text(
 {
     let mut line = Line::new();
     match ctf_json::read_line(alloc, text, scratch, &mut line) {
-        Ok(()) => read_fields(alloc, &mut line),
+        Ok(()) => read_fields(alloc, &mut line, given),
         Err(NotRead::NotJson) => Err((0, placeless(Fault::NOT_JSON))),
         Err(NotRead::Memory) => Err((0, placeless(Fault::MEMORY))),
     }
 }
 
 #[inline(always)]
-fn read_fields(alloc: Global, line: &mut Line<'_>) -> Result<(u32, Request), (u32, Fault)>
-    ensures ok { IfOk result (λ said. value_asked (Some (view line.old)) ≡ Ok said) }
+fn read_fields(
+    alloc: Global,
+    line: &mut Line<'_>,
+    given: Option<u32>,
+) -> Result<(u32, Request), (u32, Fault)>
+    requires { ForSome given (λ n. n ≢ 0) }
+    ensures ok { IfOk result (λ said. value_asked_or given (Some (view line.old)) ≡ Ok said) }
     ensures session { IfOk result (λ said. said.0 ≢ 0) }
     ensures refused { IfErr result (λ refusal. refusal.1.code ≢ MEMORY
-        → value_asked (Some (view line.old)) ≡ Err refusal) }
+        → value_asked_or given (Some (view line.old)) ≡ Err refusal) }
     ensures memory { IfErr result (λ refusal. refusal.1.code ≡ MEMORY
         → refusal ≡ (0, placeless MEMORY)) }
     ensures needed { IfErr result (λ refusal. refusal.1.code ≡ MEMORY
         → word_keeps_text (word_asked (view line.old)) ≡ true) }
 {
-    let Some(session) = number(line, "s", 1, u64::from(u32::MAX)) else {
+    let Some(session) = session_of(line, given) else {
         return Err((0, placeless(Fault::BAD_REQUEST)));
     };
     let Some(word) = word(line) else {
-        return Err((session as u32, placeless(Fault::BAD_REQUEST)));
+        return Err((session, placeless(Fault::BAD_REQUEST)));
     };
     match read_word(alloc, line, word) {
-        Ok(Some(request)) => Ok((session as u32, request)),
-        Ok(None) => Err((session as u32, placeless(Fault::BAD_REQUEST))),
+        Ok(Some(request)) => Ok((session, request)),
+        Ok(None) => Err((session, placeless(Fault::BAD_REQUEST))),
         Err(AllocError) => Err((0, placeless(Fault::MEMORY))),
+    }
+}
+
+/// The number of a line, or that which is given where it names none.
+#[inline(always)]
+fn session_of(line: &Line<'_>, given: Option<u32>) -> Option<u32>
+    requires { ForSome given (λ n. n ≢ 0) }
+    ensures number { result ≡ number_or given (view line.now) }
+    ensures named { IfSome result (λ n. n ≢ 0) }
+{
+    match get(line, "s") {
+        Some(number) => Some(number_within(&number, 1, u64::from(u32::MAX))? as u32),
+        None => given,
     }
 }
 

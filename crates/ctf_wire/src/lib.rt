@@ -24,7 +24,7 @@ pub use ctf_lines::{FromLine, ToLine, memory_line};
 pub use machines::Machine;
 pub use readers::FromReader;
 pub use run_faults::RunFault;
-pub use serving::{MOST_READS, serve, serve_bounded, serves_each_session_alone};
+pub use serving::{MOST_READS, serve, serve_bounded, serves_each_session_alone, step_as};
 pub use sinks::Sink;
 pub use sources::Source;
 pub use turns::Run;

@@ -1,13 +1,12 @@
 //! Serves the lines of all sessions.
-ghost use Rattle.std.specs.Prelude.{◌≡◌, ◌≢◌, ◌⊎◌, ◌<◌, ◌^◌, length, Err};
-ghost use Rattle.ctf_protocol.specs.answers.Answers.{Reply as SaidReply};
+ghost use Rattle.std.specs.Prelude.{◌≡◌, ◌≢◌, ◌⊎◌, ◌<◌, ◌^◌, ℕ, List, length, Err};
 ghost use Rattle.ctf_protocol.specs.lines.ReplyLines.{reply_line};
-ghost use Rattle.ctf_protocol.specs.sessions.Runs.{Steps, no_memory};
+ghost use Rattle.ctf_protocol.specs.sessions.Runs.{no_memory};
 ghost use Rattle.ctf_answers.specs.Replies.{reply_of, said_to};
 ghost use Rattle.ctf_wire.specs.Endings.{IsReady, PullsAtMost};
-ghost use Rattle.ctf_wire.specs.Memory.{IsGrantedUnless};
 ghost use Rattle.ctf_wire.specs.Room.{HasReplyRoom, Replies};
 ghost use Rattle.ctf_wire.specs.Serving.{BrokerStep, ServesAlone, ServesTo};
+ghost use Rattle.ctf_wire.specs.ServingAs.{AnswersAs, LineStepsAs};
 ghost use Rattle.ctf_broker.specs.Table.{library_at};
 
 use crate::engine::answer_bounded;
@@ -18,7 +17,7 @@ use crate::sources::Source;
 use crate::turns::Run;
 use ctf_answers::{Counts, Reply};
 use ctf_broker::Broker;
-use ctf_lines::{FromLine, SHORT_LINE, Scratch, ToLine, memory_line, write_change};
+use ctf_lines::{FromLine, SHORT_LINE, Scratch, ToLine, memory_line, read_as, write_change};
 use ctf_protocol::{Fault, Request, placeless};
 use std::alloc::Global;
 
@@ -60,7 +59,7 @@ impl Machine for Broker {
     fn step(&mut self, scratch: &mut Scratch, line: &[u8], out: &mut Vec<u8>) {
         let read = Request::read(self.allocator(), scratch, line);
         match &read {
-            Ok((session, request)) => answer_request(self, *session, request, out),
+            Ok((session, request)) => answer_request(self, *session, *session, request, out),
             Err((session, fault)) => append_short(out, *session, Err(*fault)),
         }
     }
@@ -70,24 +69,48 @@ impl Machine for Broker {
     }
 }
 
-/// Answers a request of a session.
-fn answer_request(broker: &mut Broker, session: u32, request: &Request, out: &mut Vec<u8>)
+/// Answers a line as a session: an object that names no number has the session's. The reply has the
+/// number of the line.
+pub fn step_as(
+    broker: &mut Broker,
+    scratch: &mut Scratch,
+    session: u32,
+    line: &[u8],
+    out: &mut Vec<u8>,
+)
     requires session { session ≢ 0 }
     requires room { HasReplyRoom out.old }
-    ensures { (reply : SaidReply)
-        × Steps (library_at broker.old) session request.now reply (library_at broker.new)
-        × IsGrantedUnless (library_at broker.old) session request.now reply
+    ensures { (written : List ℕ) × LineStepsAs broker.old session line.now written broker.new
+        × Replies out.old written out.new }
+{
+    let read = read_as(broker.allocator(), scratch, session, line);
+    match &read {
+        Ok((own, request)) => answer_request(broker, session, *own, request, out),
+        Err((own, fault)) => append_short(out, *own, Err(*fault)),
+    }
+}
+
+/// Answers a request of a session. The reply has a number of its own.
+fn answer_request(broker: &mut Broker, session: u32, own: u32, request: &Request, out: &mut Vec<u8>)
+    requires session { session ≢ 0 }
+    requires room { HasReplyRoom out.old }
+    ensures { (written : List ℕ)
+        × AnswersAs (library_at broker.old) session own request.now written
         (library_at broker.new)
-        × Replies out.old (reply_line reply) out.new }
+        × Replies out.old written out.new }
 {
     match request {
         Request::Asks { d, question } => {
             let outcome = broker.answer(session, *d, question);
-            append_answer(out, &Reply { session, outcome });
+            let reply = Reply {
+                session: own,
+                outcome,
+            };
+            append_answer(out, &reply);
         }
         Request::Changes(change) => {
             let outcome = broker.step(session, change);
-            append_short(out, session, outcome);
+            append_short(out, own, outcome);
         }
     }
 }

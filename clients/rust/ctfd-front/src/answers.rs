@@ -7,7 +7,8 @@
 
 use crate::members::Members;
 use crate::published::Name;
-use crate::tag::{self, Own, Session};
+pub use crate::tag::Session;
+use crate::tag::{self, Own};
 use ctfd::{Fault, Refusal, Service};
 use memchr::memchr2;
 use std::collections::TryReserveError;
@@ -15,6 +16,9 @@ use std::io::Write;
 
 /// The session that hands in the operator's dictionaries. No client has this number.
 pub const OPERATOR: u32 = u32::MAX;
+
+/// The largest number of a connection's session.
+pub const LAST_SESSION: u64 = u32::MAX as u64 - 1;
 
 /// A member that stands for owner 0, behind all others.
 const FROM_OPERATOR: &[u8] = b",\"owner\":4294967295}";
@@ -172,6 +176,9 @@ fn takes_from_operator(line: &[u8]) -> bool {
     }
     takes && is_operator
 }
+
+#[cfg(test)]
+mod random_lines;
 
 #[cfg(test)]
 mod tests {

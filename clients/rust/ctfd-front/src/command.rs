@@ -14,8 +14,11 @@ publishes. Each NAME=FILE is published for all, who take it from owner 0.";
 
 const STATUSES: &str = "\
 The status is 0 if SIGTERM or SIGINT ended it; 1 if a file was refused, 3 if one can't be read and \
-4 if memory is short for one; 2 for a wrong command line; 5 if the socket can't be had; 7 if all \
-session numbers were given. SIGUSR1 writes statistics to standard error.";
+4 if memory is short for one; 2 for a wrong command line; 5 if the socket can't be had; 6 if a \
+shard ended by itself, which is a bug; 7 if all session numbers were given. SIGUSR1 writes statistics to standard error.";
+
+const IN_PROCESS: &str = "the service is in this process";
+const ANSWERED_FIRST: &str = "what is read is answered before more is read";
 
 const MOST_SHARDS: u64 = 256;
 /// The largest number of an option that has no limit of its own.
@@ -33,8 +36,10 @@ pub struct Options {
     pub stats: Option<Duration>,
     pub metrics: Option<PathBuf>,
     pub limits: Limits,
-    /// Options that mean nothing where the service is in this process.
-    pub ignored: Vec<&'static str>,
+    /// Bytes that all services may have, if that is bounded.
+    pub service_memory: Option<u64>,
+    /// Options of earlier versions that mean nothing now, and why.
+    pub ignored: Vec<(&'static str, &'static str)>,
 }
 
 /// The words of the command line. Wrong ones end the process with status 2.
@@ -42,8 +47,11 @@ pub fn options(words: impl IntoIterator<Item = OsString>) -> Options {
     let matches = command().get_matches_from(words);
     let limits = limits(&matches);
     let files = matches.get_many("files").unwrap_or_default().cloned().collect();
-    let ignored =
-        [("restart", matches.get_flag("restart")), ("service", matches.contains_id("service"))];
+    let ignored = [
+        ("restart", IN_PROCESS, matches.get_flag("restart")),
+        ("service", IN_PROCESS, matches.contains_id("service")),
+        ("lines", ANSWERED_FIRST, matches.contains_id("lines")),
+    ];
     Options {
         files,
         socket: matches.get_one("socket").cloned(),
@@ -54,7 +62,11 @@ pub fn options(words: impl IntoIterator<Item = OsString>) -> Options {
         stats: matches.get_one("stats").copied(),
         metrics: matches.get_one("metrics").cloned(),
         limits,
-        ignored: ignored.iter().filter(|(_, is_given)| *is_given).map(|(name, _)| *name).collect(),
+        service_memory: matches.get_one("service-memory").copied(),
+        ignored: ignored
+            .into_iter()
+            .filter_map(|(name, why, is_given)| is_given.then_some((name, why)))
+            .collect(),
     }
 }
 
@@ -95,7 +107,7 @@ fn of_the_socket() -> [Arg; 3] {
     ]
 }
 
-fn of_the_service() -> [Arg; 6] {
+fn of_the_service() -> [Arg; 8] {
     [
         option("processes", "N")
             .value_parser(value_parser!(u64).range(1..=MOST_SHARDS))
@@ -116,11 +128,18 @@ fn of_the_service() -> [Arg; 6] {
             "write statistics there too, for the textfile collector of Prometheus' node exporter, \
              so often or each 15 seconds",
         ),
+        option("service-memory", "N").value_parser(value_parser!(u64).range(1..=MOST)).help(
+            "bytes that all services may have together, beside what --memory bounds; a request that \
+             needs more is refused as Memory. By default there is no limit",
+        ),
         Arg::new("restart")
             .long("restart")
             .action(ArgAction::SetTrue)
             .help("for older scripts: the service is in this process, and ends with it"),
         option("service", "CTFD").help("for older scripts: the service is in this process"),
+        option("lines", "N")
+            .value_parser(value_parser!(u64).range(1..=MOST))
+            .help("for older scripts: what is read is answered before more is"),
     ]
 }
 
@@ -144,17 +163,16 @@ fn of_counts(limits: &Limits) -> [Arg; 6] {
     ]
 }
 
-fn of_bytes(limits: &Limits) -> [Arg; 6] {
+fn of_bytes(limits: &Limits) -> [Arg; 5] {
     let count = |name, default: usize, help| size(name, default as u64, MOST, help);
     let line = "bytes of a line; a longer one is refused as LongLine";
-    let lines = "unanswered lines of a connection; then it is not read from";
-    let bytes = "unanswered bytes of a connection; then it is not read from";
+    let bytes =
+        "bytes of a connection that are read at once; they are answered before more is read";
     let unread = "bytes of replies that a client has not read; then its next line waits";
     let memory = "bytes kept for all connections; then the one that asked for more is closed";
     let of_user = "bytes kept for one user's connections; then the same";
     [
         size("line", limits.line as u64, LONGEST_LINE as u64, line),
-        count("lines", limits.lines, lines),
         count("bytes", limits.bytes, bytes),
         count("unread", limits.unread, unread),
         count("memory", limits.memory, memory),
@@ -202,7 +220,6 @@ fn limits(matches: &ArgMatches) -> Limits {
         connections: size("connections", defaults.connections),
         user_connections: size("user-connections", defaults.user_connections),
         line: size("line", defaults.line),
-        lines: size("lines", defaults.lines),
         bytes: size("bytes", defaults.bytes),
         unread: size("unread", defaults.unread),
         memory: size("memory", defaults.memory),

@@ -1,14 +1,14 @@
 //! One client: what it has sent that is not answered, and what it has not read.
 
-use crate::answers::OutOfMemory;
+use crate::answers::{OutOfMemory, Session};
 use crate::incoming::{Incoming, Line};
 use crate::limits::Limits;
 use crate::published::Published;
 use crate::refusals::{Cause, Refusal};
 use crate::rooms::Room;
-use crate::tag::Session;
 use crate::tools::Tools;
 use crate::turns::LONG;
+use crate::weight::may_be_long;
 use mio::event::{Event, Source};
 use mio::net::UnixStream;
 use mio::{Interest, Registry, Token};
@@ -30,6 +30,8 @@ const OK: &[u8] = b"{\"ok\"";
 pub enum After {
     /// Another turn.
     Turn,
+    /// Others, whose requests are short: its own may be long, and is not answered yet.
+    Others,
     /// Its client, who is to send or to read.
     Client,
     /// Another shard, where its room is.
@@ -118,15 +120,25 @@ impl Connection {
     }
 
     /// Sends what waits, reads once, answers a bounded part of what has come, and sends the
-    /// replies. What the longest request took is written to `longest`. Fails with the cause by
+    /// replies. Nothing is answered where the next request may be long, and it is to wait for
+    /// others then. What the longest request took is written to `longest`. Fails with the cause by
     /// which the connection is to be closed.
-    pub fn turn(&mut self, tools: &mut Tools, longest: &mut Duration) -> Result<After, Cause> {
+    pub fn turn(
+        &mut self,
+        tools: &mut Tools,
+        may_wait: bool,
+        longest: &mut Duration,
+    ) -> Result<After, Cause> {
         self.flush(tools)?;
         if self.unread_bytes() > tools.limits.unread {
             return Ok(After::Client);
         }
         if !self.incoming.has_line() && self.is_readable {
             self.read(tools)?;
+        }
+        if may_wait && matches!(self.incoming.line(), Some(Line::Whole(line)) if may_be_long(line))
+        {
+            return Ok(After::Others);
         }
         let mut replies = std::mem::take(&mut tools.replies);
         replies.clear();

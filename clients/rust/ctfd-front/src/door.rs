@@ -7,11 +7,10 @@ use std::sync::atomic::{AtomicBool, AtomicUsize, Ordering};
 use std::sync::{Condvar, Mutex, MutexGuard, PoisonError};
 use std::time::Duration;
 
-/// So long a shard that answers a long request is waited for; then what it told before counts.
+/// So long a shard that answers a long request is waited for.
 const PATIENCE: Duration = Duration::from_millis(250);
 
 /// What a shard tells of itself.
-#[derive(Clone)]
 pub struct Snapshot {
     pub statistics: Statistics,
     pub processor: Duration,
@@ -19,7 +18,6 @@ pub struct Snapshot {
 }
 
 /// What a shard tells of an open connection.
-#[derive(Clone)]
 pub struct Row {
     pub session: u32,
     pub user: u32,
@@ -79,14 +77,14 @@ impl Door {
         self.wake();
     }
 
-    /// What it has counted: now, or before the long request that it answers.
+    /// What it has counted, or nothing where it answers a long request.
     pub fn ask(&self) -> Option<Snapshot> {
         let snapshot = lock(&self.snapshot);
         self.is_asked.store(true, Ordering::Release);
         self.wake();
         let is_waiting = |_: &mut Option<Snapshot>| self.is_asked.load(Ordering::Acquire);
         let waited = self.has_told.wait_timeout_while(snapshot, PATIENCE, is_waiting);
-        waited.unwrap_or_else(PoisonError::into_inner).0.clone()
+        waited.unwrap_or_else(PoisonError::into_inner).0.take()
     }
 
     fn wake(&self) {

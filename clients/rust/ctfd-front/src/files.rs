@@ -1,8 +1,8 @@
 //! The operator's dictionaries: NAME=FILE, read once for all shards.
 
-use crate::listening::words;
 use crate::members::Text;
 use crate::published::Name;
+use crate::text::Words;
 use std::ffi::{OsStr, OsString};
 use std::fs::File;
 use std::io::{self, Read};
@@ -78,7 +78,7 @@ fn one(word: &OsString) -> Result<Published, Trouble> {
 fn section(path: &Path) -> Result<Vec<u8>, Trouble> {
     let shown = path.display();
     let trouble = |status, message| Trouble { status, message };
-    let unread = |why: io::Error| trouble(3, format!("{shown}: {}", words(&why)));
+    let unread = |why: io::Error| trouble(3, format!("{shown}: {}", Words(&why)));
     let file = File::open(path).map_err(unread)?;
     let mut section = Vec::new();
     let is_read = file.take(LONGEST + 1).read_to_end(&mut section);

@@ -1,21 +1,24 @@
 //! The front's own thread: it takes connections, gives them to shards, and tells what they count.
 
+use crate::answers::LAST_SESSION;
 use crate::command::Options;
 use crate::connection::Connection;
 use crate::door::{Door, Snapshot};
 use crate::files::{self, Trouble};
-use crate::journal::{self, say, Level};
-use crate::listening::{words, Listener};
-use crate::metrics::{self, Figures};
+use crate::journal::{say, Level};
+use crate::listening::Listener;
+use crate::metrics::{self, Figures, Places};
 use crate::notify::notify;
 use crate::refusals::{Cause, Refusal};
 use crate::signals::Signals;
 use crate::start::{self, Thread};
-use crate::statistics::{self, Statistics};
+use crate::statistics::{Dear, Listing, Statistics};
 use crate::system;
+use crate::text::Words;
 use crate::users::{Rejection, Users};
 use mio::net::{UnixListener, UnixStream};
 use mio::{Events, Interest, Poll, Token};
+use std::fmt;
 use std::io::{self, ErrorKind, Write};
 use std::sync::Arc;
 use std::time::{Duration, Instant};
@@ -29,9 +32,6 @@ const NUMBERS_ENDED: u8 = 7;
 const PAUSE: Duration = Duration::from_secs(1);
 const METRICS_EVERY: Duration = Duration::from_secs(15);
 const TIDIED_EVERY: Duration = Duration::from_secs(60);
-/// What a text of statistics needs, and each connection in it, at most.
-const TEXT_BYTES: usize = 65_536;
-const CONNECTION_TEXT_BYTES: usize = 2_048;
 
 /// The shards, and the connections that come.
 struct Front {
@@ -45,6 +45,8 @@ struct Front {
     own: Statistics,
     sessions: u64,
     snapshots: Vec<Option<Snapshot>>,
+    /// Where the file of statistics is written, if it is.
+    places: Option<Places>,
     /// Connections may wait; not before a moment, where there are too many files.
     may_accept: bool,
     accepts_from: Instant,
@@ -55,11 +57,8 @@ struct Front {
 
 /// Serves until it is told to end; the status.
 pub fn run(options: Options, signals: Signals) -> u8 {
-    for name in &options.ignored {
-        say(
-            Level::Notice,
-            format_args!("--{name} is without effect: the service is in this process"),
-        );
+    for (name, why) in &options.ignored {
+        say(Level::Notice, format_args!("--{name} is without effect: {why}"));
     }
     match serve(options, signals) {
         Ok(status) => status,
@@ -72,9 +71,10 @@ pub fn run(options: Options, signals: Signals) -> u8 {
 
 fn serve(options: Options, signals: Signals) -> Result<u8, Trouble> {
     let trouble = |message| Trouble { status: TROUBLE, message };
-    let failed = |why: io::Error| trouble(format!("the front can't be started: {}", words(&why)));
+    let failed = |why: io::Error| trouble(format!("the front can't be started: {}", Words(&why)));
     files::refuse_programs(&options.files)?;
     start::allow_files(&options);
+    start::limit_memory(&options).map_err(failed)?;
     let listener = start::listener(&options).map_err(trouble)?;
     let published = Arc::new(files::read(&options.files).map_err(start::not_started)?);
     let users = Arc::new(Users::new(&options.limits));
@@ -93,6 +93,7 @@ fn serve(options: Options, signals: Signals) -> Result<u8, Trouble> {
         own: Statistics::new(),
         sessions: 0,
         snapshots: doors.iter().map(|_| None).collect(),
+        places: options.metrics.clone().map(Places::of),
         doors,
         may_accept: true,
         accepts_from: now,
@@ -173,7 +174,7 @@ impl Front {
                         ErrorKind::Interrupted | ErrorKind::ConnectionAborted
                     ) => {}
                 Err(why) => {
-                    let why = words(&why);
+                    let why = Words(&why);
                     say(
                         Level::Error,
                         format_args!(
@@ -195,8 +196,7 @@ impl Front {
             self.turn_away(stream, user, &rejection);
             return None;
         }
-        // The last number is that of the session which hands in the operator's files.
-        if self.sessions >= self.options.limits.sessions.min(u64::from(u32::MAX) - 1) {
+        if self.sessions >= self.options.limits.sessions.min(LAST_SESSION) {
             say(Level::Error, "all numbers of sessions were given: start ctfd-front again");
             return Some(NUMBERS_ENDED);
         }
@@ -240,28 +240,17 @@ impl Front {
             self.tell();
         } else if is_due(self.next_metrics) {
             self.next_metrics = Some(now + self.options.metrics_every());
-            if self.has_memory() {
-                self.ask();
-                self.write();
-            }
+            self.ask();
+            self.write();
         }
-    }
-
-    /// Whether there is memory for statistics, whose texts grow as strings do: where that is
-    /// refused the process ends.
-    fn has_memory(&self) -> bool {
-        let open = self.users.state().connections;
-        let mut room: Vec<u8> = Vec::new();
-        let is_there = room.try_reserve_exact(TEXT_BYTES + open * CONNECTION_TEXT_BYTES).is_ok();
-        // So that the compiler doesn't leave it out.
-        std::hint::black_box(&mut room);
-        is_there
     }
 
     /// Asks the shards what they have counted.
     fn ask(&mut self) {
         for (door, snapshot) in self.doors.iter().zip(&mut self.snapshots) {
-            *snapshot = door.ask();
+            if let Some(new) = door.ask() {
+                *snapshot = Some(new);
+            }
         }
     }
 
@@ -274,22 +263,10 @@ impl Front {
 
     /// Tells all counts, in one line.
     fn tell(&mut self) {
-        if !self.has_memory() {
-            journal::say_plain("ctfd-front: out of memory for statistics\n");
-            return;
-        }
         self.ask();
         let all = self.statistics();
-        let memory = resident();
-        let services =
-            self.doors.iter().zip(&self.snapshots).enumerate().map(|(shard, (door, snapshot))| {
-                let seconds =
-                    snapshot.as_ref().map_or(0.0, |counts| counts.processor.as_secs_f64());
-                let connections = door.connections();
-                format!("{shard} has {connections} connections, {seconds:.2} s, {memory} bytes")
-            });
-        let services = services.collect::<Vec<_>>().join(", ");
-        let dear = all.dearest().next().map(|dear| format!("; dearest: {dear}"));
+        let services = Services { doors: &self.doors, snapshots: &self.snapshots };
+        let dearest = Dearest(all.dearest().next());
         let (open, bytes) = {
             let users = self.users.state();
             (users.connections, users.bytes)
@@ -298,14 +275,13 @@ impl Front {
             Level::Info,
             format_args!(
                 "connections {open} of {}, lines {}, bytes in {}, bytes out {}, held {bytes}; \
-                 refused: {}; ended: {}; services: {services}{}",
+                 refused: {}; ended: {}; services: {services}{dearest}",
                 self.sessions,
                 all.lines,
                 all.bytes_in,
                 all.bytes_out,
-                statistics::listing(&all.refusals()),
-                statistics::listing(&all.causes()),
-                dear.unwrap_or_default(),
+                Listing(all.refusals()),
+                Listing(all.causes()),
             ),
         );
         self.write();
@@ -313,20 +289,21 @@ impl Front {
 
     /// Writes the file of statistics, where one is wanted.
     fn write(&mut self) {
-        let Some(path) = &self.options.metrics else { return };
+        let Some(places) = &self.places else { return };
         self.next_metrics = Some(Instant::now() + self.options.metrics_every());
         let statistics = self.statistics();
-        let connections: Vec<usize> = self.doors.iter().map(Door::connections).collect();
         let text = metrics::text(&Figures {
             statistics: &statistics,
             users: &self.users.state(),
             shards: &self.snapshots,
-            connections: &connections,
+            doors: &self.doors,
             connection_total: self.sessions,
-            memory: resident(),
+            memory: system::memory("VmRSS:"),
         });
-        if let Err(why) = metrics::write(path, &text) {
-            say(Level::Warning, why);
+        let put = text.bytes().ok_or(ErrorKind::OutOfMemory.into());
+        if let Err(why) = put.and_then(|bytes| places.put(bytes)) {
+            let why = Words(&why);
+            say(Level::Warning, format_args!("{places}: {why}: statistics can't be written there"));
         }
     }
 
@@ -361,10 +338,32 @@ impl Front {
     }
 }
 
-/// The resident bytes of this process.
-fn resident() -> u64 {
-    let status = std::fs::read_to_string("/proc/self/status").unwrap_or_default();
-    let line = status.lines().find_map(|line| line.strip_prefix("VmRSS:"));
-    let kibibytes = line.and_then(|line| line.split_whitespace().next());
-    1_024 * kibibytes.and_then(|digits| digits.parse().ok()).unwrap_or(0)
+/// What the line of statistics says of the services.
+struct Services<'a> {
+    doors: &'a [Door],
+    snapshots: &'a [Option<Snapshot>],
+}
+
+impl fmt::Display for Services<'_> {
+    fn fmt(&self, to: &mut fmt::Formatter<'_>) -> fmt::Result {
+        let memory = system::memory("VmRSS:");
+        for (shard, (door, snapshot)) in self.doors.iter().zip(self.snapshots).enumerate() {
+            let seconds = snapshot.as_ref().map_or(0.0, |counts| counts.processor.as_secs_f64());
+            let (comma, connections) = (if shard == 0 { "" } else { ", " }, door.connections());
+            write!(
+                to,
+                "{comma}{shard} has {connections} connections, {seconds:.2} s, {memory} bytes"
+            )?;
+        }
+        Ok(())
+    }
+}
+
+/// What it says of the request that took longest.
+struct Dearest<'a>(Option<&'a Dear>);
+
+impl fmt::Display for Dearest<'_> {
+    fn fmt(&self, to: &mut fmt::Formatter<'_>) -> fmt::Result {
+        self.0.map_or(Ok(()), |dear| write!(to, "; dearest: {dear}"))
+    }
 }

@@ -1,9 +1,10 @@
 //! Messages for the operator: lines on standard error, with the levels of journald where that reads
 //! them.
 
+use crate::text::Line;
 use std::fmt;
 use std::io::{self, Write};
-use std::sync::OnceLock;
+use std::sync::{Mutex, OnceLock, PoisonError};
 
 /// Levels, as syslog(3) has them.
 #[derive(Clone, Copy, Debug)]
@@ -17,18 +18,15 @@ pub enum Level {
 /// Writes a message. A reader of standard error that has gone is no trouble.
 pub fn say(level: Level, message: impl fmt::Display) {
     static IS_JOURNAL: OnceLock<bool> = OnceLock::new();
-    // In one write, so that no reader finds half of it.
-    let line = if *IS_JOURNAL.get_or_init(is_journal) {
-        format!("<{}>ctfd-front: {message}\n", level as u8)
+    static LINE: Mutex<Line> = Mutex::new(Line::new());
+    let mut line = LINE.lock().unwrap_or_else(PoisonError::into_inner);
+    let bytes = if *IS_JOURNAL.get_or_init(is_journal) {
+        line.hold(format_args!("<{}>ctfd-front: {message}", level as u8))
     } else {
-        format!("ctfd-front: {message}\n")
+        line.hold(format_args!("ctfd-front: {message}"))
     };
-    let _ = io::stderr().write_all(line.as_bytes());
-}
-
-/// Writes a line as it is, without memory.
-pub fn say_plain(line: &str) {
-    let _ = io::stderr().write_all(line.as_bytes());
+    // In one write, so that no reader finds half of it.
+    let _ = io::stderr().write_all(bytes);
 }
 
 /// Whether standard error is the stream of which systemd tells that its journal reads it.

@@ -5,6 +5,9 @@ use std::time::Duration;
 /// What the service takes of a line, less what the session's number needs: `,"s":4294967295`.
 pub const LONGEST_LINE: usize = 1_048_576 - 15;
 
+/// What is read at once, at most.
+pub const READ_BYTES: usize = 65_536;
+
 /// The largest number of sessions.
 pub const MOST_SESSIONS: u64 = 4_294_967_295;
 
@@ -14,7 +17,6 @@ pub struct Limits {
     pub connections: usize,
     pub user_connections: usize,
     pub line: usize,
-    pub lines: usize,
     pub bytes: usize,
     pub unread: usize,
     pub memory: usize,
@@ -34,8 +36,7 @@ impl Default for Limits {
             connections: 1_000,
             user_connections: 250,
             line: LONGEST_LINE,
-            lines: 1_000,
-            bytes: 2_097_152,
+            bytes: READ_BYTES,
             unread: 1_048_576,
             memory: 268_435_456,
             user_memory: 67_108_864,

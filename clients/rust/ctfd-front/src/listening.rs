@@ -1,6 +1,7 @@
 //! The socket that clients find: at a path, or handed over by systemd.
 
 use crate::system;
+use crate::text::Words;
 use rustix::fs::{flock, FlockOperation, Mode};
 use rustix::net::{AddressFamily, Protocol, SocketAddrUnix, SocketFlags, SocketType};
 use std::fs::{self, File, Metadata, OpenOptions};
@@ -56,13 +57,13 @@ pub fn from_systemd() -> Result<Option<Listener>, String> {
         Ok(None) => Err("what systemd hands over does not listen: ListenStream= and Accept=no \
                          are wanted"
             .into()),
-        Err(why) => Err(format!("what systemd hands over is no socket ({})", words(&why))),
+        Err(why) => Err(format!("what systemd hands over is no socket ({})", Words(&why))),
     }
 }
 
 /// A socket at a path. A file that is there is replaced where nobody listens.
 pub fn at_path(path: &Path, mode: u32, group: Option<&str>) -> Result<Listener, String> {
-    let message = |why: io::Error| format!("{}: {}", path.display(), words(&why));
+    let message = |why: io::Error| format!("{}: {}", path.display(), Words(&why));
     let mut lock_path = path.as_os_str().to_owned();
     lock_path.push(".lock");
     let _lock = Lock::take(Path::new(&lock_path))?;
@@ -89,12 +90,6 @@ pub fn at_path(path: &Path, mode: u32, group: Option<&str>) -> Result<Listener, 
     Ok(listener)
 }
 
-/// What the system says, without the number that Rust puts behind it.
-pub fn words(why: &io::Error) -> String {
-    let words = why.to_string();
-    words.split(" (os error").next().unwrap_or_default().to_owned()
-}
-
 fn group_number(group: &str) -> Result<u32, String> {
     group
         .parse()
@@ -106,7 +101,7 @@ fn group_number(group: &str) -> Result<u32, String> {
 /// Removes the socket of a front that was killed.
 fn remove_stale(path: &Path) -> Result<(), String> {
     let shown = path.display();
-    let message = |why: io::Error| format!("{shown}: {}", words(&why));
+    let message = |why: io::Error| format!("{shown}: {}", Words(&why));
     let metadata = match fs::symlink_metadata(path) {
         Ok(metadata) => metadata,
         Err(why) if why.kind() == ErrorKind::NotFound => return Ok(()),
@@ -161,7 +156,7 @@ impl Drop for Lock {
 /// A file of this user's own, which no other user may open.
 fn open_lock(path: &Path) -> Result<File, String> {
     let shown = path.display();
-    let message = |why: io::Error| format!("{shown}: {}", words(&why));
+    let message = |why: io::Error| format!("{shown}: {}", Words(&why));
     let mut options = OpenOptions::new();
     options.read(true).write(true).create(true).truncate(false).mode(0o600);
     let file = options.custom_flags(libc::O_NOFOLLOW).open(path).map_err(message)?;

@@ -7,11 +7,11 @@
 //! - [`start`], [`front`]: the first thread: the socket, who may connect, signals, statistics.
 //! - [`shard`], [`door`]: a shard's loop, and what other threads ask of it.
 //! - [`connection`], [`incoming`], [`tools`]: a client: its lines, its replies, and its turn.
-//! - [`turns`], [`meter`]: whose turn it is, by what each has used.
+//! - [`turns`], [`weight`], [`meter`]: whose turn it is, by what each has used.
 //! - [`answers`], [`tag`], [`members`]: the service, with the session's number in each line.
 //! - [`rooms`], [`published`]: what the front reads of lines besides.
 //! - [`users`], [`limits`], [`refusals`]: who has what, and what is too much.
-//! - [`statistics`], [`metrics`], [`journal`], [`notify`]: what an operator sees.
+//! - [`statistics`], [`metrics`], [`journal`], [`text`], [`notify`]: what an operator sees.
 //! - [`listening`], [`signals`], [`files`], [`system`]: what the system gives.
 
 mod answers;
@@ -37,9 +37,11 @@ mod start;
 mod statistics;
 mod system;
 mod tag;
+mod text;
 mod tools;
 mod turns;
 mod users;
+mod weight;
 
 use std::process::ExitCode;
 

@@ -1,30 +1,29 @@
 //! What the front has counted, as a file for the textfile collector of Prometheus' node exporter.
 
-use crate::door::{Row, Snapshot};
-use crate::listening::words;
+use crate::door::{Door, Row, Snapshot};
 use crate::statistics::Statistics;
+use crate::text::Text;
 use crate::users::State;
-use std::fmt::{Display, Write};
+use std::fmt::{self, Display, Write};
 use std::fs::{self, OpenOptions};
 use std::io::{self, ErrorKind, Write as _};
 use std::os::unix::fs::OpenOptionsExt;
-use std::path::Path;
+use std::path::{Path, PathBuf};
 
 /// What is told of all.
 pub struct Figures<'a> {
     pub statistics: &'a Statistics,
     pub users: &'a State,
     pub shards: &'a [Option<Snapshot>],
-    /// Connections of each shard.
-    pub connections: &'a [usize],
+    pub doors: &'a [Door],
     pub connection_total: u64,
     /// Resident bytes of this process.
     pub memory: u64,
 }
 
 /// The text of the file.
-pub fn text(figures: &Figures<'_>) -> String {
-    let mut page = Page(String::new());
+pub fn text(figures: &Figures<'_>) -> Text {
+    let mut page = Page(Text::default());
     of_all(&mut page, figures);
     of_users(&mut page, figures.users);
     of_shards(&mut page, figures);
@@ -33,7 +32,7 @@ pub fn text(figures: &Figures<'_>) -> String {
 }
 
 /// The lines of families, each of a name.
-struct Page(String);
+struct Page(Text);
 
 impl Page {
     fn family(&mut self, kind: &str, name: &str, help: &str) {
@@ -136,7 +135,7 @@ fn of_shards(page: &mut Page, figures: &Figures<'_>) {
         "Connections of a service.",
         all(),
         |page, name, (shard, _)| {
-            page.sample(name, &[("process", &shard)], figures.connections[shard]);
+            page.sample(name, &[("process", &shard)], figures.doors[shard].connections());
         },
     );
     let help = "Memory of the process that a service is in, which all have in common.";
@@ -173,29 +172,53 @@ fn of_connections(page: &mut Page, figures: &Figures<'_>) {
     family("connection_held_bytes", help, &|row| row.bytes as f64);
 }
 
-/// Puts the file in place whole, so that no reader finds half of it. It is made anew: what another
-/// user put there may be a link.
-pub fn write(path: &Path, text: &str) -> Result<(), String> {
-    put(path, text).map_err(|why| {
-        format!("{}: {}: statistics can't be written there", path.display(), words(&why))
-    })
+/// Where the file is, and where it is made.
+pub struct Places {
+    path: PathBuf,
+    new: PathBuf,
 }
 
-fn put(path: &Path, text: &str) -> io::Result<()> {
-    let name = path.file_name().ok_or(ErrorKind::InvalidInput)?.to_string_lossy();
-    for number in 0.. {
-        let new = path.with_file_name(format!(".{name}-{}-{number}.new", std::process::id()));
-        match OpenOptions::new().write(true).create_new(true).mode(0o666).open(&new) {
-            Err(why) if why.kind() == ErrorKind::AlreadyExists && number < 100 => continue,
-            Err(why) => return Err(why),
-            Ok(mut file) => {
-                let put = file.write_all(text.as_bytes()).and_then(|()| fs::rename(&new, path));
-                if put.is_err() {
-                    let _ = fs::remove_file(&new);
+impl Places {
+    /// Those of a file. That it is none is told where it is written.
+    pub fn of(path: PathBuf) -> Places {
+        let new = new_place(&path, 0);
+        Places { path, new }
+    }
+
+    /// Puts the file in place whole, so that no reader finds half of it. It is made anew: what
+    /// another user put there may be a link.
+    pub fn put(&self, text: &[u8]) -> io::Result<()> {
+        let mut put = self.put_by(&self.new, text);
+        for number in 1..100 {
+            match put {
+                Err(why) if why.kind() == ErrorKind::AlreadyExists => {
+                    put = self.put_by(&new_place(&self.path, number), text);
                 }
-                return put;
+                _ => break,
             }
         }
+        put
     }
-    Ok(())
+
+    /// Makes the file at another place, and puts it into its own.
+    fn put_by(&self, new: &Path, text: &[u8]) -> io::Result<()> {
+        let mut file = OpenOptions::new().write(true).create_new(true).mode(0o666).open(new)?;
+        let put = file.write_all(text).and_then(|()| fs::rename(new, &self.path));
+        if put.is_err() {
+            let _ = fs::remove_file(new);
+        }
+        put
+    }
+}
+
+impl Display for Places {
+    fn fmt(&self, to: &mut fmt::Formatter<'_>) -> fmt::Result {
+        self.path.display().fmt(to)
+    }
+}
+
+/// A place beside a path that nobody else makes.
+fn new_place(path: &Path, number: usize) -> PathBuf {
+    let name = path.file_name().unwrap_or_default().to_string_lossy();
+    path.with_file_name(format!(".{name}-{}-{number}.new", std::process::id()))
 }

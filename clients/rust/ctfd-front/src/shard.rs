@@ -111,7 +111,8 @@ impl Shard {
             let Some(connection) = self.connections[token].as_mut() else { continue };
             let mut longest = Duration::ZERO;
             let before_turn = connection.time_used;
-            let after = connection.turn(&mut self.tools, &mut longest);
+            let may_wait = self.turns.may_put_behind(token);
+            let after = connection.turn(&mut self.tools, may_wait, &mut longest);
             let answering = connection.time_used - before_turn;
             // What stalled the thread is nobody's: amid a long request, or behind a reply, whose
             // reader may have been given this processor.
@@ -132,6 +133,7 @@ impl Shard {
         let Some(connection) = self.connections[token].as_mut() else { return };
         match after {
             Ok(After::Turn) => self.turns.offer(token),
+            Ok(After::Others) => self.turns.put_behind(token),
             Ok(After::Client) => {
                 if connection.watch(self.poll.registry(), token).is_err() {
                     self.close(token, Cause::Broken);

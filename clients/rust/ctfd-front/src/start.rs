@@ -6,8 +6,11 @@ use crate::door::Door;
 use crate::files::{Published, Trouble};
 use crate::front::TROUBLE;
 use crate::journal::{say, Level};
-use crate::listening::{self, words, Listener};
+use crate::limits::Limits;
+use crate::listening::{self, Listener};
 use crate::shard::{Shard, BELL};
+use crate::system;
+use crate::text::Words;
 use crate::tools::Tools;
 use crate::users::Users;
 use mio::{Poll, Waker};
@@ -19,6 +22,10 @@ use std::thread::{self, JoinHandle};
 /// Files that are open beside connections, and those of a shard.
 const SPARE_FILES: u64 = 32;
 const SHARD_FILES: u64 = 4;
+
+/// Bytes that a shard's thread needs, with its stack, and the front for a connection.
+const SHARD_BYTES: u64 = 4 << 20;
+const CONNECTION_BYTES: u64 = 4 << 10;
 
 /// A thread of a shard. It gives the connections that it closed unread, or why it ended.
 pub type Thread = JoinHandle<io::Result<usize>>;
@@ -56,6 +63,19 @@ pub fn allow_files(options: &Options) {
     }
 }
 
+/// Bounds the memory that this process may write to: what it has, what the front may need, and what
+/// the services may have. A request that needs more is answered Memory then.
+pub fn limit_memory(options: &Options) -> io::Result<()> {
+    let Some(of_services) = options.service_memory else { return Ok(()) };
+    let Limits { memory, connections, .. } = options.limits;
+    let of_shards = SHARD_BYTES * options.shards as u64;
+    let of_front = memory as u64 + CONNECTION_BYTES * connections as u64;
+    let wanted = system::memory("VmData:") + of_shards + of_front + of_services;
+    let maximum = getrlimit(Resource::Data).maximum;
+    let current = Some(maximum.map_or(wanted, |maximum| maximum.min(wanted)));
+    Ok(setrlimit(Resource::Data, Rlimit { current, maximum })?)
+}
+
 /// A service that never answered.
 pub fn not_started(trouble: Trouble) -> Trouble {
     say(Level::Error, &trouble.message);
@@ -75,7 +95,7 @@ pub fn shards(
 ) -> Result<(Vec<Thread>, Arc<[Door]>), Trouble> {
     let failed = |why: io::Error| Trouble {
         status: TROUBLE,
-        message: format!("the service can't be started: {}", words(&why)),
+        message: format!("the service can't be started: {}", Words(&why)),
     };
     let polls: Vec<Poll> =
         (0..options.shards).map(|_| Poll::new()).collect::<io::Result<_>>().map_err(failed)?;

@@ -3,7 +3,8 @@
 use crate::answers::fault_of;
 use crate::members::Members;
 use crate::refusals::Cause;
-use std::fmt::{self, Write};
+use std::cmp::Reverse;
+use std::fmt;
 use std::time::Duration;
 
 const FAULTS: usize = 128;
@@ -29,11 +30,11 @@ impl Dear {
     }
 
     /// Its word, as far as that is in the beginning.
-    pub fn word(&self) -> String {
+    pub fn word(&self) -> &str {
         let word = Members::of(self.line()).find(|member| member.key.is("op"));
         let text = word.and_then(|member| member.text()).map_or(&[][..], |text| text.0);
         let is_word = text.len() <= 16 && text.iter().all(u8::is_ascii_lowercase);
-        String::from_utf8_lossy(if is_word { text } else { &[] }).into_owned()
+        std::str::from_utf8(text).ok().filter(|_| is_word).unwrap_or_default()
     }
 }
 
@@ -126,38 +127,51 @@ impl Statistics {
         other.dearest().for_each(|dear| self.keep(dear.clone()));
     }
 
-    /// Refusals by the names of their faults, the most frequent first.
-    pub fn refusals(&self) -> Vec<(String, u64)> {
-        let counted = (0_u16..).zip(&self.refusals_by_code).filter(|(_, count)| **count > 0);
-        let named = counted.filter_map(|(code, count)| {
-            ctfd::Fault::from_code(code).map(|fault| (format!("{fault:?}"), *count))
-        });
-        sorted(named.collect())
+    /// Refusals by their faults, the most frequent first.
+    pub fn refusals(&self) -> impl Iterator<Item = (FaultName, u64)> + Clone {
+        sorted(&self.refusals_by_code).filter_map(|(code, count)| {
+            ctfd::Fault::from_code(code as u16).map(|fault| (FaultName(fault), count))
+        })
     }
 
     /// Closed connections by what closed them, the most frequent first.
-    pub fn causes(&self) -> Vec<(String, u64)> {
-        let counted = Cause::ALL.iter().zip(&self.closes).filter(|(_, count)| **count > 0);
-        sorted(counted.map(|(cause, count)| (cause.words().to_owned(), *count)).collect())
+    pub fn causes(&self) -> impl Iterator<Item = (&'static str, u64)> + Clone {
+        sorted(&self.closes).map(|(place, count)| (Cause::ALL[place].words(), count))
     }
 }
 
-fn sorted(mut counts: Vec<(String, u64)>) -> Vec<(String, u64)> {
-    counts.sort_by_key(|(_, count)| std::cmp::Reverse(*count));
-    counts
+/// Places with a count, the largest counts first.
+fn sorted<const N: usize>(counts: &[u64; N]) -> impl Iterator<Item = (usize, u64)> + Clone {
+    let mut sorted = [(0, 0); N];
+    for ((place, count), sorted) in counts.iter().enumerate().zip(&mut sorted) {
+        *sorted = (place, *count);
+    }
+    sorted.sort_unstable_by_key(|(place, count)| (Reverse(*count), *place));
+    sorted.into_iter().take_while(|(_, count)| *count > 0)
+}
+
+/// A fault, by its name.
+#[derive(Clone, Copy)]
+pub struct FaultName(ctfd::Fault);
+
+impl fmt::Display for FaultName {
+    fn fmt(&self, to: &mut fmt::Formatter<'_>) -> fmt::Result {
+        write!(to, "{:?}", self.0)
+    }
 }
 
 /// Counts in words.
-pub fn listing(counts: &[(String, u64)]) -> String {
-    let mut text = String::new();
-    for (name, count) in counts {
-        let comma = if text.is_empty() { "" } else { ", " };
-        let _ = write!(text, "{comma}{name} {count}");
+pub struct Listing<I>(pub I);
+
+impl<I: Iterator<Item = (T, u64)> + Clone, T: fmt::Display> fmt::Display for Listing<I> {
+    fn fmt(&self, to: &mut fmt::Formatter<'_>) -> fmt::Result {
+        let mut comma = "";
+        for (name, count) in self.0.clone() {
+            write!(to, "{comma}{name} {count}")?;
+            comma = ", ";
+        }
+        to.write_str(if comma.is_empty() { "none" } else { "" })
     }
-    if text.is_empty() {
-        text.push_str("none");
-    }
-    text
 }
 
 #[cfg(test)]
@@ -187,7 +201,7 @@ mod tests {
         let mut both = statistics.clone();
         both.add(&statistics);
         assert_eq!(both.lines, 6);
-        assert_eq!(listing(&both.refusals()), "NoSlot 4");
-        assert_eq!(listing(&both.causes()), "none");
+        assert_eq!(Listing(both.refusals()).to_string(), "NoSlot 4");
+        assert_eq!(Listing(both.causes()).to_string(), "none");
     }
 }

@@ -3,7 +3,8 @@
 #![allow(unsafe_code)]
 
 use std::ffi::CString;
-use std::io;
+use std::fs::File;
+use std::io::{self, Read};
 use std::mem::{size_of, zeroed};
 use std::os::fd::{AsRawFd, FromRawFd, OwnedFd, RawFd};
 use std::os::unix::net::UnixListener;
@@ -48,6 +49,25 @@ fn option<T>(socket: &impl AsRawFd, name: libc::c_int, value: &mut T) -> io::Res
     } else {
         Err(io::Error::last_os_error())
     }
+}
+
+/// Bytes that the system counts for this process, by the name of a line of its status; 0 where that
+/// can't be read.
+pub fn memory(name: &str) -> u64 {
+    let mut status = [0; 4_096];
+    let read = File::open("/proc/self/status").and_then(|mut file| file.read(&mut status));
+    let text = read.ok().and_then(|len| std::str::from_utf8(&status[..len]).ok());
+    let line = text.and_then(|text| text.lines().find_map(|line| line.strip_prefix(name)));
+    let kibibytes = line.and_then(|line| line.split_whitespace().next()?.parse::<u64>().ok());
+    kibibytes.map_or(0, |kibibytes| 1_024 * kibibytes)
+}
+
+/// What the system says of an error's number.
+pub fn error_text(number: i32, room: &mut [u8; 128]) -> &str {
+    // SAFETY: the room is lent for the call, and as long as is said.
+    let status = unsafe { libc::strerror_r(number, room.as_mut_ptr().cast(), room.len()) };
+    let text = room.split(|byte| *byte == 0).next().unwrap_or_default();
+    std::str::from_utf8(text).ok().filter(|_| status == 0).unwrap_or("an error of the system")
 }
 
 /// The number of a group, where there is one of this name.

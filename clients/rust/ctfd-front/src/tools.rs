@@ -1,14 +1,12 @@
 //! What all connections of a shard use.
 
 use crate::answers::Answers;
-use crate::limits::Limits;
+use crate::limits::{Limits, READ_BYTES};
 use crate::meter::Meter;
 use crate::statistics::Statistics;
 use crate::users::Users;
 use std::sync::Arc;
 
-/// What is read at once.
-const READ_BYTES: usize = 65_536;
 const REPLY_BYTES: usize = 65_536;
 
 /// The service, room to read and to write, and what is counted.

@@ -2,7 +2,8 @@
 //!
 //! This is start-time fair queueing in two levels: users, and the connections of each. A tag is the
 //! time that its owner has used; one that comes, or comes again, begins at the tag of whoever was
-//! served last, so nobody saves up. The least tag is served first.
+//! served last, so nobody saves up. The least tag is served first, and of equal ones a request whose
+//! word says that it is short: who comes last is not behind all who came with a long one.
 //!
 //! A turn is short, unless a single request is long. Where others are about, a connection that had
 //! such a request rests as long as that took: they are undisturbed for half of the time, also where
@@ -20,8 +21,9 @@ pub const LONG: Duration = Duration::from_millis(2);
 const ABOUT: Duration = Duration::from_secs(1);
 const LONGEST_REST: Duration = Duration::from_secs(1);
 
-/// A place in a queue: the tag, the order of coming, and who it is.
-type Place<T> = Reverse<(u64, u64, T)>;
+/// A place in a queue: the tag, whether the next request may be long, the order of coming, and who
+/// it is.
+type Place<T> = Reverse<(u64, bool, u64, T)>;
 
 /// Who waits, by tags in nanoseconds. `now` is the tag of the one that was served last.
 struct Queue<T> {
@@ -34,9 +36,9 @@ impl<T: Ord> Queue<T> {
         Queue { heap: BinaryHeap::new(), now: 0 }
     }
 
-    fn push(&mut self, tag: &mut u64, order: u64, who: T) {
+    fn push(&mut self, tag: &mut u64, may_be_long: bool, order: u64, who: T) {
         *tag = self.now.max(*tag);
-        self.heap.push(Reverse((*tag, order, who)));
+        self.heap.push(Reverse((*tag, may_be_long, order, who)));
     }
 
     /// Room for so many.
@@ -60,6 +62,8 @@ struct Asker {
     /// The order of its place, where it has one.
     place: Option<u64>,
     is_resting: bool,
+    /// Its next request may be long, and it has been put behind those of its tag for that.
+    is_behind: bool,
 }
 
 /// Who has turns in a shard. Connections are known by their tokens.
@@ -112,7 +116,8 @@ impl Turns {
         known.connections += 1;
         self.count += 1;
         let tag = known.queue.now;
-        self.askers[token] = Some(Asker { user, tag, place: None, is_resting: false });
+        self.askers[token] =
+            Some(Asker { user, tag, place: None, is_resting: false, is_behind: false });
         Ok(())
     }
 
@@ -129,7 +134,7 @@ impl Turns {
         if let Some(user) = self.users.get_mut(&asker.user) {
             user.connections -= 1;
             if asker.place.is_some() {
-                user.queue.heap.retain(|Reverse((_, _, waits))| *waits != token);
+                user.queue.heap.retain(|Reverse((.., waits))| *waits != token);
             }
         }
         self.queue_again(asker.user);
@@ -142,7 +147,7 @@ impl Turns {
         if !user.is_waiting && !user.queue.heap.is_empty() {
             user.is_waiting = true;
             self.order += 1;
-            self.queue.push(&mut user.tag, self.order, number);
+            self.queue.push(&mut user.tag, false, self.order, number);
         }
     }
 
@@ -169,24 +174,40 @@ impl Turns {
         let Some(user) = self.users.get_mut(&asker.user) else { return };
         self.order += 1;
         asker.place = Some(self.order);
-        user.queue.push(&mut asker.tag, self.order, token);
+        user.queue.push(&mut asker.tag, asker.is_behind, self.order, token);
         if !user.is_waiting {
             user.is_waiting = true;
-            self.queue.push(&mut user.tag, self.order, asker.user);
+            self.queue.push(&mut user.tag, false, self.order, asker.user);
         }
+    }
+
+    /// Whether the one whose turn it is may be put behind others of its user, who wait.
+    pub fn may_put_behind(&self, token: usize) -> bool {
+        let Some(asker) = self.askers[token].as_ref() else { return false };
+        let user = self.users.get(&asker.user);
+        !asker.is_behind && user.is_some_and(|user| !user.queue.heap.is_empty())
+    }
+
+    /// Gives the one whose turn it is another, behind those who have used as much, since its
+    /// request may be long.
+    pub fn put_behind(&mut self, token: usize) {
+        if let Some(asker) = self.askers[token].as_mut() {
+            asker.is_behind = true;
+        }
+        self.offer(token);
     }
 
     /// Whose turn it is. It has no place any more: see `offer`.
     pub fn next(&mut self) -> Option<usize> {
-        while let Some(Reverse((tag, order, number))) = self.queue.heap.pop() {
+        while let Some(Reverse((tag, _, order, number))) = self.queue.heap.pop() {
             let Some(user) = self.users.get_mut(&number) else { continue };
             if user.tag > tag && !user.queue.heap.is_empty() {
                 // It was found to have used more since it came.
-                self.queue.heap.push(Reverse((user.tag, order, number)));
+                self.queue.heap.push(Reverse((user.tag, false, order, number)));
                 continue;
             }
             user.is_waiting = false;
-            let Some(Reverse((own_tag, _, token))) = user.queue.heap.pop() else {
+            let Some(Reverse((own_tag, _, _, token))) = user.queue.heap.pop() else {
                 self.tidy(number);
                 continue;
             };
@@ -206,6 +227,7 @@ impl Turns {
         let Some(asker) = self.askers[token].as_mut() else { return };
         let nanoseconds = took.as_nanos() as u64;
         asker.tag += nanoseconds;
+        asker.is_behind = false;
         let number = asker.user;
         if let Some(user) = self.users.get_mut(&number) {
             user.tag += nanoseconds;
@@ -251,6 +273,9 @@ impl Turns {
 }
 
 #[cfg(test)]
+mod world;
+
+#[cfg(test)]
 mod tests {
     use super::*;
 
@@ -262,53 +287,6 @@ mod tests {
     }
 
     const MILLISECOND: Duration = Duration::from_millis(1);
-
-    /// Connections of users, all of whom always have lines.
-    fn shares(users: &[u32], costs: &[Duration], turns_taken: usize) -> Vec<Duration> {
-        let (mut turns, now) = (Turns::new(), Instant::now());
-        join(&mut turns, users);
-        (0..users.len()).for_each(|token| turns.offer(token));
-        let mut used = vec![Duration::ZERO; users.len()];
-        for _ in 0..turns_taken {
-            let token = turns.next().unwrap();
-            turns.charge(token, costs[token], Duration::ZERO, now);
-            used[token] += costs[token];
-            turns.offer(token);
-        }
-        used
-    }
-
-    #[test]
-    fn users_share_equally_and_so_do_their_connections() {
-        let costs = [MILLISECOND, MILLISECOND * 3, MILLISECOND * 2, MILLISECOND / 2];
-        let used = shares(&[1, 1, 1, 2], &costs, 10_000);
-        let of_first = used[0] + used[1] + used[2];
-        assert!(of_first.abs_diff(used[3]) < MILLISECOND * 10, "{used:?}");
-        for own in &used[..3] {
-            assert!((*own * 3).abs_diff(of_first) < MILLISECOND * 20, "{used:?}");
-        }
-    }
-
-    #[test]
-    fn nobody_saves_up() {
-        let (mut turns, now) = (Turns::new(), Instant::now());
-        join(&mut turns, &[1, 2]);
-        turns.offer(0);
-        for _ in 0..100 {
-            assert_eq!(turns.next(), Some(0));
-            turns.charge(0, MILLISECOND, Duration::ZERO, now);
-            turns.offer(0);
-        }
-        turns.offer(1);
-        let mut firsts = 0;
-        for _ in 0..20 {
-            let token = turns.next().unwrap();
-            firsts += usize::from(token == 0);
-            turns.charge(token, MILLISECOND, Duration::ZERO, now);
-            turns.offer(token);
-        }
-        assert!((9..=11).contains(&firsts), "{firsts}");
-    }
 
     #[test]
     fn a_long_request_rests_where_others_are_about() {

@@ -564,5 +564,22 @@ extern "C" {
         text_len: usize,
         len: *mut u64,
     ) -> u32;
+    pub fn ctfd_line_as(
+        handle: *mut Handle,
+        session: u32,
+        line: *const u8,
+        line_len: usize,
+        text: *mut u8,
+        text_len: usize,
+        len: *mut u64,
+    ) -> u32;
+    pub fn ctfd_load(
+        handle: *mut Handle,
+        name: *const u8,
+        name_len: usize,
+        ctf: *const u8,
+        ctf_len: usize,
+    ) -> u32;
+    pub fn ctfd_leave(handle: *mut Handle, session: u32) -> u32;
     pub fn ctfd_reply(handle: *mut Handle, text: *mut u8, text_len: usize, len: *mut u64) -> u32;
 }

@@ -1,11 +1,15 @@
 //! A service: what all sessions hold, and the last reply.
-ghost use Rattle.std.specs.Prelude.{◌≡◌, ◌≤◌, [], IfOk, Some, ℕ};
+ghost use Rattle.std.specs.Prelude.{◌≡◌, ◌≢◌, ◌≤◌, [], IfOk, Some, ℕ};
+ghost use Rattle.ctf_c.specs.service.Operating.{Leaves, Loads};
 ghost use Rattle.ctf_broker.specs.Table.{library_at};
 ghost use Rattle.ctf_protocol.specs.sessions.State.{empty_state};
 ghost use Rattle.ctf_wire.specs.Serving.{BrokerStep};
+ghost use Rattle.ctf_wire.specs.ServingAs.{LineStepsAs};
 
+use crate::given::status;
 use ctf_lines::{SHORT_PASS, Scratch};
-use ctf_wire::{Broker, Machine};
+use ctf_protocol::PublicationName;
+use ctf_wire::{Broker, Machine, step_as};
 use std::alloc::{AllocError, Global};
 use std::marker::Model;
 
@@ -49,6 +53,40 @@ impl Service {
     {
         self.reply.clear();
         Machine::step(&mut self.broker, &mut self.scratch, line, &mut self.reply);
+    }
+
+    /// Answers a line as a session, whatever number it names, and keeps the reply.
+    pub fn answer_as(&mut self, session: u32, line: &[u8])
+        requires { session ≢ 0 }
+        ensures { LineStepsAs self.old.libraries session line.now self.new.reply
+            self.new.libraries }
+    {
+        self.reply.clear();
+        step_as(
+            &mut self.broker,
+            &mut self.scratch,
+            session,
+            line,
+            &mut self.reply,
+        );
+    }
+
+    /// Publishes a section for the operator, under a name that has none yet: 0, or the status of
+    /// its refusal.
+    pub fn load(&mut self, name: &PublicationName, ctf: Vec<u8>) -> u32
+        ensures { Loads name.now ctf.items result self.old self.new }
+    {
+        match self.broker.load_section(name, ctf) {
+            Ok(_) => 0,
+            Err(fault) => status(fault),
+        }
+    }
+
+    /// Forgets all that a session holds and has published.
+    pub fn leave(&mut self, session: u32)
+        ensures { Leaves session self.old self.new }
+    {
+        self.broker.leave(session);
     }
 
     /// The last reply.

@@ -1,4 +1,4 @@
-use Rattle.std.proofs.Common.{◌≡◌, ℕ, List, Ok, codes, ap, refl, sym, ◌∙◌}
+use Rattle.std.proofs.Common.{ℕ, List, Ok, codes, ap, refl, sym, ◌∙◌}
 use Rattle.std.proofs.lemmas.Result.{err_from_is_err_and}
 use Rattle.ctf_library.specs.SlotView.{slot_of}
 use Rattle.ctf_protocol.specs.sessions.Opened.{open_of}

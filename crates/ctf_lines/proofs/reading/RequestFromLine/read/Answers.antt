@@ -1,37 +1,11 @@
-use Rattle.std.proofs.Common.{refl}
-use Rattle.serde_json.specs.Read.{read}
-use Rattle.ctf_protocol.proofs.Asking.{ask-long, ask-text, ask-not_text}
+use Rattle.ctf_lines.proofs.Numbered.{ask_or-none}
 use Rattle.ctf_lines.proofs.reading.RequestFromLine.read.Goals as goal
 
-pub returns-then-line-gt-LONGEST_LINE-clause-refused : goal.returns-then-line-gt-LONGEST_LINE-clause-refused
-returns-then-line-gt-LONGEST_LINE-clause-refused c = λ ne. rw c.placeless.ensures (ask-long c.args.line.now c.if-line-gt-LONGEST_LINE.true)
+pub returns-clause-ok : goal.returns-clause-ok
+returns-clause-ok c = rw (← ask_or-none c.args.line.now) c.read_or.ensures.ok
 
-pub returns-then-line-gt-LONGEST_LINE-clause-long : goal.returns-then-line-gt-LONGEST_LINE-clause-long
-returns-then-line-gt-LONGEST_LINE-clause-long c = λ late. rw c.placeless.ensures (ask-long c.args.line.now c.if-line-gt-LONGEST_LINE.true)
+pub returns-clause-refused : goal.returns-clause-refused
+returns-clause-refused c = rw (← ask_or-none c.args.line.now) c.read_or.ensures.refused
 
-pub returns-in_default-clause-refused : goal.returns-in_default-clause-refused
-returns-in_default-clause-refused c = λ ne. rw c.placeless-in_default.ensures (ask-not_text c.args.line.now c.if-line-gt-LONGEST_LINE.false c.in_default.ensures.cases.0)
-
-pub returns-then-line-le-LONGEST_KEPT-clause-ok : goal.returns-then-line-le-LONGEST_KEPT-clause-ok
-returns-then-line-le-LONGEST_KEPT-clause-ok c =
-    let cases = c.in-Ok.ensures.cases in
-    let is = ask-text c.args.line.now c.in-Ok.text.now (read c.in-Ok.text.now) c.if-line-gt-LONGEST_LINE.false cases.0 cases.1 refl in
-    rw is c.read_text.ensures.ok
-
-pub returns-then-line-le-LONGEST_KEPT-clause-refused : goal.returns-then-line-le-LONGEST_KEPT-clause-refused
-returns-then-line-le-LONGEST_KEPT-clause-refused c =
-    let cases = c.in-Ok.ensures.cases in
-    let is = ask-text c.args.line.now c.in-Ok.text.now (read c.in-Ok.text.now) c.if-line-gt-LONGEST_LINE.false cases.0 cases.1 refl in
-    rw is c.read_text.ensures.refused
-
-pub returns-else-line-le-LONGEST_KEPT-clause-ok : goal.returns-else-line-le-LONGEST_KEPT-clause-ok
-returns-else-line-le-LONGEST_KEPT-clause-ok c =
-    let cases = c.in-Ok.ensures.cases in
-    let is = ask-text c.args.line.now c.in-Ok.text.now (read c.in-Ok.text.now) c.if-line-gt-LONGEST_LINE.false cases.0 cases.1 refl in
-    rw is c.read_text-else-line-le-LONGEST_KEPT.ensures.ok
-
-pub returns-else-line-le-LONGEST_KEPT-clause-refused : goal.returns-else-line-le-LONGEST_KEPT-clause-refused
-returns-else-line-le-LONGEST_KEPT-clause-refused c =
-    let cases = c.in-Ok.ensures.cases in
-    let is = ask-text c.args.line.now c.in-Ok.text.now (read c.in-Ok.text.now) c.if-line-gt-LONGEST_LINE.false cases.0 cases.1 refl in
-    rw is c.read_text-else-line-le-LONGEST_KEPT.ensures.refused
+pub returns-clause-long : goal.returns-clause-long
+returns-clause-long c = rw (← ask_or-none c.args.line.now) c.read_or.ensures.long

@@ -1,0 +1,176 @@
+"""The front behind nginx and haproxy, as docs/SERVING.md shows it: TCP on loopback with TLS and
+certificates of clients, and several fronts of which each client always meets the same.
+
+What is run are the page's own blocks, with the test's ports and files in the place of theirs.
+"""
+from __future__ import annotations
+
+import json
+import os
+import re
+import shutil
+import socket
+import ssl
+import subprocess
+import unittest
+from pathlib import Path
+from typing import Callable, Dict, List
+
+from support import TOP, Front, WithFront, ask, until
+
+TAKE = ask("take", owner=0, name="lua")
+KIND = ask("kind", d=1, t=1)
+BLOCK = re.compile(r"^<!-- ([a-z -]+): run by tests/front -->\n```\n(.*?)^```$",
+                   re.MULTILINE | re.DOTALL)
+BLOCKS = dict(BLOCK.findall((TOP / "docs" / "SERVING.md").read_text()))
+MODULE = Path("/usr/lib/nginx/modules/ngx_stream_module.so")
+HAS_NGINX = MODULE.exists() and shutil.which("nginx", path="/usr/sbin:/usr/bin") is not None
+HAS_HAPROXY = shutil.which("haproxy", path="/usr/sbin:/usr/bin") is not None
+for has, what in ((HAS_NGINX, "nginx with libnginx-mod-stream"), (HAS_HAPROXY, "haproxy")):
+    if not has:
+        print(f"skipped: {what} is not there")
+PORT = "7700"
+LINES = 2_000
+
+
+def free_port() -> str:
+    with socket.socket() as free:
+        free.bind(("127.0.0.1", 0))
+        return str(free.getsockname()[1])
+
+
+class Network(WithFront):
+    """A folder with certificates, a front or two, and a program in front of them."""
+
+    def setUp(self) -> None:
+        super().setUp()
+        os.chmod(self.folder, 0o755)
+        self.port = free_port()
+        self.certify("authority", [])
+        for name in ("server", "ann", "bob", "eve"):
+            self.certify(name, ["-CA", "authority.crt", "-CAkey", "authority.key"])
+
+    def certify(self, name: str, by: List[str]) -> None:
+        """Makes a key and a certificate, by an authority or by itself."""
+        self.run_here("openssl", "req", "-x509", "-newkey", "ec", "-pkeyopt",
+                      "ec_paramgen_curve:P-256", "-nodes", "-days", "2", "-subj", f"/CN={name}",
+                      "-keyout", f"{name}.key", "-out", f"{name}.crt", *by)
+        both = [Path(self.folder, f"{name}.{end}").read_text() for end in ("crt", "key")]
+        Path(self.folder, f"{name}.pem").write_text("".join(both))
+
+    def run_here(self, *words: str) -> None:
+        subprocess.run(words, cwd=self.folder, check=True, capture_output=True)
+
+    def begin(self, name: str, front: str, *command: str) -> None:
+        """Starts a program with a block of the page, and waits until it listens."""
+        text = front + BLOCKS[name].replace(PORT, f"127.0.0.1:{self.port}").replace(
+            ":127.0.0.1:", "127.0.0.1:").replace("/etc/ctfd", self.folder).replace(
+            "/run/ctfd-front", f"{self.folder}/ctfd-front")
+        path = Path(self.folder, "configuration")
+        path.write_text(text)
+        log = open(Path(self.folder, "log"), "wb")
+        self.addCleanup(log.close)
+        program = subprocess.Popen([*command, str(path)], cwd=self.folder, stderr=log, stdout=log)
+        self.addCleanup(program.wait)
+        self.addCleanup(program.terminate)
+        until(lambda: self.listens() or program.poll() is not None)
+        self.assertIsNone(program.poll(), Path(self.folder, "log").read_text())
+
+    def listens(self) -> bool:
+        try:
+            socket.create_connection(("127.0.0.1", int(self.port))).close()
+        except OSError:
+            return False
+        return True
+
+    def client(self, name: str) -> ssl.SSLSocket:
+        """A connection with a certificate."""
+        context = ssl.create_default_context(cafile=f"{self.folder}/authority.crt")
+        context.check_hostname = False
+        if name:
+            context.load_cert_chain(f"{self.folder}/{name}.pem")
+        plain = socket.create_connection(("127.0.0.1", int(self.port)), 60)
+        client = context.wrap_socket(plain)
+        self.addCleanup(client.close)
+        return client
+
+    def nginx(self, name: str) -> None:
+        self.begin(name, f"load_module {MODULE};\ndaemon off;\nerror_log stderr;\nevents {{}}\n"
+                   f"pid {self.folder}/pid;\n", "/usr/sbin/nginx", "-p", self.folder, "-c")
+
+    def haproxy(self, name: str) -> None:
+        self.begin(name, "", "/usr/sbin/haproxy", "-db", "-f")
+
+    def one_front(self, begin: Callable[[str], None], name: str) -> None:
+        """Lines pass, replies come in their order, and who has no certificate is let in nowhere."""
+        front = self.front("--mode", "666", path="ctfd-front.sock").started()
+        begin(name)
+        for who in ("ann", "bob"):
+            client = self.client(who)
+            client.sendall(TAKE + LINES * KIND + b"{}\n")
+            replies = lines(client, LINES + 2)
+            self.assertIn(b'"types":526', replies[0])
+            self.assertEqual(set(replies[1:-1]), {replies[1]})
+            self.assertGreater(json.loads(replies[-1])["s"], 0)
+        with self.assertRaises((OSError, ssl.SSLError, AssertionError)):
+            stranger = self.client("")
+            stranger.sendall(b"{}\n")
+            lines(stranger, 1)
+        self.assertIn(f"lines {2 * (LINES + 2)},", front.tell())
+
+    def two_fronts(self, begin: Callable[[str], None], name: str) -> None:
+        """Each client always meets the same front, and both have clients."""
+        fronts = [self.front("--mode", "666", path=f"ctfd-front-{number}.sock").started()
+                  for number in (1, 2)]
+        begin(name)
+        places: Dict[str, int] = {}
+        for number in range(12):
+            self.certify(f"user-{number}", ["-CA", "authority.crt", "-CAkey", "authority.key"])
+            for _ in range(3):
+                before = [lines_of(front) for front in fronts]
+                client = self.client(f"user-{number}")
+                client.sendall(b"{}\n")
+                lines(client, 1)
+                client.close()
+                after = [lines_of(front) for front in fronts]
+                place = [old < new for old, new in zip(before, after)].index(True)
+                self.assertEqual(places.setdefault(f"user-{number}", place), place)
+        self.assertEqual(set(places.values()), {0, 1})
+
+
+def lines(client: ssl.SSLSocket, count: int) -> List[bytes]:
+    """So many lines that come."""
+    data = b""
+    while data.count(b"\n") < count:
+        more = client.recv(65_536)
+        assert more, data[-200:]
+        data += more
+    return data.split(b"\n")[:-1]
+
+
+def lines_of(front: Front) -> int:
+    """How many lines a front has answered."""
+    return int(front.tell().split("lines ")[1].split(",")[0])
+
+
+@unittest.skipUnless(HAS_NGINX, "there is no nginx")
+class Nginx(Network):
+    def test_one_front(self) -> None:
+        self.one_front(self.nginx, "nginx")
+
+    def test_several_fronts(self) -> None:
+        self.two_fronts(self.nginx, "nginx of several")
+
+
+@unittest.skipUnless(HAS_HAPROXY, "there is no haproxy")
+class Haproxy(Network):
+    def test_one_front(self) -> None:
+        self.one_front(self.haproxy, "haproxy")
+
+    def test_several_fronts(self) -> None:
+        self.two_fronts(self.haproxy, "haproxy of several")
+
+
+del Network
+if __name__ == "__main__":
+    unittest.main()
