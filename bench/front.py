@@ -3,10 +3,11 @@
 
 usage: front.py [--front CTFD-FRONT] [--program CTFD] [--seconds N] [--runs N] [--held] [--calls]
 
-bench/lines.c is the client of all: it is compiled by cc. Each way is a server on a Unix socket: the
-front with one shard and with four, over a dictionary of a kernel's size (32,766 types), redis-server
-where it is installed, and an echo of the client's own loop. Each is asked in bursts of 100 lines by
-50 clients, and line by line by 1, 50 and 500. A pipe to `ctfd serve` is asked line by line too.
+bench/lines.c is the client of all: it is compiled by cc. Each way is a server on a Unix socket:
+the front with one shard and with four, over a dictionary of a kernel's size (32,766 types),
+redis-server where it is installed, and an echo of the client's own loop. Each is asked in bursts of
+100 lines by 50 clients, and line by line by 1, 50 and 500. A pipe to `ctfd serve` is asked line by
+line too.
 All ways are tried in turn, and the best of the runs by the clock is printed: lines a second, the
 server's processor time for a line and how much of that the system took, and within which time half
 of the bursts, and 99 of 100, were answered. --held asks over 9,500 connections that are open, 500

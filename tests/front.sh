@@ -59,7 +59,8 @@ told departures python3 departures.py
 told shares python3 -W ignore -m unittest test_shares
 wait
 told network python3 -W ignore -m unittest test_network
-told instructions python3 -W ignore -m unittest test_instructions
+# Under valgrind all takes fifty times as long.
+told instructions env PATIENCE=600 python3 -W ignore -m unittest test_instructions
 told costs python3 -W ignore -m unittest test_costs
 if [ "${2:-}" = --all ]; then
     for seed in 2 3 4 5 6; do told "isolation_$seed" python3 isolation.py 200 200000 "$seed"; done

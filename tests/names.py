@@ -34,7 +34,7 @@ FOREIGN = {
     "ctfd_front_",
     "own.c", "specs/TOPIC.antt", "sys/ctf.h",
     "ADDR", "MemoryMax", "ctb_type",
-    "ctfd.replies", "limit_conn", "proxy_ssl",
+    "ctfd.replies", "limit_conn",
     "PyInterpreterState", "PyObject_Repr", "_PyRuntimeState", "task_struct",
     "--anew", "--btf", "--cacheline", "--class", "--compile", "--ctf", "--open", "--prettify",
     "--suppressions", "--system-site-packages",

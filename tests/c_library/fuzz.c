@@ -443,8 +443,13 @@ static void send_lines(const struct bytes *lines, unsigned rounds)
         line.len = end != NULL ? (size_t)(end - line.at) : lines->len - from;
         from += line.len + 1;
         made = damaged(&line);
-        CHECK(ctfd_line(&service, (const char *)made.at, made.len, text, room, &len) == CTFD_OK);
+        CHECK((below(2) == 0
+            ? ctfd_line(&service, (const char *)made.at, made.len, text, room, &len)
+            : ctfd_line_as(&service, 1 + (uint32_t)below(3), (const char *)made.at, made.len, text,
+                room, &len)) == CTFD_OK);
         CHECK(len != 0);
+        if (below(1000) == 0)
+            CHECK(ctfd_leave(&service, (uint32_t)below(4)) == CTFD_OK);
         free(text);
         free_bytes(&made);
     }

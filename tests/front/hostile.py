@@ -13,7 +13,7 @@ import struct
 from dataclasses import dataclass
 from typing import Any, Callable, Dict, List, Optional, Sequence
 
-LONGEST = 1_048_561  # as docs/SERVING.md tells
+LONGEST = 1_048_576  # as docs/SERVING.md tells
 Fields = Dict[str, Any]
 
 NO_SESSIONS = ("null", "0", "-1", "-0", '"5"', "5.0", "5e0", "4294967296", "[]", "{}", "true",
@@ -78,8 +78,8 @@ class Sender:
         return Sent(line, line, None)
 
     def long(self) -> Sent:
-        """A line that is too long by itself, or with a session put in."""
-        size = self._chance.choice((LONGEST + 1, 1_048_576, 1_048_577, 1_200_000))
+        """A line that is too long."""
+        size = self._chance.choice((LONGEST + 1, LONGEST + 2, 1_200_000))
         line = written({"s": self.own, "op": "reset"}).encode().ljust(size)
         return Sent(line, 1_048_577 * b" ", None)
 

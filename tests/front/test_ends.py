@@ -199,7 +199,7 @@ class Begins(WithFront):
         self.assertFalse(os.path.exists(os.path.join(self.folder, "other")))
 
     def test_wrong_words(self) -> None:
-        for words in (["--line", "1048562"], ["--lines", "0"], ["--idle", "-1"], ["--mode", "9"]):
+        for words in (["--line", "1048577"], ["--lines", "0"], ["--idle", "-1"], ["--mode", "9"]):
             ended = subprocess.run([COMMAND, "--socket", "x", *words],
                                    capture_output=True, text=True)
             self.assertEqual(ended.returncode, 2)

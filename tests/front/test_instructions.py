@@ -23,9 +23,9 @@ WORDS = {
     "kind, spelled otherwise": b'{ "op" : "kind", "d": 1, "t": 218, "s" : 7 }\n',
 }
 # A quarter more than was seen.
-MOST = {"kind": 4_300, "record": 5_400, "members": 5_400, "find": 5_300,
-        "kind, spelled otherwise": 5_400}
-MOST_ALONE = 7_000  # for a line that is waited for
+MOST = {"kind": 3_200, "record": 4_400, "members": 4_500, "find": 4_200,
+        "kind, spelled otherwise": 3_800}
+MOST_ALONE = 5_900  # for a line that is waited for
 MOST_BYTE = 1_000  # more for a byte that comes by itself behind 1 MB, than behind nothing
 HAS_VALGRIND = shutil.which("valgrind") is not None
 if not HAS_VALGRIND:

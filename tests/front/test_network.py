@@ -12,11 +12,16 @@ import shutil
 import socket
 import ssl
 import subprocess
+import sys
 import unittest
 from pathlib import Path
 from typing import Callable, Dict, List
 
 from support import TOP, Front, WithFront, ask, until
+
+sys.path.insert(0, str(TOP / "clients" / "python"))
+
+import ctfd  # noqa: E402
 
 TAKE = ask("take", owner=0, name="lua")
 KIND = ask("kind", d=1, t=1)
@@ -29,7 +34,6 @@ HAS_HAPROXY = shutil.which("haproxy", path="/usr/sbin:/usr/bin") is not None
 for has, what in ((HAS_NGINX, "nginx with libnginx-mod-stream"), (HAS_HAPROXY, "haproxy")):
     if not has:
         print(f"skipped: {what} is not there")
-PORT = "7700"
 LINES = 2_000
 
 
@@ -63,20 +67,30 @@ class Network(WithFront):
 
     def begin(self, name: str, front: str, *command: str) -> None:
         """Starts a program with a block of the page, and waits until it listens."""
-        text = front + BLOCKS[name].replace(PORT, f"127.0.0.1:{self.port}").replace(
-            ":127.0.0.1:", "127.0.0.1:").replace("/etc/ctfd", self.folder).replace(
-            "/run/ctfd-front", f"{self.folder}/ctfd-front")
-        path = Path(self.folder, "configuration")
+        text = front + self.here(BLOCKS[name])
+        path, log = (Path(self.folder, f"{end} of {name}") for end in ("words", "log"))
         path.write_text(text)
-        log = open(Path(self.folder, "log"), "wb")
-        self.addCleanup(log.close)
-        program = subprocess.Popen([*command, str(path)], cwd=self.folder, stderr=log, stdout=log)
+        with log.open("wb") as told:
+            program = subprocess.Popen([*command, str(path)], cwd=self.folder, stderr=told,
+                                       stdout=told)
         self.addCleanup(program.wait)
         self.addCleanup(program.terminate)
-        until(lambda: self.listens() or program.poll() is not None)
-        self.assertIsNone(program.poll(), Path(self.folder, "log").read_text())
+        until(lambda: self.listens(text) or program.poll() is not None)
+        self.assertIsNone(program.poll(), log.read_text())
 
-    def listens(self) -> bool:
+    def here(self, block: str) -> str:
+        """A block with the test's own port, on loopback alone, and its own files."""
+        places = {"types.example:7700": "HERE", ":7700": "HERE", "7700": "HERE",
+                  "HERE": f"127.0.0.1:{self.port}", "/etc/ctfd": self.folder,
+                  "/run/ctfd-f": f"{self.folder}/ctfd-f"}
+        for place, own in places.items():
+            block = block.replace(place, own)
+        return block
+
+    def listens(self, text: str) -> bool:
+        """Whether a program with some words does."""
+        if "listen unix:" in text:
+            return Path(self.folder, "ctfd-far.sock").exists()
         try:
             socket.create_connection(("127.0.0.1", int(self.port))).close()
         except OSError:
@@ -96,7 +110,8 @@ class Network(WithFront):
 
     def nginx(self, name: str) -> None:
         self.begin(name, f"load_module {MODULE};\ndaemon off;\nerror_log stderr;\nevents {{}}\n"
-                   f"pid {self.folder}/pid;\n", "/usr/sbin/nginx", "-p", self.folder, "-c")
+                   f"pid '{self.folder}/pid of {name}';\n", "/usr/sbin/nginx", "-p", self.folder,
+                   "-c")
 
     def haproxy(self, name: str) -> None:
         self.begin(name, "", "/usr/sbin/haproxy", "-db", "-f")
@@ -160,6 +175,15 @@ class Nginx(Network):
 
     def test_several_fronts(self) -> None:
         self.two_fronts(self.nginx, "nginx of several")
+
+    def test_client_in_python(self) -> None:
+        """Over a Unix socket of its own machine."""
+        self.front("--mode", "666", path="ctfd-front.sock").started()
+        self.nginx("nginx")
+        self.nginx("nginx of a client")
+        with ctfd.Client(socket=f"{self.folder}/ctfd-far.sock") as client:
+            types = ctfd.taken(client.session(), 0, "lua")
+            self.assertEqual(types.find("struct lua_State").size, 200)
 
 
 @unittest.skipUnless(HAS_HAPROXY, "there is no haproxy")

@@ -8,14 +8,14 @@ use std::time::Duration;
 
 const ABOUT: &str = "Lets many clients use one ctfd, over a socket.
 
-Each connection is a session of its own: the front writes its number into each line, whatever the \
-client writes. A line without `s` is answered with that number; others take by it what it \
+Each connection is a session of its own, whatever number the client writes. A line without `s` is answered with that number; others take by it what it \
 publishes. Each NAME=FILE is published for all, who take it from owner 0.";
 
 const STATUSES: &str = "\
 The status is 0 if SIGTERM or SIGINT ended it; 1 if a file was refused, 3 if one can't be read and \
 4 if memory is short for one; 2 for a wrong command line; 5 if the socket can't be had; 6 if a \
-shard ended by itself, which is a bug; 7 if all session numbers were given. SIGUSR1 writes statistics to standard error.";
+shard ended by itself, which is a bug; 7 if all session numbers were given. SIGUSR1 writes \
+statistics to standard error.";
 
 const IN_PROCESS: &str = "the service is in this process";
 const ANSWERED_FIRST: &str = "what is read is answered before more is read";
@@ -129,8 +129,8 @@ fn of_the_service() -> [Arg; 8] {
              so often or each 15 seconds",
         ),
         option("service-memory", "N").value_parser(value_parser!(u64).range(1..=MOST)).help(
-            "bytes that all services may have together, beside what --memory bounds; a request that \
-             needs more is refused as Memory. By default there is no limit",
+            "bytes that all services may have together, beside what --memory bounds; a request \
+             that needs more is refused as Memory. By default there is no limit",
         ),
         Arg::new("restart")
             .long("restart")
@@ -276,7 +276,7 @@ mod tests {
 
     #[test]
     fn wrong_words_are_refused() {
-        for words in [["--line", "1048562"], ["--lines", "0"], ["--idle", "-1"], ["--mode", "9"]] {
+        for words in [["--line", "1048577"], ["--lines", "0"], ["--idle", "-1"], ["--mode", "9"]] {
             let words = ["ctfd-front"].iter().chain(&words);
             let why = command().try_get_matches_from(words).unwrap_err();
             assert!(why.use_stderr(), "{why}");

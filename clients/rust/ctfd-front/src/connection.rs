@@ -3,7 +3,6 @@
 use crate::answers::{OutOfMemory, Session};
 use crate::incoming::{Incoming, Line};
 use crate::limits::Limits;
-use crate::published::Published;
 use crate::refusals::{Cause, Refusal};
 use crate::rooms::Room;
 use crate::tools::Tools;
@@ -46,8 +45,8 @@ pub struct Connection {
     incoming: Incoming,
     unsent: Vec<u8>,
     sent_bytes: usize,
-    /// None where what it publishes is not to be withdrawn.
-    published: Option<Published>,
+    /// What it publishes is withdrawn with its end.
+    withdraws: bool,
     counted_bytes: usize,
     last_move: Instant,
     is_readable: bool,
@@ -72,19 +71,19 @@ impl Connection {
     /// A user's connection, with the number of its session.
     pub fn new(
         stream: UnixStream,
-        number: u32,
+        number: Session,
         user: u32,
         limits: &Limits,
         withdraws: bool,
     ) -> Connection {
         Connection {
             stream,
-            session: Session::new(number),
+            session: number,
             user,
             incoming: Incoming::new(limits.line),
             unsent: Vec::new(),
             sent_bytes: 0,
-            published: withdraws.then(Published::default),
+            withdraws,
             counted_bytes: 0,
             last_move: Instant::now(),
             is_readable: true,
@@ -208,9 +207,8 @@ impl Connection {
             let _ = self.stream.write(refusal.line());
         }
         if self.may_hold {
-            let names = self.published.as_ref().map_or(&[][..], Published::names);
             tools.replies.clear();
-            tools.answers.leave(&self.session, names, &mut tools.replies);
+            tools.answers.leave(self.session, self.withdraws, &mut tools.replies);
         }
         tools.users.hold(self.user, self.counted_bytes, 0);
         tools.users.end(self.user);
@@ -272,15 +270,10 @@ impl Connection {
                 self.incoming.skip();
             }
             Some(Line::Whole(line)) => {
-                tools.answers.answer(&self.session, line, replies)?;
-                if replies[start..].starts_with(OK) {
-                    self.may_hold = true;
-                    let published = self.published.as_mut();
-                    let noted = published.map_or(Ok(()), |names| names.note_grant(line));
-                    noted.map_err(OutOfMemory::from)?;
-                }
+                tools.answers.answer(self.session, line, replies)?;
+                self.may_hold |= replies[start..].starts_with(OK);
                 took = tools.meter.time_since(before);
-                tools.statistics.note_time(took, self.session.number(), self.user, line);
+                tools.statistics.note_time(took, self.session, self.user, line);
                 let bytes = line.len();
                 self.incoming.pass(bytes);
             }
@@ -301,7 +294,7 @@ impl Connection {
         if !tools.answers.is_json(line, replies)? {
             return Ok(None);
         }
-        room.reply(self.session.number(), replies)?;
+        room.reply(self.session, replies)?;
         self.incoming.skip();
         Ok(Some(room.shard(tools.shards)))
     }
@@ -380,8 +373,7 @@ impl Connection {
 
     /// Counts what is kept for it, where that has changed by some.
     fn count(&mut self, tools: &Tools) -> Result<(), Cause> {
-        let names = self.published.as_ref().map_or(0, Published::size);
-        let bytes = self.incoming.size() + self.unread_bytes() + names;
+        let bytes = self.incoming.size() + self.unread_bytes();
         if bytes.abs_diff(self.counted_bytes) < COUNTED_BYTES {
             return Ok(());
         }

@@ -1,7 +1,7 @@
 //! The operator's dictionaries: NAME=FILE, read once for all shards.
 
 use crate::members::Text;
-use crate::published::Name;
+use crate::name::Name;
 use crate::text::Words;
 use std::ffi::{OsStr, OsString};
 use std::fs::File;

@@ -8,8 +8,8 @@
 //! - [`shard`], [`door`]: a shard's loop, and what other threads ask of it.
 //! - [`connection`], [`incoming`], [`tools`]: a client: its lines, its replies, and its turn.
 //! - [`turns`], [`weight`], [`meter`]: whose turn it is, by what each has used.
-//! - [`answers`], [`tag`], [`members`]: the service, with the session's number in each line.
-//! - [`rooms`], [`published`]: what the front reads of lines besides.
+//! - [`answers`]: the service, which answers each line as its connection's session.
+//! - [`rooms`], [`name`], [`members`]: what the front reads of lines itself.
 //! - [`users`], [`limits`], [`refusals`]: who has what, and what is too much.
 //! - [`statistics`], [`metrics`], [`journal`], [`text`], [`notify`]: what an operator sees.
 //! - [`listening`], [`signals`], [`files`], [`system`]: what the system gives.
@@ -27,8 +27,8 @@ mod listening;
 mod members;
 mod meter;
 mod metrics;
+mod name;
 mod notify;
-mod published;
 mod refusals;
 mod rooms;
 mod shard;
@@ -36,7 +36,6 @@ mod signals;
 mod start;
 mod statistics;
 mod system;
-mod tag;
 mod text;
 mod tools;
 mod turns;

@@ -2,8 +2,8 @@
 
 use std::time::Duration;
 
-/// What the service takes of a line, less what the session's number needs: `,"s":4294967295`.
-pub const LONGEST_LINE: usize = 1_048_576 - 15;
+/// What the service takes of a line.
+pub const LONGEST_LINE: usize = 1_048_576;
 
 /// What is read at once, at most.
 pub const READ_BYTES: usize = 65_536;

@@ -4,7 +4,7 @@
 //! who comes later, or after a new start, comes to the same. It keeps nobody out.
 
 use crate::members::Members;
-use crate::published::Name;
+use crate::name::Name;
 use memchr::memmem;
 use std::collections::TryReserveError;
 use std::io::Write;

@@ -259,7 +259,7 @@ impl Shard {
         // Without memory for it, what is told of connections is left out.
         if connections.try_reserve(self.open).is_ok() {
             connections.extend(self.connections.iter().flatten().map(|open| Row {
-                session: open.session.number(),
+                session: open.session,
                 user: open.user,
                 lines: open.lines,
                 refusals: open.refusals,

@@ -2,8 +2,8 @@
 //!
 //! This is start-time fair queueing in two levels: users, and the connections of each. A tag is the
 //! time that its owner has used; one that comes, or comes again, begins at the tag of whoever was
-//! served last, so nobody saves up. The least tag is served first, and of equal ones a request whose
-//! word says that it is short: who comes last is not behind all who came with a long one.
+//! served last, so nobody saves up. The least tag is served first, and of equal ones a request
+//! whose word says that it is short: who comes last is not behind all who came with a long one.
 //!
 //! A turn is short, unless a single request is long. Where others are about, a connection that had
 //! such a request rests as long as that took: they are undisturbed for half of the time, also where

@@ -57,14 +57,60 @@ impl Service {
     /// assert_eq!(replies, b"{\"ok\":{\"d\":1},\"s\":1}\n");
     /// ```
     pub fn answer_into(&mut self, line: &[u8], replies: &mut Vec<u8>) -> Result<(), Refusal> {
+        self.append(replies, |service, at, room, len| {
+            // SAFETY: the handle is a service's own, the line is lent for the call, and there is
+            // room for so many bytes.
+            unsafe { raw::ctfd_line(service, line.as_ptr(), line.len(), at, room, len) }
+        })
+    }
+
+    /// As [`Service::answer_into`], but the line is a session's, whatever its `s` says, and the
+    /// reply names the session that the line names: so nobody speaks for another. A line without
+    /// `s` is answered with the session's number. Session 0 is refused as [`Fault::BadRequest`].
+    ///
+    /// ```
+    /// let (mut service, mut replies) = (ctfd::Service::new().unwrap(), Vec::new());
+    /// service.answer_as(7, br#"{"s":1,"op":"create"}"#, &mut replies).unwrap();
+    /// assert_eq!(replies, b"{\"ok\":{\"d\":1},\"s\":1}\n");
+    /// assert_eq!(service.answer(r#"{"s":7,"op":"close","d":1}"#).unwrap(), r#"{"ok":{},"s":7}"#);
+    /// ```
+    pub fn answer_as(
+        &mut self,
+        session: u32,
+        line: &[u8],
+        replies: &mut Vec<u8>,
+    ) -> Result<(), Refusal> {
+        self.append(replies, |service, at, room, len| {
+            let (line, bytes) = (line.as_ptr(), line.len());
+            // SAFETY: as in `answer_into`.
+            unsafe { raw::ctfd_line_as(service, session, line, bytes, at, room, len) }
+        })
+    }
+
+    /// Publishes a CTF section for owner 0, the operator: any session may take it by its name.
+    pub fn load(&mut self, name: &str, section: &[u8]) -> Result<(), Refusal> {
+        let (name, name_len) = (name.as_ptr(), name.len());
+        let (at, len) = (section.as_ptr().cast(), section.len());
+        // SAFETY: the handle is this value's own, and name and section are lent for the call.
+        told(unsafe { raw::ctfd_load(&mut self.raw, name, name_len, at, len) })
+    }
+
+    /// Forgets all that a session holds and has published. Others keep what they took of it.
+    pub fn leave(&mut self, session: u32) -> Result<(), Refusal> {
+        // SAFETY: the handle is this value's own.
+        told(unsafe { raw::ctfd_leave(&mut self.raw, session) })
+    }
+
+    /// Appends the reply that a call makes.
+    fn append(
+        &mut self,
+        replies: &mut Vec<u8>,
+        ask: impl FnOnce(&mut raw::Handle, *mut u8, usize, &mut u64) -> u32,
+    ) -> Result<(), Refusal> {
         reserve(replies, ROOM)?;
         let (mut len, room) = (0, replies.spare_capacity_mut());
         let (at, room) = (room.as_mut_ptr().cast::<u8>(), room.len());
-        // SAFETY: the handle is this value's own, the line is lent for the call, and behind what
-        // stands in `replies` there are so many bytes.
-        told(unsafe {
-            raw::ctfd_line(&mut self.raw, line.as_ptr(), line.len(), at, room, &mut len)
-        })?;
+        told(ask(&mut self.raw, at, room, &mut len))?;
         let len = len as usize;
         if len > room {
             reserve(replies, len)?;

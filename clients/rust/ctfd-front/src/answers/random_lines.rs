@@ -5,6 +5,7 @@
 //! The replies are the same, but that a line without a session is answered as the connection's.
 
 use super::*;
+use crate::members::Members;
 
 const OWN: u32 = 777;
 const LINES: usize = 40_000;
@@ -149,7 +150,8 @@ fn own_reply(own: &mut Service, line: &[u8]) -> Vec<u8> {
     own.answer_into(line, &mut reply).unwrap();
     if fault_of(&reply) == Some(Fault::NoSlot) {
         let text = String::from_utf8(std::mem::take(&mut reply)).unwrap();
-        hand_in(own, number_of(&text, "s") as u32);
+        let digits = text.trim_end().rsplit(':').next().unwrap().trim_end_matches('}');
+        hand_in(own, digits.parse().unwrap());
         own.answer_into(line, &mut reply).unwrap();
     }
     reply
@@ -170,13 +172,13 @@ fn hand_in(service: &mut Service, session: u32) {
 fn random_lines_are_answered_as_the_session_or_as_none() {
     let (mut own, mut answers) = (Service::new().unwrap(), Answers::new().unwrap());
     hand_in(&mut answers.service, OWN);
-    let (session, mut chance) = (Session::new(OWN), Chance(7));
+    let mut chance = Chance(7);
     let (mut replies, mut granted, mut nameless) = (Vec::new(), 0, 0);
     for _ in 0..LINES {
         let line = line(&mut chance);
         let wanted = own_reply(&mut own, line.as_bytes());
         replies.clear();
-        answers.answer(&session, line.as_bytes(), &mut replies).unwrap();
+        answers.answer(OWN, line.as_bytes(), &mut replies).unwrap();
         granted += usize::from(replies.starts_with(b"{\"ok\""));
         if replies == wanted {
             continue;
