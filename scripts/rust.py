@@ -27,8 +27,8 @@ from typing import Optional, Sequence
 TOP = Path(__file__).resolve().parents[1]
 WORKSPACE = TOP / "clients" / "rust"
 ARCHIVE = TOP / "crates" / "ctf_c" / "out" / "libctfd.a"
-PROGRAM, PACKAGE, LIBRARY = "ctfd-tools", "ctfd-commands", "ctfd-tools"
-FRONT = "ctfd-front"
+PROGRAM, FRONT = "ctfd-tools", "ctfd-front"
+PACKAGE, LIBRARIES = "ctfd-commands", ("ctfd-tools", "ctfd-front")
 LATER = {"CTFD_LINKED_LATER": "1"}  # the library is linked with the programs, and read by no crate
 COMMANDS = ("ctfd-convert", "ctfd-debuginfo", "ctfd-diff", "ctfd-explore", "ctfd-show",
             "ctfd-types")
@@ -96,7 +96,7 @@ def folder() -> Path:
 
 def build(*words: str) -> Path:
     """Builds the commands and the front; the folder with them. Raises NotBuilt."""
-    if run(["build", "--release", "--package", PACKAGE, "--package", FRONT, *words], LATER) != 0:
+    if run(["build", "--release", "--package", PACKAGE, *words], LATER) != 0:
         raise NotBuilt("cargo has failed: are all of Debian's packages installed that"
                        f" scripts/rust.py needs ({' '.join(PACKAGES)})?")
     for name in COMMANDS:
@@ -107,10 +107,11 @@ def build(*words: str) -> Path:
 
 
 def compile_ahead() -> None:
-    """Compiles all but the program."""
+    """Compiles all but the programs."""
     silence = os.open(os.devnull, os.O_WRONLY)
     os.dup2(silence, sys.stderr.fileno())
-    run(["build", "--release", "--quiet", "--lib", "--package", LIBRARY], LATER)
+    run(["build", "--release", "--quiet", "--lib",
+         *(word for name in LIBRARIES for word in ("--package", name))], LATER)
 
 
 def main() -> int:

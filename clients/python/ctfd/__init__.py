@@ -12,11 +12,6 @@ if sys.version_info < (3, 9):
     sys.exit("ctfd: %s is Python %d.%d, and 3.9 or later is needed: put another first on the PATH,"
              " such as Debian's python3" % ((sys.executable,) + sys.version_info[:2]))
 
-from .client import startup  # first, and it imports nothing
-
-if startup.is_command():
-    startup.begin_command()
-
 __all__ = [
     "BadDictionary", "BadSymbols", "Client", "Dictionary", "Encoding", "Enumerator", "Error",
     "Gone", "Incomplete", "Layout", "Member", "Model", "NoMemory", "NoParent", "NoSuchType",

@@ -1,8 +1,6 @@
-"""How the package is put together: what is public, which packages it has, where messages go."""
+"""How the package is put together: what is public, which packages it has."""
 from __future__ import annotations
 
-import contextlib
-import io
 import re
 import subprocess
 import sys
@@ -11,7 +9,6 @@ import unittest
 from pathlib import Path
 
 import ctfd
-from ctfd.tools import running
 
 CLIENT = Path(__file__).resolve().parents[1]
 PACKAGE = CLIENT / "ctfd"
@@ -55,27 +52,6 @@ class Package(unittest.TestCase):
         self.assertEqual(set(re.findall(r'"([\w.]+)"', listed[1])), there)
         for path in PACKAGE.rglob("*.py"):
             self.assertTrue(path.read_text(encoding="utf-8").startswith('"""'), path)
-
-
-class Messages(unittest.TestCase):
-    def test_a_command(self) -> None:
-        """A line on standard error, and a message of the log `ctfd` for who wants it there."""
-        said = io.StringIO()
-        with contextlib.redirect_stderr(said):
-            running.warn("ctfd-types", "100% of \x1b[31mx")
-            running.warn("ctfd-types", "again")
-        self.assertEqual(said.getvalue(), "ctfd-types: 100% of \\x1b[31mx\nctfd-types: again\n")
-        with self.assertLogs("ctfd", "WARNING") as seen, contextlib.redirect_stderr(said):
-            running.warn("ctfd-diff", "once")
-        self.assertEqual([record.getMessage() for record in seen.records], ["once"])
-
-    def test_the_collector_is_as_it_was(self) -> None:
-        import gc
-
-        before = gc.get_threshold()
-        with running.keeping():
-            self.assertTrue(gc.isenabled())
-        self.assertEqual(gc.get_threshold(), before)
 
 
 if __name__ == "__main__":

@@ -3,9 +3,10 @@ import struct
 import tempfile
 import unittest
 import zlib
-from typing import NamedTuple
+from typing import Dict, NamedTuple
 
 import ctfd
+from ctfd.client.model import Model
 from ctfd.files import compiled
 from ctfd.files.bundles import Description
 
@@ -134,7 +135,9 @@ class ElfFiles(WithService, WithFile):
                     self.of_bytes(whole[:length])
 
     def test_what_a_file_is(self) -> None:
-        for shape, model in ((BITS_32, "ilp32"), (BITS_64, "lp64")):
+        models: "Dict[int, Model]" = {1: "ilp32", 2: "lp64"}
+        for shape in (BITS_32, BITS_64):
+            model = models[shape.number]
             with tempfile.NamedTemporaryFile() as file:
                 file.write(elf(LUA, shape=shape))
                 file.flush()

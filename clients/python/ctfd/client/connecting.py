@@ -28,12 +28,3 @@ def in_process() -> Optional[Inside]:
         return None
     found = library.find()
     return None if found is None else Inside(found)
-
-
-def connected(program: Optional[str]) -> Service:
-    """Who answers a command: the program that is named, else whom `connect` finds."""
-    if program is None:
-        return connect()
-    from .wire import Client
-
-    return Client(service.find(program))

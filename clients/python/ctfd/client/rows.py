@@ -10,7 +10,6 @@ import ctypes
 from typing import TYPE_CHECKING, Any, Dict, Iterable, List, Optional, Tuple
 
 from .. import text
-from ..files import bounded
 from .calls import ENUMERATOR_ROW, KINDS, MEMBER_ROW, TYPE_ROW, U64, Array, Encoding
 
 if TYPE_CHECKING:
@@ -33,7 +32,6 @@ class Names(Dict[int, str]):
 
     def __missing__(self, at: int) -> str:
         end = self._data.index(b"\0", at)
-        bounded.charge(4 * (end - at))
         name = self[at] = text.decoded(self._data[at:end])
         return name
 

@@ -36,37 +36,3 @@ class AbsoluteFolders:
 def has_current_folder() -> bool:
     """Whether modules may come from a folder that is not named from the root on."""
     return not all(map(os.path.isabs, sys.path))
-
-
-def is_command() -> bool:
-    """Whether a command of this package is what Python runs."""
-    path = getattr(sys.modules.get("__main__"), "__file__", None) or ""
-    return os.path.basename(os.path.realpath(path)).startswith("ctfd-")
-
-
-def begin_command() -> None:
-    """Until a command has begun, an interrupt ends it as it would a program that catches none. No
-    file that it opens takes the number of one of the three that each program has."""
-    import atexit
-    import signal
-
-    atexit.register(_end_command)
-    if signal.getsignal(signal.SIGINT) is signal.default_int_handler:
-        signal.signal(signal.SIGINT, signal.SIG_DFL)
-    while True:
-        handle = os.open(os.devnull, os.O_RDWR)
-        if handle > 2:
-            os.close(handle)
-            return
-
-
-def _end_command() -> None:
-    """What was printed last, as by --help, may find no reader or no room either."""
-    from ..tools import ending
-
-    why = ending.lost() if sys.stdout is not None else None
-    if why and sys.stderr is not None:
-        sys.stderr.write(f"{os.path.basename(sys.argv[0])}: {why}\n")
-        sys.stderr.flush()
-    if why is not None:
-        os._exit(2 if why else ending.UNREAD)

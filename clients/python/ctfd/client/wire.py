@@ -18,7 +18,6 @@ from .faults import Error, Gone, Refused, refused
 from .model import Model
 from .session import Answer, Outcome, Request, Service, Session
 from .told import Told
-from ..files import bounded
 
 if TYPE_CHECKING:
     from .. import replies
@@ -65,7 +64,6 @@ class Client(Service):
         self._others: List[Client] = []
         self._unsent = bytearray()
         self._unread = bytearray()
-        self._taken = 0  # bytes of replies that are not counted as work yet
         self._lines: Deque[bytearray] = collections.deque()
         self._pieces: Deque[bytes] = collections.deque()
         self._written: Deque[int] = collections.deque()
@@ -120,8 +118,6 @@ class Client(Service):
         self.requests += len(lines)
         self.rounds += 1
         self._run(mine)
-        bounded.charge(self._taken)
-        self._taken = 0
         return [owed.reply for owed in mine if owed.reply is not None]
 
     def close(self) -> None:
@@ -189,7 +185,6 @@ class Client(Service):
         while self._pieces:
             if not self._pieces[0]:
                 self._end(self._channel.how_it_ended())
-            self._taken += len(self._pieces[0])
             self._torn = True
             self._unread += self._pieces[0]
             del self._pieces[0]

@@ -8,7 +8,6 @@ from __future__ import annotations
 from typing import Callable, Dict, Iterable, Iterator, List, NamedTuple, Optional, Tuple
 
 from ..client.model import Model
-from ..files import bounded
 from ..client.types import Encoding, Enumerator
 
 SIGNED, CHARACTER, BOOLEAN = 1, 2, 4
@@ -16,7 +15,6 @@ AGGREGATES = ("struct", "union")
 TAGGED = ("struct", "union", "enum", "forward")
 REFERENCES = ("pointer", "typedef", "volatile", "const", "restrict", "atomic")
 QUALIFIERS = ("volatile", "const", "restrict", "atomic")
-FEW_STEPS = 8  # that are not counted as work
 NAMES = ("struct", "union", "enum", "typedef", "integer", "float")
 
 
@@ -137,10 +135,8 @@ class Table:
 
     def resolved(self, number: int) -> int:
         """Without typedefs and qualifiers; 0 where these lead round."""
-        for steps in range(len(self.records)):
+        for _ in range(len(self.records)):
             if not number or self[number].kind not in ("typedef", *QUALIFIERS):
-                if steps > FEW_STEPS:
-                    bounded.charge(bounded.STEP * steps)
                 return number
             number = self[number].type
         return 0

@@ -16,6 +16,9 @@ from .written import CHILD, KINDS, LONG_MEMBERS, LONG_SIZE
 
 
 
+HEADER = 36
+
+
 class _Reader:
     """The records of one section; those of a child behind the `parents` types of its parent."""
 
@@ -24,8 +27,8 @@ class _Reader:
         body = ctf[HEADER:]
         self.labels, self.objects, self.functions, self.types = (
             body[start:end] for start, end in zip(ends, ends[1:]))
-        self.names = Strings(body[ends[4]:ends[4] + length])
-        self.strings = Strings(strings or b"")
+        self.names = body[ends[4]:ends[4] + length]
+        self.strings = strings or b""
         self.has_outer = False
         self.is_child = parent != 0
         self.parent, self.parent_label = self.name(parent), self.name(label)
@@ -80,11 +83,12 @@ class _Reader:
         if not start:
             return ""
         is_outer = bool(reference >> 31)
-        if is_outer and not self.strings.data:
+        if is_outer and not self.strings:
             raise Unreadable("its names stand in the strings of the ELF file that it was taken"
                              " from: name that file in place of the section")
         self.has_outer = self.has_outer or is_outer
-        return (self.strings if is_outer else self.names).at(start)
+        listed = self.strings if is_outer else self.names
+        return listed[start:listed.index(b"\0", start)].decode("utf-8", "surrogateescape")
 
     def number(self, n: int) -> int:
         """The number in the table of a type that a record names."""

@@ -44,7 +44,8 @@ mod weight;
 
 use std::process::ExitCode;
 
-fn main() -> ExitCode {
+/// Runs the front by the words of the process; its exit status.
+pub fn main() -> ExitCode {
     // Before words are read, so that no signal is lost.
     let signals = match signals::Signals::new() {
         Ok(signals) => signals,

@@ -1,0 +1,7 @@
+//! `ctfd-front`, linked with the library.
+
+use std::process::ExitCode;
+
+fn main() -> ExitCode {
+    ctfd_front::main()
+}
