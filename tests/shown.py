@@ -22,9 +22,9 @@ that stand behind a `print(..)`. Blocks of C are compiled: a whole program has t
 examples/c, and others stand in a function that has the bytes `ctf`. A picture that a page shows has
 to be the file of its name in /tmp/recipe, as the page's blocks wrote it. Any other block is wrong.
 
-Not run is a block below a line `<!-- not run: REASON -->`, and one that needs what is not here, or
-a file that another such block below the same heading would have made: a line that begins with
-`skipped: ` says so, or with `not possible here: ` where no package would bring it. Prints each that
+Not run is a block below a line `<!-- not run: REASON -->`, or `<!-- NAME: run by tests/FOLDER -->`,
+where that runs it, and one that needs what is not here, or a file that another such block below the
+same heading would have made: a line that begins with `skipped: ` says so, or with `not possible here: ` where no package would bring it. Prints each that
 comes out otherwise, and counts; the status is 1 where one does.
 """
 from __future__ import annotations
@@ -44,6 +44,7 @@ from pathlib import Path
 from typing import Iterator
 
 TOP = Path(__file__).resolve().parents[1]
+LEFT_OUT = re.compile(r"<!-- (not run: |[a-z -]+: run by tests/\w+ -->)")
 sys.path.insert(0, str(TOP / "scripts"))
 
 import rust  # noqa: E402
@@ -99,7 +100,7 @@ def blocks(page: str) -> Iterator[Block]:
         elif held is None:
             held, began, language = [], number, line[3:]
         else:
-            if held and not lines[began - 2].startswith("<!-- not run: "):
+            if held and not LEFT_OUT.match(lines[began - 2]):
                 yield Block(f"{page}:{began}", heading, language, tuple(held))
             held = None
 
