@@ -1,6 +1,7 @@
 """The front: how it ends, what it says of its files, and where it writes its statistics."""
 from __future__ import annotations
 
+import contextlib
 import json
 import os
 import signal
@@ -14,6 +15,7 @@ from typing import List
 from .support import EXAMPLES, Case, clean, run, tool
 
 LUA = EXAMPLES / "lua.ctf"
+WITHOUT_EFFECT = "ctfd-front: --restart is without effect: the service is in this process"
 
 
 class Front(Case):
@@ -47,12 +49,6 @@ class Front(Case):
             self.assertIn("s", json.loads(channel.recv(65_536)))
         return channel
 
-    def service_of(self, door: "subprocess.Popen[str]") -> int:
-        """The process of its service."""
-        found = subprocess.run(["ps", "-o", "pid=", "--ppid", str(door.pid)], text=True,
-                               capture_output=True, check=True).stdout.split()
-        return int(found[0])
-
     def ended(self, door: "subprocess.Popen[str]") -> float:
         """How many seconds a front takes to end."""
         begun = time.monotonic()
@@ -62,19 +58,15 @@ class Front(Case):
 
 
 class Ends(Front):
-    def test_a_service_that_is_stopped(self) -> None:
-        """It ends in the seconds of --grace, whether somebody waits for an answer or not."""
-        self.needs("ps")
-        for waits in (False, True):
+    def test_a_service_that_is_busy(self) -> None:
+        """It ends in the seconds of --grace, whether somebody reads the answers or not."""
+        for count in (1, 20_000):
             door = self.front("--grace", "3")
-            service = self.service_of(door)
-            os.kill(service, signal.SIGSTOP)
-            if waits:
-                self.asked(b'{"op":"info","d":1}\n', waits=False)
-                time.sleep(0.2)
-            seconds = self.ended(door)
-            self.assertLess(seconds, 5, waits)  # twice the grace is 6
-            self.assertFalse(Path(f"/proc/{service}").exists(), waits)
+            channel = self.asked(b'{"op":"info","d":1}\n', waits=False)
+            channel.setblocking(False)
+            with contextlib.suppress(BlockingIOError):
+                channel.sendall(b'{"op":"names","d":1}\n' * count)
+            self.assertLess(self.ended(door), 5, count)  # twice the grace is 6
             self.socket.unlink(missing_ok=True)
 
     def test_a_service_that_answers(self) -> None:
@@ -95,6 +87,8 @@ class Files(Front):
         for more in options:
             status, lines = self.refused(*more, f"x={self.folder}/none")
             self.assertEqual(status, 3)
+            if more:
+                self.assertEqual(lines.pop(0), WITHOUT_EFFECT)
             self.assertIn("none", lines[0])
             self.assertNotIn("--restart", "\n".join(lines))
 
