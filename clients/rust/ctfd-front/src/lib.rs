@@ -4,15 +4,15 @@
 //! process, and a share of the connections: no pipe and no second process is between a client and
 //! its service.
 //!
-//! - [`start`], [`front`]: the first thread: the socket, who may connect, signals, statistics.
-//! - [`shard`], [`door`]: a shard's loop, and what other threads ask of it.
-//! - [`connection`], [`incoming`], [`tools`]: a client: its lines, its replies, and its turn.
-//! - [`turns`], [`weight`], [`meter`]: whose turn it is, by what each has used.
-//! - [`answers`]: the service, which answers each line as its connection's session.
-//! - [`rooms`], [`name`], [`members`]: what the front reads of lines itself.
-//! - [`users`], [`limits`], [`refusals`]: who has what, and what is too much.
-//! - [`statistics`], [`metrics`], [`journal`], [`text`], [`notify`]: what an operator sees.
-//! - [`listening`], [`signals`], [`files`], [`system`]: what the system gives.
+//! - `start`, `front`: the first thread: the socket, who may connect, signals, statistics.
+//! - `shard`, `door`: a shard's loop, and what other threads ask of it.
+//! - `connection`, `incoming`, `tools`: a client: its lines, its replies, and its turn.
+//! - `turns`, `weight`, `meter`: whose turn it is, by what each has used.
+//! - `answers`: the service, which answers each line as its connection's session.
+//! - `rooms`, `name`, `members`: what the front reads of lines itself.
+//! - `users`, `limits`, `refusals`: who has what, and what is too much.
+//! - `statistics`, `metrics`, `journal`, `text`, `notify`: what an operator sees.
+//! - `listening`, `signals`, `files`, `system`: what the system gives.
 
 mod answers;
 mod command;
