@@ -489,7 +489,8 @@ static void lent_names(void)
 /* One open file for both headers; and which fault stands behind an error that several share. */
 static void both_headers(void)
 {
-    static const char damaged[36] = "\xf1\xcf\x02\x00";
+    /* A header, and a string section of one byte, which is not 0. */
+    static const char damaged[37] = { '\xf1', '\xcf', 2, [32] = 1, [36] = 'x' };
     ctf_sect_t section;
     struct ctfd *types = ctfd_of(lua);
     uint32_t kind = 0;
@@ -542,11 +543,11 @@ int main(int argc, char **argv)
     functions();
     names();
     bytes();
+    both_headers();
     ctf_close(lua);
     snprintf(file, sizeof file, "%s/lua.ctf", argv[1]);
     models(file);
     declarations();
-    both_headers();
     refused_files(argv[2]);
     drafts(argv[2]);
     lent_names();
