@@ -110,6 +110,10 @@ class Front:
         assert self.process.poll() is None, f"it has ended with {self.process.poll()}: {self.said}"
         return self.said[len(before):]
 
+    def until_told(self, *parts: str) -> None:
+        """Waits till it tells some parts: a shard of a busy machine may tell late."""
+        until(lambda: all(part in self.tell() for part in parts))
+
     def end(self, how: signal.Signals = signal.SIGTERM) -> int:
         """Ends it; the status."""
         if self.process.poll() is None:

@@ -107,7 +107,7 @@ class Patience(WithFront):
         self.assertEqual(other.ask(KIND), INTEGER)
         self.assertTrue(stalled.is_closed())
         self.assertEqual(other.ask(KIND), INTEGER)
-        self.assertIn("half a line 1", front.tell())
+        front.until_told("half a line 1")
 
     def test_drop_by_drop(self) -> None:
         front = self.front("--stalled", "0.5").started()
@@ -123,7 +123,7 @@ class Patience(WithFront):
         talker = self.talker(front)
         talker.number()
         self.assertTrue(talker.is_closed())
-        self.assertIn("idle 1", front.tell())
+        front.until_told("idle 1")
 
     def test_client_that_never_reads(self) -> None:
         front = self.front().started()
@@ -270,7 +270,7 @@ class Connections(WithFront):
         first.close()
         until(lambda: "connections 1" in front.tell())
         self.assertGreater(self.talker(front).number(), 2)
-        self.assertIn("too many 1", front.tell())
+        front.until_told("too many 1")
 
 
 def pour(talker: Talker, line: bytes) -> None:

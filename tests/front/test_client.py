@@ -49,7 +49,7 @@ class OverSocket(WithFront):
         front = self.front().started()
         for path in (FILE, OLDER, "/dev/null"):
             self.assertEqual(run(path, CTFD_SOCKET=front.path), run(path), path)
-        self.assertNotIn("lines 0", front.tell())
+        until(lambda: "lines 0" not in front.tell())
 
     def test_nobody_listens(self) -> None:
         status, _, said = run(FILE, CTFD_SOCKET=f"{self.folder}/none")

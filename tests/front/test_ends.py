@@ -268,10 +268,8 @@ class Told(WithFront):
         front = self.front().started()
         talker = self.talker(front)
         talker.ask(TAKE, KIND, b"no\n", ask("kind", d=9, t=1), ask("kind", d=9, t=1))
-        told = front.tell()
-        for part in ("connections 1 of 1, lines 5,", "NoSlot 2, NotJson 1", "dearest: ",
-                     "session 1, "):
-            self.assertIn(part, told)
+        front.until_told("connections 1 of 1, lines 5,", "NoSlot 2, NotJson 1", "dearest: ",
+                         "session 1, ")
 
     def test_again_and_again(self) -> None:
         front = self.front("--stats", "0.2").started()

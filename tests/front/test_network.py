@@ -131,7 +131,7 @@ class Network(WithFront):
             stranger = self.client("")
             stranger.sendall(b"{}\n")
             lines(stranger, 1)
-        self.assertIn(f"lines {2 * (LINES + 2)},", front.tell())
+        front.until_told(f"lines {2 * (LINES + 2)},")
 
     def two_fronts(self, begin: Callable[[str], None], name: str) -> None:
         """Each client always meets the same front, and both have clients."""
@@ -139,17 +139,20 @@ class Network(WithFront):
                   for number in (1, 2)]
         begin(name)
         places: Dict[str, int] = {}
+        before, asked = [0, 0], 0
         for number in range(12):
             self.certify(f"user-{number}", ["-CA", "authority.crt", "-CAkey", "authority.key"])
             for _ in range(3):
-                before = [lines_of(front) for front in fronts]
                 client = self.client(f"user-{number}")
-                client.sendall(b"{}\n")
-                lines(client, 1)
+                client.sendall(b"{}\n" * (number + 1))
+                lines(client, number + 1)
                 client.close()
-                after = [lines_of(front) for front in fronts]
-                place = [old < new for old, new in zip(before, after)].index(True)
+                asked += number + 1
+                until(lambda: sum(map(lines_of, fronts)) == asked)
+                counts = [lines_of(front) for front in fronts]
+                place = [old < new for old, new in zip(before, counts)].index(True)
                 self.assertEqual(places.setdefault(f"user-{number}", place), place)
+                before = counts
         self.assertEqual(set(places.values()), {0, 1})
 
 

@@ -33,8 +33,8 @@ class Metrics(WithFront):
         for talker in talkers:
             talker.ask(HAND_IN, KIND, ask("kind", d=9, t=1), b"no\n")
         talkers[0].ask(b'{"op":"\\"\\u0041\\\\","s":1}\n')
-        front.tell()
-        until(lambda: os.path.exists(path) and "requests" in Path(path).read_text())
+        front.until_told("lines 11,")
+        until(lambda: "ctfd_front_requests_total 11" in Path(path).read_text())
         return Path(path).read_text()
 
     def samples(self, text: str) -> Dict[str, Dict[Labels, float]]:
