@@ -110,11 +110,16 @@ def is_memory(reply: bytes) -> bool:
 
 
 def surely_holds(session: int, lines: Lines, replies: Lines) -> bool:
-    """Whether a session that was answered so has got something, and given back nothing since."""
+    """Whether a session that was answered so has got something, and given back nothing since.
+
+    A part without bytes leaves a session as it was, which may be as a new one: that holds nothing.
+    """
     for line, reply in zip(reversed(lines), reversed(replies)):
         request = said(line)
         word = request.get("op")
-        if request.get("s") == session and "ok" in said(reply) and word in GETTING | GIVING_BACK:
+        if request.get("s") != session or "ok" not in said(reply) or request.get("bytes") == "":
+            continue
+        if word in GETTING | GIVING_BACK:
             return word in GETTING
     return False
 
