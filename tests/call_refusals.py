@@ -25,8 +25,11 @@ MEMORY = "out_of_memory"
 ADDED = ("add type", "add member", "add enumerator", "add label")
 
 # The words of the protocol by which each call is reached. LISTS stands for the calls that open lent
-# lists, which tests/lists_refused.py reaches.
+# lists, which tests/lists_refused.py reaches; AS_A_SESSION for ctfd_line_as, whose refusals
+# tests/c_library/sessions.c has.
 LISTS = "lists"
+AS_A_SESSION = "a line as a session's"
+ELSEWHERE = {LISTS, AS_A_SESSION}
 REACHED_BY: Mapping[str, tuple[str, ...]] = {
     "ctf_check check": ("check",),
     "ctf_check judge_chains": ("check",),
@@ -40,6 +43,7 @@ REACHED_BY: Mapping[str, tuple[str, ...]] = {
     "ctf_library open": ("open",),
     "ctf_library check": ("check",),
     "ctf_library add": ("part",),
+    "ctf_lines read_as": (AS_A_SESSION,),
     "ctf_names spell": ("name",),
     "ctf_names unroll": ("name",),
     "ctf_open add": ADDED,
@@ -137,6 +141,6 @@ def without_rows(rows: set[tuple[str, str]], known: Mapping[int, str]) -> tuple[
             continue
         count += len(faults)
         told += [f"no stored run has `{call}` refused with {fault}" for fault in sorted(faults)
-                 if LISTS not in words
+                 if not ELSEWHERE & set(words)
                  and not any((word, fault) in rows | never for word in words)]
     return count, told

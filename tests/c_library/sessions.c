@@ -37,6 +37,21 @@ static enum ctfd_status load(struct ctfd_service *service, const char *name, con
     return ctfd_load(service, name, strlen(name), ctf->at, ctf->len);
 }
 
+/* A line of one byte more than a line may have, and one of just as many. */
+static void check_length(struct ctfd_service *service)
+{
+    size_t most = 1048576;
+    char *line = (char *)malloc(most + 2);
+    memset(line, ' ', most + 1);
+    memcpy(line, "{}", 2);
+    line[most + 1] = 0;
+    CHECK(is(as(service, 7, line), "{\"fault\":{\"code\":59,\"name\":\"LongLine\",\"place\":0},\"s\":0}"));
+    line[most] = 0;
+    CHECK(is(as(service, 7, line),
+        "{\"fault\":{\"code\":58,\"name\":\"BadRequest\",\"place\":0},\"s\":7}"));
+    free(line);
+}
+
 /* What stands in docs/SERVING.md of a line's number. */
 static void check_numbers(void)
 {
@@ -63,6 +78,7 @@ static void check_numbers(void)
     for (size_t i = 0; i < sizeof broken / sizeof *broken; i++)
         CHECK(is(as(&service, 7, broken[i]),
             "{\"fault\":{\"code\":57,\"name\":\"NotJson\",\"place\":0},\"s\":0}"));
+    check_length(&service);
     ctfd_end(&service);
 }
 

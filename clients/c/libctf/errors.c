@@ -4,102 +4,54 @@
 #include <errno.h>
 #include <string.h>
 
-/* An error: its numbers in illumos' libctf and in GNU's, and what it is. */
-struct error {
+/* The numbers of an error in illumos' libctf and in GNU's. */
+struct numbers {
     short illumos, gnu;
-    const char *message;
 };
 
 /* By their statuses. Those that illumos has no number for have one behind ECTF_FAULT. */
-static const struct error statuses[] = {
-    { 0, 0, "no error" },
-    { ENOMEM, ENOMEM, "Memory: memory was refused" },
-    { 1009, 1009, "TooShort: fewer than 4 bytes" },
-    { 1009, 1009, "BadMagic: the first two bytes are no CTF" },
-    { 1002, 1002, "BadVersion: not version 2" },
-    { 1014, 1015, "Compressed: the body is compressed" },
-    { 1009, 1009, "ShortHeader: fewer than 36 bytes" },
-    { 1007, 1007, "BadOrder: the sections are not in order" },
-    { 1007, 1007, "BadAlign: a section is not aligned" },
-    { 1007, 1007, "PastEnd: a section ends past the bytes" },
-    { 1007, 1007, "BadStrings: the strings do not begin with a zero byte" },
-    { 1007, 1007, "Truncated: a record is cut off" },
-    { 1007, 1007, "BadKind: a record has an unknown kind" },
-    { 1007, 1039, "TooMany: more than 32,766 types" },
-    { 1019, 1017, "BadName: a reference to a name names nothing" },
-    { 1007, 1007, "BadReference: a record names a type that is not there" },
-    { 1007, 1007, "ValueDeep: values hold each other more than 512 deep" },
-    { 1007, 1007, "DeclDeep: a declaration of more than 512 steps" },
-    { 1007, 1007, "BadFuncs: the entry of a function is bad" },
-    { 1007, 1007, "BadSymbolType: a symbol names a type that is not there" },
-    { 1004, 1004, "BadSymtab: the symbol table is no multiple of 24 bytes" },
-    { 0, 1011, "NotChild: the dictionary names no parent" },
-    { 0, 1011, "ParentIsChild: the parent names a parent itself" },
-    { 0, 1011, "ParentShort: the parent has fewer types than are named" },
-    { 1011, 1011, "NoParent: a type of a parent, and none is imported" },
-    { 1020, 1018, "NoType: no type has this number" },
-    { 1026, 1024, "NotReference: no pointer, typedef or qualifier" },
-    { 0, 1057, "Incomplete: the type has no size, alignment or value" },
-    { 0, 1007, "TooBig: a size or an offset is past 64 bits" },
-    { 1038, 1036, "NoMember: no member of this name or number" },
-    { 1021, 1019, "NotAggregate: no struct or union" },
-    { 1021, 1019, "WrongKind: not asked of types of this kind" },
-    { 0, 1025, "TooLong: a text of more than 65,536 bytes" },
-    { 1028, 1026, "NotFound: no type has this name, or no pointer leads there" },
-    { 1029, 1027, "BadSyntax: the text is no name of a type" },
-    { 1010, 1010, "NoSymbol: no symbol of this name or number" },
-    { 1032, 1030, "NotData: the symbol is no object" },
-    { 1030, 1028, "NotFunction: the symbol is no function" },
-    { 1033, 1031, "NoInfo: nothing is told of the symbol" },
-    { 1034, 1032, "NoLabel: no label of this name or number" },
-    { 1020, 1018, "BadRef: what is added names a type that is not there" },
-    { 1041, 1039, "Full: the draft has 32,766 types" },
-    { 1042, 1040, "Duplicate: the name is there already" },
-    { 0, 1037, "Settled: the type was updated, or is the parent's" },
-    { 1040, 1038, "VlenFull: 1,023 members, enumerators or arguments" },
-    { 0, 1007, "DeepMember: the member's type is more than 512 deep" },
-    { 0, 1007, "BadOffset: 64 bits do not hold the member's place" },
-    { 0, 1017, "NameHasZero: a name has a zero byte" },
-    { 0, 1039, "DictTooBig: more than 67,108,864 bytes" },
-    { 0, 1007, "ShortMemory: a value lies past the memory" },
-    { 0, 1050, "NoSlot: nothing is open behind the handle" },
-    { 0, 1050, "SlotsFull: all slots are in use" },
-    { 0, 1050, "StageFull: a list of more than 67,108,864 bytes" },
-    { 1039, 1037, "ReadOnly: what is open is no draft" },
-    { 0, 1050, "NameTaken: the name is published already" },
-    { 0, 1050, "NotPublished: nothing is published by this name" },
-    { 0, 1050, "NotUpdated: something is pending" },
-    { 0, 1050, "LongReply: a reply of more than 4,194,304 bytes" },
-    { 0, 1050, "NotJson: the line is no JSON" },
-    { 0, 1050, "BadRequest: the line is no request" },
-    { 0, 1050, "LongLine: a line of more than 1,048,576 bytes" },
-    { 1012, 1012, "ModelDiffers: child and parent have other data models" },
-    { 0, 1050, "QuotaFull: more than a session may hold" },
-    { 0, 1037, "FixedParent: the parent of a draft is fixed" },
+static const struct numbers statuses[] = {
+    { 0, 0 }, { ENOMEM, ENOMEM }, { 1009, 1009 }, { 1009, 1009 }, { 1002, 1002 }, { 1014, 1015 },
+    { 1009, 1009 }, { 1007, 1007 }, { 1007, 1007 }, { 1007, 1007 }, { 1007, 1007 },
+    { 1007, 1007 }, { 1007, 1007 }, { 1007, 1039 }, { 1019, 1017 }, { 1007, 1007 },
+    { 1007, 1007 }, { 1007, 1007 }, { 1007, 1007 }, { 1007, 1007 }, { 1004, 1004 }, { 0, 1011 },
+    { 0, 1011 }, { 0, 1011 }, { 1011, 1011 }, { 1020, 1018 }, { 1026, 1024 }, { 0, 1057 },
+    { 0, 1007 }, { 1038, 1036 }, { 1021, 1019 }, { 1021, 1019 }, { 0, 1025 }, { 1028, 1026 },
+    { 1029, 1027 }, { 1010, 1010 }, { 1032, 1030 }, { 1030, 1028 }, { 1033, 1031 },
+    { 1034, 1032 }, { 1020, 1018 }, { 1041, 1039 }, { 1042, 1040 }, { 0, 1037 }, { 1040, 1038 },
+    { 0, 1007 }, { 0, 1007 }, { 0, 1017 }, { 0, 1039 }, { 0, 1007 }, { 0, 1050 }, { 0, 1050 },
+    { 0, 1050 }, { 1039, 1037 }, { 0, 1050 }, { 0, 1050 }, { 0, 1050 }, { 0, 1050 }, { 0, 1050 },
+    { 0, 1050 }, { 0, 1050 }, { 1012, 1012 }, { 0, 1050 }, { 0, 1037 },
+};
+
+/* An error that is no status. */
+struct error {
+    struct numbers numbers;
+    const char *message;
 };
 
 /* From CTFD__NO_PART on. */
 static const struct error others[] = {
-    { 1014, 1008, "an ELF file or a compressed section: link libctfd_elf, or put its .so beside libctfd.so" },
-    { 1008, 1008, "the ELF file has no section .SUNW_ctf or .ctf: ctfd-convert --section makes one" },
-    { 1001, 1000, "the ELF file is damaged" },
-    { 1017, 1015, "the compressed section does not inflate to what its header says" },
-    { 1027, 1025, "the name does not fit into the buffer: ctf_type_lname returns its length" },
-    { 1022, 1020, "the type is no enum" },
-    { 1025, 1023, "the type is no array" },
-    { 1024, 1022, "the type is no integer or float" },
-    { 1030, 1028, "the type is no function" },
-    { 1037, 1035, "no enumerator of this name or value" },
-    { 1031, 1029, "nothing is told of the function" },
-    { 1035, 1033, "the dictionary has no labels" },
-    { 1043, 1041, "another type of this name is there already" },
-    { 1036, 1050, "a struct of the parent has grown since a member was made of it: add the member later" },
-    { 1036, 1042, "a roll-back past what was written" },
-    { 1036, 1052, "the iterator is at its end" },
-    { 1036, 1053, "the iterator is of another call" },
-    { 1036, 1054, "the iterator is over another file" },
-    { 1008, 1045, "no dictionary of this name in the file: its only one is .ctf" },
-    { 1033, 1031, "nothing is told of a symbol of this name" },
+    { { 1014, 1008 }, "an ELF file or a compressed section: link libctfd_elf, or put its .so beside libctfd.so" },
+    { { 1008, 1008 }, "the ELF file has no section .SUNW_ctf or .ctf: ctfd-convert --section makes one" },
+    { { 1001, 1000 }, "the ELF file is damaged" },
+    { { 1017, 1015 }, "the compressed section does not inflate to what its header says" },
+    { { 1027, 1025 }, "the name does not fit into the buffer: ctf_type_lname returns its length" },
+    { { 1022, 1020 }, "the type is no enum" },
+    { { 1025, 1023 }, "the type is no array" },
+    { { 1024, 1022 }, "the type is no integer or float" },
+    { { 1030, 1028 }, "the type is no function" },
+    { { 1037, 1035 }, "no enumerator of this name or value" },
+    { { 1031, 1029 }, "nothing is told of the function" },
+    { { 1035, 1033 }, "the dictionary has no labels" },
+    { { 1043, 1041 }, "another type of this name is there already" },
+    { { 1036, 1050 }, "a struct of the parent has grown since a member was made of it: add the member later" },
+    { { 1036, 1042 }, "a roll-back past what was written" },
+    { { 1036, 1052 }, "the iterator is at its end" },
+    { { 1036, 1053 }, "the iterator is of another call" },
+    { { 1036, 1054 }, "the iterator is over another file" },
+    { { 1008, 1045 }, "no dictionary of this name in the file: its only one is .ctf" },
+    { { 1033, 1031 }, "nothing is told of a symbol of this name" },
 };
 
 /* The last error of a call that opened nothing. */
@@ -116,18 +68,18 @@ int ctfd__refusal(void)
 }
 
 /* NULL of errors of the system. */
-static const struct error *known(int error)
+static const struct numbers *numbers_of(int error)
 {
     if (error >= 0 && (size_t)error < sizeof statuses / sizeof statuses[0])
         return &statuses[error];
     if (error >= CTFD__NO_PART && error < CTFD__ERRORS)
-        return &others[error - CTFD__NO_PART];
+        return &others[error - CTFD__NO_PART].numbers;
     return NULL;
 }
 
 int ctfd__number(int error)
 {
-    const struct error *it = known(error);
+    const struct numbers *it = numbers_of(error);
     if (it == NULL)
         return error - CTFD__SYSTEM;
     return it->illumos != 0 || error == 0 ? it->illumos : ECTF_FAULT + error;
@@ -135,14 +87,89 @@ int ctfd__number(int error)
 
 int ctfd__gnu_number(int error)
 {
-    const struct error *it = known(error);
+    const struct numbers *it = numbers_of(error);
     return it != NULL ? it->gnu : error - CTFD__SYSTEM;
+}
+
+/* The message of a status. */
+static const char *status_message(int status)
+{
+    static const char *const messages[] = {
+        "no error",
+        "Memory: memory was refused",
+        "TooShort: fewer than 4 bytes",
+        "BadMagic: the first two bytes are no CTF",
+        "BadVersion: not version 2",
+        "Compressed: the body is compressed",
+        "ShortHeader: fewer than 36 bytes",
+        "BadOrder: the sections are not in order",
+        "BadAlign: a section is not aligned",
+        "PastEnd: a section ends past the bytes",
+        "BadStrings: the strings do not begin with a zero byte",
+        "Truncated: a record is cut off",
+        "BadKind: a record has an unknown kind",
+        "TooMany: more than 32,766 types",
+        "BadName: a reference to a name names nothing",
+        "BadReference: a record names a type that is not there",
+        "ValueDeep: values hold each other more than 512 deep",
+        "DeclDeep: a declaration of more than 512 steps",
+        "BadFuncs: the entry of a function is bad",
+        "BadSymbolType: a symbol names a type that is not there",
+        "BadSymtab: the symbol table is no multiple of 24 bytes",
+        "NotChild: the dictionary names no parent",
+        "ParentIsChild: the parent names a parent itself",
+        "ParentShort: the parent has fewer types than are named",
+        "NoParent: a type of a parent, and none is imported",
+        "NoType: no type has this number",
+        "NotReference: no pointer, typedef or qualifier",
+        "Incomplete: the type has no size, alignment or value",
+        "TooBig: a size or an offset is past 64 bits",
+        "NoMember: no member of this name or number",
+        "NotAggregate: no struct or union",
+        "WrongKind: not asked of types of this kind",
+        "TooLong: a text of more than 65,536 bytes",
+        "NotFound: no type has this name, or no pointer leads there",
+        "BadSyntax: the text is no name of a type",
+        "NoSymbol: no symbol of this name or number",
+        "NotData: the symbol is no object",
+        "NotFunction: the symbol is no function",
+        "NoInfo: nothing is told of the symbol",
+        "NoLabel: no label of this name or number",
+        "BadRef: what is added names a type that is not there",
+        "Full: the draft has 32,766 types",
+        "Duplicate: the name is there already",
+        "Settled: the type was updated, or is the parent's",
+        "VlenFull: 1,023 members, enumerators or arguments",
+        "DeepMember: the member's type is more than 512 deep",
+        "BadOffset: 64 bits do not hold the member's place",
+        "NameHasZero: a name has a zero byte",
+        "DictTooBig: more than 67,108,864 bytes",
+        "ShortMemory: a value lies past the memory",
+        "NoSlot: nothing is open behind the handle",
+        "SlotsFull: all slots are in use",
+        "StageFull: a list of more than 67,108,864 bytes",
+        "ReadOnly: what is open is no draft",
+        "NameTaken: the name is published already",
+        "NotPublished: nothing is published by this name",
+        "NotUpdated: something is pending",
+        "LongReply: a reply of more than 4,194,304 bytes",
+        "NotJson: the line is no JSON",
+        "BadRequest: the line is no request",
+        "LongLine: a line of more than 1,048,576 bytes",
+        "ModelDiffers: child and parent have other data models",
+        "QuotaFull: more than a session may hold",
+        "FixedParent: the parent of a draft is fixed",
+    };
+    return messages[status];
 }
 
 const char *ctfd__message(int error)
 {
-    const struct error *it = known(error);
-    return it != NULL ? it->message : strerror(error - CTFD__SYSTEM);
+    if (error >= 0 && (size_t)error < sizeof statuses / sizeof statuses[0])
+        return status_message(error);
+    if (error >= CTFD__NO_PART && error < CTFD__ERRORS)
+        return others[error - CTFD__NO_PART].message;
+    return strerror(error - CTFD__SYSTEM);
 }
 
 int ctf_errno(ctf_file_t *fp)
@@ -177,9 +204,9 @@ static const char *of_several(int number)
     case ECTF_CORRUPT:
         return "a rule of the format is broken: ctf_fault says which";
     case ECTF_NOCTFBUF:
-        return statuses[CTFD_BAD_MAGIC].message;
+        return status_message(CTFD_BAD_MAGIC);
     case ECTF_NOPARENT:
-        return statuses[CTFD_NO_PARENT].message;
+        return status_message(CTFD_NO_PARENT);
     case ECTF_ZMISSING:
         return others[0].message;
     case ECTF_NOTSUP:
@@ -198,13 +225,13 @@ const char *ctf_errmsg(int number)
     if (number != 0 && number < ECTF_BASE)
         return strerror(number);
     if (number > ECTF_FAULT && number <= ECTF_FAULT + CTFD_FIXED_PARENT)
-        return statuses[number - ECTF_FAULT].message;
+        return status_message(number - ECTF_FAULT);
     for (i = 0; i < sizeof statuses / sizeof statuses[0]; i++) {
         if (statuses[i].illumos == number)
-            return statuses[i].message;
+            return status_message((int)i);
     }
     for (i = 0; i < sizeof others / sizeof others[0]; i++) {
-        if (others[i].illumos == number)
+        if (others[i].numbers.illumos == number)
             return others[i].message;
     }
     return "unknown error";
