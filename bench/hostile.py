@@ -280,10 +280,20 @@ def all_instructions(program, case, size):
         return instructions([program, "serve"], file.name)
 
 
+def steady(cost, size):
+    """The cost of half a size and of all of it; measured again where one seems out of proportion to
+    the other, which something beside it may have done."""
+    for _ in range(3):
+        half, whole = cost(size // 2), cost(size)
+        if whole <= GROWN * half:
+            break
+    return half, whole
+
+
 def growth_row(program, case, is_counted, limit):
     """A row of what grows, and whether that is too much."""
     cost = all_instructions if is_counted else all_seconds
-    half, whole = (cost(program, case, size) for size in (case.size // 2, case.size))
+    half, whole = steady(lambda size: cost(program, case, size), case.size)
     used = f"{whole / 1e6:9.1f} million" if is_counted else f"{1000 * whole:9.1f} ms"
     is_over = limit is not None and whole > GROWN * half
     return f"{case.name:52}{case.size:8}   {used}  x{whole / half:.2f}" \
@@ -292,7 +302,7 @@ def growth_row(program, case, is_counted, limit):
 
 def file_row(program, case, limit):
     """A row of a file that a command reads, and whether that takes too long."""
-    half, whole = (case.seconds(program, size) for size in (case.size // 2, case.size))
+    half, whole = steady(lambda size: case.seconds(program, size), case.size)
     is_over = limit is not None and (whole > GROWN * half or whole > MOST_SECONDS)
     return f"{case.name:52}{case.size:8}   {1000 * whole:9.1f} ms  x{whole / half:.2f}" \
            f"{'  TOO SLOW' if is_over else ''}", is_over
