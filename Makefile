@@ -9,7 +9,7 @@ PROGRAM = $(if $(CTFD),$(CTFD),crates/ctfd/out/ctfd)
 # The program and the library, without checking proofs, and the compiled commands; nothing where
 # they are built.
 all:
-	@scripts/rust.py --ahead & scripts/quick.py; status=$$?; wait; exit $$status
+	@nice scripts/rust.py --ahead & scripts/quick.py; status=$$?; wait; exit $$status
 	@scripts/rust.py --quiet
 
 # Over what is built, or over the program that CTFD names.
