@@ -23,6 +23,7 @@ typedef struct ctf_file ctf_dict_t;
 typedef struct ctfd_gnu_archive ctf_archive_t;
 typedef unsigned long ctf_id_t;
 typedef struct ctf_next ctf_next_t;
+typedef struct ctfd_gnu_dump ctf_dump_state_t;
 
 typedef struct ctf_sect {
     const char *cts_name;
@@ -72,6 +73,11 @@ typedef struct ctf_snapshot_id {
     unsigned long dtd_id;
     unsigned long snapshot_id;
 } ctf_snapshot_id_t;
+
+typedef enum ctf_sect_names {
+    CTF_SECT_HEADER, CTF_SECT_LABEL, CTF_SECT_OBJT, CTF_SECT_FUNC, CTF_SECT_VAR, CTF_SECT_TYPE,
+    CTF_SECT_STR, CTF_SECT_OBJTIDX = CTF_SECT_OBJT, CTF_SECT_FUNCIDX = CTF_SECT_FUNC
+} ctf_sect_names_t;
 
 #define CTF_FUNC_VARARG 0x1
 #define CTF_ERR ((ctf_id_t)-1L)
@@ -127,6 +133,8 @@ typedef int ctf_visit_f(const char *name, ctf_id_t type, unsigned long offset, i
 typedef int ctf_member_f(const char *name, ctf_id_t type, unsigned long offset, void *arg);
 typedef int ctf_enum_f(const char *name, int value, void *arg);
 typedef int ctf_variable_f(const char *name, ctf_id_t type, void *arg);
+typedef int ctf_label_f(const char *name, const ctf_lblinfo_t *info, void *arg);
+typedef char *ctf_dump_decorate_f(ctf_sect_names_t section, char *line, void *arg);
 typedef int ctf_type_f(ctf_id_t type, void *arg);
 typedef int ctf_type_all_f(ctf_id_t type, int flag, void *arg);
 typedef int ctf_archive_member_f(ctf_dict_t *fp, const char *name, void *arg);
@@ -219,8 +227,18 @@ ctf_id_t ctf_lookup_by_symbol_name(ctf_dict_t *fp, const char *name) CTFD_GNU("s
 ctf_id_t ctf_symbol_next(ctf_dict_t *fp, ctf_next_t **it, const char **name, int functions)
     CTFD_GNU("symbol_next");
 ctf_id_t ctf_lookup_variable(ctf_dict_t *fp, const char *name) CTFD_GNU("variable");
+int ctf_variable_iter(ctf_dict_t *fp, ctf_variable_f *each, void *arg) CTFD_GNU("variable_iter");
+ctf_id_t ctf_variable_next(ctf_dict_t *fp, ctf_next_t **it, const char **name)
+    CTFD_GNU("variable_next");
 ctf_dict_t *ctf_arc_lookup_symbol_name(ctf_archive_t *archive, const char *name, ctf_id_t *type,
     int *error) CTFD_GNU("arc_symbol_named");
+
+/* ---- labels, and the text of all */
+const char *ctf_label_topmost(ctf_dict_t *fp);
+int ctf_label_info(ctf_dict_t *fp, const char *name, ctf_lblinfo_t *info);
+int ctf_label_iter(ctf_dict_t *fp, ctf_label_f *each, void *arg) CTFD_GNU("label_iter");
+char *ctf_dump(ctf_dict_t *fp, ctf_dump_state_t **state, ctf_sect_names_t section,
+    ctf_dump_decorate_f *decorate, void *arg) CTFD_GNU("dump");
 
 /* ---- what is made */
 ctf_dict_t *ctf_create(int *error) CTFD_GNU("create");

@@ -52,6 +52,8 @@ static const struct error others[] = {
     { { 1036, 1054 }, "the iterator is over another file" },
     { { 1008, 1045 }, "no dictionary of this name in the file: its only one is .ctf" },
     { { 1033, 1031 }, "nothing is told of a symbol of this name" },
+    { { 1036, 1047 }, "no section of this number to dump" },
+    { { 1036, 1048 }, "the dump began with another section" },
 };
 
 /* The last error of a call that opened nothing. */

@@ -176,7 +176,7 @@ struct ctf_next {
     struct step *steps;
 };
 
-enum { MEMBERS = 1, ENUMERATORS, TYPES, SYMBOLS, FUNCTIONS, ARCHIVES };
+enum { MEMBERS = 1, ENUMERATORS, TYPES, SYMBOLS, FUNCTIONS, VARIABLES, ARCHIVES };
 
 SEEN void ctfd_gnu_next_destroy(struct ctf_next *it)
 {
@@ -316,8 +316,10 @@ SEEN ssize_t ctfd_gnu_member_next(ctf_file_t *fp, ctf_id_t type, struct ctf_next
 SEEN int ctfd_gnu_member_count(ctf_file_t *fp, ctf_id_t type)
 {
     ctf_id_t t = ctf_type_resolve(fp, type);
-    struct ctfd__details *details = t != CTF_ERR ? listed(fp, (uint16_t)t, false) : NULL;
-    return details != NULL ? (int)details->count : -1;
+    struct ctfd__details *details = t != CTF_ERR ? ctfd__details(fp, (uint16_t)t) : NULL;
+    if (details != NULL && (details->kind == CTFD_ENUM || ctfd__has_members(details)))
+        return (int)details->count;
+    return details != NULL ? (int)ctfd__fail(fp, CTFD_WRONG_KIND) : -1;
 }
 
 SEEN ctf_id_t ctfd_gnu_type_next(ctf_file_t *fp, struct ctf_next **it, int *flag, int hidden)
@@ -458,6 +460,45 @@ SEEN char *ctfd_gnu_type_aname_raw(ctf_file_t *fp, ctf_id_t type)
     return name != NULL ? strdup(name) : NULL;
 }
 
+/* ---- labels, without those that stand for symbols */
+
+struct each_label {
+    ctf_file_t *fp;
+    int (*each)(const char *, const ctf_lblinfo_t *, void *);
+    void *arg;
+    bool is_met;
+};
+
+static bool is_of_symbol(const char *label)
+{
+    int sort;
+    for (sort = 0; sort < CTFD_SORTS; sort++) {
+        if (strncmp(label, ctfd__symbol_labels[sort], strlen(ctfd__symbol_labels[sort])) == 0)
+            return true;
+    }
+    return false;
+}
+
+static int on_label(const char *name, void *arg)
+{
+    struct each_label *of = (struct each_label *)arg;
+    ctf_lblinfo_t info;
+    if (is_of_symbol(name))
+        return 0;
+    of->is_met = true;
+    if (ctf_label_info(of->fp, name, &info) != 0)
+        return (int)CTF_ERR;
+    return of->each(name, &info, of->arg);
+}
+
+SEEN int ctfd_gnu_label_iter(ctf_file_t *fp,
+    int (*each)(const char *, const ctf_lblinfo_t *, void *), void *arg)
+{
+    struct each_label of = { fp, each, arg, false };
+    int said = ctf_label_iter(fp, on_label, &of);
+    return said == 0 && !of.is_met ? (int)ctfd__fail(fp, CTFD__NO_LABELS) : said;
+}
+
 /* ---- symbols */
 
 /* The symbol that a label is, with its name kept: its sort, or -1. */
@@ -578,6 +619,12 @@ static bool next_added(const struct ctfd__recipe *of, struct ctf_next *it, const
     return false;
 }
 
+/* Whether a symbol of the symbol table counts as a variable, which the linker gave no name. */
+static bool is_variable(const ctf_file_t *fp, uint32_t i)
+{
+    return fp->variables != NULL && fp->variables[i] != 0;
+}
+
 /* The next symbol of an opened file: those of its symbol table, and then those of its labels. */
 static bool next_symbol(ctf_file_t *fp, struct ctf_next *it, const char **name, uint8_t sort,
     uint16_t *type)
@@ -590,7 +637,7 @@ static bool next_symbol(ctf_file_t *fp, struct ctf_next *it, const char **name, 
     while (it->i < count) {
         uint32_t i = it->i++;
         *type = 0;
-        if ((fp->variables != NULL && fp->variables[i] != 0) ||
+        if (is_variable(fp, i) != (sort == CTFD_SORT_VARIABLE) ||
             (sort == CTFD_SORT_FUNCTION ? ctfd_function(types, i, &function)
                                         : ctfd_object(types, i, type)) != CTFD_OK)
             continue;
@@ -604,18 +651,45 @@ static bool next_symbol(ctf_file_t *fp, struct ctf_next *it, const char **name, 
     return false;
 }
 
-SEEN ctf_id_t ctfd_gnu_symbol_next(ctf_file_t *fp, struct ctf_next **it, const char **name,
-    int functions)
+static ctf_id_t next_of_sort(ctf_file_t *fp, struct ctf_next **it, const char **name, int what,
+    uint8_t sort)
 {
-    uint8_t sort = functions ? CTFD_SORT_FUNCTION : CTFD_SORT_OBJECT;
     uint16_t type = 0;
-    if (!begun_in(fp, it, functions ? FUNCTIONS : SYMBOLS))
+    if (!begun_in(fp, it, what))
         return CTF_ERR;
     if (fp->recipe != NULL ? next_added(fp->recipe, *it, name, sort, &type)
                            : next_symbol(fp, *it, name, sort, &type))
         return (ctf_id_t)type;
     end(it);
     return ctfd__fail(fp, CTFD__NEXT_END);
+}
+
+SEEN ctf_id_t ctfd_gnu_symbol_next(ctf_file_t *fp, struct ctf_next **it, const char **name,
+    int functions)
+{
+    return next_of_sort(fp, it, name, functions ? FUNCTIONS : SYMBOLS,
+        functions ? CTFD_SORT_FUNCTION : CTFD_SORT_OBJECT);
+}
+
+SEEN ctf_id_t ctfd_gnu_variable_next(ctf_file_t *fp, struct ctf_next **it, const char **name)
+{
+    return next_of_sort(fp, it, name, VARIABLES, CTFD_SORT_VARIABLE);
+}
+
+SEEN int ctfd_gnu_variable_iter(ctf_file_t *fp, int (*each)(const char *, ctf_id_t, void *),
+    void *arg)
+{
+    struct ctf_next *it = NULL;
+    const char *name = NULL;
+    ctf_id_t type;
+    while ((type = ctfd_gnu_variable_next(fp, &it, &name)) != CTF_ERR) {
+        int said = each(name, type, arg);
+        if (said != 0) {
+            ctfd_gnu_next_destroy(it);
+            return said;
+        }
+    }
+    return fp->error == CTFD__NEXT_END ? 0 : -1;
 }
 
 static int add_symbol(ctf_file_t *fp, const char *name, ctf_id_t type, uint8_t sort)

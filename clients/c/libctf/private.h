@@ -121,6 +121,8 @@ enum {
     CTFD__NEXT_FILE, /* an iterator over another file */
     CTFD__NO_ENTRY, /* no dictionary of this name in the file */
     CTFD__NO_SYMBOL_TYPE, /* nothing is told of a symbol of this name */
+    CTFD__NO_DUMP, /* ctf_dump of a section that there is not */
+    CTFD__OTHER_DUMP, /* ctf_dump of another section than it began with */
     CTFD__ERRORS,
     CTFD__SYSTEM = 1000
 };
@@ -577,6 +579,20 @@ HIDDEN enum ctfd_status ctfd__recipe_find(ctf_file_t *fp, const char *text, size
 
 /* Writes what is visible, by the proved draft, which judges it. */
 HIDDEN enum ctfd_status ctfd__write(ctf_file_t *fp);
+
+/* ---- gnu.c: of GNU's calls those that gnu_dump.c asks */
+
+struct ctf_next;
+char *ctfd_gnu_type_aname(ctf_file_t *fp, ctf_id_t type);
+int ctfd_gnu_member_count(ctf_file_t *fp, ctf_id_t type);
+const char *ctfd_gnu_enum_next(ctf_file_t *fp, ctf_id_t type, struct ctf_next **it, int *value);
+int ctfd_gnu_type_iter_all(ctf_file_t *fp, int (*each)(ctf_id_t, int, void *), void *arg);
+int ctfd_gnu_label_iter(ctf_file_t *fp, int (*each)(const char *, const ctf_lblinfo_t *, void *),
+    void *arg);
+ctf_id_t ctfd_gnu_symbol_next(ctf_file_t *fp, struct ctf_next **it, const char **name,
+    int functions);
+int ctfd_gnu_variable_iter(ctf_file_t *fp, int (*each)(const char *, ctf_id_t, void *), void *arg);
+void ctfd_gnu_next_destroy(struct ctf_next *it);
 
 /* ---- the part for ELF files: elf.c, which a program may leave out */
 
