@@ -120,7 +120,7 @@ pub struct Found {
     /// For each number, 0 too, what it was found to be.
     pub is: Vec<u32>,
     pairs: Vec<u32>,
-    differ: HashSet<(u32, u32)>,
+    differ: HashSet<u64, BuildHasherDefault<NumberHasher>>,
     steps: u64,
 }
 
@@ -148,7 +148,7 @@ impl<'a> Joiner<'a> {
         let mut found = Found {
             is: self.slots.find(piece, &self.table),
             pairs: vec![0; count as usize + 1],
-            differ: HashSet::new(),
+            differ: HashSet::default(),
             steps: MOST_STEPS * u64::from(count) + MOST_STEPS,
         };
         for number in 1..=count {
@@ -263,7 +263,7 @@ impl<'a> Joiner<'a> {
     fn compare(&self, piece: &Piece<'a>, number: u32, found: &mut Found) {
         let alike: Vec<u32> = self.named.of(piece.shape(number)).take(MOST_ALIKE).collect();
         for other in alike {
-            if !found.differ.contains(&(number, other))
+            if !found.differ.contains(&pair(number, other))
                 && self.is_alike(piece, number, other, found)
             {
                 return;
@@ -296,7 +296,7 @@ impl<'a> Joiner<'a> {
         if let Some(mut at) = differs {
             loop {
                 let one = met[at].0;
-                found.differ.insert((one, found.pairs[one as usize]));
+                found.differ.insert(pair(one, found.pairs[one as usize]));
                 if at == 0 {
                     break;
                 }
@@ -372,6 +372,11 @@ fn ordered(turn: &[u64]) -> (Vec<u32>, Vec<u32>) {
     (order, to)
 }
 
+/// Two numbers as one.
+fn pair(one: u32, other: u32) -> u64 {
+    u64::from(one) << 32 | u64::from(other)
+}
+
 /// Pairs what two types name; false where that differs.
 fn pair_all(
     mine: &Record<'_>,
@@ -386,7 +391,7 @@ fn pair_all(
             known => known,
         };
         let is_open = x != 0 && known == 0;
-        if is_open && y != 0 && !found.differ.contains(&(x, y)) {
+        if is_open && y != 0 && !found.differ.contains(&pair(x, y)) {
             found.pairs[x as usize] = y;
             met.push((x, at));
         } else if is_open || known != y {

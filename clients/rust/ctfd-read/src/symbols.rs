@@ -116,3 +116,51 @@ impl<'a> Symbols<'a> {
         (table, names)
     }
 }
+
+#[cfg(test)]
+mod tests {
+    use super::*;
+
+    fn symbol(name: &str, is_function: bool) -> Symbol<'_> {
+        Symbol { name: Cow::Borrowed(name.as_bytes()), address: 0x40, is_function }
+    }
+
+    fn symbols<'a>(listed: &[Symbol<'a>]) -> Symbols<'a> {
+        Symbols { table: SymbolTable::Symtab, listed: listed.to_vec() }
+    }
+
+    #[test]
+    fn checksums_go_by_kinds_names_and_order() {
+        let listed = [symbol("main", true), symbol("count", false), symbol("", false)];
+        let whole = symbols(&listed).identity();
+        // zlib.crc32(b"\2main\0\1count\0\1\0")
+        assert_eq!((whole.objects, whole.functions, whole.checksum), (2, 1, 0x9404_79bb));
+        let mut changed = [listed.clone(), listed.clone(), listed.clone()];
+        changed[0].reverse();
+        changed[1][0].name = Cow::Borrowed(b"other");
+        changed[2][1].is_function = true;
+        for other in changed {
+            assert_ne!(symbols(&other).identity(), whole);
+        }
+        assert_ne!(symbols(&listed[..2]).identity(), whole);
+        assert_ne!(Symbols { table: SymbolTable::Dynsym, ..symbols(&listed) }.identity(), whole);
+    }
+
+    #[test]
+    fn checksums_do_not_go_by_addresses() {
+        let (mut one, other) = (symbol("main", true), symbol("main", true));
+        one.address = 0x80;
+        assert_eq!(symbols(&[one]).identity(), symbols(&[other]).identity());
+    }
+
+    #[test]
+    fn made_tables_are_of_elf() {
+        let (table, names) = symbols(&[symbol("f", true), symbol("", false)]).made_table();
+        assert_eq!(names, b"\0f\0\0");
+        assert_eq!(table.len(), 3 * ENTRY);
+        assert!(table[..ENTRY].iter().all(|&byte| byte == 0));
+        assert_eq!(table[ENTRY..][..8], [1, 0, 0, 0, FUNCTION, 0, 1, 0]);
+        assert_eq!(table[ENTRY..][8..16], 0x40u64.to_le_bytes());
+        assert_eq!(table[2 * ENTRY..][..8], [3, 0, 0, 0, OBJECT, 0, 1, 0]);
+    }
+}

@@ -59,6 +59,7 @@ impl<'d, 'a> Reader<'d, 'a> {
         let mut made = Vec::new();
         let mut lost = Vec::new();
         for one in entry.children()? {
+            let one = one?;
             match one.tag {
                 dw::DW_TAG_member
                     if !one.has(dw::DW_AT_external) && !one.has(dw::DW_AT_declaration) =>

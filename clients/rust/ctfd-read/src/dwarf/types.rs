@@ -321,8 +321,8 @@ fn imports(debug: &Debug<'_>) -> Result<HashMap<u64, Vec<u64>>> {
 fn imported_units<'a>(debug: &Debug<'a>, unit: &Unit<'a>) -> Result<Vec<u64>> {
     let mut made = Vec::new();
     let top = Entry::top(unit)?;
-    for one in top.children()?.iter().filter(|one| one.tag == dw::DW_TAG_imported_unit) {
-        if let Some(key) = debug.key(one, dw::DW_AT_import)? {
+    for one in top.children_of(|tag| tag == dw::DW_TAG_imported_unit)? {
+        if let Some(key) = debug.key(&one?, dw::DW_AT_import)? {
             made.push(debug.unit_of(key)?.start);
         }
     }
@@ -358,7 +358,7 @@ pub(super) struct Reader<'d, 'a> {
     todo: Vec<(&'d Unit<'a>, UnitOffset, u32)>,
     index: u32,
     /// For each unit that types were read from what their names have in front; None in C.
-    prefixes: HashMap<u64, Option<Rc<Prefixes>>>,
+    prefixes: HashMap<u64, Option<Rc<Prefixes>>, BuildHasherDefault<NumberHasher>>,
 }
 
 impl<'d, 'a> Reader<'d, 'a> {
@@ -371,7 +371,7 @@ impl<'d, 'a> Reader<'d, 'a> {
             numbers: HashMap::default(),
             todo: Vec::new(),
             index: 0,
-            prefixes: HashMap::new(),
+            prefixes: HashMap::default(),
         }
     }
 
@@ -459,7 +459,7 @@ impl<'d, 'a> Reader<'d, 'a> {
             }
             Kind::Integer => base(&entry, &mut made)?,
             Kind::Array => return self.array(&entry),
-            Kind::Function => return self.function(&entry.children()?, &entry),
+            Kind::Function => return self.function_of(&entry, &entry),
             Kind::Unknown if entry.tag == dw::DW_TAG_unspecified_type => {}
             Kind::Unknown => self.lost_tag(&entry, &made),
             _ => {
@@ -475,6 +475,7 @@ impl<'d, 'a> Reader<'d, 'a> {
     fn members(&mut self, entry: &Entry<'d, 'a>) -> Result<Box<[Member<'a>]>> {
         let mut made = Vec::new();
         for one in entry.children()? {
+            let one = one?;
             if one.tag == dw::DW_TAG_member && !one.has(dw::DW_AT_external) {
                 made.push(self.member(entry, &one)?);
             } else if !is_of_class(one.tag) {
@@ -539,11 +540,10 @@ impl<'d, 'a> Reader<'d, 'a> {
 
     fn enumerators(&self, entry: &Entry<'d, 'a>) -> Result<Box<[Enumerator<'a>]>> {
         let mut made = Vec::new();
-        for one in entry.children()? {
-            if one.tag == dw::DW_TAG_enumerator {
-                let value = one.constant(dw::DW_AT_const_value).unwrap_or(0);
-                made.push(Enumerator { name: self.debug.name(&one)?, value });
-            }
+        for one in entry.children_of(|tag| tag == dw::DW_TAG_enumerator)? {
+            let one = one?;
+            let value = one.constant(dw::DW_AT_const_value).unwrap_or(0);
+            made.push(Enumerator { name: self.debug.name(&one)?, value });
         }
         Ok(made.into())
     }
@@ -553,8 +553,8 @@ impl<'d, 'a> Reader<'d, 'a> {
         if entry.has(dw::DW_AT_GNU_vector) {
             self.lost("a vector: CTF has none; an array of its elements stands in its place");
         }
-        let mut ranges = entry.children()?;
-        ranges.retain(|one| one.tag == dw::DW_TAG_subrange_type);
+        let ranges = entry.children_of(|tag| tag == dw::DW_TAG_subrange_type)?;
+        let ranges: Vec<_> = ranges.collect::<Result<_>>()?;
         let mut made = Record::new(Kind::Array, Cow::Borrowed(b""));
         made.of = self.of(entry)?;
         made.index = self.index(ranges.last())?;
@@ -607,15 +607,31 @@ impl<'d, 'a> Reader<'d, 'a> {
         Ok(0)
     }
 
-    /// What a function takes, which stands in its parts, and returns.
-    fn function(&mut self, parts: &[Entry<'d, 'a>], of: &Entry<'d, 'a>) -> Result<Record<'a>> {
-        self.debug.count_entries(parts.len())?;
+    /// What a function takes, which stands in an entry, and returns, which another one says.
+    fn function_of(
+        &mut self,
+        whole: &Entry<'d, 'a>,
+        of: &Entry<'d, 'a>,
+    ) -> Result<Record<'a>> {
+        let mut parts = whole.children_of(is_argument)?;
+        let made = self.function(&mut parts, of)?;
+        self.debug.count_entries(parts.steps())?;
+        Ok(made)
+    }
+
+    /// The same, where the entries of its arguments are found.
+    fn function(
+        &mut self,
+        parts: impl Iterator<Item = Result<Entry<'d, 'a>>>,
+        of: &Entry<'d, 'a>,
+    ) -> Result<Record<'a>> {
         let mut made = Record::new(Kind::Function, Cow::Borrowed(b""));
         made.of = self.of(of)?;
         let mut arguments = Vec::new();
         for one in parts {
+            let one = one?;
             match one.tag {
-                dw::DW_TAG_formal_parameter => arguments.push(self.argument(one)?),
+                dw::DW_TAG_formal_parameter => arguments.push(self.argument(&one)?),
                 dw::DW_TAG_unspecified_parameters => made.varargs = true,
                 _ => {}
             }
@@ -721,16 +737,14 @@ impl<'d, 'a> Reader<'d, 'a> {
         let is_copy = |one: &&Entry<'d, 'a>| !one.has(dw::DW_AT_abstract_origin);
         let own = chain.iter().find(is_copy).unwrap_or(&chain[chain.len() - 1]);
         let own_scope = scopes.binary_search_by_key(&own.offset, |scope| scope.offset);
-        let parts = match own_scope {
-            Ok(scope) if std::ptr::eq(own.unit, chain[0].unit) => scopes[scope]
-                .entries
-                .iter()
-                .filter(|(_, tag)| is_argument(*tag))
-                .map(|&(offset, _)| Entry::read(own.unit, offset))
-                .collect::<Result<_>>()?,
-            _ => own.children()?,
+        let source = type_source(&chain).unwrap_or(own);
+        let function = match own_scope {
+            Ok(scope) if std::ptr::eq(own.unit, chain[0].unit) => {
+                let listed = scopes[scope].entries.iter().filter(|(_, tag)| is_argument(*tag));
+                self.function(listed.map(|&(offset, _)| Entry::read(own.unit, offset)), source)?
+            }
+            _ => self.function_of(own, source)?,
         };
-        let function = self.function(&parts, type_source(&chain).unwrap_or(own))?;
         let said = Description { of: 0, function: Some(function), is_whole: place.is_some() };
         let is_own = place.is_some() && !is_external;
         self.unit_types.told.push(Statement {

@@ -383,82 +383,105 @@ fn slots<'a>(
     Ok(made)
 }
 
-/// The attributes that are looked at, as bits by their numbers; all others are skipped.
-const KEPT: u128 = {
-    let listed = [
-        dw::DW_AT_name,
-        dw::DW_AT_type,
-        dw::DW_AT_byte_size,
-        dw::DW_AT_data_member_location,
-        dw::DW_AT_bit_size,
-        dw::DW_AT_bit_offset,
-        dw::DW_AT_data_bit_offset,
-        dw::DW_AT_encoding,
-        dw::DW_AT_const_value,
-        dw::DW_AT_upper_bound,
-        dw::DW_AT_count,
-        dw::DW_AT_declaration,
-        dw::DW_AT_external,
-        dw::DW_AT_specification,
-        dw::DW_AT_abstract_origin,
-        dw::DW_AT_signature,
-        dw::DW_AT_location,
-        dw::DW_AT_low_pc,
-        dw::DW_AT_ranges,
-        dw::DW_AT_language,
-        dw::DW_AT_import,
-        dw::DW_AT_dwo_name,
-        dw::DW_AT_linkage_name,
-        dw::DW_AT_virtuality,
-    ];
-    let (mut bits, mut at) = (0, 0);
-    while at < listed.len() {
-        bits |= 1 << listed[at].0;
-        at += 1;
+/// The attributes that are looked at. Each has the bit of its place here in an `Attributes`.
+const LOOKED_AT: [DwAt; 28] = [
+    dw::DW_AT_name,
+    dw::DW_AT_type,
+    dw::DW_AT_byte_size,
+    dw::DW_AT_data_member_location,
+    dw::DW_AT_bit_size,
+    dw::DW_AT_bit_offset,
+    dw::DW_AT_data_bit_offset,
+    dw::DW_AT_encoding,
+    dw::DW_AT_const_value,
+    dw::DW_AT_upper_bound,
+    dw::DW_AT_count,
+    dw::DW_AT_declaration,
+    dw::DW_AT_external,
+    dw::DW_AT_specification,
+    dw::DW_AT_abstract_origin,
+    dw::DW_AT_signature,
+    dw::DW_AT_location,
+    dw::DW_AT_low_pc,
+    dw::DW_AT_ranges,
+    dw::DW_AT_language,
+    dw::DW_AT_import,
+    dw::DW_AT_dwo_name,
+    dw::DW_AT_linkage_name,
+    dw::DW_AT_virtuality,
+    dw::DW_AT_decl_line,
+    dw::DW_AT_decl_file,
+    dw::DW_AT_GNU_vector,
+    dw::DW_AT_GNU_dwo_name,
+];
+
+/// Some of them.
+type Attributes = u32;
+
+/// The bits by the attributes' numbers, as far as these are small.
+const BITS: [Attributes; 128] = {
+    let (mut bits, mut place) = ([0; 128], 0);
+    while place < LOOKED_AT.len() {
+        if LOOKED_AT[place].0 < 128 {
+            bits[LOOKED_AT[place].0 as usize] = 1 << place;
+        }
+        place += 1;
     }
     bits
 };
 
-fn is_kept(name: DwAt) -> bool {
+/// The bit of an attribute; 0 for those that are not looked at.
+#[inline]
+const fn bit(name: DwAt) -> Attributes {
     match name {
-        dw::DW_AT_GNU_vector | dw::DW_AT_GNU_dwo_name => true,
-        DwAt(number) => number < 128 && KEPT >> number & 1 != 0,
+        DwAt(number) if number < 128 => BITS[number as usize],
+        dw::DW_AT_GNU_vector => 1 << (LOOKED_AT.len() - 2),
+        dw::DW_AT_GNU_dwo_name => 1 << (LOOKED_AT.len() - 1),
+        _ => 0,
     }
 }
+
+/// Where a type is declared, which few ask.
+const LINE: Attributes = bit(dw::DW_AT_decl_line);
+const FILE_NUMBER: Attributes = bit(dw::DW_AT_decl_file);
+/// All but these.
+const KEPT: Attributes = !(LINE | FILE_NUMBER);
 
 /// An entry with those of its attributes that are looked at.
 pub struct Entry<'d, 'a> {
     pub unit: &'d Unit<'a>,
     pub offset: UnitOffset,
     pub tag: DwTag,
-    said: SmallVec<[Attribute<'a>; 6]>,
+    /// Which attributes `said` has.
+    has: Attributes,
+    said: SmallVec<[Attribute<'a>; 4]>,
     has_children: bool,
     inside: UnitOffset,
 }
 
 impl<'d, 'a> Entry<'d, 'a> {
     pub fn read(unit: &'d Unit<'a>, offset: UnitOffset) -> Result<Entry<'d, 'a>> {
-        Entry::read_kept(unit, offset, is_kept)
+        Entry::read_kept(unit, offset, KEPT)
     }
 
     /// The same with the line of its declaration too.
     pub fn read_with_line(unit: &'d Unit<'a>, offset: UnitOffset) -> Result<Entry<'d, 'a>> {
-        Entry::read_kept(unit, offset, |name| is_kept(name) || name == dw::DW_AT_decl_line)
+        Entry::read_kept(unit, offset, KEPT | LINE)
     }
 
     /// The same with the file of its declaration too.
     pub fn read_with_file(unit: &'d Unit<'a>, offset: UnitOffset) -> Result<Entry<'d, 'a>> {
-        Entry::read_kept(unit, offset, |name| is_kept(name) || name == dw::DW_AT_decl_file)
+        Entry::read_kept(unit, offset, KEPT | FILE_NUMBER)
     }
 
     fn read_kept(
         unit: &'d Unit<'a>,
         offset: UnitOffset,
-        is_kept: impl Fn(DwAt) -> bool,
+        kept: Attributes,
     ) -> Result<Entry<'d, 'a>> {
         let mut raw = unit.inner.entries_raw(Some(offset))?;
         match raw.read_abbreviation()? {
-            Some(shape) => Entry::read_on(unit, offset, shape, &mut raw, is_kept),
+            Some(shape) => Entry::read_on(unit, offset, shape, &mut raw, kept),
             None => refuse("a reference to no entry: damage"),
         }
     }
@@ -474,37 +497,47 @@ impl<'d, 'a> Entry<'d, 'a> {
         offset: UnitOffset,
         shape: &Abbreviation,
         raw: &mut gimli::EntriesRaw<'_, '_, Slice<'a>>,
-        is_kept: impl Fn(DwAt) -> bool,
+        kept: Attributes,
     ) -> Result<Entry<'d, 'a>> {
-        let mut said = SmallVec::new();
-        let mut specs = shape.attributes();
-        while !specs.is_empty() {
-            let skipped = specs.iter().take_while(|one| !is_kept(one.name())).count();
-            raw.skip_attributes(&specs[..skipped])?;
-            specs = &specs[skipped..];
-            if let [spec, rest @ ..] = specs {
+        let (mut said, mut has) = (SmallVec::new(), 0);
+        let specs = shape.attributes();
+        let mut next = 0;
+        for (place, spec) in specs.iter().enumerate() {
+            let bit = bit(spec.name()) & kept;
+            if bit != 0 {
+                raw.skip_attributes(&specs[next..place])?;
                 said.push(raw.read_attribute(*spec)?);
-                specs = rest;
+                has |= bit;
+                next = place + 1;
             }
         }
+        raw.skip_attributes(&specs[next..])?;
         let (tag, has_children) = (shape.tag(), shape.has_children());
-        Ok(Entry { unit, offset, tag, said, has_children, inside: raw.next_offset() })
+        Ok(Entry { unit, offset, tag, has, said, has_children, inside: raw.next_offset() })
     }
 
+    #[inline]
     fn find(&self, name: DwAt) -> Option<&Attribute<'a>> {
-        self.said.iter().find(|one| one.name() == name)
+        match self.has(name) {
+            true => self.said.iter().find(|one| one.name() == name),
+            false => None,
+        }
     }
 
+    /// Whether it has an attribute, of those that are looked at.
+    #[inline]
     pub fn has(&self, name: DwAt) -> bool {
-        self.find(name).is_some()
+        self.has & bit(name) != 0
     }
 
     /// What an attribute has, by its form alone.
+    #[inline]
     pub fn value(&self, name: DwAt) -> Option<AttributeValue<Slice<'a>>> {
         self.find(name).map(Attribute::raw_value)
     }
 
     /// A number that an attribute has; None where it has none, or another sort of value.
+    #[inline]
     pub fn constant(&self, name: DwAt) -> Option<i128> {
         Some(match self.value(name)? {
             AttributeValue::Data1(value) => value.into(),
@@ -518,6 +551,7 @@ impl<'d, 'a> Entry<'d, 'a> {
     }
 
     /// The bytes of an expression.
+    #[inline]
     pub fn block(&self, name: DwAt) -> Option<&'a [u8]> {
         match self.value(name)? {
             AttributeValue::Exprloc(found) => Some(found.0.slice()),
@@ -527,31 +561,78 @@ impl<'d, 'a> Entry<'d, 'a> {
     }
 
     /// The entries in this one, in order, without those in them.
-    pub fn children(&self) -> Result<Vec<Entry<'d, 'a>>> {
-        let mut made = Vec::new();
-        if !self.has_children {
-            return Ok(made);
+    pub fn children(&self) -> Result<Children<'d, 'a, impl Fn(DwTag) -> bool>> {
+        self.children_of(|_| true)
+    }
+
+    /// Those of some tags: of all others no attribute is looked at.
+    pub fn children_of<W: Fn(DwTag) -> bool>(&self, is_wanted: W) -> Result<Children<'d, 'a, W>> {
+        let raw = self.has_children.then(|| self.unit.inner.entries_raw(Some(self.inside)));
+        Ok(Children { unit: self.unit, raw: raw.transpose()?, depth: 0, steps: 0, is_wanted })
+    }
+}
+
+/// The entries in another one, as they are read.
+pub struct Children<'d, 'a, W> {
+    unit: &'d Unit<'a>,
+    /// None behind the last.
+    raw: Option<gimli::EntriesRaw<'d, 'd, Slice<'a>>>,
+    depth: usize,
+    steps: usize,
+    is_wanted: W,
+}
+
+impl<'d, 'a, W: Fn(DwTag) -> bool> Iterator for Children<'d, 'a, W> {
+    type Item = Result<Entry<'d, 'a>>;
+
+    fn next(&mut self) -> Option<Result<Entry<'d, 'a>>> {
+        let next = self.read_next().transpose();
+        if !matches!(next, Some(Ok(_))) {
+            self.raw = None;
         }
-        let mut raw = self.unit.inner.entries_raw(Some(self.inside))?;
-        let mut depth = 0;
+        next
+    }
+}
+
+impl<'d, 'a, W: Fn(DwTag) -> bool> Children<'d, 'a, W> {
+    /// How many entries were looked at so far.
+    pub fn steps(&self) -> usize {
+        self.steps
+    }
+
+    fn read_next(&mut self) -> Result<Option<Entry<'d, 'a>>> {
+        let Some(raw) = &mut self.raw else { return Ok(None) };
         while !raw.is_empty() {
             let offset = raw.next_offset();
-            match raw.read_abbreviation()? {
-                None if depth == 0 => break,
-                None => depth -= 1,
-                Some(shape) if depth == 0 => {
-                    let child = Entry::read_on(self.unit, offset, shape, &mut raw, is_kept)?;
-                    depth += usize::from(child.has_children);
-                    made.push(child);
-                }
-                Some(shape) => {
-                    raw.skip_attributes(shape.attributes())?;
-                    depth += usize::from(shape.has_children());
-                }
+            self.steps += 1;
+            let Some(shape) = raw.read_abbreviation()? else {
+                let Some(outer) = self.depth.checked_sub(1) else { break };
+                self.depth = outer;
+                continue;
+            };
+            if self.depth == 0 && (self.is_wanted)(shape.tag()) {
+                self.depth += usize::from(shape.has_children());
+                return Entry::read_on(self.unit, offset, shape, raw, KEPT).map(Some);
+            }
+            match behind(shape, raw)? {
+                Some(behind) => *raw = entries_behind(self.unit, raw, behind)?,
+                None => self.depth += usize::from(shape.has_children()),
             }
         }
-        Ok(made)
+        Ok(None)
     }
+}
+
+/// The entries of a unit from one on, which an entry says is behind all that is in it.
+fn entries_behind<'d, 'a>(
+    unit: &'d Unit<'a>,
+    raw: &gimli::EntriesRaw<'d, 'd, Slice<'a>>,
+    behind: UnitOffset,
+) -> Result<gimli::EntriesRaw<'d, 'd, Slice<'a>>> {
+    if behind < raw.next_offset() {
+        return refuse("DW_AT_sibling points backwards: the debug information is damaged");
+    }
+    Ok(unit.inner.entries_raw(Some(behind))?)
 }
 
 /// What stands in a unit, function or block that begins at an offset: where an entry begins, and
@@ -597,10 +678,7 @@ pub fn scopes(unit: &Unit<'_>, language: Language) -> Result<Vec<Scope>> {
             inner = Some(made.len());
             made.push(Scope { offset, entries: Vec::new(), is_class });
         } else if let Some(behind) = sibling {
-            if behind < raw.next_offset() {
-                return refuse("DW_AT_sibling points backwards: the debug information is damaged");
-            }
-            raw = unit.inner.entries_raw(Some(behind))?;
+            raw = entries_behind(unit, &raw, behind)?;
         } else {
             outer.push(inner);
             inner = None;
