@@ -179,3 +179,52 @@ def all_parts(session, lists):
     """The requests that hand in a CTF section, a symbol table and its strings."""
     for section, data in zip(("ctf", "sym", "str"), lists):
         yield from parts(session, data, section)
+
+
+# How many types stand in each of the groups of `every_kind`.
+GROUP = 10
+
+
+def of_group(at, names):
+    """An integer, a struct, an enum, an array, a pointer, a function, a typedef, a const, a pointer
+    and a union, numbered from `at` on; `names` are the places of four names."""
+    integer, struct_, enum, union = names
+    members = b"".join(struct.pack("<IHH", integer, at, 32 * k) for k in range(4))
+    enumerated = b"".join(struct.pack("<Ii", enum, k) for k in range(4))
+    return b"".join((
+        record(integer, 1, VISIBLE, 4, struct.pack("<I", 0x01000020)),
+        record(struct_, 6, VISIBLE | 4, 16, members),
+        record(enum, 8, VISIBLE | 4, 4, enumerated),
+        record(0, 4, 0, 0, struct.pack("<HHI", at, at, 8)),
+        record(0, 3, 0, at + 1),
+        record(0, 5, 2, at, struct.pack("<2H", at, at + 4)),
+        record(struct_, 10, VISIBLE, at + 1),
+        record(0, 12, 0, at + 6),
+        record(0, 3, 0, at),
+        record(union, 7, VISIBLE | 2, 16, members[:16]),
+    ))
+
+
+def every_kind(count):
+    """Groups of ten types, a label for each of the first hundred groups, and a program of as many
+    symbols: three functions of two arguments, and then an object."""
+    groups = count // GROUP
+    strings, types, labels = bytearray(b"\0"), [], []
+    for group in range(groups):
+        places = []
+        for what in ("integer", "struct", "enum", "union"):
+            places.append(len(strings))
+            strings += b"%s_%d\0" % (what.encode(), group)
+        types.append(of_group(1 + GROUP * group, places))
+        labels.append(struct.pack("<II", places[0], GROUP * (group + 1)))
+    labels = b"".join(labels[:100])
+    _, table, strs = symbols(count)
+    objects = struct.pack("<H", 1) * sum(i % 4 == 0 for i in range(count))
+    functions = struct.pack("<4H", 5 << 11 | 2, 1, 1, 1) * sum(i % 4 != 0 for i in range(count))
+    front = labels + objects + functions
+    front += bytes(-len(front) % 4)
+    whole = b"".join(types)
+    ends = (len(labels), len(labels) + len(objects))
+    header = b"\xf1\xcf\x02\x00" + struct.pack(
+        "<8I", 0, 0, 0, ends[0], ends[1], len(front), len(front) + len(whole), len(strings))
+    return header + front + whole + bytes(strings), table, strs
