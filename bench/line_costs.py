@@ -1,7 +1,7 @@
 #!/usr/bin/env python3
 """Counts what a line of each word costs, in instructions, beside a lean program's.
 
-usage: line_costs.py PROGRAM [--types COUNT].. [ROW..]
+usage: line_costs.py PROGRAM [--types COUNT].. [--streams] [ROW..]
 
 A session opens a dictionary of 110, 1,900 and 32,000 types of every kind, or of so many as are
 said, and gives lines of one row: a word, two that take each other back, or a line that is refused.
@@ -9,13 +9,15 @@ said, and gives lines of one row: a word, two that take each other back, or a li
 line is printed, and how many times what lean.rs takes for the same lines. That one reads JSON and
 writes JSON, and answers `kind`, `part` and refused lines as PROGRAM does; to any other word it
 answers nothing, so that what it takes is what reading the line and writing a short one takes.
-`part` is told for a byte. Needs valgrind and rustc.
+`part` is told for a byte. With --streams the rows are streams of streams.py, of which the first
+1,500 and the first 3,000 questions are counted, beside no other program. Needs valgrind and rustc.
 """
 from __future__ import annotations
 
 import argparse
 import re
 import subprocess
+import sys
 import tempfile
 from collections.abc import Callable
 from concurrent.futures import ThreadPoolExecutor
@@ -28,6 +30,9 @@ SIZES = (110, 1_900, 32_000)
 FEW, MANY = 300, 900
 PIECE_BYTES = 20_000
 AT_ONCE = 2
+STREAMS = ("kinds", "kind", "record", "members", "find", "symbol", "sessions")
+FEW_OF_STREAM, MANY_OF_STREAM = 1_500, 3_000
+HANDS_IN = (b'"op":"part"', b'"op":"open"')
 
 
 @dataclass(frozen=True)
@@ -179,6 +184,32 @@ def lean(folder: str) -> list[str]:
     return [program]
 
 
+def questions(stream: str) -> list[bytes]:
+    """The lines of a stream up to its last question that is counted."""
+    made = subprocess.Popen([sys.executable, Path(__file__).with_name("streams.py"), stream],
+                            stdout=subprocess.PIPE)
+    assert made.stdout is not None
+    found: list[bytes] = []
+    asked_so_far = 0
+    for line in made.stdout:
+        found.append(line)
+        asked_so_far += not any(word in line for word in HANDS_IN)
+        if asked_so_far == MANY_OF_STREAM:
+            break
+    made.kill()
+    made.wait()
+    return found
+
+
+def streamed(program: str, stream: str) -> str:
+    """What a question of a stream costs."""
+    many, counted = questions(stream), MANY_OF_STREAM - FEW_OF_STREAM
+    serve = [program, "serve"]
+    more = instructions(serve, b"".join(many))
+    less = instructions(serve, b"".join(many[:-counted]))
+    return f"{stream:20} {(more - less) / counted:10,.0f}"
+
+
 def measured(program: str, floor: list[str], row: Row, types: int) -> str:
     front = before(row, types)
     ours = cost([program, "serve"], front, row, types)
@@ -192,8 +223,13 @@ def main() -> None:
     parser = argparse.ArgumentParser(usage=(__doc__ or "").split("\n\n")[1])
     parser.add_argument("program")
     parser.add_argument("--types", type=int, action="append")
+    parser.add_argument("--streams", action="store_true")
     parser.add_argument("rows", nargs="*")
     given = parser.parse_args()
+    if given.streams:
+        for stream in given.rows or STREAMS:
+            print(streamed(given.program, stream), flush=True)
+        return
     wanted = [row for row in ROWS if not given.rows or row.name in given.rows]
     with tempfile.TemporaryDirectory() as folder, ThreadPoolExecutor(AT_ONCE) as at_once:
         floor = lean(folder)
