@@ -1,5 +1,5 @@
 -- A member whose place is stated is added, or why it isn't; and a draft stays sound with it.
-use Rattle.std.proofs.Common.{◌≡◌, ℕ, ◌*◌, ◌^◌, ◌<◌, ◌≤◌, Bool, true, false, cond, eqb, ltb, leb, List, [], ◌∷◌, ◌++◌, drop, length, map, set, Option, Some, None, Result, Ok, Err, is_some, refl, sym, ap, subst, ◌∙◌, arith}
+use Rattle.std.proofs.Common.{◌≡◌, ℕ, ◌*◌, ◌^◌, ◌<◌, ◌≤◌, Bool, true, false, cond, eqb, ltb, leb, List, [], ◌∷◌, ◌++◌, take, length, map, set, Option, Some, None, Result, Ok, Err, is_some, refl, sym, ap, subst, ◌∙◌, arith}
 use Rattle.std.specs.Prelude.{◌||◌, is_none, slice_get, unwrap_or}
 use Rattle.std.specs.List.{AllByRecursion, list_any}
 use Rattle.std.proofs.lemmas.Bool.{eqb-false, ltb-false, leb-false, leb-true, ltb-true}
@@ -241,7 +241,7 @@ names_with p (term.restrict _) m size h own = h
 
 pub stated_sound : (d : Draft) (n : ℕ) (m : Member) (size : ℕ) → IsSound d → against_name d n m.name m.tnum ≡ None → m.offset < 2 ^ 64 → size < 2 ^ 64 → list_any (begins_behind size) (present_members d n) ≡ false → begins_behind size m ≡ false → IsSound (replaced d n (with_member m size (body_at d n)))
 stated_sound d n m size ok none low small inside own =
-    let judged = none_met _ none in
+    let judged = none_met (take 7 (against_member d n m.name m.tnum)) none in
     let known = opened d n judged.1.0 judged.1.1.0 in
     let right = judged.1.1.1.0 in
     let room = leb-false most_items (length (present_members d n)) judged.1.1.1.1.0 in
