@@ -8,18 +8,16 @@ use Rattle.ctf_model.proofs.Alls.{all_got, all_joined, all_set, all_split, none_
 use Rattle.ctf_model.proofs.Anywhere.{all_map}
 use Rattle.ctf_model.proofs.DraftNumbers.{IsOpen, opened, still_there}
 use Rattle.ctf_model.specs.drafts.Adders.{against_member, body_at, found_body, is_deep, most_items, most_types, present_members, replaced, with_body, with_member, with_pending}
-use Rattle.ctf_model.specs.drafts.DraftLaws.{HoldsTogether, IsSound, NamesThere}
-use Rattle.ctf_model.specs.drafts.Drafts.{Draft, all_of, count_of, has_zero, held, is_absent, space_of}
+use Rattle.ctf_model.specs.drafts.DraftLaws.{IsSound, NamesThere}
+use Rattle.ctf_model.specs.drafts.Drafts.{Draft, all_of, count_of, has_zero, held, is_absent}
 use Rattle.ctf_model.specs.drafts.Fitting.{Fits, FitsBody, FitsMember, FitsMembers, IsName}
 use Rattle.ctf_model.specs.drafts.Placement.{is_too_far}
-use Rattle.ctf_model.specs.rules.Chains.{own_index}
 use Rattle.ctf_model.specs.rules.Judgements.{Row, first_met, unless}
 use Rattle.ctf_model.specs.rules.References.{references}
 use Rattle.ctf_model.specs.rules.Refusals.{placeless}
 use Rattle.ctf_model.specs.format.Shown.{members_in, shown, size_of}
 use Rattle.ctf_model.specs.format.Term.{Body, Member, Term}
 use Rattle.ctf_model.specs.format.Term as term
-use Rattle.ctf_model.specs.spaces.Space.{space_type}
 use Rattle.ctf_model.specs.spaces.TypeNumbers.{or_no_type}
 use Rattle.ctf_model.specs.spaces.TypePlaces.{place}
 use Rattle.ctf_model.specs.declared.faults.Fault.{Fault}

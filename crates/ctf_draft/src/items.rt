@@ -82,7 +82,12 @@ impl Draft {
 
     /// The place of the struct or union that a member goes to, or why it doesn't, as far as no
     /// size is asked.
-    pub(crate) fn aggregate_for(&self, n: TypeNum, name: &[u8], tnum: TypeNum) -> Result<usize, Fault>
+    pub(crate) fn aggregate_for(
+        &self,
+        n: TypeNum,
+        name: &[u8],
+        tnum: TypeNum,
+    ) -> Result<usize, Fault>
         ensures place { IfOk result (λ i. StandsPending self.now.draft n.0 i) }
         ensures ok { OnOk result (against_name self.now.draft n.0 name.now tnum.0 ≡ None) }
         ensures err { IfErr result (λ f. against_name self.now.draft n.0 name.now tnum.0
@@ -116,7 +121,13 @@ impl Draft {
     }
 
     /// Adds a member behind the others of the struct or union at a place, which then has a size.
-    pub(crate) fn put_member(&mut self, n: TypeNum, i: usize, member: Member, size: u64) -> Result<(), Fault>
+    pub(crate) fn put_member(
+        &mut self,
+        n: TypeNum,
+        i: usize,
+        member: Member,
+        size: u64,
+    ) -> Result<(), Fault>
         requires pending { StandsPending self.old.draft n.0 i }
         requires fresh { is_taken member.name
             (map (λ m. m.name) (present_members self.old.draft n.0)) ≡ false }
