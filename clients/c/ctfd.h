@@ -119,7 +119,7 @@ enum ctfd_status {
     CTFD_SETTLED = 43, /* the type was updated, or is the parent's */
     CTFD_VLEN_FULL = 44, /* 1,023 members, enumerators or arguments */
     CTFD_DEEP_MEMBER = 45, /* the member's type is more than 512 deep */
-    CTFD_BAD_OFFSET = 46, /* 64 bits do not hold the member's place */
+    CTFD_BAD_OFFSET = 46, /* the member's place exceeds 64 bits, or the stated size */
     CTFD_NAME_HAS_ZERO = 47, /* a name has a zero byte */
     CTFD_DICT_TOO_BIG = 48, /* more than 67,108,864 bytes */
     CTFD_SHORT_MEMORY = 49, /* a value lies past the memory */
@@ -569,6 +569,12 @@ enum ctfd_status ctfd_add_unknown(struct ctfd *handle, const char *name, size_t 
  * last member, and answers where it lies. */
 enum ctfd_status ctfd_add_member(struct ctfd *handle, uint16_t t, const char *name,
     size_t name_len, uint16_t type, bool has_offset, uint64_t offset, uint64_t *out);
+
+/* Adds a member to a pending struct or union, at `offset` bits, and gives the struct or union `size`
+ * bytes, more or fewer than it had. Its type need have no size, and it may end behind the struct;
+ * CTFD_BAD_OFFSET where it, or a member before it, begins behind that. */
+enum ctfd_status ctfd_add_member_at(struct ctfd *handle, uint16_t t, const char *name,
+    size_t name_len, uint16_t type, uint64_t offset, uint64_t size);
 
 /* Adds an enumerator to a pending enum; a label that covers types up to `last`. */
 enum ctfd_status ctfd_add_enumerator(struct ctfd *handle, uint16_t t, const char *name,

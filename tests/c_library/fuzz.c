@@ -310,7 +310,7 @@ static void add(struct ctfd *d)
     args[0] = some_type();
     args[1] = some_type();
     args[2] = 0;
-    switch (below(16)) {
+    switch (below(17)) {
     case 0: count(ctfd_add_integer(d, name, len, root, 1, 0, (uint16_t)next(), next(), &t)); break;
     case 1: count(ctfd_add_float(d, name, len, root, 2, 0, 64, 8, &t)); break;
     case 2: count(ctfd_add_pointer(d, name, len, root, to, &t)); break;
@@ -325,6 +325,10 @@ static void add(struct ctfd *d)
     case 11:
         count(ctfd_add_member(d, (uint16_t)below(20), name, len, (uint16_t)below(20),
             below(2) == 0, next(), &wide));
+        break;
+    case 15:
+        count(ctfd_add_member_at(d, (uint16_t)below(20), name, len, (uint16_t)below(20), below(99),
+            below(3) == 0 ? next() : below(20)));
         break;
     case 12: count(ctfd_add_enumerator(d, (uint16_t)below(20), name, len, (int32_t)next())); break;
     case 13: count(ctfd_add_label(d, name, len, next())); break;

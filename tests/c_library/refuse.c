@@ -130,6 +130,11 @@ static enum ctfd_status add_member(void)
     return ctfd_add_member(&fresh, 2, "next member", 11, 1, false, 0, &at);
 }
 
+static enum ctfd_status add_member_at(void)
+{
+    return ctfd_add_member_at(&fresh, 2, "stated member", 13, 1, 8, 5);
+}
+
 static enum ctfd_status update(void)
 {
     uint64_t count = 0;
@@ -168,7 +173,8 @@ static void refuse(const char *what, enum ctfd_status (*call)(void))
         /* A text that is refused room to grow is tried with less, and then is as it should be. */
         CHECK(status == CTFD_MEMORY || (status == CTFD_OK && call == show));
         /* A draft may keep room that it made for more; it is given back when the draft is. */
-        CHECK(live == held || (live > held && (call == add || call == add_member)));
+        CHECK(live == held || (live > held && (call == add || call == add_member ||
+                                                   call == add_member_at)));
         CHECK(fingerprint(&fresh) == was);
         CHECK((fingerprint(&types) ^ fingerprint(&base)) == others);
     }
@@ -271,6 +277,7 @@ int main(int argc, char **argv)
     CHECK(ctfd_add_integer(&fresh, "int", 3, true, 1, 0, 32, 4, &t) == CTFD_OK);
     CHECK(ctfd_add_struct(&fresh, "s", 1, true, 0, &t) == CTFD_OK && t == 2);
     refuse("add a member", add_member);
+    refuse("add a member at a place", add_member_at);
     refuse("add a function", add);
     refuse("update", update);
     take_none();

@@ -189,7 +189,6 @@ static ctf_id_t copy_tagged(struct copy *copy, uint_t flag, uint16_t t, uint32_t
     if (is == CTF_ERR)
         return CTF_ERR;
     ctfd__own_type(copy->to, (uint16_t)is)->size = size;
-    ctfd__own_type(copy->to, (uint16_t)is)->stated_size = size;
     copy->empty[copy->empty_len].in = (uint16_t)is;
     copy->empty[copy->empty_len++].names = t;
     return is;

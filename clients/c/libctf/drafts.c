@@ -221,7 +221,7 @@ static ctf_id_t add_tagged(ctf_file_t *fp, uint_t flag, uint32_t kind, const cha
     }
     added = add(fp, flag, kind, 0, name, &made);
     if (added != CTF_ERR)
-        made->size = made->stated_size = size;
+        made->size = size;
     return added;
 }
 

@@ -769,7 +769,7 @@ static ctf_id_t sized(ctf_file_t *fp, ctf_id_t t, size_t size)
 {
     struct ctfd__type *type = t != CTF_ERR ? ctfd__own_type(fp, (uint16_t)t) : NULL;
     if (type != NULL)
-        type->size = type->stated_size = size;
+        type->size = size;
     return t;
 }
 

@@ -114,7 +114,6 @@ enum {
     CTFD__NO_FUNCTION_INFO,
     CTFD__NO_LABELS,
     CTFD__CONFLICT, /* another type of this name is there already */
-    CTFD__GROWN, /* a struct would be written with another size than was answered */
     CTFD__ROLLED_PAST, /* a roll-back past what was written */
     CTFD__NEXT_END, /* an iterator is at its end */
     CTFD__NEXT_OTHER, /* an iterator of another call */
@@ -409,7 +408,6 @@ HIDDEN enum ctfd_status ctfd__own_types(ctf_file_t *fp, uint32_t *count, uint32_
 struct ctfd__type {
     const char *name;
     uint64_t size;
-    uint64_t stated_size; /* that a struct or union began with */
     uint64_t align, align_state; /* an alignment that was found, and when; a state of 0 is never */
     struct ctfd__details *details;
     union {

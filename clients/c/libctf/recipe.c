@@ -412,7 +412,7 @@ bool ctfd__promote(ctf_file_t *fp, uint16_t t, uint32_t kind, uint64_t size)
         type->kind = CTFD_FORWARD;
         return false;
     }
-    type->size = type->stated_size = size;
+    type->size = size;
     type->tag = 0;
     ctfd__define_name(fp->recipe, (uint32_t)(type - fp->recipe->types));
     ctfd__touch(fp, type);
@@ -430,7 +430,6 @@ static void take_out(ctf_file_t *fp, struct ctfd__type *type, uint32_t item)
         (--details->count - item) * sizeof details->items[0]);
     for (i = 0; i < of->puts_len; i++)
         of->puts[i].item -= of->puts[i].in == in && of->puts[i].item > item;
-    type->stated_size = type->size;
     forget_indexes(details);
     fp->dropped++;
     ctfd__touch(fp, type);

@@ -1,6 +1,7 @@
 /* recipe_bytes.c - the bytes of a dictionary in the making. All that is visible is added to a draft
- * of the proved part in the order in which it was added here; that judges it and writes it. Where
- * only types came since the last time, only these are added. */
+ * of the proved part in the order in which it was added here; that judges it and writes it. Sizes of
+ * structs and places of members are stated, so that the bytes say what was answered, whatever has
+ * become of the parent since. Where only types came since the last time, only these are added. */
 #include "private.h"
 
 #include <stdlib.h>
@@ -15,10 +16,9 @@ static enum ctfd_status put_item(ctf_file_t *fp, struct ctfd *to, const struct c
     const struct ctfd__item *item = &in->details->items[put->item];
     uint16_t t = ctfd__number_of(fp, put->in);
     size_t len = strlen(item->name);
-    uint64_t at;
     if (in->kind == CTFD_ENUM)
         return ctfd_add_enumerator(to, t, item->name, len, (int32_t)(uint32_t)item->at);
-    return ctfd_add_member(to, t, item->name, len, item->type, true, item->at, &at);
+    return ctfd_add_member_at(to, t, item->name, len, item->type, item->at, in->size);
 }
 
 static enum ctfd_status put_function(struct ctfd *to, const struct ctfd__type *type)
@@ -75,9 +75,9 @@ static enum ctfd_status put_type(struct ctfd *to, const struct ctfd__type *type)
     case CTFD_FUNCTION:
         return put_function(to, type);
     case CTFD_STRUCT:
-        return ctfd_add_struct(to, name, len, root, type->stated_size, &t);
+        return ctfd_add_struct(to, name, len, root, type->size, &t);
     case CTFD_UNION:
-        return ctfd_add_union(to, name, len, root, type->stated_size, &t);
+        return ctfd_add_union(to, name, len, root, type->size, &t);
     case CTFD_ENUM:
         return ctfd_add_enum(to, name, len, root, type->size, &t);
     case CTFD_FORWARD:
@@ -155,24 +155,6 @@ static enum ctfd_status begin(ctf_file_t *fp, struct ctfd *draft)
                              : status;
 }
 
-/* Whether the draft gives structs and unions the sizes that the recipe has answered. It lets one
- * grow by what a member's type is now, and a type of the parent may have grown since the member was
- * added: then the bytes would say another size. */
-static bool has_sizes(ctf_file_t *fp, struct ctfd *draft)
-{
-    const struct ctfd__recipe *of = fp->recipe;
-    uint32_t i;
-    for (i = 0; i < of->visible; i++) {
-        uint64_t bytes = 0;
-        if (of->types[i].kind != CTFD_STRUCT && of->types[i].kind != CTFD_UNION)
-            continue;
-        if (ctfd_size(draft, ctfd__number_of(fp, i), &bytes) != CTFD_OK ||
-            bytes != of->types[i].size)
-            return false;
-    }
-    return true;
-}
-
 /* Writes all anew, in place of what was written. */
 static enum ctfd_status write_anew(ctf_file_t *fp)
 {
@@ -186,8 +168,6 @@ static enum ctfd_status write_anew(ctf_file_t *fp)
         status = put_symbols(fp, &draft);
     if (status == CTFD_OK)
         status = ctfd_update(&draft, &types, &place);
-    if (status == CTFD_OK && !has_sizes(fp, &draft))
-        status = (enum ctfd_status)CTFD__GROWN;
     if (status != CTFD_OK) {
         ctfd_close(&draft);
         return status;

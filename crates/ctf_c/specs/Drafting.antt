@@ -2,18 +2,19 @@
 -- ctf_create, ctf_add_type and its kin, ctf_update, ctf_discard.
 use Rattle.std.specs.Prelude.{◌≡◌, ◌⊎◌, ◌==◌, ℕ, Bool, true, false, List, length, Option, None, Some, Result, Ok, Err, if◌then◌else◌}
 use Rattle.std.specs.Option.{option_map}
+use Rattle.ctf_draft.specs.Stating.{add_member_at}
 use Rattle.ctf_model.specs.drafts.Adders.{Added, add_enumerator, add_label, add_member, add_type}
 use Rattle.ctf_model.specs.drafts.Drafts.{Draft, discarded, held, new_draft, settled}
 use Rattle.ctf_model.specs.drafts.NewTypes.{NewType, forward}
 use Rattle.ctf_model.specs.format.Dictionary.{Label}
-use Rattle.ctf_model.specs.format.Term.{Enumerator, Tag, struct_tag, union_tag, enum_tag}
+use Rattle.ctf_model.specs.format.Term.{Enumerator, Member, Tag, struct_tag, union_tag, enum_tag}
 use Rattle.ctf_model.specs.rules.Refusals.{placeless, out_of_memory}
 use Rattle.ctf_model.specs.spaces.Kept.{Kept, modelled_by}
 use Rattle.ctf_model.specs.writing.Written.{lists_of, written}
 use Rattle.ctf_model.specs.declared.data_model.DataModel.{DataModel}
 use Rattle.ctf_model.specs.declared.faults.Fault.{Fault}
 use Rattle.ctf_model.specs.declared.faults.TheConstants.Fault.{BAD_REQUEST, NO_SLOT, READ_ONLY, WRONG_KIND}
-use Rattle.ctf_model.specs.opened.Steps.{Stepped, created, enlarged, label_added, member_added, enumerator_added, type_added}
+use Rattle.ctf_model.specs.opened.Steps.{Stepped, created, enlarged, silent, label_added, member_added, enumerator_added, type_added}
 use Rattle.ctf_c.specs.Given.{asked, status_of}
 use Rattle.ctf_model.specs.opened.Open.{Open, own_in}
 
@@ -41,6 +42,10 @@ forward_asked name root (Some tag) handle =
 abbrev pub number_there : Bool → ℕ → Option ℕ
 number_there true n = Some n
 number_there false n = None
+
+-- a member is added at its place, to a struct or union that has a size with it
+abbrev pub member_added_at : ℕ → Member → ℕ → Open → Result Stepped Fault
+member_added_at t m size = enlarged (λ d. silent (add_member_at d t m size))
 
 -- ---- what is given
 

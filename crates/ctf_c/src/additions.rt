@@ -1,6 +1,6 @@
 //! Exports that add to drafts.
 ghost use Rattle.std.specs.Prelude.{◌≡◌, IfOk, map, option_map};
-ghost use Rattle.ctf_c.specs.Drafting.{Adds, Steps, forward_asked, number_there, tag_numbered};
+ghost use Rattle.ctf_c.specs.Drafting.{Adds, Steps, forward_asked, member_added_at, number_there, tag_numbered};
 ghost use Rattle.ctf_model.specs.opened.Steps.{enlarged, enumerator_added, label_added, member_added, type_added};
 ghost use Rattle.ctf_c.specs.Given.{asked};
 ghost use Rattle.ctf_open.specs.PartView.{part_in};
@@ -414,6 +414,27 @@ pub extern "C" fn ctfd_add_member(
     let offset = number_if(has_offset, offset);
     let part = Part::Member(TypeNum(t), name, TypeNum(tnum), offset);
     add_part(alloc, handle.option_box(), part, out)
+}
+
+/// Adds a member to a struct or union that was added since the last update, at an offset in bits, and
+/// gives the struct or union a size in bytes.
+#[unsafe(no_mangle)]
+pub extern "C" fn ctfd_add_member_at(
+    alloc: Global,
+    handle: &mut Handle,
+    t: u16,
+    name: &[u8],
+    tnum: u16,
+    offset: u64,
+    size: u64,
+) -> u32
+    ensures { Adds (asked handle.old.held.dictionary
+        (member_added_at t (record { name = name.now; tnum = tnum; offset = offset }) size))
+        result handle.old.held.dictionary handle.new.held.dictionary }
+{
+    let mut none = 0;
+    let part = Part::MemberAt(TypeNum(t), name, TypeNum(tnum), offset, size);
+    add_part(alloc, handle.option_box(), part, &mut none)
 }
 
 /// Adds an enumerator to an enum that was added since the last update.

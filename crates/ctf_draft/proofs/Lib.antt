@@ -16,3 +16,4 @@ pub mod Lifting
 pub mod Bounded
 pub mod Holding
 pub mod OneMore
+pub mod Stated

@@ -11,7 +11,7 @@ use Rattle.ctf_draft.specs.declared.plan.Plan.{Plan}
 
 -- ---- rows
 
-first_front : (k : ℕ) (rows : List Row) (f : Fault) → first_met (take k rows) ≡ Some f → first_met rows ≡ Some f
+pub first_front : (k : ℕ) (rows : List Row) (f : Fault) → first_met (take k rows) ≡ Some f → first_met rows ≡ Some f
 first_front zero rows f h = absurd cc
 first_front (suc k) [] f h = absurd cc
 first_front (suc k) (row ∷ rows) f h = at row.met h (first_front k rows f)
@@ -20,7 +20,7 @@ first_front (suc k) (row ∷ rows) f h = at row.met h (first_front k rows f)
     at true h more = h
     at false h more = more h
 
-first_back : (k : ℕ) (rows : List Row) → first_met (take k rows) ≡ None → first_met rows ≡ first_met (drop k rows)
+pub first_back : (k : ℕ) (rows : List Row) → first_met (take k rows) ≡ None → first_met rows ≡ first_met (drop k rows)
 first_back zero rows h = refl
 first_back (suc k) [] h = refl
 first_back (suc k) (row ∷ rows) h = at row.met h (first_back k rows)

@@ -12,3 +12,4 @@ pub mod Reaching
 pub mod MarksView
 pub mod Planning
 pub mod Bounding
+pub mod Stating

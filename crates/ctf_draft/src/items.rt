@@ -33,7 +33,8 @@ impl Draft {
     /// A pending type.
     fn pending_type(&self, n: TypeNum, i: usize) -> &DraftType
         requires { StandsPending self.now.draft n.0 i }
-        ensures { body_of result.now.body ≡ body_at self.now.draft n.0 }
+        ensures body { body_of result.now.body ≡ body_at self.now.draft n.0 }
+        ensures sound { IsSound self.now.draft }
     {
         &self.types[i]
     }
@@ -41,7 +42,8 @@ impl Draft {
     /// What a pending type is.
     pub(crate) fn pending_body(&self, n: TypeNum, i: usize) -> &Body
         requires { StandsPending self.now.draft n.0 i }
-        ensures { body_of result.now ≡ body_at self.now.draft n.0 }
+        ensures body { body_of result.now ≡ body_at self.now.draft n.0 }
+        ensures sound { IsSound self.now.draft }
     {
         &self.pending_type(n, i).body
     }
@@ -80,7 +82,12 @@ impl Draft {
 
     /// The place of the struct or union that a member goes to, or why it doesn't, as far as no
     /// size is asked.
-    fn aggregate_for(&self, n: TypeNum, name: &[u8], tnum: TypeNum) -> Result<usize, Fault>
+    pub(crate) fn aggregate_for(
+        &self,
+        n: TypeNum,
+        name: &[u8],
+        tnum: TypeNum,
+    ) -> Result<usize, Fault>
         ensures place { IfOk result (λ i. StandsPending self.now.draft n.0 i) }
         ensures ok { OnOk result (against_name self.now.draft n.0 name.now tnum.0 ≡ None) }
         ensures err { IfErr result (λ f. against_name self.now.draft n.0 name.now tnum.0
@@ -114,7 +121,13 @@ impl Draft {
     }
 
     /// Adds a member behind the others of the struct or union at a place, which then has a size.
-    fn put_member(&mut self, n: TypeNum, i: usize, member: Member, size: u64) -> Result<(), Fault>
+    pub(crate) fn put_member(
+        &mut self,
+        n: TypeNum,
+        i: usize,
+        member: Member,
+        size: u64,
+    ) -> Result<(), Fault>
         requires pending { StandsPending self.old.draft n.0 i }
         requires fresh { is_taken member.name
             (map (λ m. m.name) (present_members self.old.draft n.0)) ≡ false }

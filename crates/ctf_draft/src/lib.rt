@@ -19,6 +19,7 @@ mod pushing;
 mod reach;
 mod reaching;
 mod sizing;
+mod stating;
 mod staying;
 mod taken;
 mod types;

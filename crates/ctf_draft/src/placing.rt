@@ -68,7 +68,7 @@ impl Body {
     }
 
     /// The size that it says, or 0.
-    fn said_size(&self) -> u64
+    pub(crate) fn said_size(&self) -> u64
         ensures { result ≡ unwrap_or (size_of (body_of self.now)) 0 }
     {
         match self {
@@ -96,7 +96,7 @@ impl Draft {
     }
 
     /// The alignment of a type, if no more than 512 steps by value begin at it.
-    fn alignment(
+    pub(crate) fn alignment(
         &self,
         marks: &mut Marks,
         tnum: TypeNum,
@@ -176,7 +176,7 @@ impl Draft {
     }
 
     /// Whether the bound of a type tells that no more than 512 steps by value begin at it.
-    fn is_shallow(&self, tnum: TypeNum) -> bool
+    pub(crate) fn is_shallow(&self, tnum: TypeNum) -> bool
         ensures { result ≡ true → is_deep self.now.draft tnum.0 ≡ false }
     {
         match self.own_index(tnum) {

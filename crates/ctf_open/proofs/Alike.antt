@@ -6,7 +6,8 @@ use Rattle.ctf_open.specs.PartView.{part_in}
 use Rattle.ctf_open.specs.declared.adding.Part.{Part}
 use Rattle.ctf_open.specs.declared.adding.Part.TheVariants as part
 use Rattle.ctf_draft.specs.DraftView.{Owned}
-use Rattle.ctf_open.proofs.DraftParents.{AreAlike, enumerator_alike, label_alike, member_alike}
+use Rattle.ctf_draft.specs.Stating.{add_member_at}
+use Rattle.ctf_open.proofs.DraftParents.{AreAlike, enumerator_alike, label_alike, member_alike, stated_alike}
 use Rattle.ctf_open.specs.Drafting.{IsUnder, IsWritten}
 use Rattle.ctf_model.specs.drafts.Adders.{Added, add_enumerator, add_label}
 use Rattle.ctf_model.specs.drafts.Drafts.{Draft, discarded}
@@ -21,6 +22,7 @@ silent_alike d (Err f) a alike e = absurd cc
 
 pub part_alike : (d : Draft) (x : Part) (a : Added) → part_in x d ≡ Ok a → AreAlike d a.draft
 part_alike d (part.Member t name tnum offset) a e = member_alike d t.0 name.now tnum.0 offset a e
+part_alike d (part.MemberAt t name tnum offset size) a e = silent_alike d (add_member_at d t.0 (record { name = name.now; tnum = tnum.0; offset = offset }) size) a (λ b h. stated_alike d t.0 (record { name = name.now; tnum = tnum.0; offset = offset }) size b h) e
 part_alike d (part.Enumerator t name value) a e = silent_alike d (add_enumerator d t.0 (record { name = name.now; value = value })) a (λ b h. enumerator_alike d t.0 (record { name = name.now; value = value }) b h) e
 part_alike d (part.Label name last) a e = silent_alike d (add_label d (record { name = name.now; last = last })) a (λ b h. label_alike d (record { name = name.now; last = last }) b h) e
 

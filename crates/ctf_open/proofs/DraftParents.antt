@@ -1,8 +1,9 @@
 -- What is added to a draft changes neither its parent nor its data model, nor what was updated.
-use Rattle.std.proofs.Common.{◌≡◌, ℕ, List, [], ◌∷◌, Bool, true, false, Option, Some, None, Result, Ok, Err, refl, ap, sym, subst, ◌∙◌}
+use Rattle.std.proofs.Common.{◌≡◌, ℕ, List, [], ◌∷◌, ◌++◌, Bool, true, false, Option, Some, None, Result, Ok, Err, refl, ap, sym, subst, ◌∙◌}
 use Rattle.std.specs.Prelude.{◌||◌, option_map, is_some, not}
 use Rattle.std.specs.Option.{ForSome}
 use Rattle.ctf_open.specs.Drafting.{IsUnder}
+use Rattle.ctf_draft.specs.Stating.{add_member_at, against_stated}
 use Rattle.ctf_model.specs.drafts.Adders.{Added, add_enumerator, add_label, add_member, add_type, against_enumerator, against_label, against_member, against_place, against_type, body_at, put_member, replaced, replaced_at, size_with, with_enumerator, with_label, with_member, with_type}
 use Rattle.ctf_model.specs.format.Dictionary.{Label}
 use Rattle.ctf_model.specs.drafts.Drafts.{Draft, above as dictionary_above, against_draft, discarded, empty_draft, has_zero, is_childs, is_of_other, new_draft, next_number, pending_place, space_of}
@@ -66,6 +67,13 @@ member_alike d n name tnum offset a e =
     let bits = then_ok (bits_filled (space_of d) tnum) _ a placed in
     let place = then_ok (member_place (space_of d) (body_at d n) tnum offset) _ a bits.1 in
     put_alike d n (record { name = name; tnum = tnum; offset = place.0 }) bits.0 a place.1
+
+pub stated_alike : (d : Draft) (n : ℕ) (m : Member) (size : ℕ) (a : Draft) → add_member_at d n m size ≡ Ok a → AreAlike d a
+unfolding add_member_at
+stated_alike d n m size a e =
+    let b : Draft = replaced d n (with_member m size (body_at d n)) in
+    let done = unless_ok (first_met (against_member d n m.name m.tnum ++ against_stated d n m size)) (Ok b) a e in
+    draft_alike d b a (replaced_alike d n (with_member m size (body_at d n))) done
 
 pub enumerator_alike : (d : Draft) (n : ℕ) (x : Enumerator) (a : Draft) → add_enumerator d n x ≡ Ok a → AreAlike d a
 unfolding add_enumerator

@@ -3,11 +3,12 @@ ghost use Rattle.std.specs.Prelude.{◌≡◌, ◌⊎◌, IfErr, IfOk, OnErr, Ok
 ghost use Rattle.ctf_model.specs.opened.Steps.{enlarged, silent, type_added};
 ghost use Rattle.ctf_open.specs.PartView.{part_in};
 ghost use Rattle.ctf_draft.specs.NewView.{new_body_of};
+ghost use Rattle.ctf_draft.specs.Stating.{add_member_at as add_member_at_to};
 ghost use Rattle.ctf_model.specs.drafts.Adders.{add_enumerator as add_enumerator_to, add_label as add_label_to, add_member as add_member_to};
 ghost use Rattle.ctf_model.specs.rules.Refusals.{out_of_memory};
 
 use crate::opened::OpenDictionary;
-use ctf_draft::{Draft, NewBody, NewType};
+use ctf_draft::{Draft, Member, NewBody, NewType};
 use ctf_model::{Bytes, Fault, TypeNum, placeless};
 use std::alloc::Global;
 
@@ -16,6 +17,9 @@ use std::alloc::Global;
 pub enum Part<'a> {
     /// To which type, its name and type, and its offset in bits if that is stated.
     Member(TypeNum, &'a [u8], TypeNum, Option<u64>),
+    /// To which type, its name and type, its offset in bits, and the size that the struct or union
+    /// has with it.
+    MemberAt(TypeNum, &'a [u8], TypeNum, u64, u64),
     /// To which type, its name and value.
     Enumerator(TypeNum, &'a [u8], i32),
     /// Its name, and the last type that it covers.
@@ -38,6 +42,28 @@ fn add_member(
 {
     let name = Bytes::from_slice(alloc, name)?;
     draft.member(t, name, tnum, offset)
+}
+
+fn add_member_at(
+    alloc: Global,
+    draft: &mut Draft,
+    t: TypeNum,
+    name: &[u8],
+    tnum: TypeNum,
+    offset: u64,
+    size: u64,
+) -> Result<u64, Fault>
+    ensures ok { IfOk result (λ n. silent (add_member_at_to draft.old.draft t.0
+        (record { name = name.now; tnum = tnum.0; offset = offset }) size)
+        ≡ Ok (record { draft = draft.new.draft; answer = n })) }
+    ensures exact_err { IfErr result (λ f. (f ≡ out_of_memory)
+        ⊎ (silent (add_member_at_to draft.old.draft t.0
+        (record { name = name.now; tnum = tnum.0; offset = offset }) size) ≡ Err f)) }
+    ensures as_before { OnErr result (draft.new ≡ draft.old) }
+{
+    let name = Bytes::from_slice(alloc, name)?;
+    draft.member_at(t, Member { name, tnum, offset }, size)?;
+    Ok(0)
 }
 
 fn add_enumerator(
@@ -84,6 +110,9 @@ fn add_to(alloc: Global, draft: &mut Draft, part: Part<'_>) -> Result<u64, Fault
 {
     match part {
         Part::Member(t, name, tnum, offset) => add_member(alloc, draft, t, name, tnum, offset),
+        Part::MemberAt(t, name, tnum, offset, size) => {
+            add_member_at(alloc, draft, t, name, tnum, offset, size)
+        }
         Part::Enumerator(t, name, value) => add_enumerator(alloc, draft, t, name, value),
         Part::Label(name, last) => add_label(alloc, draft, name, last),
     }

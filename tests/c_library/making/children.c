@@ -1,5 +1,6 @@
 /* children - an opened child of a dictionary in the making sees what that gets, while it is walked
- * too; and bytes are refused that would say another size than was answered. */
+ * too; and the bytes of a child in the making say what was answered, whatever its parent has got
+ * since. */
 #include "ctfd_libctf.h"
 
 #include "../common.h"
@@ -23,24 +24,35 @@ static struct parent new_parent(void)
     return made;
 }
 
+/* A child as its bytes say it, over the parent. */
+static ctf_file_t *reopened(ctf_file_t *child, const struct parent *parent, char *block,
+    size_t room)
+{
+    ctf_file_t *opened;
+    const void *data = NULL;
+    ctf_sect_t section;
+    memset(&section, 0, sizeof section);
+    ctf_dataptr(child, &data, &section.cts_size);
+    CHECK(data != NULL && section.cts_size <= room);
+    if (data == NULL)
+        return NULL;
+    memcpy(block, data, section.cts_size);
+    section.cts_data = block;
+    opened = ctf_bufopen(&section, NULL, NULL, NULL);
+    CHECK(opened != NULL && ctf_import(opened, parent->file) == 0);
+    return opened;
+}
+
 /* A child with an array of the parent's struct, written and opened. */
 static ctf_file_t *open_child(const struct parent *parent, ctf_id_t *array, char *block,
     size_t room)
 {
     ctf_file_t *child = ctf_create(NULL), *opened;
     ctf_arinfo_t info = { parent->holder, parent->number, 5 };
-    const void *data = NULL;
-    ctf_sect_t section;
-    memset(&section, 0, sizeof section);
     CHECK(ctf_import(child, parent->file) == 0);
     *array = ctf_add_array(child, CTF_ADD_ROOT, &info);
     CHECK(ctf_update(child) == 0);
-    ctf_dataptr(child, &data, &section.cts_size);
-    CHECK(data != NULL && section.cts_size <= room);
-    memcpy(block, data, section.cts_size);
-    section.cts_data = block;
-    opened = ctf_bufopen(&section, NULL, NULL, NULL);
-    CHECK(opened != NULL && ctf_import(opened, parent->file) == 0);
+    opened = reopened(child, parent, block, room);
     ctf_close(child);
     return opened;
 }
@@ -89,21 +101,46 @@ static void opened_children(void)
     ctf_close(other);
 }
 
-/* The child's struct was made when the parent's had 4 bytes. */
+static int same_member(const char *name, ctf_id_t type, ulong_t offset, void *arg)
+{
+    const ctf_membinfo_t *wanted = (const ctf_membinfo_t *)arg;
+    CHECK(strcmp(name, "second") != 0 ||
+          (wanted->ctm_type == type && wanted->ctm_offset == offset));
+    return 0;
+}
+
+/* The child's struct and union were made when the parent's had 4 bytes. Before the parent's grows
+ * and after that, and with a member behind it, they are written as they answer. */
 static void grown_parents(void)
 {
     struct parent parent = new_parent();
-    ctf_file_t *child = ctf_create(NULL);
-    const void *data = NULL;
-    ctf_id_t own;
+    ctf_file_t *child = ctf_create(NULL), *opened;
+    char block[4096];
+    ctf_membinfo_t answered = { 0, 0 };
+    ctf_id_t own, whole, round;
     CHECK(ctf_import(child, parent.file) == 0);
     own = ctf_add_struct(child, CTF_ADD_ROOT, "own");
+    whole = ctf_add_union(child, CTF_ADD_ROOT, "whole");
     CHECK(ctf_add_member(child, own, "first", parent.holder, ULONG_MAX) == 0);
-    CHECK(ctf_update(child) == 0 && ctf_type_size(child, own) == 4);
-    CHECK(ctf_add_member(parent.file, parent.holder, "b", parent.number, ULONG_MAX) == 0);
-    CHECK(ctf_update(parent.file) == 0 && ctf_type_size(child, own) == 4);
-    ctf_dataptr(child, &data, NULL);
-    CHECK(data == NULL && ctf_errno(child) == ECTF_NOTSUP);
+    CHECK(ctf_add_member(child, whole, "only", parent.holder, ULONG_MAX) == 0);
+    CHECK(ctf_update(child) == 0);
+    for (round = 0; round < 3; round++) {
+        if (round == 1)
+            CHECK(ctf_add_member(parent.file, parent.holder, "b", parent.number, ULONG_MAX) == 0);
+        if (round == 2)
+            CHECK(ctf_add_member(child, own, "second", parent.number, ULONG_MAX) == 0);
+        CHECK(ctf_update(parent.file) == 0 && ctf_update(child) == 0);
+        CHECK(ctf_type_size(child, parent.holder) == (round == 0 ? 4 : 8));
+        CHECK(ctf_type_size(child, own) == (round == 2 ? 12 : 4));
+        CHECK(ctf_type_size(child, whole) == 4);
+        CHECK(round < 2 || (ctf_member_info(child, own, "second", &answered) == 0 &&
+                               answered.ctm_offset == 64));
+        opened = reopened(child, &parent, block, sizeof block);
+        CHECK(ctf_type_size(opened, own) == ctf_type_size(child, own));
+        CHECK(ctf_type_size(opened, whole) == 4);
+        CHECK(ctf_member_iter(opened, own, same_member, &answered) == 0);
+        ctf_close(opened);
+    }
     ctf_close(child);
     ctf_close(parent.file);
 }

@@ -191,14 +191,14 @@ static ctf_id_t add_type(int which)
     }
 }
 
-/* A child's type gets no member whose size the parent may change later: that is refused when it is
- * written. Members lead to older types, or through pointers. */
+/* Members lead to older types, or through pointers. A child's may be of the parent's types, whose
+ * sizes change later. */
 static void add_item(int which)
 {
     ctf_file_t *to = made[which];
     ctf_id_t in, member = some_type(which);
     char name[16];
-    int kind, stands_for;
+    int kind;
     if (count[which] == 0 || member == 0)
         return;
     in = number(which, below(count[which]));
@@ -206,11 +206,6 @@ static void add_item(int which)
     if (below(6) == 0)
         name[0] = '\0';
     kind = ctf_type_kind(to, member);
-    stands_for = ctf_type_kind(to, ctf_type_resolve(to, member));
-    if (which == CHILD && (stands_for == CTF_K_ARRAY ||
-                              (ctf_type_resolve(to, member) < 32769 && kind != CTF_K_POINTER &&
-                                  stands_for != CTF_K_INTEGER)))
-        return;
     if (kind != CTF_K_POINTER && kind != CTF_K_INTEGER && member >= in)
         return;
     (void)ctf_add_member(to, in, name, member, below(3) != 0 ? ULONG_MAX : 8 * below(60));

@@ -152,7 +152,9 @@ ADVICE: Dict[str, str] = {
     "Settled": "members and enumerators are added before the update",
     "VlenFull": "the format has room for 1,023 members, enumerators or arguments",
     "DeepMember": "a struct can't hold itself: was a pointer to it meant?",
-    "BadOffset": "64 bits do not hold the member's place, or the new size",
+    "BadOffset":
+        "64 bits do not hold the member's place or the new size, or a member begins behind a stated"
+        " size",
     "NameHasZero": "a name ends at its first zero byte",
     "DictTooBig": "make a second dictionary, with this one as its parent",
     "ShortMemory": "hand in as many bytes as the type's size says",

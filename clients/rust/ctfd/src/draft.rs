@@ -280,6 +280,23 @@ impl<'b> Draft<'b> {
         Ok(at)
     }
 
+    /// Adds a member to a pending struct or union, at a place in bits, and gives the struct or union a
+    /// size in bytes, whatever its members' types are. None may begin behind its end.
+    pub fn member_at(
+        &mut self,
+        of: u16,
+        name: &str,
+        kind: u16,
+        offset: u64,
+        size: u64,
+    ) -> Result<(), Refusal> {
+        let (at, len) = (name.as_ptr(), name.len());
+        // SAFETY: as `added` says; the name lives for the call.
+        told(unsafe {
+            raw::ctfd_add_member_at(self.0.handle(), of, at, len, kind, offset, size)
+        })
+    }
+
     /// Adds an enumerator to a pending enum.
     pub fn enumerator(&mut self, of: u16, name: &str, value: i32) -> Result<(), Refusal> {
         let (at, len) = (name.as_ptr(), name.len());

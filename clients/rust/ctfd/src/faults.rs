@@ -97,7 +97,7 @@ pub enum Fault {
     VlenFull = 43,
     /// The member's type is more than 512 deep.
     DeepMember = 44,
-    /// 64 bits do not hold the member's place.
+    /// The member's place exceeds 64 bits, or the stated size.
     BadOffset = 45,
     /// A name has a zero byte.
     NameHasZero = 46,
@@ -389,8 +389,9 @@ const TEXTS: [(&str, &str); 63] = [
         "a struct can't hold itself: was a pointer to it meant?",
     ),
     (
-        "64 bits do not hold the member's place",
-        "64 bits do not hold the member's place, or the new size",
+        "the member's place exceeds 64 bits, or the stated size",
+        "64 bits do not hold the member's place or the new size, or a member begins behind a \
+         stated size",
     ),
     (
         "a name has a zero byte",

@@ -537,6 +537,15 @@ extern "C" {
         offset: u64,
         out: *mut u64,
     ) -> u32;
+    pub fn ctfd_add_member_at(
+        handle: *mut Handle,
+        t: u16,
+        name: *const u8,
+        name_len: usize,
+        tnum: u16,
+        offset: u64,
+        size: u64,
+    ) -> u32;
     pub fn ctfd_add_enumerator(
         handle: *mut Handle,
         t: u16,

@@ -79,6 +79,27 @@ fn all_kinds_are_added() {
 }
 
 #[test]
+fn members_stand_where_it_is_stated() {
+    let mut draft = nodes();
+    let outer = draft.structure("outer", 40).unwrap();
+    let later = draft.forward("later", Kind::Struct).unwrap();
+    draft.member_at(outer, "odd", 1, 3, 12).unwrap();
+    draft.member_at(outer, "incomplete", later, 96, 12).unwrap();
+    let refused = [
+        draft.member_at(outer, "behind", 1, 97, 12),
+        draft.member_at(outer, "small", 1, 0, 11),
+        draft.member_at(outer, "odd", 1, 0, 12),
+        draft.member_at(outer, "none", 99, 0, 12),
+    ];
+    let faults: Vec<Fault> = refused.into_iter().map(|one| one.unwrap_err().fault).collect();
+    assert_eq!(faults, [Fault::BadOffset, Fault::BadOffset, Fault::Duplicate, Fault::BadRef]);
+    draft.update().unwrap();
+    let outer = draft.find("struct outer").unwrap();
+    let shown: Vec<_> = outer.members().unwrap().map(|one| one.offset).collect();
+    assert_eq!((outer.size(), shown), (Ok(12), vec![3, 96]));
+}
+
+#[test]
 fn what_is_discarded_is_gone() {
     let mut draft = nodes();
     assert_eq!(draft.structure("gone", 0), Ok(4));
