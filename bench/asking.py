@@ -1,6 +1,5 @@
 """A service that is asked through pipes, and the processor time that it takes for a request."""
 import itertools
-import os
 import subprocess
 import time
 from typing import Iterable, Iterator

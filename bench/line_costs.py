@@ -24,7 +24,7 @@ from concurrent.futures import ThreadPoolExecutor
 from dataclasses import dataclass, field
 from pathlib import Path
 
-from dictionaries import GROUP, all_parts, child, every_kind, parts
+from dictionaries import GROUP, all_parts, child, every_kind
 
 SIZES = (110, 1_900, 32_000)
 FEW, MANY = 300, 900

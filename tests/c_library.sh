@@ -139,7 +139,7 @@ else
         "${shared[@]}" -o elf_shared
     mkdir elf_files
     elves=("$work/elf" "$work/elf_shared")
-    count "ELF files" sh -c "cd elf_files && '$tests/elf.sh' '$program' ${elves[*]}"
+    count "ELF files" sh -c "cd elf_files && '$tests/elf.sh' ${elves[*]}"
     cc -std=gnu11 -I"$top/clients/c" "$tests/elf.c" "$archive" -o elf_less
     ./elf_less "$work/elf" int > seen || true
     count "without the part for ELF files" grep -q 'link libctfd_elf' seen
@@ -190,6 +190,7 @@ dumped() {
     local name=$1 ctf=$2
     shift 2
     "$program" dump "$ctf" "$@" | without_sizes > wanted
+    # shellcheck disable=SC2046 # the words one by one
     ./dump "$ctf" $(printf '%s\n' "$@" | sed '/^--model$/d; s/^ilp32$/--ilp32/') > seen
     count "dump of $name" same wanted seen
 }

@@ -20,7 +20,6 @@ import multiprocessing
 import re
 import struct
 import sys
-from dataclasses import dataclass
 from itertools import islice
 from typing import Iterator, NamedTuple, Sequence
 

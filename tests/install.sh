@@ -79,6 +79,7 @@ END
 # used FOLDER: what is installed below it is used. The words for pkg-config are in the environment.
 used() {
     local below=$1 lua=$top/examples/lua.ctf
+    # shellcheck disable=SC2046 # the words one by one
     count "build in C" cc -std=gnu11 -Wall -Wextra -Werror "$work/own.c" \
         $(pkg-config --cflags --libs ctfd) -o "$work/own_c"
     count "run in C" says 200 "$work/own_c" "$lua" "struct lua_State"
@@ -166,4 +167,4 @@ count "what a Python lacks" lacks
 count "nothing to install" sh -c "! make -C '$top' install CTFD=/none PREFIX='$work/prefix'"
 
 echo "install: $checks checks, $wrong wrong"
-[ $wrong = 0 ]
+[ "$wrong" = 0 ]

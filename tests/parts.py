@@ -111,6 +111,7 @@ def parts(program: str) -> list[Part]:
              words=over, after=("archive", "compiled")),
         Part("ilp32", ["tests/ilp32.sh", program]),
         Part("house", ["tests/house.py"]),
+        Part("style", ["tests/style.py"]),
         Part("links", ["tests/links.py"]),
         Part("names", ["tests/names.py"]),
         Part("pages", ["tests/pages.py"]),

@@ -100,6 +100,7 @@ cmp -s "$work/out" "$work/full.replies" || status="$status, other replies"
 # Dumps. A dictionary of an int; a child that names type 3 of its parent; one with two types.
 cd "$work" || exit 1
 section() { # PARNAME TYPES STRINGS LENGTH-OF-TYPES LENGTH-OF-STRINGS, each in printf's escapes
+    # shellcheck disable=SC2059 # the words are escapes
     printf '\xf1\xcf\x02\0\0\0\0\0'"$1"'\0\0\0\0\0\0\0\0\0\0\0\0\0\0\0\0\0\0\0'"$4"'\0\0\0'"$5"'\0\0\0'"$2$3"
 }
 section '\0' '\x01\0\0\0\0\x0c\x04\0\x20\0\0\x01' '\0int\0' '\x0c' '\x05' > int

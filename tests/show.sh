@@ -152,7 +152,7 @@ count "no memory" refused 'no memory at 0x10 that can be read$' \
 count "a register" refused '[$]rip: registers are not read' shows --pid $pid '$rip'
 count "no process" refused 'there is no process 4194304$' shows --pid 4194304 first
 count "no core file" refused 'table: an ELF file that is no core file$' shows --core table first
-head -c 9000 core > cut
+head -c 9000 core > ./cut
 count "a core file that is cut off" refused 'cut' shows --core cut first
 
 # Another user may not read it. The command is a copy that all users may run.

@@ -1,12 +1,10 @@
 #!/usr/bin/env bash
 # Checks what ctf_open answers of ELF files, by programs that were compiled of elf.c.
-# usage: tests/c_library/elf.sh PROGRAM ELF..
-# PROGRAM is ctfd; each ELF a build of elf.c with the part for ELF files: one that links it, one
-# that links libctfd.so. Runs in a folder of its own. Needs gcc, objcopy, strip and Python; files of
+# usage: tests/c_library/elf.sh ELF..
+# Each ELF is a build of elf.c with the part for ELF files: one that links it, one that links
+# libctfd.so. Runs in a folder of its own. Needs gcc, objcopy, strip and Python; files of
 # 32 bits are made where gcc -m32 makes them. Prints what was wrong; the status is 1 then.
 set -eu
-program=$(realpath "$1")
-shift
 top=$(realpath "$(dirname "$0")/../..")
 failed=0
 
@@ -30,11 +28,9 @@ gcc -g -fno-inline -o own own.c
 "${CARGO_TARGET_DIR:-$top/clients/rust/target}/release/ctfd-convert" --section own own.with
 printf '%s\n' 'model 2, 16 bytes' 'object struct point first' 'object const char *names[3]' \
     'function added, 2 arguments: long' 'function main, 0 arguments: int' | sort > told
-for file in own.with; do
-    for elf in "${programs[@]}"; do
-        "$elf" "$file" "struct point" | sed 's/long int/long/' | sort > seen
-        cmp -s told seen || { echo "$elf $file:"; diff told seen; failed=1; }
-    done
+for elf in "${programs[@]}"; do
+    "$elf" own.with "struct point" | sed 's/long int/long/' | sort > seen
+    cmp -s told seen || { echo "$elf own.with:"; diff told seen; failed=1; }
 done
 # What strip leaves is never taken for the symbols that the types were written for.
 strip -o own.bare own.with

@@ -8,7 +8,8 @@
 # question without the file and with it, and the answers that are the same (count.py): at the start
 # of main, and of the arguments of each function as it is first called.
 set -eu
-export CTFD=$(realpath "$1") LC_ALL=C
+CTFD=$(realpath "$1")
+export CTFD LC_ALL=C
 tests=$(realpath "$(dirname "$0")")
 compiled=${CARGO_TARGET_DIR:-$(realpath "$tests/../../clients/rust/target")}/release
 program=$(realpath "$2")

@@ -6,7 +6,8 @@
 # has them. With VMLINUX, its kernel with BTF, the module is a child of the kernel's types.
 # Prints counts (module.py); the status is 1 where an answer differs for no reason that is known.
 set -eu
-export CTFD=$(realpath "$1") LC_ALL=C
+CTFD=$(realpath "$1")
+export CTFD LC_ALL=C
 tests=$(realpath "$(dirname "$0")")
 compiled=${CARGO_TARGET_DIR:-$(realpath "$tests/../../clients/rust/target")}/release
 module=$(realpath "$2") kernel=${3:+$(realpath "$3")}

@@ -29,7 +29,7 @@ from pathlib import Path
 from typing import Counter as Counts, Deque, Dict, Iterator, List, Optional, Tuple
 
 from hostile import handed_in, written
-from support import PATIENCE, Front, Talker, ask, until
+from support import PATIENCE, Front, Talker, ask
 
 CLIENTS = 200
 BATCH = 100

@@ -20,7 +20,7 @@ from collections import Counter
 from typing import Counter as Counts, Iterator, List, Sequence
 
 from hostile import Fields, Sender, Sent, handed_in, written
-from support import LUA, Front, Talker, serve
+from support import Front, Talker, serve
 
 NAMES = ("base", "more", "x")
 FIRST_OF_OTHERS = 1_000_000

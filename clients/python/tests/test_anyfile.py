@@ -15,7 +15,7 @@ from ctfd.files.anyfile import Asked
 from ctfd.files.cache import Cache, key, user_cache
 from ctfd.files.opening import Opener
 
-from .support import EXAMPLES, compiles, run
+from .support import EXAMPLES, compiles
 from .tools import CONVERTS, WHY_NOT, command, compiled
 from .whole.catalog import Catalog
 

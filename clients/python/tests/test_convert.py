@@ -1,7 +1,6 @@
 """ctfd-convert: what it writes from each form, and what it tells of what CTF can't hold."""
 from __future__ import annotations
 
-import os
 import shutil
 import struct
 import subprocess

@@ -111,11 +111,12 @@ def copies_of_one_function() -> bytes:
 
 def bit_fields_behind_typedefs() -> bytes:
     unit = Unit()
-    last = unit.add(BASE, b"int\0", b"\4\5")
-    names = [last := unit.add(TYPEDEF, b"t%d\0" % n, to(last)) for n in range(500)]
+    names = [unit.add(BASE, b"int\0", b"\4\5")]
+    for n in range(500):
+        names.append(unit.add(TYPEDEF, b"t%d\0" % n, to(names[-1])))
     unit.add(STRUCT, b"s\0", b"\x08")
     for number in range(20_000):
-        unit.add(BITS, b"m\0", to(names[number % 500]), b"\1", bytes([number % 32]))
+        unit.add(BITS, b"m\0", to(names[1 + number % 500]), b"\1", bytes([number % 32]))
     unit.end()
     return unit.bytes
 

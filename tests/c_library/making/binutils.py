@@ -14,7 +14,6 @@ Prints a line for each that does not pass; the status is 1 where another one tha
 """
 from __future__ import annotations
 
-import os
 import re
 import shutil
 import subprocess

@@ -292,9 +292,7 @@ impl<'b> Draft<'b> {
     ) -> Result<(), Refusal> {
         let (at, len) = (name.as_ptr(), name.len());
         // SAFETY: as `added` says; the name lives for the call.
-        told(unsafe {
-            raw::ctfd_add_member_at(self.0.handle(), of, at, len, kind, offset, size)
-        })
+        told(unsafe { raw::ctfd_add_member_at(self.0.handle(), of, at, len, kind, offset, size) })
     }
 
     /// Adds an enumerator to a pending enum.

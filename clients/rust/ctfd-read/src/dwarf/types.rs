@@ -608,11 +608,7 @@ impl<'d, 'a> Reader<'d, 'a> {
     }
 
     /// What a function takes, which stands in an entry, and returns, which another one says.
-    fn function_of(
-        &mut self,
-        whole: &Entry<'d, 'a>,
-        of: &Entry<'d, 'a>,
-    ) -> Result<Record<'a>> {
+    fn function_of(&mut self, whole: &Entry<'d, 'a>, of: &Entry<'d, 'a>) -> Result<Record<'a>> {
         let mut parts = whole.children_of(is_argument)?;
         let made = self.function(&mut parts, of)?;
         self.debug.count_entries(parts.steps())?;
