@@ -25,11 +25,13 @@ MEMORY = "out_of_memory"
 ADDED = ("add type", "add member", "add enumerator", "add label")
 
 # The words of the protocol by which each call is reached. LISTS stands for the calls that open lent
-# lists, which tests/lists_refused.py reaches; AS_A_SESSION for ctfd_line_as, whose refusals
+# lists, which tests/lists_refused.py reaches; STATED for ctfd_add_member_at, whose refusals
+# clients/rust/ctfd/tests/drafts.rs has; AS_A_SESSION for ctfd_line_as, whose refusals
 # tests/c_library/sessions.c has.
 LISTS = "lists"
 AS_A_SESSION = "a line as a session's"
-ELSEWHERE = {LISTS, AS_A_SESSION}
+STATED = "a member at a stated place"
+ELSEWHERE = {LISTS, STATED, AS_A_SESSION}
 REACHED_BY: Mapping[str, tuple[str, ...]] = {
     "ctf_check check": ("check",),
     "ctf_check judge_chains": ("check",),
@@ -38,6 +40,7 @@ REACHED_BY: Mapping[str, tuple[str, ...]] = {
     "ctf_draft new": ("create",),
     "ctf_draft add": ("add type",),
     "ctf_draft member": ("add member",),
+    "ctf_draft member_at": (STATED,),
     "ctf_draft enumerator": ("add enumerator",),
     "ctf_draft label": ("add label",),
     "ctf_library open": ("open",),

@@ -100,6 +100,48 @@ fn members_stand_where_it_is_stated() {
 }
 
 #[test]
+fn each_refusal_of_a_member_at_a_stated_place() {
+    let mut draft = nodes();
+    let color = draft.enumeration("color", 4).unwrap();
+    let small = draft.structure("small", 0).unwrap();
+    let full = draft.structure("full", 0).unwrap();
+    draft.member_at(small, "a", 1, 0, 4).unwrap();
+    for number in 0..1023 {
+        draft.member_at(full, &format!("m{number}"), 1, 0, 4).unwrap();
+    }
+    let mut deep = 1;
+    for _ in 0..513 {
+        deep = draft.array("", deep, 1, 1).unwrap();
+    }
+    let refused = [
+        draft.member_at(small, "b\0", 1, 0, 4),
+        draft.member_at(9999, "b", 1, 0, 4),
+        draft.member_at(2, "b", 1, 0, 4),
+        draft.member_at(color, "b", 1, 0, 4),
+        draft.member_at(full, "b", 1, 0, 4),
+        draft.member_at(small, "a", 1, 0, 4),
+        draft.member_at(small, "b", 9999, 0, 4),
+        draft.member_at(small, "b", deep, 0, 4),
+        draft.member_at(small, "b", 1, 33, 4),
+    ];
+    let faults: Vec<Fault> = refused.into_iter().map(|one| one.unwrap_err().fault).collect();
+    assert_eq!(
+        faults,
+        [
+            Fault::NameHasZero,
+            Fault::NoType,
+            Fault::Settled,
+            Fault::WrongKind,
+            Fault::VlenFull,
+            Fault::Duplicate,
+            Fault::BadRef,
+            Fault::DeepMember,
+            Fault::BadOffset
+        ]
+    );
+}
+
+#[test]
 fn what_is_discarded_is_gone() {
     let mut draft = nodes();
     assert_eq!(draft.structure("gone", 0), Ok(4));
