@@ -33,7 +33,7 @@ def is_script(path: Path) -> bool:
     return first.startswith(b"#!") and first.rstrip().endswith((b"/sh", b"bash"))
 
 
-def said(words: tuple[str, ...], files: list[Path]) -> bool:
+def complains(words: tuple[str, ...], files: list[Path]) -> bool:
     """Whether a tool has something to say of some files; it says so itself."""
     if not files:
         return False
@@ -61,7 +61,7 @@ def main() -> int:
     for words, name, listed in tools:
         if not words:
             print(f"skipped: {name} is not here")
-        elif said(words, listed):
+        elif complains(words, listed):
             print(f"{name}: see above")
             failed = 1
     return failed
