@@ -1,5 +1,6 @@
 """A service that is asked through pipes, and the processor time that it takes for a request."""
 import itertools
+import resource
 import subprocess
 import time
 from typing import Iterable, Iterator
@@ -46,6 +47,11 @@ class Service:
             time.sleep(0.0005)
         with open(f"/proc/{self._child.pid}/schedstat") as file:
             return int(file.read().split()[0]) / 1e9
+
+    def memory(self) -> int:
+        """The bytes of memory that the service has."""
+        with open(f"/proc/{self._child.pid}/statm") as file:
+            return int(file.read().split()[1]) * resource.getpagesize()
 
     def _state(self) -> str:
         with open(f"/proc/{self._child.pid}/stat") as file:

@@ -1,26 +1,44 @@
 #!/usr/bin/env python3
 """What converting programs costs, beside `pahole -J` on the same files in the same run.
 
-usage: bench/converting.py [--rounds N] [--threads N] [--from FORM] PROGRAM..
+usage: bench/converting.py [--rounds N] [--threads N] [--from FORM] [--btf FILE] PROGRAM..
+       bench/converting.py --fetch FOLDER [--kernel]
 
 Prints, for each program, the least processor time, time by the clock and memory of N rounds (3) of
-each in turn, and the bytes of its debug sections, inflated. Needs pahole, readelf, objcopy and the
-compiled ctfd-convert.
+each in turn, the bytes of its debug sections, inflated, and ours as shares: of pahole's times, and
+of the sections' bytes. Behind a share stands "over" where it is more than is aimed at: pahole's
+processor time, half its clock, twice the bytes. Clocks say something on idle processors alone; the
+last line tells the load. Of a file that --btf names, a kernel's by default, it prints what a first
+question about one struct costs, and what all of it does.
+
+--fetch gets what docs/PERFORMANCE.md has rows for into a folder, by apt-get, and prints the files:
+python3.11-dbg and libc6-dbg, with --kernel the debug file of a kernel too, which takes 2 GB there.
+Needs pahole, readelf, objcopy and the compiled commands.
 """
 from __future__ import annotations
 
 import argparse
 import os
+import re
 import subprocess
 import sys
 import tempfile
 import time
 from pathlib import Path
-from typing import NamedTuple, Sequence
+from typing import Iterator, NamedTuple, Optional, Sequence
 
 TOP = Path(__file__).resolve().parents[1]
 sys.path.insert(0, str(TOP / "scripts"))
 import rust  # noqa: E402
+
+KERNEL = "/sys/kernel/btf/vmlinux"
+STRUCT = "task_struct"
+# What is aimed at, as shares of pahole's processor time and clock, and of the sections' bytes.
+MOST = {"processor": 1.0, "clock": 0.5, "memory": 2.0}
+# Where a package has the files that are read.
+FILES = {"python3.11-dbg": ("usr/bin/python3.11d", "usr/lib/debug/.build-id/*/*.debug"),
+         "libc6-dbg": ("usr/lib/debug/.build-id/*/*.debug",),
+         "kernel": ("usr/lib/debug/boot/vmlinux-*",)}
 
 
 class Cost(NamedTuple):
@@ -51,14 +69,81 @@ def least(costs: Sequence[Cost]) -> Cost:
     return Cost(*(min(each) for each in zip(*costs)))
 
 
+def in_turn(ours: Sequence[str], theirs: Sequence[str], rounds: int,
+            threads: int) -> tuple[Cost, Cost]:
+    """The least of some rounds of each, one after the other."""
+    turns = [(cost(ours, threads), cost(theirs, 0)) for _ in range(rounds)]
+    one, other = (least([turn[place] for turn in turns]) for place in (0, 1))
+    return one, other
+
+
 def section_bytes(program: str, folder: str) -> int:
     """The bytes of the debug sections, inflated."""
     plain = f"{folder}/plain"
-    subprocess.run(["objcopy", "--decompress-debug-sections", program, plain], check=True)
+    subprocess.run(["objcopy", "--decompress-debug-sections", program, plain], check=True,
+                   stderr=subprocess.DEVNULL)
     listed = subprocess.run(["readelf", "-SW", plain], capture_output=True, text=True).stdout
     os.unlink(plain)
     rows = [line.partition("]")[2].split() for line in listed.splitlines()]
     return sum(int(row[4], 16) for row in rows if row and row[0].startswith(".debug_"))
+
+
+def share(name: str, ours: float, of: float) -> str:
+    """A share in words, and whether it is more than is aimed at."""
+    found = ours / of if of else 0.0
+    return f"{name} {found:.2f}" + (" (over)" if found > MOST[name] else "")
+
+
+def convert(program: str, words: argparse.Namespace, folder: str) -> str:
+    """What converting a program costs, in a line."""
+    out = f"{folder}/out"
+    ours = [str(rust.folder() / "ctfd-convert"), "--from", words.form, "--lossy", program, out]
+    theirs = ["pahole", "-J", f"--btf_encode_detached={out}", program]
+    one, other = in_turn(ours, theirs, words.rounds, words.threads)
+    sections = section_bytes(program, folder) / 1e6
+    shares = (share("processor", one.processor, other.processor),
+              share("clock", one.clock, other.clock), share("memory", one.memory, sections))
+    return (f"{program}: sections {sections:.1f} MB; ctfd-convert {one}; pahole -J {other};"
+            f" {', '.join(shares)}")
+
+
+def first_look(btf: str, words: argparse.Namespace, folder: str) -> Iterator[str]:
+    """What a question about one struct of a kernel's BTF costs, and converting all of it."""
+    types = str(rust.folder() / "ctfd-types")
+    theirs = ["pahole", "-F", "btf", "-C", STRUCT, btf]
+    one, other = in_turn([types, btf, f"struct {STRUCT}"], theirs, words.rounds, words.threads)
+    yield f"{btf}: struct {STRUCT}: ctfd-types {one}; pahole {other}"
+    ours = [str(rust.folder() / "ctfd-convert"), "--lossy", btf, f"{folder}/out"]
+    whole = least([cost(ours, words.threads) for _ in range(words.rounds)])
+    yield f"{btf}: all of it: ctfd-convert {whole}"
+
+
+def kernel_package() -> Optional[str]:
+    """The last of Debian's small kernels that have debug files."""
+    found = subprocess.run(["apt-cache", "search", "--names-only", "linux-image.*cloud.*-dbg$"],
+                           capture_output=True, text=True).stdout.split("\n")
+    names = [line.split(" ")[0] for line in found if re.match(r"linux-image-\d+\.\d+\.\d+", line)]
+    return max(names, key=lambda name: [int(part) for part in re.findall(r"\d+", name)],
+               default=None)
+
+
+def fetch(folder: Path, has_kernel: bool) -> Iterator[Path]:
+    """The files of the rows, of Debian's packages."""
+    packages = {name: name for name in FILES if name != "kernel"}
+    kernel = kernel_package() if has_kernel else None
+    if kernel:
+        packages["kernel"] = kernel
+    for name, package in packages.items():
+        inside = folder / name
+        if not inside.exists():
+            folder.mkdir(parents=True, exist_ok=True)
+            subprocess.run(["apt-get", "download", package], cwd=folder, check=True,
+                           stdout=subprocess.DEVNULL, stderr=subprocess.DEVNULL)
+            packed = next(folder.glob(f"{package}_*.deb"))
+            subprocess.run(["dpkg-deb", "-x", str(packed), str(inside)], check=True)
+            packed.unlink()
+        for pattern in FILES[name]:
+            yield max(inside.glob(pattern), key=lambda path: path.stat().st_size)
 
 
 def main() -> int:
@@ -66,18 +151,19 @@ def main() -> int:
     parser.add_argument("--rounds", type=int, default=3)
     parser.add_argument("--threads", type=int, default=0)
     parser.add_argument("--from", dest="form", default="dwarf")
-    parser.add_argument("programs", nargs="+")
+    parser.add_argument("--btf", default=KERNEL)
+    parser.add_argument("--fetch", type=Path)
+    parser.add_argument("--kernel", action="store_true")
+    parser.add_argument("programs", nargs="*")
     words = parser.parse_args()
+    if words.fetch:
+        print("\n".join(map(str, fetch(words.fetch, words.kernel))))
+        return 0
     with tempfile.TemporaryDirectory() as folder:
-        out = f"{folder}/out"
         for program in words.programs:
-            ours = [str(rust.folder() / "ctfd-convert"), "--from", words.form, "--lossy", program,
-                    out]
-            theirs = ["pahole", "-J", f"--btf_encode_detached={out}", program]
-            turns = [(cost(ours, words.threads), cost(theirs, 0)) for _ in range(words.rounds)]
-            one, other = (least([turn[place] for turn in turns]) for place in (0, 1))
-            print(f"{program}: sections {section_bytes(program, folder) / 1e6:.1f} MB;"
-                  f" ctfd-convert {one}; pahole -J {other}", flush=True)
+            print(convert(program, words, folder), flush=True)
+        if os.access(words.btf, os.R_OK):
+            print("\n".join(first_look(words.btf, words, folder)))
     print(f"load {os.getloadavg()[0]:.0f}")
     return 0
 

@@ -9,6 +9,9 @@ milliseconds of processor time that the request took, the least of three runs, a
 megabyte. Wanted are at most 10 ms for each MB; what takes no more than 5 ms in all is within that.
 With --limit, the status is 1 where a case takes more than FACTOR times as long.
 
+Then comes what memory dictionaries take that are made to take much, and how many times as much that
+is as a quota counts; the case says how much is too much with --limit.
+
 Then come requests of so many sessions, slots and pending types, and how much longer they take than
 those of half as many: with --limit, more than three times as long is too much. So it is with files
 that the Python commands read (hostile_files.py), and with 5 seconds for one.
@@ -31,7 +34,7 @@ from asking import Service
 from charging import EMPTY
 from dictionaries import all_parts
 from hostile_files import FILES, MOST_SECONDS
-from hostile_sessions import GROWTHS, SESSIONS
+from hostile_sessions import GROWTHS, HELD, SESSIONS
 
 WANTED, LEAST = 10.0, 5.0
 # How many times as long twice as much may take.
@@ -264,6 +267,18 @@ def session_row(program, case):
     return Row(case.name, case.read + moved / 1_000_000, 1000 * seconds)
 
 
+def held_row(program, case, limit):
+    """A row of what is held, and whether that takes too much memory."""
+    with Service(program) as service:
+        before = service.memory()
+        service.ask_all(case.lines())
+        taken = service.memory() - before
+    times = taken / case.counted
+    is_over = limit is not None and times > case.most
+    return f"{case.name:52}{case.counted / 1e6:8.2f} MB{taken / 1e6:9.1f} MB  x{times:.2f}" \
+           f"{'  TOO MUCH' if is_over else ''}", is_over
+
+
 def all_seconds(program, case, size):
     """What the requests of a case take together."""
     taken = []
@@ -320,6 +335,8 @@ def rows(program, options):
     for case in filter(is_picked, SESSIONS):
         row = session_row(program, case)
         yield row.told(options.limit), row.is_over(options.limit)
+    for case in filter(is_picked, HELD):
+        yield held_row(program, case, options.limit)
     for case in filter(is_picked, GROWTHS):
         yield growth_row(program, case, options.growth, options.limit)
     for case in filter(is_picked, FILES):

@@ -2,12 +2,13 @@
 
 Each function gives the lines of requests: all but the last make ready, and the last is timed."""
 import json
+import random
 import struct
 from dataclasses import dataclass
 from typing import Callable, Iterator
 
 import hostile_dictionaries as made
-from dictionaries import all_parts, dictionary, record
+from dictionaries import VISIBLE, all_parts, dictionary, record, symbol, told
 
 LINE = 1_048_576
 INT = '"what":"integer","name":"int","size":4,"encoding":1,"offset":0,"bits":32'
@@ -21,6 +22,17 @@ class Session:
     name: str
     lines: Callable[[], Iterator[str]]
     read: float = 0.0
+
+
+@dataclass(frozen=True)
+class Held:
+    """Requests after which the service holds so many bytes that a quota counts, and how many times
+    as much memory it may have for them."""
+
+    name: str
+    lines: Callable[[], Iterator[str]]
+    counted: int
+    most: float
 
 
 @dataclass(frozen=True)
@@ -143,6 +155,36 @@ def steps(count, texts, shorter=0, may_end=lambda end: True):
     way = json.dumps([texts[-1][shorter * i:].decode() for i in range(count)],
                      separators=(",", ":"))
     yield line("path", '"d":1,"t":%d,"names":%s' % (1 + count, way))
+
+
+# ---- names
+
+
+def unlike_in_the_middle(count, length):
+    """So many names of one length that differ in five bytes in their middle."""
+    front = b"p" * (length // 2)
+    back = b"p" * (length - 5 - len(front))
+    return [front + b"%05d" % i + back for i in range(count)]
+
+
+def look_ups_of(count, length):
+    """A struct, sought among so many by such a name."""
+    table, begins = placed(unlike_in_the_middle(count, length), lambda end: True)
+    types = b"".join(record(begin, 6, VISIBLE, 0) for begin in begins)
+    yield from opened((dictionary(types, table), b"", b""))
+    yield line("find", '"d":1,"text":"struct %s"' % text_at(table, begins[count // 2]))
+
+
+def symbol_found(count, length):
+    """A symbol, sought among so many by such a name."""
+    table, begins = placed(unlike_in_the_middle(count, length), lambda end: True)
+    symbols = b"".join(symbol(begin, 1) for begin in begins)
+    yield from opened((told(struct.pack("<H", 1) * count, b""), symbols, table))
+    yield line("symbol", '"d":1,"name":"%s"' % text_at(table, begins[count // 2]))
+
+
+def text_at(table, begin):
+    return table[begin:table.index(0, begin)].decode()
 
 
 # ---- values
@@ -274,6 +316,23 @@ def imported_again(count):
     yield line("import", '"d":2,"parent":1')
 
 
+# ---- what memory small types take
+
+
+SMALL_TYPES, SMALL_SLOTS = 32_766, 30
+# What a quota counts for each: its bytes, and four more for each type.
+SMALL_BYTES = 36 + (8 + 4) * SMALL_TYPES + 1 + SMALL_TYPES + 12
+
+
+def small_types():
+    """Dictionaries of nothing but typedefs, each named by an end of one text, which ends otherwise
+    in each dictionary."""
+    types = b"".join(record(1 + i, 10, VISIBLE, 0) for i in range(SMALL_TYPES))
+    for i in range(SMALL_SLOTS):
+        names = b"\0" + b"a" * SMALL_TYPES + b"%011d\0" % i
+        yield from opened((dictionary(types, names), b"", b""))
+
+
 SESSIONS = [
     Session("line: 1 MB of lists, 100 deep, in an unknown field",
             lambda: unknown_field("[" * 100 + "]" * 100)),
@@ -299,6 +358,9 @@ SESSIONS = [
             lambda: steps(500, unlike_each_elsewhere(first=600), shorter=1), read=6.1),
     Session("path: 500 steps, 1,023 names of 255 bytes unlike each elsewhere",
             lambda: steps(500, unlike_each_elsewhere(255, 8)), read=4.4),
+    Session("find: one of 32,000 names unlike in the middle", lambda: look_ups_of(32_000, 2_000)),
+    Session("symbol: one of 60,000 names unlike in the middle",
+            lambda: symbol_found(60_000, 1_000)),
     Session("show: 500 structs in each other", lambda: nested_structs(500)),
     Session("add: a member on top of 500,000", lambda: chained_draft(500, 1000)),
     Session("add: a member on top of 500,000 in unions",
@@ -316,7 +378,23 @@ SESSIONS = [
 ]
 
 
+HELD = [
+    Held("memory: 30 dictionaries of 32,766 typedefs", small_types, SMALL_SLOTS * SMALL_BYTES, 5.0),
+]
+
+
 # ---- what grows
+
+
+def come_and_go(count):
+    """So many sessions, each of which makes a dictionary and closes it; and once more, in an order
+    by chance."""
+    numbers = list(range(1, 1 + count))
+    for d in (1, 2):
+        for session in numbers:
+            yield line("create", session=session)
+            yield line("close", '"d":%d' % d, session=session)
+        random.Random(1).shuffle(numbers)
 
 
 def sessions(count):
@@ -359,6 +437,7 @@ def publications(count):
 
 GROWTHS = [
     Growth("sessions", 40_000, sessions),
+    Growth("sessions that come and go", 40_000, come_and_go),
     Growth("slots", 1_000, slots),
     Growth("publications", 64_000, publications),
     Growth("pending types", 32_000, pending),

@@ -4,7 +4,7 @@
 usage: scripts/package.py deb|dist|release [--into FOLDER] [--program PROGRAM] [--archive ARCHIVE]
 
 `deb` makes a package for Debian, by dpkg-deb alone. `dist` makes a tarball with an install script
-(tarball.sh), a wheel of the Python package by itself, and, where cargo is, a tarball of the sources
+(tarball.sh), a wheel of the Python package with the library and the programs, and, where cargo is, a tarball of the sources
 in Rust with all crates that they stand on, which builds where no registry is reached. The first two
 have the program, the library for C,
 headers, manual pages, units, the commands and the Python package. `release` makes all of these,
@@ -150,7 +150,7 @@ def dist(made: Made, into: Path, seconds: int) -> list[Path]:
         write(stage / "install.sh", (SCRIPTS / "tarball.sh").read_bytes(), 0o755)
         at_one_time(stage, seconds)
         tarball.write_bytes(packed(archived(stage, seconds)))
-    return [tarball, tree.wheel(into), *rust_sources(into, seconds)]
+    return [tarball, tree.wheel(into, made), *rust_sources(into, seconds)]
 
 
 def rust_sources(into: Path, seconds: int) -> list[Path]:

@@ -31,13 +31,13 @@ PROGRAM, FRONT = "ctfd-tools", "ctfd-front"
 PACKAGE, LIBRARIES = "ctfd-commands", ("ctfd-tools", "ctfd-front")
 LATER = {"CTFD_LINKED_LATER": "1"}  # the library is linked with the programs, and read by no crate
 COMMANDS = ("ctfd-convert", "ctfd-debuginfo", "ctfd-diff", "ctfd-explore", "ctfd-show",
-            "ctfd-types")
+            "ctfd-store", "ctfd-types")
 DEBIAN = Path("/usr/share/cargo/registry")
 # The packages of Debian with what the crates name, which bring what these name themselves.
 PACKAGES = tuple(f"librust-{name}-dev" for name in ("ahash-0.7", "clap", "crc32fast", "flate2",
                                                     "gimli", "indicatif", "libc", "memchr", "mio",
                                                     "object", "rayon", "regex", "rustix",
-                                                    "signal-hook", "smallvec", "tar"))
+                                                    "sha2", "signal-hook", "smallvec", "tar"))
 PACKAGES += ("libzstd-dev",)  # without it sections that zstd compressed are not read
 LEAST = (1, 82)
 

@@ -170,18 +170,41 @@ def run(*words: object, **environment: str) -> None:
         raise Lacking(f"{words[0]} ended with status {ended.returncode}:\n{ended.stdout.strip()}")
 
 
-def wheel(into: Path) -> Path:
-    """Builds the wheel of the package into a folder, the same of the same sources."""
+def wheel(into: Path, made: Optional[Made] = None) -> Path:
+    """Builds the wheel of the package into a folder, the same of the same sources. With what was
+    built it carries the library and the programs, and is for Linux on x86-64 alone."""
     with tempfile.TemporaryDirectory() as folder:
         # setuptools writes beside the sources, so it gets a copy.
         copy = Path(folder, "python")
         shutil.copytree(CLIENT, copy, ignore=not_sources)
         for path in copy.rglob("*"):
             path.chmod(0o755 if path.is_dir() else 0o644)
+        if made:
+            carry(made, copy)
         run(python(), "-m", "pip", "wheel", "--quiet", "--no-index", "--no-deps",
             "--no-build-isolation", "--no-cache-dir", "--disable-pip-version-check",
             "--wheel-dir", into, copy)
     return next(into.glob(f"ctfd-{version()}-*.whl"))
+
+
+def carry(made: Made, copy: Path) -> None:
+    """Puts what was built into a copy of the client, with an entry point for each command."""
+    programs = {"ctfd": made.program, **{path.name: path for path in made.compiled.values()}}
+    for name, path in programs.items():
+        place = copy / "ctfd" / "bin" / name
+        built.put(path, place)
+        place.chmod(0o755)
+    for path in made.shared:
+        place = copy / "ctfd" / libctf.soname(path.name)
+        built.put(path, place)
+        place.chmod(0o644)
+    scripts = "".join(f'{name} = "ctfd.commands:main"\n' for name in ("ctfd", *made.compiled))
+    project = copy / "pyproject.toml"
+    text = project.read_text(encoding="utf-8")
+    text = text.replace("\n[tool.setuptools]\n", f"\n[project.scripts]\n{scripts}\n[tool.setuptools]\n")
+    text = text.replace('ctfd = ["py.typed"]', 'ctfd = ["py.typed", "bin/*", "*.so.*"]')
+    project.write_text(text, encoding="utf-8")
+    (copy / "setup.cfg").write_text("[bdist_wheel]\nplat_name = linux_x86_64\n", encoding="utf-8")
 
 
 def not_sources(folder: str, names: list[str]) -> set[str]:

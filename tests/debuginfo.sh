@@ -68,12 +68,12 @@ made() {
 }
 
 # same_types OLD NEW: their types do not differ.
-# A debug file tells no functions and objects: that these are not compared is told, by status 2, and
-# nothing else is.
+# A debug file has no types of functions and objects: that these are not compared is said, with
+# status 2, and nothing else is.
 same_types() {
     local status=0
     client ctfd-diff "$@" > differ 2> left || status=$?
-    grep -vE 'its functions and objects, and they are not compared$|symbols are left out$' left |
+    grep -vE 'types of functions and objects, so they are not compared$|symbols are left out$' left |
         grep -v 'all types are compared$' >> differ || true
     [[ $status = [02] && ! -s differ ]] || { cat differ; return 1; }
 }

@@ -13,9 +13,10 @@
 # (test_ends.py); ends at random moments while clients come and leave (departures.py). 100,000 lines
 # while sockets are cut, files run out and memory is refused (faults.py). Behind nginx and haproxy,
 # with TLS (test_network.py). Several services in one front (test_rooms.py). What an operator sees
-# (test_told.py). The client over a socket (test_client.py). The units of docs/SERVING.md, where
-# systemd-analyze is there (units.py). The tests of the crate clients/rust/ctfd-front have random
-# lines with a number in them, and turns by a clock of their own.
+# (test_told.py). Types by build-id from a store (test_builds.py). The client over a socket
+# (test_client.py). The units of docs/SERVING.md, where systemd-analyze is there (units.py). The
+# tests of the crate clients/rust/ctfd-front have random lines with a number in them, and turns by a
+# clock of their own.
 # With --all, isolation is tried with other seeds and a million lines, so are faults, ends 1,000
 # times, and shares beside the dearest requests that are known. Two run at a time. PATIENCE in the
 # environment is how many seconds a test waits for anything, 60 where it is absent.
@@ -51,6 +52,7 @@ with_prometheus() {
 
 (told isolation python3 isolation.py; told client python3 -W ignore -m unittest test_client
  told rooms python3 -W ignore -m unittest test_rooms
+ told builds python3 -W ignore -m unittest test_builds
  told told "$(with_prometheus)" -W ignore -m unittest test_told
  told attacks python3 -W ignore -m unittest test_attacks; told units python3 units.py) &
 told ends python3 -W ignore -m unittest test_ends

@@ -88,7 +88,8 @@ used() {
     if [ -f "$compiled" ]; then
         count "ctfd-front, compiled" cmp "${compiled%tools}front" "$below/bin/ctfd-front"
         count "ctfd-front" says "ctfd-front $(cat "$top/VERSION")" "$below/bin/ctfd-front" --version
-        for command in ctfd-convert ctfd-debuginfo ctfd-diff ctfd-explore ctfd-show ctfd-types; do
+        for command in ctfd-convert ctfd-debuginfo ctfd-diff ctfd-explore ctfd-show ctfd-store \
+            ctfd-types; do
             count "$command, compiled" cmp "$compiled" "$below/bin/$command"
         done
     fi

@@ -97,6 +97,9 @@ if echo '#include <ctf-api.h>' | cc -E - > /dev/null 2>&1; then
     gnu idioms/ctfread
     ./gnu_theirs > theirs
     run ctfread sh -c './gnu_ours | diff theirs -'
+    gnu idioms/symbols
+    ./gnu_theirs > theirs
+    run symbols sh -c './gnu_ours | diff theirs -'
     gnu idioms/dump
     ./gnu_theirs | sed 's/int (\*) ()/int ()/' > theirs # as C has it
     run dump sh -c './gnu_ours | diff theirs -'

@@ -17,13 +17,15 @@ from pathlib import Path
 
 PAGES = Path(__file__).resolve().parents[1] / "docs" / "man"
 COMMANDS = ("ctfd-convert", "ctfd-debuginfo", "ctfd-diff", "ctfd-explore", "ctfd-front", "ctfd-show",
-            "ctfd-types")
+            "ctfd-store", "ctfd-types")
+# The first words of a command that has options of its own for each.
+ACTIONS = {"ctfd-store": ("add", "check", "list", "missing", "remove", "stats")}
 # In a help: an option, and whether a value stands behind it. In a page: an item that begins so.
 HELPED = re.compile(r"^ +(?:-\w, )?--([a-z][\w-]*)( <)?", re.MULTILINE)
 PAGED = re.compile(r"Fl -([a-z][\w-]*)( (?:Op )?Ar)?")
 ITEM = re.compile(r"^\.It Fl .*$", re.MULTILINE)
 OF_CLAP = {"help"}
-UNKNOWN = "wasn't expected"
+UNKNOWN = "no option"
 
 
 def listed(pattern: re.Pattern[str], text: str) -> dict[str, bool]:
@@ -43,8 +45,9 @@ def is_taken(command: Path, name: str, has_value: bool) -> bool:
 
 def differences(command: Path) -> list[str]:
     """What the page of a command has otherwise than its help."""
-    done = subprocess.run([command, "--help"], capture_output=True, text=True, check=True)
-    helped = listed(HELPED, done.stdout)
+    helps = [subprocess.run([command, *words, "--help"], capture_output=True, text=True, check=True)
+             for words in ((), *((action,) for action in ACTIONS.get(command.name, ())))]
+    helped = listed(HELPED, "\n".join(done.stdout for done in helps))
     items = ITEM.findall((PAGES / f"{command.name}.1").read_text("utf-8"))
     paged = listed(PAGED, "\n".join(items))
     found = [f"the page lacks --{name}" for name in helped if name not in paged]

@@ -77,7 +77,8 @@ used() {
     count "ctfd-convert in $below" env PATH=/usr/bin:/bin "$below/bin/ctfd-convert" \
         "$work/own" "$work/own.ctf"
     if [ -f "$compiled" ]; then
-        for command in ctfd-convert ctfd-debuginfo ctfd-diff ctfd-explore ctfd-show ctfd-types; do
+        for command in ctfd-convert ctfd-debuginfo ctfd-diff ctfd-explore ctfd-show ctfd-store \
+            ctfd-types; do
             count "$command, compiled, in $below" cmp "$compiled" "$below/bin/$command"
         done
         count "ctfd-front in $below" answers_by_front "$below/bin/ctfd-front"
@@ -186,12 +187,21 @@ count "no file of it is left" says "" find "$work/prefix" ! -type d
 count "no folder of its own is left" test ! -e "$work/prefix/lib/ctfd"
 
 count "the wheel by pip" python3 -m pip install --quiet --no-index --no-deps \
-    --target "$work/packages" "$work/first/ctfd-$version-py3-none-any.whl"
+    --target "$work/packages" "$work/first/ctfd-$version-py3-none-linux_x86_64.whl"
 count "the wheel's version" says "$version" env PYTHONPATH="$work/packages" \
     python3 -c 'import importlib.metadata as it; print(it.version("ctfd"))'
-count "the package by the wheel" says 32 env PYTHONPATH="$work/packages" CTFD="$program" \
+count "the package by the wheel" says 32 env PYTHONPATH="$work/packages" \
     python3 -c 'import sys, ctfd; print(ctfd.open(sys.argv[1])["struct point"].sizeof)' \
     "$work/own.ctf"
+if [ -f "$compiled" ]; then
+    count "a program by the wheel alone" says 32 env -i PATH=/usr/bin:/bin \
+        PYTHONPATH="$work/packages" "$(command -v python3)" -c \
+        'import sys, ctfd; print(ctfd.open(sys.argv[1])["struct point"].sizeof)' "$work/own"
+    count "ctfd-types of the wheel" sh -c 'PYTHONPATH=$1 "$1/bin/ctfd-types" "$2" "struct point" |
+        grep -q "size: 32, cachelines: 1, members: 4"' - "$work/packages" "$work/own"
+fi
+count "the wheel's service" says "ctfd $version" sh -c \
+    'PYTHONPATH=$1 "$1/bin/ctfd" --version | head -n 1' - "$work/packages"
 
 if command -v systemd-analyze > /dev/null; then
     mkdir "$work/units"

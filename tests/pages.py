@@ -6,17 +6,19 @@ usage: tests/pages.py
 The words of a page are those that `wc -w` counts. `MOST` has how many each may have; a page that it
 does not name is wrong, and so is one that it names and that is not there.
 
-A sentence of a page for users has at most 35 words. Blocks of code, tables, headings and comments
-are left out. Each paragraph and each item of a list is a text of its own, whatever lines it is
-written in. A sentence of it ends at `.`, `!` or `?`, with the quote or parenthesis that closes
+A sentence of a page for users has at most 35 words, one of another page 40, and the mean of a page
+is at most 25. No text outside of crates/ has one of the phrases in `RIDDLES`. Blocks of code,
+tables, headings and comments are left out. Each paragraph and each item of a list is a text of its
+own, whatever lines it is written in. A sentence of it ends at `.`, `!` or `?`, with the quote or parenthesis that closes
 behind that, where the text ends or a blank and no small letter follow. A link counts as its text,
 and what stands in backquotes as one word; a word has a letter or a digit, and blanks end it.
 
-Prints each page and each sentence that is too long; the status is 1 where one is.
+Prints each page, sentence and phrase that is wrong; the status is 1 where one is.
 """
 from __future__ import annotations
 
 import re
+import subprocess
 import sys
 from pathlib import Path
 from typing import Iterator
@@ -37,14 +39,15 @@ FOR_USERS = {
     "docs/LIMITS.md": 1470,
     "docs/PROTOCOL.md": 6670,
     "docs/SERVING.md": 3470,
+    "docs/STORE.md": 1340,
     "docs/THEOREM.md": 1600,
 }
 FOR_MAINTAINERS = {
     "docs/ARCHITECTURE.md": 4670,
     "docs/CONTRIBUTING.md": 2000,
-    "docs/DECISIONS.md": 5340,
-    "docs/GATE.md": 1070,
-    "docs/PERFORMANCE.md": 4000,
+    "docs/DECISIONS.md": 5600,
+    "docs/GATE.md": 1200,
+    "docs/PERFORMANCE.md": 4300,
     "docs/PROMISES.md": 2940,
     "docs/PROVING.md": 4000,
     "docs/READING.md": 940,
@@ -52,7 +55,16 @@ FOR_MAINTAINERS = {
 MOST = {**FOR_USERS, **FOR_MAINTAINERS}
 MOST_OF_A_CRATE = 200
 MOST_OF_DOCS = 50_000
-MOST_OF_A_SENTENCE = 35
+MOST_OF_A_SENTENCE = {**dict.fromkeys(FOR_USERS, 35), **dict.fromkeys(FOR_MAINTAINERS, 40)}
+MOST_IN_THE_MEAN = 25
+# Phrases that a reader has to guess at; each stood somewhere once.
+RIDDLES = (
+    "want of memory", "what a name of an enum stands for", "is told of it", "a body is turned",
+    "cut at its first", "hangs on its own", "of the second sort alone", "lead round", "leads round",
+    "can't be got", "is said later what", "declared and not told", "to which the way is halved",
+    "are answered, in one round", "no type of C with a name", "it was not run beside",
+)
+TEXTS = (".md", ".py", ".rs", ".c", ".h", ".sh", ".1", ".toml", ".js", ".html")
 
 LEFT_OUT = re.compile(r"\||#|<!--|!\[")
 ITEM = re.compile(r"^\s*(?:[-*]|\d+\.)\s+")
@@ -110,18 +122,32 @@ def sentences(text: str) -> Iterator[tuple[int, str]]:
 
 
 def long_sentences() -> Iterator[str]:
-    """The sentences for users that are too long."""
-    for name in FOR_USERS:
+    """The sentences that are too long, and the pages whose sentences are so in the mean."""
+    for name, most in MOST_OF_A_SENTENCE.items():
+        counts = []
         for number, text in texts(TOP / name):
             for count, sentence in sentences(text):
-                if count > MOST_OF_A_SENTENCE:
+                counts.append(count)
+                if count > most:
                     yield f"{name}:{number}: {count} words: {sentence}"
+        if sum(counts) > MOST_IN_THE_MEAN * len(counts):
+            yield f"{name}: {sum(counts) / len(counts):.1f} words a sentence in the mean"
+
+
+def riddles() -> Iterator[str]:
+    """The phrases of `RIDDLES` that stand in a text, with the text."""
+    listed = subprocess.run(["git", "ls-files"], cwd=TOP, capture_output=True, text=True, check=True)
+    for name in listed.stdout.splitlines():
+        if name.startswith("crates/") or not name.endswith(TEXTS) or name == "tests/pages.py":
+            continue
+        text = " ".join((TOP / name).read_text("utf-8", errors="replace").split())
+        yield from (f"{name}: {phrase!r}" for phrase in RIDDLES if phrase in text)
 
 
 def main() -> int:
-    wrong = [*too_long(), *long_sentences()]
+    wrong = [*too_long(), *long_sentences(), *riddles()]
     print(*wrong, sep="\n", end="\n" if wrong else "")
-    print(f"pages: {len(MOST)} have a number of words, {len(wrong)} texts are too long")
+    print(f"pages: {len(MOST)} have a number of words, {len(wrong)} texts are wrong")
     return 1 if wrong else 0
 
 

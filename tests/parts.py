@@ -109,6 +109,9 @@ def parts(program: str) -> list[Part]:
         # What people run, as black boxes, with the hostile files that tests/doors makes.
         Part("doors", [python, "-m", "unittest", "discover", "-s", "tests/doors", "-t", "tests"],
              words=over, after=("archive", "compiled")),
+        # Stores of types by build-id, and the servers that people put in front of them.
+        Part("store", [python, "-m", "unittest", "discover", "-s", "tests/store", "-t", "tests"],
+             words=over, after=("archive", "compiled")),
         Part("ilp32", ["tests/ilp32.sh", program]),
         Part("house", ["tests/house.py"]),
         Part("style", ["tests/style.py"]),

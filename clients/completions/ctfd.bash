@@ -2,8 +2,9 @@
 # ctfd-types the names of the types of a file that stands in front.
 _ctfd()
 {
-    local word=${COMP_WORDS[COMP_CWORD]} before=${COMP_WORDS[COMP_CWORD - 1]} options file
+    local word=${COMP_WORDS[COMP_CWORD]} before=${COMP_WORDS[COMP_CWORD - 1]} options file action=()
     COMPREPLY=()
+    [[ ${1##*/} == ctfd-store && $COMP_CWORD -gt 1 ]] && action=("${COMP_WORDS[1]}")
     if [[ ${1##*/} == ctfd-types && -n $word && $word != [-./]* ]]; then
         for file in "${COMP_WORDS[@]:1:COMP_CWORD - 1}"; do
             [[ -f $file ]] || continue
@@ -12,7 +13,7 @@ _ctfd()
         done
     fi
     if [[ $word == -* ]]; then
-        options=$("$1" --help 2> /dev/null | grep -oE -e '--[a-z][a-z-]*' | sort -u)
+        options=$("$1" "${action[@]}" --help 2> /dev/null | grep -oE -e '--[a-z][a-z-]*' | sort -u)
     elif [[ $before == --* ]]; then
         options=$("$1" --help 2> /dev/null |
             grep -m1 -oE -e "$before [{<][a-z0-9,|]+[,|][a-z0-9]+[}>]")
@@ -20,6 +21,8 @@ _ctfd()
         options=${options//[\}>,|]/ }
     elif [[ ${1##*/} == ctfd && $COMP_CWORD == 1 ]]; then
         options="serve dump"
+    elif [[ ${1##*/} == ctfd-store && $COMP_CWORD == 1 ]]; then
+        options="add check list missing remove stats"
     fi
     if [[ -n $options ]]; then
         mapfile -t COMPREPLY < <(compgen -W "$options" -- "$word")
@@ -29,4 +32,4 @@ _ctfd()
     fi
 }
 complete -F _ctfd ctfd ctfd-convert ctfd-debuginfo ctfd-diff ctfd-explore ctfd-front ctfd-show \
-    ctfd-types
+    ctfd-store ctfd-types

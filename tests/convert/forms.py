@@ -217,7 +217,7 @@ class Forms:
         except (ctfd.NotFound, ctfd.Unreadable):
             is_exported = symbol not in NOT_EXPORTED
             if is_whole and is_exported:
-                self.wrong(name, f"{symbol}: nothing is told of it")
+                self.wrong(name, f"{symbol}: it has no type")
             return
         self.tally.symbols += 1
         said = (declare.function(found, "") if isinstance(found, ctfd.Signature)

@@ -27,7 +27,7 @@ TOOLS = Path(os.environ.get("CTFD_TOOLS", CLIENTS / "python"))
 COMPILED = Path(os.environ.get("CARGO_TARGET_DIR") or CLIENTS / "rust/target") / "release"
 ARCHIVE = Path(os.environ.get("CTFD_ARCHIVE", TOP / "crates/ctf_c/out/libctfd.a"))
 LIBRARY = ARCHIVE.with_name("libctfd.so")
-COMMANDS = ("convert", "debuginfo", "diff", "explore", "front", "show", "types")
+COMMANDS = ("convert", "debuginfo", "diff", "explore", "front", "show", "store", "types")
 # What a door may take on a small file: more is a hang, or memory without a bound.
 SECONDS, MEGABYTES = 5, 300
 # Traces of Python, of Rust and of a sanitizer: no user is to see one.

@@ -248,6 +248,7 @@ class Folder(Hostile):
             "front": (["--socket", self.folder / "socket", f"x={self.folder}/none"],
                       "the service ended with status"),
             "show": (["--pid", str(waits.pid if waits else 0), "first"], "has CTF"),
+            "store": (["add", self.folder / "store", program], "added"),
             "types": ([LUA, ASKED], ANSWER)}
         return known[name]
 

@@ -37,6 +37,7 @@ import rust  # noqa: E402
 SUMS = Path(__file__).with_name("sums.txt")
 SOURCE = Path(__file__).with_name("types.c")
 TAGS = Path(__file__).with_name("tags.c")
+PARTS = Path(__file__).with_name("parts.c")
 LIBC = Path("/lib/x86_64-linux-gnu/libc.so.6")
 KERNEL = Path("/sys/kernel/btf/vmlinux")
 DEBUG = Path("/usr/lib/debug/.build-id")
@@ -113,11 +114,28 @@ def compiled_cases(folder: Path) -> Iterator[Words]:
         yield ("clang", *report)
     yield from split(folder)
     yield from derived(folder)
+    yield from apart(folder)
     units = [f"tags{unit}.o" for unit in (1, 2, 3)]
     if all(gcc("-g", "-c", f"-DUNIT={name[4]}", str(TAGS), "-o", name) for name in units):
         for name, order in (("tags", units), ("backward", units[::-1])):
             gcc(*order, "-o", name)
             yield (name, *report)
+
+
+def apart(folder: Path) -> Iterator[Words]:
+    """A program that was optimised as it was linked: each function is in a unit of its own, and its
+    types in others; and the same as dwz makes it smaller."""
+    lto = (*plain_words(folder), "-g", "-O2", "-flto", "-flto-partition=max")
+    commands = [("gcc", *lto, "-c", f"-DUNIT={unit}", str(PARTS), "-o", f"parts{unit}.o")
+                for unit in (1, 2)]
+    commands.append(("gcc", *lto, "parts1.o", "parts2.o", "-o", "parts"))
+    for command in commands:
+        if subprocess.run(command, cwd=folder, capture_output=True).returncode != 0:
+            return
+    yield ("parts", "@OUT.ctf", "--report", "@OUT.report")
+    if shutil.which("dwz") and subprocess.run(
+            ("dwz", "-o", "common-parts", "parts"), cwd=folder, capture_output=True).returncode == 0:
+        yield ("common-parts", "@OUT.ctf", "--report", "@OUT.report")
 
 
 def split(folder: Path) -> Iterator[Words]:

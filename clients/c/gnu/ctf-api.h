@@ -222,7 +222,7 @@ int ctf_func_type_info(ctf_dict_t *fp, ctf_id_t type, ctf_funcinfo_t *info)
     __asm__("ctf_func_info_by_id");
 int ctf_func_type_args(ctf_dict_t *fp, ctf_id_t type, uint32_t argc, ctf_id_t *argv)
     __asm__("ctf_func_args_by_id");
-ctf_id_t ctf_lookup_by_symbol(ctf_dict_t *fp, unsigned long symbol);
+ctf_id_t ctf_lookup_by_symbol(ctf_dict_t *fp, unsigned long symbol) CTFD_GNU("symbol");
 ctf_id_t ctf_lookup_by_symbol_name(ctf_dict_t *fp, const char *name) CTFD_GNU("symbol_named");
 ctf_id_t ctf_symbol_next(ctf_dict_t *fp, ctf_next_t **it, const char **name, int functions)
     CTFD_GNU("symbol_next");

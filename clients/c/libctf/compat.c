@@ -44,7 +44,7 @@ static bool wait_for(struct walk *walk, uint16_t left, uint16_t right)
     return true;
 }
 
-/* The first of a class, to which the way is halved. */
+/* Union-find root, with path halving. */
 static uint32_t first_of(uint32_t *classes, uint32_t type)
 {
     while (classes[type] != 0) {

@@ -501,40 +501,6 @@ SEEN int ctfd_gnu_label_iter(ctf_file_t *fp,
 
 /* ---- symbols */
 
-/* The symbol that a label is, with its name kept: its sort, or -1. */
-static int symbol_of_label(ctf_file_t *fp, uint32_t i, const char **name, uint16_t *type)
-{
-    struct ctfd_label label;
-    struct ctfd *types;
-    int sort;
-    if (ctfd__opened(fp, &types) != CTFD_OK)
-        return -1;
-    do {
-        if (ctfd_label(types, i, fp->room, fp->room_len, &label) != CTFD_OK)
-            return -1;
-    } while (label.name_len >= fp->room_len && ctfd__make_room(fp, label.name_len));
-    if (label.name_len >= fp->room_len)
-        return -1;
-    for (sort = 0; sort < CTFD_SORTS; sort++) {
-        size_t len = strlen(ctfd__symbol_labels[sort]);
-        if (label.name_len < len || memcmp(fp->room, ctfd__symbol_labels[sort], len) != 0)
-            continue;
-        *name = ctfd__keep(fp, fp->room + len, (size_t)label.name_len - len);
-        *type = (uint16_t)label.last;
-        return *name != NULL ? sort : -1;
-    }
-    return -1;
-}
-
-static uint32_t label_count(ctf_file_t *fp)
-{
-    uint64_t count = 0;
-    struct ctfd *types;
-    if (ctfd__opened(fp, &types) != CTFD_OK || ctfd_label_count(types, &count) != CTFD_OK)
-        return 0;
-    return (uint32_t)count;
-}
-
 /* A symbol of one in the making. */
 static bool find_added(const struct ctfd__recipe *of, const char *name, bool variables,
     uint16_t *type)
@@ -561,16 +527,11 @@ static bool find_object(ctf_file_t *fp, const char *name, bool variables, uint16
         ctfd_object(types, symbol, type) == CTFD_OK;
 }
 
-static bool find_label(ctf_file_t *fp, const char *name, bool variables, uint16_t *type)
+/* The sorts of labels that are variables, or all others. */
+static unsigned sorts_of(bool variables)
 {
-    uint32_t i, count = label_count(fp);
-    for (i = 0; i < count; i++) {
-        const char *label;
-        int sort = symbol_of_label(fp, i, &label, type);
-        if (sort >= 0 && (sort == CTFD_SORT_VARIABLE) == variables && strcmp(label, name) == 0)
-            return true;
-    }
-    return false;
+    unsigned variable = 1u << CTFD_SORT_VARIABLE;
+    return variables ? variable : ~variable;
 }
 
 static ctf_id_t symbol_of(ctf_file_t *fp, const char *name, bool variables)
@@ -578,13 +539,23 @@ static ctf_id_t symbol_of(ctf_file_t *fp, const char *name, bool variables)
     uint16_t type = 0;
     bool is_there = fp->recipe != NULL
         ? find_added(fp->recipe, name, variables, &type)
-        : find_object(fp, name, variables, &type) || find_label(fp, name, variables, &type);
+        : find_object(fp, name, variables, &type) ||
+            ctfd__find_symbol_label(fp, name, sorts_of(variables), &type);
     return is_there ? (ctf_id_t)type : ctfd__fail(fp, CTFD__NO_SYMBOL_TYPE);
 }
 
 SEEN ctf_id_t ctfd_gnu_symbol_named(ctf_file_t *fp, const char *name)
 {
     return symbol_of(fp, name, false);
+}
+
+/* A function's type is known where a label says it: the rows of functions say none. */
+SEEN ctf_id_t ctfd_gnu_symbol(ctf_file_t *fp, unsigned long symbol)
+{
+    uint16_t type;
+    if (ctfd__label_of_symbol(fp, symbol, CTFD_SORT_FUNCTION, &type))
+        return (ctf_id_t)type;
+    return ctf_lookup_by_symbol(fp, symbol);
 }
 
 SEEN ctf_id_t ctfd_gnu_variable(ctf_file_t *fp, const char *name)
@@ -644,8 +615,8 @@ static bool next_symbol(ctf_file_t *fp, struct ctf_next *it, const char **name, 
         *name = ctfd__numbered(fp, ctfd_symbol_name, i);
         return *name != NULL;
     }
-    while (it->i - count < label_count(fp)) {
-        if (symbol_of_label(fp, it->i++ - count, name, type) == sort)
+    while (it->i - count < ctfd__label_count(fp)) {
+        if (ctfd__symbol_of_label(fp, it->i++ - count, name, type) == sort)
             return true;
     }
     return false;

@@ -109,7 +109,7 @@ static bool put_one(FILE *out, ctf_file_t *fp, ctf_id_t t, int kind, int how)
     return true;
 }
 
-/* A type and, if that is wanted, those that it leads to. Pointers may lead round: so far and no
+/* A type and, if that is wanted, those that it leads to. Pointers may form a cycle: so far and no
  * farther. */
 static bool put_type(FILE *out, ctf_file_t *fp, ctf_id_t t, int how)
 {

@@ -578,6 +578,20 @@ HIDDEN enum ctfd_status ctfd__recipe_find(ctf_file_t *fp, const char *text, size
 /* Writes what is visible, by the proved draft, which judges it. */
 HIDDEN enum ctfd_status ctfd__write(ctf_file_t *fp);
 
+/* ---- symbol_labels.c: labels that stand for symbols */
+
+HIDDEN uint32_t ctfd__label_count(ctf_file_t *fp);
+
+/* The symbol that a label stands for, with its name kept: its sort, or -1. */
+HIDDEN int ctfd__symbol_of_label(ctf_file_t *fp, uint32_t i, const char **name, uint16_t *type);
+
+/* Finds the first label of a symbol of this name; `sorts` has a bit for each sort. */
+HIDDEN bool ctfd__find_symbol_label(ctf_file_t *fp, const char *name, unsigned sorts,
+    uint16_t *type);
+
+/* The same for a symbol of the file's symbol table, by its number and the one sort. */
+HIDDEN bool ctfd__label_of_symbol(ctf_file_t *fp, ulong_t symbol, int sort, uint16_t *type);
+
 /* ---- gnu.c: of GNU's calls those that gnu_dump.c asks */
 
 struct ctf_next;

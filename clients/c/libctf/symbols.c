@@ -66,12 +66,16 @@ static enum ctfd_status symbol_table(ctf_file_t *fp, ulong_t symbol, struct ctfd
     return ctfd__opened(fp, types);
 }
 
+/* What the rows of functions say of a symbol, or the function type of its label. */
 static enum ctfd_status function_of(ctf_file_t *fp, ulong_t symbol, struct ctfd_function *out)
 {
     struct ctfd *types;
+    uint16_t type;
     enum ctfd_status status = symbol_table(fp, symbol, &types);
     if (status == CTFD_OK)
         status = ctfd_function(types, (uint32_t)symbol, out);
+    if (status == CTFD_NO_INFO && ctfd__label_of_symbol(fp, symbol, CTFD_SORT_FUNCTION, &type))
+        return ctfd__signature_of(fp, type, out);
     return status;
 }
 
@@ -79,7 +83,11 @@ static enum ctfd_status object_of(ctf_file_t *fp, ulong_t symbol, uint16_t *t)
 {
     struct ctfd *types;
     enum ctfd_status status = symbol_table(fp, symbol, &types);
-    return status == CTFD_OK ? ctfd_object(types, (uint32_t)symbol, t) : status;
+    if (status == CTFD_OK)
+        status = ctfd_object(types, (uint32_t)symbol, t);
+    if (status == CTFD_NO_INFO && ctfd__label_of_symbol(fp, symbol, CTFD_SORT_OBJECT, t))
+        return CTFD_OK;
+    return status;
 }
 
 /* The error of a function of which nothing is told is one of its own in libctf. */
@@ -105,11 +113,14 @@ int ctf_func_args(ctf_file_t *fp, ulong_t symbol, uint_t argc, ctf_id_t *argv)
     struct ctfd *types;
     uint64_t count = 0;
     uint_t i, from = 0;
+    uint16_t type;
     enum ctfd_status status = symbol_table(fp, symbol, &types);
     do {
         uint_t more = argc - from < ROWS ? argc - from : ROWS;
         if (status == CTFD_OK)
             status = ctfd_function_arguments(types, (uint32_t)symbol, from, rows, more, &count);
+        if (status == CTFD_NO_INFO && ctfd__label_of_symbol(fp, symbol, CTFD_SORT_FUNCTION, &type))
+            return ctf_func_args_by_id(fp, (ctf_id_t)type, argc, argv);
         if (done_of_function(fp, status) != 0)
             return (int)CTF_ERR;
         for (i = 0; i < more && from + i < count; i++)

@@ -38,7 +38,7 @@ class Package(unittest.TestCase):
 
     def test_nothing_else_stands_at_the_top(self) -> None:
         found = {path.stem for path in PACKAGE.glob("*.py")}
-        self.assertEqual(found, PUBLIC | {"__init__", "version"})
+        self.assertEqual(found, PUBLIC | {"__init__", "commands", "version"})
         modules = {name for name in ctfd.__all__
                    if isinstance(getattr(ctfd, name), types.ModuleType)}
         self.assertEqual(modules, PUBLIC - {"drgn"} | {"build", "values"})

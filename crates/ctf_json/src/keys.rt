@@ -1,5 +1,5 @@
 //! The keys of a line's fields.
-ghost use Rattle.std.specs.Prelude.{◌≡◌, ◌<◌, IfSome, length, map};
+ghost use Rattle.std.specs.Prelude.{◌≡◌, ◌<◌, IfSome, Some, length, map};
 ghost use Rattle.std.specs.Str.{bytes_eq};
 ghost use Rattle.ctf_json.specs.Keys.{place_in, wanted_at};
 
@@ -33,7 +33,8 @@ pub(crate) fn is_key(name: &str, key: &str) -> bool
     true
 }
 
-/// The place of a name among the keys. Those that are asked for most are known at once.
+/// The place of a name among the keys: known at once, and where the name is known, before any line
+/// is read.
 #[inline(always)]
 pub(crate) fn place_of(name: &str) -> Option<usize>
     ensures place { result ≡ place_in name.now (map (λ key. key.now) KEYS.now) }
@@ -46,8 +47,82 @@ pub(crate) fn place_of(name: &str) -> Option<usize>
         b"op" => Some(1),
         b"name" => Some(4),
         b"text" => Some(5),
-        _ => place_among(name, KEYS),
+        b"from" => Some(6),
+        b"sym" => Some(8),
+        b"what" => Some(13),
+        b"type" => Some(14),
+        b"size" => Some(16),
+        b"bits" => Some(18),
+        b"args" => Some(21),
+        b"tag" => Some(22),
+        b"root" => Some(23),
+        b"last" => Some(24),
+        _ => place_of_longer(name),
     }
+}
+
+/// The place of a key, where a name is that key.
+#[inline(always)]
+#[tactic(auto, using(crate::proofs::Places::same_place))]
+fn place_at(name: &str, key: &str, place: usize) -> Option<usize>
+    requires place { place_in key.now (map (λ key. key.now) KEYS.now) ≡ Some place }
+    requires inside { place < 30 }
+    ensures place { IfSome result
+        (λ place. Some place ≡ place_in name.now (map (λ key. key.now) KEYS.now)) }
+    ensures inside { IfSome result (λ place. place < 30) }
+{
+    if is_key(name, key) { Some(place) } else { None }
+}
+
+/// The same of the keys of more than four letters.
+#[inline(always)]
+fn place_of_longer(name: &str) -> Option<usize>
+    ensures place { result ≡ place_in name.now (map (λ key. key.now) KEYS.now) }
+    ensures inside { IfSome result (λ place. place < 30) }
+{
+    if let Some(place) = place_at(name, "bytes", 9) {
+        return Some(place);
+    }
+    if let Some(place) = place_at(name, "section", 10) {
+        return Some(place);
+    }
+    if let Some(place) = place_at(name, "count", 7) {
+        return Some(place);
+    }
+    if let Some(place) = place_at(name, "offset", 11) {
+        return Some(place);
+    }
+    if let Some(place) = place_at(name, "encoding", 17) {
+        return Some(place);
+    }
+    if let Some(place) = place_at(name, "owner", 29) {
+        return Some(place);
+    }
+    if let Some(place) = place_at(name, "value", 15) {
+        return Some(place);
+    }
+    if let Some(place) = place_at(name, "model", 25) {
+        return Some(place);
+    }
+    if let Some(place) = place_at(name, "names", 12) {
+        return Some(place);
+    }
+    if let Some(place) = place_at(name, "parent", 26) {
+        return Some(place);
+    }
+    if let Some(place) = place_at(name, "parname", 27) {
+        return Some(place);
+    }
+    if let Some(place) = place_at(name, "parlabel", 28) {
+        return Some(place);
+    }
+    if let Some(place) = place_at(name, "contents", 19) {
+        return Some(place);
+    }
+    if let Some(place) = place_at(name, "index", 20) {
+        return Some(place);
+    }
+    place_among(name, KEYS)
 }
 
 /// The place of a name among these.

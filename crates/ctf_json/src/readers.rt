@@ -1,5 +1,5 @@
 //! Readers of texts: over memory that is lent to them, or of a text without escapes, over none.
-ghost use Rattle.std.specs.Prelude.{◌≡◌, ◌||◌, [], ◌∷◌, None, Some, true, IfOk, MatchOption, MatchResult, OnErr, length, nat_le, option_map};
+ghost use Rattle.std.specs.Prelude.{◌≡◌, [], ◌∷◌, None, Some, true, IfOk, MatchOption, MatchResult, OnErr, option_map};
 ghost use Rattle.std.specs.Bool.{MatchBool};
 ghost use Rattle.json.specs.Json.{after_end_array, read_key};
 ghost use Rattle.json.specs.Lex.{tokens};
@@ -15,7 +15,7 @@ use memchr::memchr;
 use std::alloc::AllocError;
 use std::marker::Model;
 
-/// How long a text is that is sooner read byte by byte than by way of an index.
+/// How long a text is that is sooner read byte by byte than by way of an index, whatever its end.
 const SHORT: usize = 512;
 
 /// Whether a byte stands in a short text, which is looked through to its end.
@@ -41,12 +41,18 @@ fn has(byte: u8, text: &[u8]) -> bool
     }
 }
 
-/// Whether a text is sooner read where it stands: a short one, and one whose strings and numbers
-/// may be as short as the items of a list.
-fn is_sooner_plain(text: &[u8]) -> bool
-    ensures { result ≡ (nat_le (length text.now) 512 || has_byte 91 text.now) }
-{
-    text.len() <= SHORT || has(b'[', text)
+/// Whether a text ends as an object does, and not in blanks.
+fn ends_object(text: &[u8]) -> bool {
+    match text.last() {
+        Some(byte) => *byte == b'}',
+        None => false,
+    }
+}
+
+/// Whether a text is sooner read where it stands. By way of an index blanks are passed sooner: a
+/// text that is padded at its end is read so, unless it has a list, whose items may be short.
+fn is_sooner_plain(text: &[u8]) -> bool {
+    text.len() <= SHORT || ends_object(text) || has(b'[', text)
 }
 
 #[derive(Drop)]
@@ -115,9 +121,9 @@ fn without_scratch<'a>(text: &'a str) -> Result<Reader<'a>, AllocError>
 }
 
 impl<'a> Reader<'a> {
-    /// A text without escapes that is short or has a list is read where it stands. Of others,
-    /// strings with escapes are written to the scratch, which grows to the length of the text;
-    /// where it can't, a text without escapes is read all the same.
+    /// A text without escapes is mostly read where it stands. Of others, strings with escapes are
+    /// written to the scratch, which grows to the length of the text; where it can't, a text
+    /// without escapes is read all the same.
     pub(crate) fn new(text: &'a str, scratch: &'a mut Scratch) -> Result<Reader<'a>, AllocError>
         ensures ok { IfOk result (λ reader. reader ≡ tokens text.now) }
         ensures full { OnErr result (has_byte 92 text.now ≡ true) }

@@ -278,7 +278,7 @@ impl Library {
             return Err(placeless(Fault::QUOTA_FULL));
         }
         let loaded = slot.dictionary.own().share()?;
-        self.publish_loaded(name, loaded)
+        self.publish_free(name, loaded)
     }
 
     /// Publishes a dictionary that stands in no slot, under a name that has none yet, whatever it
@@ -293,6 +293,14 @@ impl Library {
         if self.published(name.as_slice()).is_some() {
             return Err(placeless(Fault::NAME_TAKEN));
         }
+        self.publish_free(name, loaded)
+    }
+
+    /// The same under a name that is known to have none yet.
+    fn publish_free(&mut self, name: &PublicationName, loaded: Loaded) -> Result<Counts, Fault>
+        requires { published_as name.now self.old.published ≡ None }
+        ensures { Makes self.old (publishes_kept name.now loaded self.old) result self.new }
+    {
         if loaded.bytes() > u128::MAX - self.charge() {
             return Err(placeless(Fault::MEMORY));
         }

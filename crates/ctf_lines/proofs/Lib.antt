@@ -8,6 +8,8 @@ pub mod HexText
 pub mod SaidItems
 pub mod Plain
 pub mod Objects
+pub mod FaultTexts
+pub mod CountTexts
 pub mod MemberTexts
 pub mod Passes
 pub mod Decimals

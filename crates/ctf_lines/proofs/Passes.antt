@@ -18,3 +18,12 @@ passed {E = E} old new s answer added short =
       grows = let same = added.capacity in omega (arith, same);
       room = λ _. (refl, added.capacity);
     }
+
+-- any text that stands there is written
+pub put : {E : Type 0} (old new : Vec ℕ Global) (text : List ℕ) → Appended old new text → Writes {E = E} old text (Ok tt) new
+put old new text added = record {
+  ok = added.items;
+  err = tt;
+  grows = let same = added.capacity in omega (arith, same);
+  room = λ _. (refl, added.capacity);
+}

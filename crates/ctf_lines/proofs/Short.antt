@@ -121,8 +121,11 @@ pub fitting_short : (s : ℕ) (line : List ℕ) → length line ≤ 96 → lengt
 fitting_short s line h = let same = ap length (fitting_fits s line (omega (arith, h))) in omega (arith, same, h)
 
 -- a change's line
-pub counts_short : (s : ℕ) (c : Counts) → s < 2 ^ 32 → length (fitting_line s (answer_line s (counts_view c))) ≤ 96
-counts_short s c h =
+pub counts_line_short : (s : ℕ) (c : Counts) → s < 2 ^ 32 → length (answer_line s (counts_view c)) ≤ 96
+counts_line_short s c h =
     let line = length-object (codes "ok") s (counts_view c) h in
     let fields = counts_total c.first c.second in
-    fitting_short s (answer_line s (counts_view c)) (omega (arith, line, fields))
+    omega (arith, line, fields)
+
+pub counts_short : (s : ℕ) (c : Counts) → s < 2 ^ 32 → length (fitting_line s (answer_line s (counts_view c))) ≤ 96
+counts_short s c h = fitting_short s (answer_line s (counts_view c)) (counts_line_short s c h)

@@ -67,7 +67,7 @@ fn with_long_number(out: Vec<u8>, number: u64) -> Vec<u8>
 
 /// A list with a number behind it.
 #[inline(always)]
-fn with_number(out: Vec<u8>, number: u64) -> Vec<u8>
+pub fn with_number(out: Vec<u8>, number: u64) -> Vec<u8>
     requires { HasRoom out (decimal number) }
     ensures { Appended out result (decimal number) }
 {

@@ -1,71 +1,45 @@
 //! Bytes that hexadecimal digits spell.
-ghost use Rattle.std.specs.Prelude.{◌≡◌, ◌*◌, ℕ, length, option_map, unwrap_or, Ok, Err, IfOk, IsTrue, MatchBool, MatchOption};
+ghost use Rattle.std.specs.Prelude.{◌≡◌, ◌<◌, ◌*◌, ℕ, length, option_map, Ok, Err, IfOk, IfSome, MatchBool};
 ghost use Rattle.std.specs.Result.{result_ok};
-ghost use Rattle.hex.specs.Hex.{decode_of, decode_pairs, hex_digit_value, pair_value};
+ghost use Rattle.hex.specs.Hex.{decode_of, decode_pairs, hex_digit_value, is_hex_digit, pair_value};
 ghost use Rattle.hex.specs.declared.error.FromHexError.{FromHexError};
 
 use std::alloc::{AllocError, Global};
 
-/// Each byte as the first of two digits, in either case: 16 times its number, and 256 where it is
-/// none.
-const FIRST: [u32; 256] = [
-    256, 256, 256, 256, 256, 256, 256, 256, 256, 256, 256, 256, 256, 256, 256, 256, 256, 256, 256,
-    256, 256, 256, 256, 256, 256, 256, 256, 256, 256, 256, 256, 256, 256, 256, 256, 256, 256, 256,
-    256, 256, 256, 256, 256, 256, 256, 256, 256, 256, 0, 16, 32, 48, 64, 80, 96, 112, 128, 144,
-    256, 256, 256, 256, 256, 256, 256, 160, 176, 192, 208, 224, 240, 256, 256, 256, 256, 256, 256,
-    256, 256, 256, 256, 256, 256, 256, 256, 256, 256, 256, 256, 256, 256, 256, 256, 256, 256, 256,
-    256, 160, 176, 192, 208, 224, 240, 256, 256, 256, 256, 256, 256, 256, 256, 256, 256, 256, 256,
-    256, 256, 256, 256, 256, 256, 256, 256, 256, 256, 256, 256, 256, 256, 256, 256, 256, 256, 256,
-    256, 256, 256, 256, 256, 256, 256, 256, 256, 256, 256, 256, 256, 256, 256, 256, 256, 256, 256,
-    256, 256, 256, 256, 256, 256, 256, 256, 256, 256, 256, 256, 256, 256, 256, 256, 256, 256, 256,
-    256, 256, 256, 256, 256, 256, 256, 256, 256, 256, 256, 256, 256, 256, 256, 256, 256, 256, 256,
-    256, 256, 256, 256, 256, 256, 256, 256, 256, 256, 256, 256, 256, 256, 256, 256, 256, 256, 256,
-    256, 256, 256, 256, 256, 256, 256, 256, 256, 256, 256, 256, 256, 256, 256, 256, 256, 256, 256,
-    256, 256, 256, 256, 256, 256, 256, 256, 256, 256, 256, 256, 256, 256, 256, 256, 256, 256, 256,
-    256, 256, 256, 256, 256, 256, 256, 256,
-];
-
-/// Each byte as the second: its number, and 256 where it is none.
-const SECOND: [u32; 256] = [
-    256, 256, 256, 256, 256, 256, 256, 256, 256, 256, 256, 256, 256, 256, 256, 256, 256, 256, 256,
-    256, 256, 256, 256, 256, 256, 256, 256, 256, 256, 256, 256, 256, 256, 256, 256, 256, 256, 256,
-    256, 256, 256, 256, 256, 256, 256, 256, 256, 256, 0, 1, 2, 3, 4, 5, 6, 7, 8, 9, 256, 256, 256,
-    256, 256, 256, 256, 10, 11, 12, 13, 14, 15, 256, 256, 256, 256, 256, 256, 256, 256, 256, 256,
-    256, 256, 256, 256, 256, 256, 256, 256, 256, 256, 256, 256, 256, 256, 256, 256, 10, 11, 12, 13,
-    14, 15, 256, 256, 256, 256, 256, 256, 256, 256, 256, 256, 256, 256, 256, 256, 256, 256, 256,
-    256, 256, 256, 256, 256, 256, 256, 256, 256, 256, 256, 256, 256, 256, 256, 256, 256, 256, 256,
-    256, 256, 256, 256, 256, 256, 256, 256, 256, 256, 256, 256, 256, 256, 256, 256, 256, 256, 256,
-    256, 256, 256, 256, 256, 256, 256, 256, 256, 256, 256, 256, 256, 256, 256, 256, 256, 256, 256,
-    256, 256, 256, 256, 256, 256, 256, 256, 256, 256, 256, 256, 256, 256, 256, 256, 256, 256, 256,
-    256, 256, 256, 256, 256, 256, 256, 256, 256, 256, 256, 256, 256, 256, 256, 256, 256, 256, 256,
-    256, 256, 256, 256, 256, 256, 256, 256, 256, 256, 256, 256, 256, 256, 256, 256, 256, 256, 256,
-    256, 256, 256, 256, 256, 256, 256, 256, 256, 256, 256, 256, 256, 256, 256, 256, 256, 256, 256,
-    256, 256, 256,
-];
-
-fn first(digit: u8) -> u32
-    ensures { result ≡ 16 * unwrap_or (hex_digit_value digit) 16 }
+/// The number of a digit, in either case; something below 16 of any other byte.
+#[inline(always)]
+fn number(digit: u8) -> u8
+    ensures value { IfSome (hex_digit_value digit) (λ n. result ≡ n) }
+    ensures small { result < 16 }
 {
-    FIRST[digit as usize]
-}
-
-fn second(digit: u8) -> u32
-    ensures { result ≡ unwrap_or (hex_digit_value digit) 256 }
-{
-    SECOND[digit as usize]
-}
-
-/// The byte that two digits spell. Only two digits have a sum below 256.
-fn pair(high: u8, low: u8) -> Option<u8>
-    ensures { (i : ℕ) → MatchOption result
-        ((e : FromHexError) × (pair_value high low i ≡ Err e))
-        (λ byte. pair_value high low i ≡ Ok byte) }
-{
-    let byte = first(high) + second(low);
-    if byte > 255 {
-        return None;
+    if digit > b'9' {
+        (digit % 16 + 9) % 16
+    } else {
+        digit % 16
     }
-    Some(byte as u8)
+}
+
+/// Whether a byte is a digit, in either case.
+#[inline(always)]
+fn is_digit(byte: u8) -> bool
+    ensures { result ≡ is_hex_digit byte }
+{
+    let figure = (b'0' <= byte) & (byte <= b'9');
+    let capital = (b'A' <= byte) & (byte <= b'F');
+    let small = (b'a' <= byte) & (byte <= b'f');
+    figure | capital | small
+}
+
+/// The byte that two digits spell, and whether they are digits. No branch depends on them, so that
+/// many are looked at at once.
+#[inline(always)]
+fn pair(high: u8, low: u8) -> (u8, bool)
+    ensures { MatchBool result.1 ((i : ℕ) → pair_value high low i ≡ Ok result.0)
+        ((i : ℕ) → (e : FromHexError) × (pair_value high low i ≡ Err e)) }
+{
+    let byte = 16 * number(high) + number(low);
+    let good = is_digit(high) & is_digit(low);
+    (byte, good)
 }
 
 /// Fills a list with the bytes that digits spell, and says whether all are digits.
@@ -74,13 +48,13 @@ fn fill(digits: &[u8], bytes: &mut [u8]) -> bool
     ensures { MatchBool result (decode_pairs 0 digits.now ≡ Ok bytes.new)
         ((e : FromHexError) × (decode_pairs 0 digits.now ≡ Err e)) }
 {
+    let mut all = true;
     for at in 0..bytes.len() {
-        let Some(byte) = pair(digits[2 * at], digits[2 * at + 1]) else {
-            return false;
-        };
+        let (byte, good) = pair(digits[2 * at], digits[2 * at + 1]);
         bytes[at] = byte;
+        all = all & good;
     }
-    true
+    all
 }
 
 /// The bytes that digits spell, two digits for each.

@@ -5,9 +5,11 @@ ghost use Rattle.ctf_answers.specs.Counts.{counts_view};
 ghost use Rattle.ctf_answers.specs.Replies.{reply_of, said_to};
 ghost use Rattle.ctf_lines.specs.Appending.{Appended, IsAsBefore, Writes, and_text};
 
+use crate::granted::put_counts;
 use crate::line_buffers::LineBuffer;
 use crate::line_traits::ToLine;
 use crate::measures::Measure;
+use crate::refusals::put_fault;
 use crate::rows::Fields;
 use crate::series::put_series;
 use crate::text_sinks::TextSink;
@@ -92,12 +94,16 @@ fn fault_answer<'a>(fault: Fault) -> Answer<'a>
     )
 }
 
-/// Appends a refusal.
+/// Appends a refusal, which is measured only where there may not be room for it.
 #[tactic(auto, using(crate::proofs::Short::fault_short))]
 fn write_fault(out: &mut Vec<u8>, session: u32, fault: Fault) -> Result<(), AllocError>
     ensures written { Writes out.old (fault_line session fault) result out.new }
     ensures short { length (fault_line session fault) ≤ 96 }
 {
+    if SHORT_LINE <= out.capacity() - out.len() {
+        put_fault(out, session, fault);
+        return Ok(());
+    }
     let fields = fault_answer(fault);
     let len = object_len("fault", session, &fields);
     write_object(out, len, "fault", session, &fields)
@@ -131,6 +137,10 @@ fn write_counts(out: &mut Vec<u8>, session: u32, counts: Counts) -> Result<(), A
     ensures written { Writes out.old (fitting_answer session (counts_view counts)) result out.new }
     ensures short { length (fitting_answer session (counts_view counts)) ≤ 96 }
 {
+    if SHORT_LINE <= out.capacity() - out.len() {
+        put_counts(out, session, counts);
+        return Ok(());
+    }
     write_answer(out, session, &counts.answer())
 }
 

@@ -6,7 +6,8 @@ use Rattle.std.specs.Io.KnownBytes.{Appends}
 use Rattle.std.proofs.KnownBytes.{Appends-trans}
 use Rattle.std.proofs.lemmas.List.{map-append, length-append}
 use Rattle.std.proofs.lemmas.List.Folds.{concat-append}
-use Rattle.ctf_protocol.specs.lines.Lines.{whole_lines, last_piece, all_lines, if_not_empty, stored}
+use Rattle.std.proofs.lemmas.Bool.{le-leb}
+use Rattle.ctf_protocol.specs.lines.Lines.{whole_lines, last_piece, all_lines, if_not_empty, longest_line, stored}
 use Rattle.ctf_wire.specs.Flushes.{after_pieces}
 use Rattle.ctf_wire.specs.Served.{Answers, BeginsWith, SentPiece, SentPart, all_of, AreFilled, Sent, SentFront, Sends, Serves, BrokenOff}
 use Rattle.ctf_wire.specs.Gathering.{Gathered, Gathers, Feeds, MakesRoom, FlushesBatch}
@@ -207,6 +208,15 @@ Feeds-piece {S} Step machine held now batch sink piece none joined = λ start a 
       lines = subst P (sym (whole_lines-piece read piece none)) s.lines;
       holds = joined (last_piece read) s.holds ∙ ap stored (sym (last_piece-piece read piece none));
     }
+
+-- a line that is no longer than may be stored, behind nothing
+pub whole_joins : (piece : List ℕ) → length piece ≤ longest_line → (bs : List ℕ) → Some [] ≡ stored bs → Some piece ≡ stored (bs ++ piece)
+whole_joins piece short [] e = rw (le-leb (length piece) longest_line short) refl
+whole_joins piece short (b ∷ bs) e = absurd (no (leb (length (b ∷ bs)) longest_line) e)
+  where
+    no : (t : Bool) → Some [] ≡ (if t then Some (b ∷ bs) else None) → ⊥
+    no true h = cc
+    no false h = cc
 
 -- a piece and a newline came, and the line that they end is answered
 pub Feeds-line : {S : Type 0} (Step : S → Option (List ℕ) → List ℕ → S → Type 0) (old new : S) (held joined now : Option (List ℕ)) (batch roomy batch_new : Batch) (b c : Pushed) (piece reply : List ℕ)

@@ -1,6 +1,6 @@
 //! What one read took in: lines to a machine, replies into a batch, and the batch to a sink.
-ghost use Rattle.std.specs.Prelude.{◌≡◌, ℕ, ◌≤◌, ◌+◌, ◌++◌, ◌∷◌, [], List, true, false, vec_capacity};
-ghost use Rattle.ctf_protocol.specs.lines.Lines.{whole_lines};
+ghost use Rattle.std.specs.Prelude.{◌≡◌, ℕ, ◌≤◌, ◌+◌, ◌++◌, ◌∷◌, [], IsTrue, List, Some, length, true, false, vec_capacity};
+ghost use Rattle.ctf_protocol.specs.lines.Lines.{longest_line, whole_lines};
 ghost use Rattle.ctf_wire.specs.Room.{HasReplyRoom, Replies};
 ghost use Rattle.ctf_wire.specs.Gathering.{Feeds};
 ghost use Rattle.ctf_wire.specs.Standing.{Finishes, TakesIn};
@@ -11,7 +11,7 @@ use crate::pending::Pending;
 use crate::pieces::cut;
 use crate::sending::{flush_batch, make_room};
 use crate::sinks::Sink;
-use ctf_lines::Scratch;
+use ctf_lines::{LONGEST_LINE, Scratch};
 
 /// Answers the pending line. The reply waits.
 fn answer<M: Machine>(machine: &mut M, scratch: &mut Scratch, pending: &Pending, batch: &mut Batch)
@@ -28,7 +28,25 @@ fn answer<M: Machine>(machine: &mut M, scratch: &mut Scratch, pending: &Pending,
     batch.waits = true;
 }
 
-/// Answers the line that this piece ends.
+/// Answers a line that came whole. The reply waits.
+fn answer_whole<M: Machine>(machine: &mut M, scratch: &mut Scratch, line: &[u8], batch: &mut Batch)
+    requires { HasReplyRoom batch.old.bytes }
+    ensures answers { (reply : List ℕ) × M.Step machine.old (Some line.now) reply machine.new
+        × Replies batch.old.bytes reply batch.new.bytes }
+    ensures waits { batch.new.waits ≡ true }
+{
+    machine.step(scratch, line, &mut batch.bytes);
+    batch.waits = true;
+}
+
+/// Whether a piece is a whole line, of which nothing came before, and may be stored.
+fn is_whole(pending: &Pending, piece: &[u8]) -> bool
+    ensures { IsTrue result → (pending.now ≡ Some []) × (length piece.now ≤ longest_line) }
+{
+    pending.is_empty() && piece.len() <= LONGEST_LINE
+}
+
+/// Answers the line that this piece ends. One that came whole is read where it stands.
 fn end_line<M: Machine, K: Sink>(
     machine: &mut M,
     scratch: &mut Scratch,
@@ -45,10 +63,14 @@ fn end_line<M: Machine, K: Sink>(
     ensures none { result ≡ false → batch.new.waits ≡ false }
     ensures grows { vec_capacity batch.old.bytes ≤ vec_capacity batch.new.bytes }
 {
-    pending.append(piece);
     if !make_room(sink, batch) {
         return false;
     }
+    if is_whole(pending, piece) {
+        answer_whole(machine, scratch, piece, batch);
+        return true;
+    }
+    pending.append(piece);
     answer(machine, scratch, pending, batch);
     pending.clear();
     true

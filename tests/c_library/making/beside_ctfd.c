@@ -184,7 +184,7 @@ static ctf_id_t some_holder(const struct pair *pair)
     return below(30) == 0 ? some_type(pair) : in;
 }
 
-/* A member whose type comes behind its holder would lead round, unless it is a pointer. */
+/* A member whose type comes behind its holder would form a cycle, unless it is a pointer. */
 static void add_item(struct pair *pair)
 {
     char name[8];

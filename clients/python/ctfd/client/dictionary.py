@@ -182,7 +182,7 @@ class Dictionary:
 
     @property
     def told(self) -> Told:
-        """What is told of its types by their numbers."""
+        """Its types, with what is known of each, by number."""
         if self._told is None:
             self._told = self.session.told(self)
         return self._told

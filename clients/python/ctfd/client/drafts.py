@@ -41,7 +41,7 @@ def _numbers(table: Table) -> Dict[int, int]:
 
 
 def _add_with_named(table: Table, root: int, order: Dict[int, int]) -> None:
-    """Adds a type behind those that it names. Raises Error where these lead round."""
+    """Adds a type behind those that it names. Raises Error if these form a cycle."""
     open_ones: Set[int] = set()
     todo = [root]
     while todo:

@@ -1,8 +1,8 @@
 """Where the service is, and whether it speaks the protocol of this client.
 
 It is the program that the caller names, else the one that CTFD in the environment names, else the
-one beside the ctfd command that runs, else `ctfd` on the path, else the one that the clone with
-this package in it has built. Where none is named, one that another user could have put there does
+one beside the ctfd command that runs, else the one that this package carries, else `ctfd` on the
+path, else the one that the clone with this package in it has built. Where none is named, one that another user could have put there does
 not count (trust.py). CTFD_SOCKET in the environment names a socket in place of a program, where
 none is named by the caller; behind a socket, CTFD_ROOM names the room.
 """
@@ -12,6 +12,7 @@ import os
 import re
 from typing import Optional
 
+from .. import commands
 from ..version import VERSION
 from . import trust
 from .faults import Error, Gone
@@ -32,7 +33,7 @@ def find(name: Optional[str] = None) -> str:
         if found is None:
             raise Gone(f"{program}, {why}, is no program: name the built ctfd")
         return _judged(found)
-    found = _beside() or trust.program("ctfd") or _built()
+    found = _beside() or _carried() or trust.program("ctfd") or _built()
     if found is None:
         raise Gone("the service ctfd is not found: name it by --service or by CTFD in the"
                    " environment, put it on the PATH, or build it (`make`); one that another user"
@@ -76,6 +77,11 @@ def _beside() -> Optional[str]:
     """The program that was installed with the command that runs, or None."""
     folder = trust.folder_of_command()
     return _trusted(os.path.join(folder, "ctfd")) if folder else None
+
+
+def _carried() -> Optional[str]:
+    """The program that this package carries, or None."""
+    return _trusted(os.path.join(commands.FOLDER, "ctfd"))
 
 
 def _built() -> Optional[str]:

@@ -61,7 +61,10 @@ class Session(abc.ABC):
 
     @abc.abstractmethod
     def ask_all(self, requests: Sequence[Request]) -> List[Outcome]:
-        """What many requests are answered, in one round; a refusal stands in its place."""
+        """Sends requests in one round trip.
+
+        Returns one result per request, in order; a refused request yields its `Refused`.
+        """
 
     @abc.abstractmethod
     def open(self, ctf: bytes, sym: Optional[bytes] = None, strings: Optional[bytes] = None,

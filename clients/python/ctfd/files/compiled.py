@@ -1,8 +1,9 @@
 """The compiled commands that this package runs: `ctfd-convert`, which reads programs for it.
 
-A command is the one beside the command that runs, of the clone that this package stands in, beside the
-program that CTFD names, in `bin` beside the `lib` that this package is in, or on the PATH. One of another version does not count, nor
-one that another user could have put there (trust.py).
+A command is the one beside the command that runs, of the clone that this package stands in, beside
+the program that CTFD names, the one that this package carries, in `bin` beside the `lib` that this
+package is in, or on the PATH. One of another version does not count, nor one that another user
+could have put there (trust.py).
 """
 from __future__ import annotations
 
@@ -11,6 +12,7 @@ import os
 import subprocess
 from typing import TYPE_CHECKING, Iterator, List, Optional
 
+from .. import commands
 from ..client import service, trust
 from ..client.faults import Unreadable
 from ..version import VERSION
@@ -53,8 +55,8 @@ def _written(path: str, words: List[str], data: bytes = b"") -> bytes:
     if command is None:
         raise Missing(f"{path}: {missing(NAME, 'its types are read')}")
     try:
-        done = subprocess.run([command, *words, "--", path, "-"], input=data, capture_output=True,
-                              check=False)
+        done = subprocess.run([NAME, *words, "--", path, "-"], executable=command, input=data,
+                              capture_output=True, check=False)
     except (OSError, ValueError) as error:  # ValueError: a name with a zero byte
         why = error.strerror if isinstance(error, OSError) else error
         raise Unreadable(f"{path}: {command}: {why}") from error
@@ -94,7 +96,7 @@ def _words(asked: Asked) -> Iterator[str]:
 
 
 def find(name: str = NAME) -> Optional[str]:
-    """A compiled command, or None."""
+    """The program that is a compiled command, or None. It is to be started by the command's name."""
     for path in _places(name):
         if os.access(path, os.X_OK) and trust.is_trusted(path) and _is_ours(path, name):
             return path
@@ -110,6 +112,7 @@ def _places(name: str) -> Iterator[str]:
     program = service.named()
     if program and os.path.isabs(program):
         yield os.path.join(os.path.dirname(program), name)
+    yield commands.path_of(name)
     parts: List[str] = trust.HERE.split(os.sep)
     if "lib" in parts and not clone:
         last = len(parts) - 1 - parts[::-1].index("lib")
@@ -126,8 +129,8 @@ def _is_ours(path: str, name: str) -> bool:
         with open(path, "rb") as file:
             if file.read(len(ELF)) != ELF:
                 return False
-        said = subprocess.run([path, "--version"], stdin=subprocess.DEVNULL, check=False,
-                              capture_output=True).stdout
+        said = subprocess.run([name, "--version"], executable=path, stdin=subprocess.DEVNULL,
+                              check=False, capture_output=True).stdout
     except OSError:
         return False
     return said.decode("ascii", "replace").split() == [name, VERSION]

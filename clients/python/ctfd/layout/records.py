@@ -113,18 +113,9 @@ class Table:
             number = self._known[record] = self.add(record)
         return number
 
-    def forget(self, to: Dict[int, int]) -> None:
-        """Tells `once` the numbers that types have from now on."""
-        for record, number in self._known.items():
-            self._known[record] = to.get(number, number)
-
     def put(self, number: int, record: Record) -> None:
-        """Says what a number stands for that was kept by `keep`."""
+        """Replaces the record of a number."""
         self.records[number - 1] = record
-
-    def keep(self) -> int:
-        """A number of which is said later what it stands for."""
-        return self.add(UNKNOWN)
 
     def numbers(self) -> range:
         return range(1, len(self.records) + 1)
@@ -134,7 +125,7 @@ class Table:
         return (one for one in self.functions if one is not None)
 
     def resolved(self, number: int) -> int:
-        """Without typedefs and qualifiers; 0 where these lead round."""
+        """Follows typedefs and qualifiers; 0 if they form a cycle."""
         for _ in range(len(self.records)):
             if not number or self[number].kind not in ("typedef", *QUALIFIERS):
                 return number

@@ -43,10 +43,10 @@ class Writer:
         command = compiled.find(NAME)
         if command is None:
             raise Unreadable(f"{path}: {compiled.missing(NAME, 'its debug file is written')}")
-        words = [command, *([f"--parent={parent}"] if parent else []), "--", path, "-"]
+        words = [NAME, *([f"--parent={parent}"] if parent else []), "--", path, "-"]
         try:
-            done = subprocess.run(words, stdin=subprocess.DEVNULL, capture_output=True,
-                                  check=False)
+            done = subprocess.run(words, executable=command, stdin=subprocess.DEVNULL,
+                                  capture_output=True, check=False)
         except OSError as error:
             raise Unreadable(f"{path}: {command}: {error.strerror}") from error
         if done.returncode != 0:

@@ -31,7 +31,7 @@ class Number(NamedTuple):
 
 
 class Code(NamedTuple):
-    """A function; no signature where nothing is told of it."""
+    """A function; without a signature if the types do not have it."""
 
     signature: Optional[Signature]
     address: int

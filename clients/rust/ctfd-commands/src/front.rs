@@ -3,5 +3,5 @@
 use std::process::ExitCode;
 
 fn main() -> ExitCode {
-    ctfd_front::main()
+    ctfd_front::main(ctfd_tools::refuse)
 }

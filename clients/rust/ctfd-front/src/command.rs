@@ -1,6 +1,8 @@
 //! The words of the command line.
 
+use crate::builds::{Store, QUOTA};
 use crate::limits::{Limits, LONGEST_LINE, MOST_SESSIONS};
+use crate::Refuse;
 use clap::{value_parser, Arg, ArgAction, ArgMatches, Command};
 use std::ffi::OsString;
 use std::path::PathBuf;
@@ -20,6 +22,8 @@ statistics to standard error.";
 const IN_PROCESS: &str = "the service is in this process";
 const ANSWERED_FIRST: &str = "what is read is answered before more is read";
 
+/// The command that reads a store.
+const CONVERTER: &str = "ctfd-convert";
 const MOST_SHARDS: u64 = 256;
 /// The largest number of an option that has no limit of its own.
 const MOST: u64 = u32::MAX as u64 * 1_024;
@@ -36,6 +40,8 @@ pub struct Options {
     pub stats: Option<Duration>,
     pub metrics: Option<PathBuf>,
     pub limits: Limits,
+    /// Where types by build-id are.
+    pub store: Option<Store>,
     /// Bytes that all services may have, if that is bounded.
     pub service_memory: Option<u64>,
     /// Options of earlier versions that mean nothing now, and why.
@@ -43,8 +49,9 @@ pub struct Options {
 }
 
 /// The words of the command line. Wrong ones end the process with status 2.
-pub fn options(words: impl IntoIterator<Item = OsString>) -> Options {
-    let matches = command().get_matches_from(words);
+pub fn options(words: impl IntoIterator<Item = OsString>, refuse: Refuse) -> Options {
+    let matches =
+        command().try_get_matches_from(words).unwrap_or_else(|error| refuse(&command(), &error));
     let limits = limits(&matches);
     let files = matches.get_many("files").unwrap_or_default().cloned().collect();
     let ignored = [
@@ -62,6 +69,7 @@ pub fn options(words: impl IntoIterator<Item = OsString>) -> Options {
         stats: matches.get_one("stats").copied(),
         metrics: matches.get_one("metrics").cloned(),
         limits,
+        store: store(&matches),
         service_memory: matches.get_one("service-memory").copied(),
         ignored: ignored
             .into_iter()
@@ -107,8 +115,19 @@ fn of_the_socket() -> [Arg; 3] {
     ]
 }
 
-fn of_the_service() -> [Arg; 8] {
+fn of_the_service() -> [Arg; 10] {
     [
+        path("store", "DIR").help(
+            "a folder of ctfd-store: by the name of a build-id all take its types from owner \
+             4294967295",
+        ),
+        size(
+            "store-memory",
+            QUOTA,
+            QUOTA,
+            "bytes of its types that a shard has published at once; those go that were taken \
+             longest ago",
+        ),
         option("processes", "N")
             .value_parser(value_parser!(u64).range(1..=MOST_SHARDS))
             .default_value("1")
@@ -209,6 +228,15 @@ fn path(name: &'static str, value: &'static str) -> Arg {
     option(name, value).value_parser(value_parser!(PathBuf))
 }
 
+/// The store that is named, read by the command beside this one.
+fn store(matches: &ArgMatches) -> Option<Store> {
+    let folder = matches.get_one::<PathBuf>("store")?;
+    let folder = folder.canonicalize().unwrap_or_else(|_| folder.clone());
+    let own = std::env::current_exe().unwrap_or_default();
+    let most = matches.get_one("store-memory").copied().unwrap_or(QUOTA);
+    Some(Store { folder, converter: own.with_file_name(CONVERTER), most })
+}
+
 fn limits(matches: &ArgMatches) -> Limits {
     let defaults = Limits::default();
     let size = |name, default| {
@@ -253,7 +281,7 @@ mod tests {
     use super::*;
 
     fn parsed(words: &[&str]) -> Options {
-        options(["ctfd-front"].iter().chain(words).map(OsString::from))
+        options(["ctfd-front"].iter().chain(words).map(OsString::from), |_, error| error.exit())
     }
 
     #[test]

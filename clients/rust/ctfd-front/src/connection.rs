@@ -7,7 +7,6 @@ use crate::refusals::{Cause, Refusal};
 use crate::rooms::Room;
 use crate::tools::Tools;
 use crate::turns::LONG;
-use crate::weight::may_be_long;
 use mio::event::{Event, Source};
 use mio::net::UnixStream;
 use mio::{Interest, Registry, Token};
@@ -135,8 +134,9 @@ impl Connection {
         if !self.incoming.has_line() && self.is_readable {
             self.read(tools)?;
         }
-        if may_wait && matches!(self.incoming.line(), Some(Line::Whole(line)) if may_be_long(line))
-        {
+        let is_long =
+            |line: &Line<'_>| matches!(line, Line::Whole(line) if tools.may_be_long(line));
+        if may_wait && self.incoming.line().as_ref().is_some_and(is_long) {
             return Ok(After::Others);
         }
         let mut replies = std::mem::take(&mut tools.replies);
@@ -270,6 +270,9 @@ impl Connection {
                 self.incoming.skip();
             }
             Some(Line::Whole(line)) => {
+                if let Some(builds) = &mut tools.builds {
+                    builds.provide(line, &mut tools.answers, replies)?;
+                }
                 tools.answers.answer(self.session, line, replies)?;
                 self.may_hold |= replies[start..].starts_with(OK);
                 took = tools.meter.time_since(before);

@@ -73,6 +73,7 @@ fn serve(options: Options, signals: Signals) -> Result<u8, Trouble> {
     let trouble = |message| Trouble { status: TROUBLE, message };
     let failed = |why: io::Error| trouble(format!("the front can't be started: {}", Words(&why)));
     files::refuse_programs(&options.files)?;
+    options.store.as_ref().map_or(Ok(()), start::judge_store)?;
     start::allow_files(&options);
     start::limit_memory(&options).map_err(failed)?;
     let listener = start::listener(&options).map_err(trouble)?;
@@ -196,7 +197,9 @@ impl Front {
             self.turn_away(stream, user, &rejection);
             return None;
         }
-        if self.sessions >= self.options.limits.sessions.min(LAST_SESSION) {
+        // The last is that of the store, if there is one.
+        let last = LAST_SESSION - u64::from(self.options.store.is_some());
+        if self.sessions >= self.options.limits.sessions.min(last) {
             say(Level::Error, "all numbers of sessions were given: start ctfd-front again");
             return Some(NUMBERS_ENDED);
         }

@@ -10,11 +10,14 @@
 //! - `turns`, `weight`, `meter`: whose turn it is, by what each has used.
 //! - `answers`: the service, which answers each line as its connection's session.
 //! - `rooms`, `name`, `members`: what the front reads of lines itself.
+//! - `builds`, `bundle`: types by build-id, published when they are first taken.
 //! - `users`, `limits`, `refusals`: who has what, and what is too much.
 //! - `statistics`, `metrics`, `journal`, `text`, `notify`: what an operator sees.
 //! - `listening`, `signals`, `files`, `system`: what the system gives.
 
 mod answers;
+mod builds;
+mod bundle;
 mod command;
 mod connection;
 mod door;
@@ -44,8 +47,11 @@ mod weight;
 
 use std::process::ExitCode;
 
+/// What ends the process where the words of the command line are wrong, or ask for help.
+pub type Refuse = fn(&clap::Command, &clap::Error) -> !;
+
 /// Runs the front by the words of the process; its exit status.
-pub fn main() -> ExitCode {
+pub fn main(refuse: Refuse) -> ExitCode {
     // Before words are read, so that no signal is lost.
     let signals = match signals::Signals::new() {
         Ok(signals) => signals,
@@ -54,5 +60,5 @@ pub fn main() -> ExitCode {
             return ExitCode::from(5);
         }
     };
-    ExitCode::from(front::run(command::options(std::env::args_os()), signals))
+    ExitCode::from(front::run(command::options(std::env::args_os(), refuse), signals))
 }

@@ -7,7 +7,7 @@ use std::fmt;
 const LONGEST: usize = 64;
 
 /// A name of a publication or a room: 1 to 64 ASCII letters, digits, `.`, `_` and `-`.
-#[derive(Clone, Copy, PartialEq, Eq)]
+#[derive(Clone, Copy, PartialEq, Eq, Hash)]
 pub struct Name {
     len: u8,
     bytes: [u8; LONGEST],

@@ -1,6 +1,7 @@
 //! What is there before a connection is taken: the socket, room for files, and the shards.
 
 use crate::answers::Answers;
+use crate::builds::{Builds, Store, OWNER};
 use crate::command::Options;
 use crate::door::Door;
 use crate::files::{Published, Trouble};
@@ -87,6 +88,26 @@ pub fn not_started(trouble: Trouble) -> Trouble {
     Trouble { status, message }
 }
 
+/// Refuses a store that can't be read.
+pub fn judge_store(store: &Store) -> Result<(), Trouble> {
+    let (folder, converter) = (store.folder.display(), &store.converter);
+    let message = if !store.folder.is_dir() {
+        format!("{folder} is no folder: `ctfd-store add {folder} FILE..` makes a store")
+    } else if !converter.is_file() {
+        format!(
+            "--store needs ctfd-convert beside ctfd-front: {} is not there",
+            converter.display()
+        )
+    } else {
+        say(
+            Level::Notice,
+            format_args!("builds of {folder} are taken from owner {}, by their build-ids", OWNER),
+        );
+        return Ok(());
+    };
+    Err(Trouble { status: 2, message })
+}
+
 /// Starts the shards, each with the operator's dictionaries.
 pub fn shards(
     options: &Options,
@@ -106,6 +127,7 @@ pub fn shards(
     for (shard, poll) in polls.into_iter().enumerate() {
         let (doors, users, limits) = (doors.clone(), users.clone(), options.limits.clone());
         let (published, ready, shards) = (published.clone(), ready.clone(), options.shards);
+        let store = options.store.clone();
         let work = move || {
             let loaded = answers(&published);
             drop(published);
@@ -115,7 +137,7 @@ pub fn shards(
             };
             let _ = ready.send(loaded);
             let Some(answers) = answers else { return Ok(0) };
-            let tools = Tools::new(answers, limits, users, shard, shards);
+            let tools = Tools::new(answers, store.map(Builds::new), limits, users, shard, shards);
             Shard::new(poll, doors, tools).run()
         };
         let thread = thread::Builder::new().name(format!("shard {shard}")).spawn(work);

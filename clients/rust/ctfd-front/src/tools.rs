@@ -1,10 +1,12 @@
 //! What all connections of a shard use.
 
 use crate::answers::Answers;
+use crate::builds::Builds;
 use crate::limits::{Limits, READ_BYTES};
 use crate::meter::Meter;
 use crate::statistics::Statistics;
 use crate::users::Users;
+use crate::weight;
 use std::sync::Arc;
 
 const REPLY_BYTES: usize = 65_536;
@@ -12,6 +14,8 @@ const REPLY_BYTES: usize = 65_536;
 /// The service, room to read and to write, and what is counted.
 pub struct Tools {
     pub answers: Answers,
+    /// Types by build-id, where there is a store.
+    pub builds: Option<Builds>,
     pub statistics: Statistics,
     pub limits: Limits,
     pub users: Arc<Users>,
@@ -27,6 +31,7 @@ impl Tools {
     /// Those of a shard, made in its thread.
     pub fn new(
         answers: Answers,
+        builds: Option<Builds>,
         limits: Limits,
         users: Arc<Users>,
         shard: usize,
@@ -34,6 +39,7 @@ impl Tools {
     ) -> Tools {
         Tools {
             answers,
+            builds,
             statistics: Statistics::new(),
             limits,
             users,
@@ -43,5 +49,10 @@ impl Tools {
             shard,
             shards,
         }
+    }
+
+    /// Whether a line may take as long as a whole dictionary.
+    pub fn may_be_long(&self, line: &[u8]) -> bool {
+        weight::may_be_long(line) || self.builds.as_ref().is_some_and(|builds| builds.is_new(line))
     }
 }

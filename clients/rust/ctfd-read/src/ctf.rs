@@ -8,9 +8,11 @@ use crate::bytes::{part, Names, Reader};
 use crate::error::{refuse, Error, Result};
 use crate::section::{LONG_MEMBERS, LONG_SIZE};
 use crate::table::{Encoding, Enumerator, Kind, Member, Name, Parts, Record, Table};
-use flate2::{Decompress, FlushDecompress, Status};
+use flate2::write::ZlibEncoder;
+use flate2::{Compression, Decompress, FlushDecompress, Status};
 use object::endian::{Endian as _, Endianness};
 use std::borrow::Cow;
+use std::io::Write as _;
 
 /// The bytes of a header.
 pub const HEADER: usize = 36;
@@ -25,6 +27,8 @@ const CHILD: u32 = 0x8000;
 const WIDE_CHILD: u32 = 0x8000_0000;
 const WIDE_LONG_SIZE: u32 = 0xffff_ffff;
 const WIDE_LONG_MEMBERS: u64 = 536_870_912;
+/// Where the flags of a header are.
+const FLAGS: usize = 3;
 const COMPRESSED: u8 = 1;
 const MOST_PADDING: usize = 16;
 const WHAT: &str = "dictionary";
@@ -153,12 +157,28 @@ pub fn each(section: &[u8]) -> Vec<&[u8]> {
     }
 }
 
-/// How many bytes the dictionary at the front has; None where that is not told.
+/// A dictionary with all that is behind its header compressed.
+pub fn deflate(ctf: &[u8]) -> Result<Vec<u8>> {
+    let Some((header, body)) = ctf.split_at_checked(HEADER) else {
+        return refuse("a damaged dictionary");
+    };
+    let mut made = header.to_vec();
+    made[FLAGS] |= COMPRESSED;
+    let mut encoder = ZlibEncoder::new(made, Compression::best());
+    encoder.write_all(body)?;
+    Ok(encoder.finish()?)
+}
+
+/// How many bytes the dictionary at the front has; None where that is not told. No more of it is
+/// inflated than its header says.
 fn length_of(bytes: &[u8]) -> Option<usize> {
     let (names, length) = lengths(bytes)?;
-    if bytes[3] & COMPRESSED == 0 {
-        let end = HEADER as u64 + names + length;
+    let end = HEADER as u64 + names + length;
+    if bytes[FLAGS] & COMPRESSED == 0 {
         return usize::try_from(end).ok().filter(|&end| end <= bytes.len());
+    }
+    if end > LONGEST {
+        return None;
     }
     let mut inflater = Decompress::new(true);
     let mut out = vec![0; 1 << 16];
@@ -168,7 +188,7 @@ fn length_of(bytes: &[u8]) -> Option<usize> {
         match inflater.decompress(from, &mut out, FlushDecompress::None).ok()? {
             Status::StreamEnd => return Some(HEADER + inflater.total_in() as usize),
             _ if before == (inflater.total_in(), inflater.total_out()) => return None,
-            _ if inflater.total_out() > LONGEST => return None,
+            _ if inflater.total_out() > names + length => return None,
             _ => {}
         }
     }
@@ -187,7 +207,7 @@ fn lengths(bytes: &[u8]) -> Option<(u64, u64)> {
 /// A dictionary with its body inflated, and the flag of that cleared; one without the flag as it is.
 /// What the header says is the bound: a small body may inflate to anything.
 pub fn inflate(bytes: &[u8]) -> Result<Cow<'_, [u8]>> {
-    if bytes.len() < HEADER || bytes[3] & COMPRESSED == 0 {
+    if bytes.len() < HEADER || bytes[FLAGS] & COMPRESSED == 0 {
         return Ok(Cow::Borrowed(bytes));
     }
     let (names, length) = lengths(bytes).unwrap_or_default();
@@ -211,7 +231,7 @@ pub fn inflate(bytes: &[u8]) -> Result<Cow<'_, [u8]>> {
     }
     body.truncate(wanted as usize);
     let mut whole = bytes[..HEADER].to_vec();
-    whole[3] &= !COMPRESSED;
+    whole[FLAGS] &= !COMPRESSED;
     whole.append(&mut body);
     Ok(Cow::Owned(whole))
 }

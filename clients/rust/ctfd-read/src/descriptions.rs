@@ -1,8 +1,8 @@
 //! What debug information says of functions and objects, and which symbol it is said of.
 
+use crate::hashed::{Map, Set};
 use crate::symbols::Symbol;
 use crate::table::{Name, Record};
-use std::collections::{HashMap, HashSet};
 
 /// What is said of a function or an object: the number of its type, or a function's record;
 /// `is_whole` where it is defined there and not just declared.
@@ -25,8 +25,8 @@ pub struct Statement<'a> {
 
 /// Whether anything is wanted of a name or an address.
 pub struct SymbolFilter<'w> {
-    names: HashSet<&'w [u8]>,
-    addresses: HashSet<u64>,
+    names: Set<&'w [u8]>,
+    addresses: Set<u64>,
 }
 
 impl<'w> SymbolFilter<'w> {
@@ -47,9 +47,9 @@ impl<'w> SymbolFilter<'w> {
 #[derive(Default)]
 pub struct Descriptions<'a> {
     said: Vec<Description<'a>>,
-    by_address: HashMap<u64, Vec<(Name<'a>, usize)>>,
-    by_part: HashMap<u64, Vec<(Name<'a>, usize)>>,
-    by_name: HashMap<Name<'a>, (usize, bool)>,
+    by_address: Map<u64, Vec<(Name<'a>, usize)>>,
+    by_part: Map<u64, Vec<(Name<'a>, usize)>>,
+    by_name: Map<Name<'a>, (usize, bool)>,
 }
 
 impl<'a> Descriptions<'a> {
@@ -75,7 +75,7 @@ impl<'a> Descriptions<'a> {
     /// have one address; in what is linked, what no other file sees is elsewhere.
     pub fn description_of(&self, wanted: &Symbol<'_>, is_linked: bool) -> Option<&Description<'a>> {
         let name = unversioned(&wanted.name);
-        let named = |among: &HashMap<u64, Vec<(Name<'a>, usize)>>, name: &[u8]| {
+        let named = |among: &Map<u64, Vec<(Name<'a>, usize)>>, name: &[u8]| {
             let listed = among.get(&wanted.address)?;
             listed.iter().find(|one| *one.0 == *name).map(|one| one.1)
         };

@@ -1,7 +1,7 @@
 //! ELF files: their sections, the files that have their debug information, and their symbols.
 
 use crate::bytes::Names;
-use crate::compressed;
+use crate::compressed::Packed;
 use crate::error::{refuse, Result};
 use crate::image::{Data, Elf, ElfSection, Image};
 use crate::symbols::{Symbol, SymbolTable, Symbols};
@@ -9,11 +9,14 @@ use gimli::{Endianity as _, RunTimeEndian};
 use object::read::elf::{FileHeader, SectionHeader, Sym as _};
 use object::{elf, Architecture, Endianness, Object, ObjectKind, ObjectSection, ObjectSymbol};
 use object::{Relocation, RelocationKind, RelocationTarget, SectionIndex};
+use rayon::prelude::*;
 use std::borrow::Cow;
 use std::path::{Component, Path, PathBuf};
 
 const FOLDER: &str = "/usr/lib/debug";
 const PAGE: u64 = 4096;
+/// How many of the places are told where a debug file was looked for.
+const MOST_SHOWN: usize = 6;
 
 /// Whether a file has DWARF that is more than a name: `strip` leaves empty sections.
 pub fn has_debug(file: &Elf<'_>) -> bool {
@@ -94,7 +97,11 @@ pub fn debug_file(image: &Image, folders: &[PathBuf]) -> Result<DebugFile> {
     if is_lto(&file) {
         return refuse(format!("it has no debug information: {LINK_IT}"));
     }
-    let looked: Vec<String> = tried.iter().map(|path| path.display().to_string()).collect();
+    let mut looked: Vec<String> = tried.iter().map(|path| path.display().to_string()).collect();
+    if looked.len() > MOST_SHOWN {
+        let rest = format!("in {} other places", looked.split_off(MOST_SHOWN).len());
+        looked.push(rest);
+    }
     let place = match looked.is_empty() {
         true => String::new(),
         false => format!("; no debug file is at {}", looked.join(" or ")),
@@ -158,23 +165,64 @@ fn by_build_id(folder: &Path, build: &[u8]) -> PathBuf {
 
 /// What the sections of a name hold, inflated and relocated; an object file may have more than one.
 pub fn section<'a>(image: &'a Image, file: &Elf<'a>, name: &str) -> Result<Cow<'a, [u8]>> {
+    let [made] = sections(image, file, [name]);
+    made
+}
+
+/// The same for several names. They are inflated side by side.
+pub fn sections<'a, const N: usize>(
+    image: &'a Image,
+    file: &Elf<'a>,
+    names: [&str; N],
+) -> [Result<Cow<'a, [u8]>>; N] {
+    let mut places = names.map(|_| Vec::new());
+    let mut packed: Vec<Result<Vec<Packed<'a>>>> = Vec::new();
+    for (name, places) in names.iter().zip(&mut places) {
+        packed.push(called(file, name).and_then(|found| {
+            let listed = found.iter().map(|one| Packed::of(image, file, one, name)).collect();
+            *places = found;
+            listed
+        }));
+    }
+    let inflate = |(packed, name): (Result<Vec<Packed<'a>>>, &&str)| -> Result<Vec<Cow<'a, [u8]>>> {
+        packed?.into_iter().map(|one| one.inflate(name)).collect()
+    };
+    let inflated: Vec<_> = packed.into_par_iter().zip(&names).map(inflate).collect();
+    let mut listed = inflated.into_iter().zip(places);
+    names.map(|_| {
+        let (parts, places) = listed.next().expect("there is one for each name");
+        joined(file, parts?, &places)
+    })
+}
+
+/// The sections of a name, also of the one that they had when only GNU's tools compressed any.
+fn called<'a, 'f>(file: &'f Elf<'a>, name: &str) -> Result<Vec<ElfSection<'a, 'f>>> {
     let zipped = name.strip_prefix(".debug").map(|rest| format!(".zdebug{rest}"));
-    let mut made: Option<Cow<'a, [u8]>> = None;
+    let mut found = Vec::new();
     for one in file.sections() {
         let called = one.name_bytes()?;
-        if called != name.as_bytes() && zipped.as_deref().map(str::as_bytes) != Some(called) {
-            continue;
+        if called == name.as_bytes() || zipped.as_deref().map(str::as_bytes) == Some(called) {
+            found.push(one);
         }
-        let mut data = compressed::whole_bytes(image, file, &one, name)?;
-        if file.kind() == ObjectKind::Relocatable {
-            relocate(file, &one, data.to_mut())?;
-        }
-        made = Some(match made {
-            None => data,
-            Some(before) => Cow::Owned([before, data].concat()),
-        });
     }
-    Ok(made.unwrap_or_default())
+    Ok(found)
+}
+
+/// The bytes of some sections as one, relocated.
+fn joined<'a>(
+    file: &Elf<'a>,
+    mut parts: Vec<Cow<'a, [u8]>>,
+    places: &[ElfSection<'a, '_>],
+) -> Result<Cow<'a, [u8]>> {
+    if file.kind() == ObjectKind::Relocatable {
+        for (data, section) in parts.iter_mut().zip(places) {
+            relocate(file, section, data.to_mut())?;
+        }
+    }
+    Ok(match parts.len() {
+        0 | 1 => parts.pop().unwrap_or_default(),
+        _ => Cow::Owned(parts.concat()),
+    })
 }
 
 /// Writes in an object file what the linker would.

@@ -5,10 +5,11 @@ use crate::bytes::Names;
 use crate::ctf::{self, Layout, Sections};
 use crate::declared::SourceFiles;
 use crate::dictionary::keep_described;
+use crate::dwarf::collector::{collect, verify};
 use crate::dwarf::sections;
-use crate::dwarf::types::{collect, verify};
 use crate::dwarf::units::Debug;
 use crate::elf;
+use crate::elsewhere::Elsewhere;
 use crate::error::{refuse, Error, Result};
 use crate::gnu;
 use crate::gnu_symbols::{describe, FileSymbols};
@@ -114,6 +115,8 @@ pub struct Options {
     pub listener: Listener,
     /// Whether the files in which types are defined are wanted.
     pub has_sources: bool,
+    /// Who has types by build-id.
+    pub elsewhere: Elsewhere,
     /// Whether one dictionary is wanted also of more types than it holds: those without room are
     /// left out then.
     pub is_one: bool,

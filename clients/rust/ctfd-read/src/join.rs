@@ -2,7 +2,7 @@
 //!
 //! Two types become one where no walk along their references shows a difference. A struct or union
 //! of a name is compared with those that look like it; what has none follows from what it names,
-//! since without names nothing in C leads round. What a bound leaves apart, `merge` finds.
+//! since in C no cycle is without a name. What a bound leaves apart, `merge` finds.
 //!
 //! A tag that has a single definition in the program stands for it, also where a unit only declares
 //! it: `slots` has these.
@@ -68,12 +68,15 @@ pub struct Piece<'a> {
     pub single: Vec<u64>,
     /// The keys of those by which declarations were joined already.
     pub loose: HashSet<u64>,
+    /// Numbers, in their order, that stand for types of the table, and which these are.
+    known: Vec<(u32, u32)>,
 }
 
 impl<'a> Piece<'a> {
-    pub fn new(records: Vec<Record<'a>>, tags: &SingleTags) -> Piece<'a> {
+    /// Types of which some, by their numbers, are `known` as types of the table.
+    pub fn new(records: Vec<Record<'a>>, known: Vec<(u32, u32)>, tags: &SingleTags) -> Piece<'a> {
         let shape = records.iter().map(Record::shape).collect();
-        Piece::with_shape(records, shape, HashSet::new(), tags)
+        Piece { known, ..Piece::with_shape(records, shape, HashSet::new(), tags) }
     }
 
     fn with_shape(
@@ -83,12 +86,18 @@ impl<'a> Piece<'a> {
         tags: &SingleTags,
     ) -> Piece<'a> {
         let single = records.iter().map(|record| tags.key(record)).collect();
-        Piece { records, shape, single, loose }
+        Piece { records, shape, single, loose, known: Vec::new() }
     }
 
     /// The numbers of types with a tag of a single definition, and the keys of these.
     pub fn tagged(&self) -> impl Iterator<Item = (u32, u64)> + '_ {
         (1..).zip(self.single.iter().copied()).filter(|&(_, key)| key != 0)
+    }
+
+    /// The type of the table that a number stands for, if it stands for one.
+    pub fn known(&self, number: u32) -> Option<u32> {
+        let place = self.known.binary_search_by_key(&number, |&(own, _)| own).ok()?;
+        Some(self.known[place].1)
     }
 
     /// The type of a number.
@@ -145,8 +154,10 @@ impl<'a> Joiner<'a> {
     /// Finds what each type of a unit is.
     fn find(&self, piece: &Piece<'a>) -> Found {
         let count = piece.records.len() as u32;
+        let mut is = self.slots.find(piece, &self.table);
+        piece.known.iter().for_each(|&(own, known)| is[own as usize] = known);
         let mut found = Found {
-            is: self.slots.find(piece, &self.table),
+            is,
             pairs: vec![0; count as usize + 1],
             differ: HashSet::default(),
             steps: MOST_STEPS * u64::from(count) + MOST_STEPS,
@@ -406,4 +417,56 @@ fn with_references(shape: u64, references: impl Iterator<Item = u32>) -> u64 {
     shape.hash(&mut hasher);
     references.for_each(|n| n.hash(&mut hasher));
     hasher.finish()
+}
+
+#[cfg(test)]
+mod tests {
+    use super::*;
+    use crate::table::{Kind, Member, Parts};
+    use std::borrow::Cow;
+
+    fn pointer(of: u32) -> Record<'static> {
+        Record { of, ..Record::new(Kind::Pointer, Cow::Borrowed(b"")) }
+    }
+
+    fn forward(name: &'static str) -> Record<'static> {
+        Record { tag: Kind::Struct, ..Record::new(Kind::Forward, Cow::Borrowed(name.as_bytes())) }
+    }
+
+    fn structure(name: &'static str, of: u32) -> Record<'static> {
+        let member = Member { name: Cow::Borrowed(b"of"), of, offset: 0, width: None };
+        let parts = Parts::Members([member].into());
+        Record { size: 8, parts, ..Record::new(Kind::Struct, Cow::Borrowed(name.as_bytes())) }
+    }
+
+    #[test]
+    fn a_number_may_stand_for_a_type_that_was_joined() {
+        let tags = SingleTags::default();
+        let mut joiner = Joiner::default();
+        let first = joiner.join(Piece::new(vec![pointer(2), structure("node", 1)], vec![], &tags));
+        let known = vec![(1, first[1])];
+        let records = vec![Record::unknown(), structure("node", 1), structure("list", 1)];
+        let second = joiner.join(Piece::new(records, known, &tags));
+        assert_eq!(second[..3], [0, first[1], first[2]]);
+        let table = joiner.into_table().0;
+        assert_eq!(table.len(), 3);
+        assert_eq!(table.get(3).members()[0].of, 1);
+    }
+
+    #[test]
+    fn a_tag_is_one_where_a_joined_type_tells_more_of_what_it_names() {
+        let tags = SingleTags::of_structs(&["list"]);
+        let mut joiner = Joiner::default();
+        let declared = vec![forward("node"), pointer(1), structure("list", 2)];
+        let first = joiner.join(Piece::new(declared, vec![], &tags));
+        let told = vec![structure("node", 2), pointer(1)];
+        let second = joiner.join(Piece::new(told, vec![], &tags));
+        assert_ne!(second[2], first[2]);
+        let records = vec![Record::unknown(), structure("list", 1)];
+        let third = joiner.join(Piece::new(records, vec![(1, second[2])], &tags));
+        assert_eq!(third[2], first[3]);
+        assert!(joiner.conflicts().is_empty());
+        let (table, to) = joiner.into_table();
+        assert_eq!(table.get(to[first[3] as usize]).members()[0].of, to[second[2] as usize]);
+    }
 }

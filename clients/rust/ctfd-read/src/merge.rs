@@ -4,8 +4,9 @@
 //! that falls into parts the largest keeps its color, so that what is looked at in all is the
 //! references, times the logarithm of their number.
 
+use crate::hashed::{Map, Set};
 use crate::table::{Kind, Record, Table};
-use std::collections::{HashMap, HashSet};
+use std::hash::{Hash, Hasher};
 
 /// How often forwards are resolved anew, since those of a tag turned out to be of several types.
 const MOST_ROUNDS: u32 = 8;
@@ -49,7 +50,7 @@ pub fn merge(table: &mut Table<'_>, fixed: u32) {
 
 /// For each type itself, but for a forward the first type of its tag that is declared in full.
 fn whole(table: &Table<'_>) -> Vec<u32> {
-    let mut full: HashMap<Tag, u32> = HashMap::new();
+    let mut full: Map<Tag, u32> = Map::default();
     for (place, record) in table.records.iter().enumerate() {
         let is_full = record.kind.is_aggregate() || record.kind == Kind::Enum;
         if is_full && !record.name.is_empty() {
@@ -68,13 +69,13 @@ fn whole(table: &Table<'_>) -> Vec<u32> {
 }
 
 /// The tags that forwards were resolved by though several types have them.
-fn ambiguous(table: &Table<'_>, colors: &[u32], resolved: &[u32]) -> HashSet<Tag> {
+fn ambiguous(table: &Table<'_>, colors: &[u32], resolved: &[u32]) -> Set<Tag> {
     let is_resolved = |n: usize| resolved[n] != n as u32;
     let numbers = 1..resolved.len();
-    let wanted: HashSet<Tag> =
+    let wanted: Set<Tag> =
         numbers.clone().filter(|&n| is_resolved(n)).map(|n| tag(&table.records[n - 1])).collect();
-    let mut seen: HashMap<Tag, u32> = HashMap::new();
-    let mut several = HashSet::new();
+    let mut seen: Map<Tag, u32> = Map::default();
+    let mut several = Set::default();
     for n in numbers.filter(|&n| !is_resolved(n)) {
         let tag = tag(&table.records[n - 1]);
         if wanted.contains(&tag) && *seen.entry(tag.clone()).or_insert(colors[n]) != colors[n] {
@@ -97,15 +98,13 @@ fn colors(table: &Table<'_>, resolved: &[u32]) -> Vec<u32> {
     for (number, named) in references.iter().enumerate() {
         named.iter().for_each(|&n| named_by[n as usize].push(number as u32));
     }
-    let mut labels: HashMap<Record<'_>, u32> = HashMap::new();
+    let mut labels: Map<Shape<'_, '_>, u32> = Map::default();
     let mut colors = vec![0];
     for record in &table.records {
-        let mut blank = record.renumbered(|_| 0);
-        blank.root = true;
         let next = labels.len() as u32 + 1;
-        colors.push(*labels.entry(blank).or_insert(next));
+        colors.push(*labels.entry(Shape(record)).or_insert(next));
     }
-    let mut classes = vec![HashSet::new(); labels.len() + 1];
+    let mut classes = vec![Set::default(); labels.len() + 1];
     for (number, &color) in colors.iter().enumerate() {
         classes[color as usize].insert(number as u32);
     }
@@ -123,16 +122,33 @@ fn colors(table: &Table<'_>, resolved: &[u32]) -> Vec<u32> {
     colors
 }
 
+/// A type without what it names, and without who sees it.
+struct Shape<'t, 'a>(&'t Record<'a>);
+
+impl PartialEq for Shape<'_, '_> {
+    fn eq(&self, other: &Self) -> bool {
+        self.0.has_shape_of(other.0)
+    }
+}
+
+impl Eq for Shape<'_, '_> {}
+
+impl Hash for Shape<'_, '_> {
+    fn hash<H: Hasher>(&self, hasher: &mut H) {
+        self.0.hash_shape(hasher);
+    }
+}
+
 /// Those that may differ now, by their class, and in that by the colors of what they name.
 fn parts(changed: &[u32], references: &[Vec<u32>], colors: &[u32]) -> Vec<(u32, Vec<Vec<u32>>)> {
-    let mut by_class: HashMap<u32, (usize, HashMap<Vec<u32>, usize>)> = HashMap::new();
+    let mut by_class: Map<u32, (usize, Map<Vec<u32>, usize>)> = Map::default();
     let mut made: Vec<(u32, Vec<Vec<u32>>)> = Vec::new();
     for &number in changed {
         let color = colors[number as usize];
         let named = references[number as usize].iter().map(|&n| colors[n as usize]).collect();
         let (place, by_names) = by_class.entry(color).or_insert_with(|| {
             made.push((color, Vec::new()));
-            (made.len() - 1, HashMap::new())
+            (made.len() - 1, Map::default())
         });
         let listed = &mut made[*place].1;
         let part = *by_names.entry(named).or_insert_with(|| {
@@ -149,7 +165,7 @@ fn parts(changed: &[u32], references: &[Vec<u32>], colors: &[u32]) -> Vec<(u32, 
 fn fall_apart(
     color: u32,
     mut parts: Vec<Vec<u32>>,
-    classes: &mut Vec<HashSet<u32>>,
+    classes: &mut Vec<Set<u32>>,
     colors: &mut [u32],
     moved: &mut Vec<u32>,
 ) {
@@ -158,7 +174,7 @@ fn fall_apart(
     let largest = (0..parts.len()).max_by_key(|&n| parts[n].len()).expect("a class has parts");
     if others < parts[largest].len() {
         if others > 0 {
-            let told: HashSet<u32> = parts.iter().flatten().copied().collect();
+            let told: Set<u32> = parts.iter().flatten().copied().collect();
             let mut left: Vec<u32> = whole.difference(&told).copied().collect();
             left.sort_unstable();
             parts.push(left);
@@ -179,7 +195,7 @@ fn fall_apart(
 }
 
 fn one_of_each(table: &mut Table<'_>, colors: &[u32], resolved: &[u32], fixed: u32) {
-    let mut first: HashMap<u32, u32> = HashMap::from([(colors[0], 0)]);
+    let mut first: Map<u32, u32> = Map::from_iter([(colors[0], 0)]);
     let mut order = Vec::new();
     for number in 1..=table.len() {
         let place = number as usize;
@@ -198,7 +214,7 @@ fn one_of_each(table: &mut Table<'_>, colors: &[u32], resolved: &[u32], fixed: u
 
 /// Of several types of a name the first that is declared in full is found by it.
 pub fn name_once(table: &mut Table<'_>, fixed: u32) {
-    let mut best: HashMap<Tag, usize> = HashMap::new();
+    let mut best: Map<Tag, usize> = Map::default();
     for place in fixed as usize..table.records.len() {
         let record = &table.records[place];
         if record.name.is_empty() || !record.root {

@@ -7,6 +7,7 @@ use crate::ctf::{self, Sections};
 use crate::declared::SourceFiles;
 use crate::dictionary::{alone, select, select_in_full, MOST_TYPES};
 use crate::elf;
+use crate::elsewhere::Elsewhere;
 use crate::error::{refuse, Error, Result};
 use crate::image::{Data, Image};
 use crate::inputs::{plain_bytes, with_types, Form, Options, ProgramTypes};
@@ -22,10 +23,12 @@ use object::elf::{SHT_DYNSYM, SHT_NOBITS, SHT_STRTAB, SHT_SYMTAB};
 use object::read::elf::{FileHeader, SectionHeader, SectionTable};
 use object::{Endianness, Object as _, ObjectSection as _, SectionFlags, SectionIndex};
 use std::borrow::Cow;
+use std::path::PathBuf;
 
 /// The sections that have a dictionary.
 pub const SECTIONS: [&str; 2] = [".SUNW_ctf", ".ctf"];
-/// Those of a file whose types can be converted.
+/// Those with types of a form that is read, but for DWARF, and of a file whose types are converted.
+const TYPES: [&str; 3] = [".SUNW_ctf", ".ctf", ".BTF"];
 const OTHERS: [&str; 4] = [".debug_info", ".zdebug_info", ".gnu_debuglink", ".BTF"];
 
 /// How the symbols that go with a dictionary were found.
@@ -135,6 +138,23 @@ impl<'a> Handed<'a> {
         }
     }
 
+    /// The same, which borrows nothing.
+    pub fn into_owned(self) -> Handed<'static> {
+        let owned = |bytes: Cow<'a, [u8]>| Cow::Owned(bytes.into_owned());
+        Handed {
+            ctf: owned(self.ctf),
+            symbols: self.symbols.map(owned),
+            strings: self.strings.map(owned),
+            origin: self.origin,
+            model: self.model,
+            is_made: self.is_made,
+            losses: self.losses,
+            beyond: self.beyond,
+            sources: self.sources,
+            children: self.children.into_iter().map(Handed::into_owned).collect(),
+        }
+    }
+
     /// The dictionary alone, without symbols, and its children so.
     pub fn bare(&self) -> Handed<'_> {
         Handed {
@@ -193,6 +213,12 @@ pub fn model_named(ctf: &[u8]) -> Option<Model> {
     Sections::of(ctf).ok().and_then(|sections| labels::model(&sections))
 }
 
+/// A dictionary with its sections compressed, as CTF has it; as it is where that takes no fewer bytes.
+pub fn deflated(ctf: &[u8]) -> Result<Cow<'_, [u8]>> {
+    let packed = ctf::deflate(ctf)?;
+    Ok(if packed.len() < ctf.len() { packed.into() } else { ctf.into() })
+}
+
 /// The label by which a child names a dictionary as its parent; None of one that is cut off.
 pub fn label_of_parent(ctf: &[u8]) -> Option<Vec<u8>> {
     Sections::of(ctf).ok().map(|sections| labels::of_types(&sections))
@@ -211,9 +237,15 @@ pub fn table_of_program(image: &Image) -> Option<(&[u8], &[u8])> {
     listed(SymbolTable::Symtab).or_else(|| listed(SymbolTable::Dynsym))
 }
 
+/// The file that has the debug information of another; None where that has it itself.
+pub fn debug_file_of(image: &Image, folders: &[PathBuf]) -> Result<Option<Image>> {
+    let found = elf::debug_file(image, folders);
+    Ok(found.map_err(|error| error.of(image.path().display()))?.debug)
+}
+
 /// What the library is given for a file: its own dictionary, or one that is made of its types.
 pub fn handed<'a>(image: &'a Image, options: &Options) -> Result<Handed<'a>> {
-    match own_dictionary(image, options)? {
+    match own_or_found(image, options)? {
         Some(found) => Ok(found),
         None => {
             let options = Options { symbols: table_wanted(image)?, ..options.clone() };
@@ -222,11 +254,33 @@ pub fn handed<'a>(image: &'a Image, options: &Options) -> Result<Handed<'a>> {
     }
 }
 
+/// The dictionary of a file, or what is given for the file that has its types by build-id, where it
+/// has none itself.
+fn own_or_found<'a>(image: &'a Image, options: &Options) -> Result<Option<Handed<'a>>> {
+    if let Some(found) = own_dictionary(image, options)? {
+        return Ok(Some(found));
+    }
+    let is_wanted = options.elsewhere.is_there() && options.form.is_none() && image.is_elf();
+    if !is_wanted || has_types(image)? || elf::debug_file(image, &options.folders).is_ok() {
+        return Ok(None);
+    }
+    let id = image.elf()?.build_id()?.unwrap_or_default();
+    let Some(found) = options.elsewhere.find(id)? else { return Ok(None) };
+    let options = Options { elsewhere: Elsewhere::default(), ..options.clone() };
+    Ok(Some(handed(&found, &options)?.into_owned()))
+}
+
+/// Whether an ELF file has types itself.
+fn has_types(image: &Image) -> Result<bool> {
+    let file = image.elf()?;
+    Ok(TYPES.iter().any(|name| file.section_by_name(name).is_some()) || elf::has_debug(&file))
+}
+
 /// The same; of a program that strip has left no symbols but those that it exports, with those that
 /// it had before and their addresses, where its debug file has them.
 pub fn handed_before_strip<'a>(image: &'a Image, options: &Options) -> Result<Handed<'a>> {
     let is_stripped = symbols_before_strip(image).is_some();
-    match own_dictionary(image, options)? {
+    match own_or_found(image, options)? {
         None if is_stripped => {
             let options = Options { symbols: SymbolTable::Symtab, ..options.clone() };
             converted(image, &options)

@@ -95,7 +95,7 @@ impl Slots {
             let likeness = match self.number(key).filter(|&known| known == same) {
                 _ if before != number && !is_first_again => Likeness::Different,
                 Some(known) if !table.get(known).is_forward() => {
-                    likeness(piece, number, table, known, found)
+                    likeness(number, known, &Compared { piece, table, found })
                 }
                 _ => Likeness::Same,
             };
@@ -148,21 +148,55 @@ fn is_tagged(record: &Record<'_>) -> bool {
     is_of_tag && !record.name.is_empty()
 }
 
+/// A type that a unit names: one that it told, or one that stands in the table already.
+#[derive(Clone, Copy)]
+enum Named {
+    OfUnit(u32),
+    OfTable(u32),
+}
+
+/// A unit's types, beside what they were found to be in a table.
+struct Compared<'c, 'a> {
+    piece: &'c Piece<'a>,
+    table: &'c Table<'a>,
+    found: &'c Found,
+}
+
+impl<'c, 'a> Compared<'c, 'a> {
+    fn record(&self, one: Named) -> &'c Record<'a> {
+        match one {
+            Named::OfUnit(number) => self.piece.get(number),
+            Named::OfTable(number) => self.table.get(number),
+        }
+    }
+
+    /// The pairs of what two types name that were not found to be the same; None where one of them
+    /// names nothing.
+    fn open_pairs(&self, one: Named, other: u32) -> Option<Vec<(Named, u32)>> {
+        let pairs = self.record(one).references().zip(self.table.get(other).references());
+        let open = pairs.filter_map(|(x, y)| {
+            let (named, is) = match one {
+                Named::OfUnit(_) => {
+                    let known = self.piece.known(x).map(Named::OfTable);
+                    (known.unwrap_or(Named::OfUnit(x)), self.found.is[x as usize])
+                }
+                Named::OfTable(_) => (Named::OfTable(x), x),
+            };
+            (is != y).then_some((x != 0 && y != 0).then_some((named, y)))
+        });
+        open.collect()
+    }
+}
+
 /// How a unit's definition of a tag is alike to the one that is known. What has no tag is compared
 /// with all that it names; what has one is the same, or declared on one side alone.
-fn likeness(
-    piece: &Piece<'_>,
-    number: u32,
-    table: &Table<'_>,
-    known: u32,
-    found: &Found,
-) -> Likeness {
+fn likeness(number: u32, known: u32, compared: &Compared<'_, '_>) -> Likeness {
     let mut likeness = Likeness::Same;
-    let mut todo = vec![(number, known)];
+    let mut todo = vec![(Named::OfUnit(number), known)];
     let mut at = 0;
     while at < todo.len() {
         let (x, y) = todo[at];
-        let (mine, theirs) = (piece.get(x), table.get(y));
+        let (mine, theirs) = (compared.record(x), compared.table.get(y));
         if at > 0 && is_tagged(mine) && is_tagged(theirs) {
             if !has_tag_of(mine, theirs) || mine.is_forward() == theirs.is_forward() {
                 return Likeness::Different;
@@ -174,10 +208,11 @@ fn likeness(
         } else if !mine.has_shape_of(theirs) {
             return Likeness::Different;
         } else {
-            let pairs = mine.references().zip(theirs.references());
-            let open = pairs.filter(|&(x, y)| found.is[x as usize] != y);
-            todo.extend(open);
-            if todo[at + 1..].iter().any(|&(x, y)| x == 0 || y == 0) || todo.len() > MOST_PAIRS {
+            match compared.open_pairs(x, y) {
+                Some(open) => todo.extend(open),
+                None => return Likeness::Different,
+            }
+            if todo.len() > MOST_PAIRS {
                 return Likeness::Different;
             }
         }

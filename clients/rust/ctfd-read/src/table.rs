@@ -284,13 +284,18 @@ impl<'a> Record<'a> {
     /// What two types have in common that differ in no more than what they name.
     pub fn shape(&self) -> u64 {
         let mut hasher = AHasher::new_with_keys(1, 2);
-        let parts = (self.arguments().len(), self.members().len());
-        (self.kind, self.tag, self.varargs, self.size, self.elements).hash(&mut hasher);
-        (self.encoding, &self.name, self.values(), parts).hash(&mut hasher);
-        for one in self.members() {
-            (&one.name, one.offset, one.width).hash(&mut hasher);
-        }
+        self.hash_shape(&mut hasher);
         hasher.finish()
+    }
+
+    /// Feeds a hasher with the same.
+    pub fn hash_shape(&self, hasher: &mut impl Hasher) {
+        let parts = (self.arguments().len(), self.members().len());
+        (self.kind, self.tag, self.varargs, self.size, self.elements).hash(hasher);
+        (self.encoding, &self.name, self.values(), parts).hash(hasher);
+        for one in self.members() {
+            (&one.name, one.offset, one.width).hash(hasher);
+        }
     }
 
     /// Whether two types differ in no more than what they name, and who sees them.
@@ -331,9 +336,9 @@ pub fn is_same(one: &[u8], other: &[u8]) -> bool {
 pub struct Table<'a> {
     /// The types, from number 1 on.
     pub records: Vec<Record<'a>>,
-    /// For each object that is considered its type; 0 where nothing is told of it.
+    /// For each object that is considered its type; 0 where it is not known.
     pub objects: Vec<u32>,
-    /// For each function that is considered its record; None where nothing is told of it.
+    /// For each function that is considered its record; None where it is not known.
     pub functions: Vec<Option<Record<'a>>>,
     /// What of their source they do not say, a line each.
     pub losses: Vec<String>,

@@ -1,8 +1,10 @@
 //! What the words of several commands have in common: how options are made, and how files are read.
 
+use crate::elsewhere;
 use clap::builder::PossibleValuesParser;
 use clap::{value_parser, Arg, ArgAction, ArgMatches, Command};
 use ctfd::Model;
+use ctfd_read::elsewhere::Elsewhere;
 use ctfd_read::inputs::{Form, Options};
 use std::path::PathBuf;
 
@@ -41,9 +43,23 @@ pub fn word(name: &'static str, listed: &'static str, help: &'static str) -> Arg
     made.hide_possible_values(true).help(help)
 }
 
+/// The option that names stores.
+pub fn store() -> Arg {
+    Arg::new("store")
+        .long("store")
+        .value_name("URL")
+        .help("where types are asked for by build-id, in place of CTFD_STORE")
+}
+
+/// The stores that this option names, else those of the environment.
+pub fn stores(matches: &ArgMatches) -> Elsewhere {
+    elsewhere::of(matches.get_one::<String>("store").map(String::as_str))
+}
+
 /// How files are read.
-pub fn of_reading() -> [Arg; 6] {
+pub fn of_reading() -> [Arg; 7] {
     [
+        store(),
         word(
             "model",
             "lp64|ilp32",
@@ -71,6 +87,7 @@ pub fn reading(matches: &ArgMatches) -> Options {
         form: word("from").and_then(|word| Form::ALL.into_iter().find(|form| form.word() == word)),
         base: matches.get_one::<PathBuf>("base").cloned(),
         folders: matches.get_many("debug-folder").unwrap_or_default().cloned().collect(),
+        elsewhere: stores(matches),
         ..Options::default()
     }
 }

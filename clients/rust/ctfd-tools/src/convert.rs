@@ -2,11 +2,13 @@
 
 use crate::arguments;
 use crate::bundle;
+use crate::elsewhere;
 use crate::interrupts;
 use crate::messages::{warn, LOSSY, REFUSED};
 use crate::output;
 use crate::progress::Bar;
 use crate::standard;
+use crate::wrong_words;
 use clap::builder::PossibleValuesParser;
 use clap::{value_parser, Arg, ArgAction, ArgMatches, Command};
 use ctfd::Model;
@@ -42,7 +44,7 @@ const OF_TYPES: [&str; 7] =
 
 /// The command; its exit status.
 pub fn main(words: Vec<OsString>) -> ExitCode {
-    let words = Words::of(&options().get_matches_from(words));
+    let words = Words::of(&wrong_words::matched(options(), words));
     if standard::is_output_closed() {
         warn(NAME, standard::CLOSED);
         return ExitCode::from(REFUSED);
@@ -114,6 +116,7 @@ impl Words {
                 is_in_full: false,
                 listener: Listener::new(Arc::new(Bar::new(format!("reading {}", input.display())))),
                 has_sources: false,
+                elsewhere: elsewhere::of(None),
                 is_one: matches.get_flag("one"),
             },
             input,
@@ -286,7 +289,7 @@ fn convert(words: &Words) -> Result<Vec<String>> {
     rayon::ThreadPoolBuilder::new()
         .build_global()
         .map_err(|error| Error(format!("the threads can't be started: {error}")))?;
-    let image = Image::open(&words.input)?;
+    let image = elsewhere::open(&words.input, &words.reading)?;
     match words.answer {
         Answer::Types => {}
         Answer::Bundle { has_addresses } => return write_bundle(words, &image, has_addresses),

@@ -9,14 +9,20 @@ mod bundle;
 mod convert;
 mod debuginfo;
 mod diff;
+mod elsewhere;
 mod explore;
 mod interrupts;
 mod messages;
 mod output;
+mod packages;
 mod progress;
 mod show;
 mod standard;
+mod store;
 mod types;
+mod wrong_words;
+
+pub use wrong_words::refuse;
 
 use std::ffi::OsString;
 use std::path::{Path, PathBuf};
@@ -25,12 +31,13 @@ use std::process::ExitCode;
 /// A command: from its words, the program's name first, to its exit status.
 type Command = fn(Vec<OsString>) -> ExitCode;
 
-const COMMANDS: [(&str, Command); 6] = [
+const COMMANDS: [(&str, Command); 7] = [
     ("ctfd-convert", convert::main),
     ("ctfd-debuginfo", debuginfo::main),
     ("ctfd-diff", diff::main),
     ("ctfd-explore", explore::main),
     ("ctfd-show", show::main),
+    ("ctfd-store", store::main),
     ("ctfd-types", types::main),
 ];
 

@@ -117,9 +117,14 @@ pub struct Folder {
 impl Folder {
     /// Makes one.
     pub fn new() -> Result<Folder> {
+        Folder::within(&std::env::temp_dir())
+    }
+
+    /// Makes one within another.
+    pub fn within(other: &Path) -> Result<Folder> {
         let process = std::process::id();
         for turn in 0..u32::MAX {
-            let path = std::env::temp_dir().join(format!(".ctfd-{process}-{turn}"));
+            let path = other.join(format!(".ctfd-{process}-{turn}"));
             match interrupts::make(&path, |path| DirBuilder::new().mode(0o700).create(path)) {
                 Ok(()) => return Ok(Folder { path }),
                 Err(error) if error.kind() == ErrorKind::AlreadyExists => {}

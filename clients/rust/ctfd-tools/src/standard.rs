@@ -6,7 +6,7 @@
 
 use std::sync::atomic::{AtomicBool, Ordering};
 
-/// What is told of it.
+/// The message where standard output is closed.
 pub const CLOSED: &str =
     "standard output is closed, so nothing can be printed: redirect it, to /dev/null if need be";
 const OUTPUT: i32 = 1;

@@ -32,7 +32,7 @@ pub enum Kind {
     Union = 7,
     /// An enum.
     Enum = 8,
-    /// A struct, union or enum that is declared and not told.
+    /// A forward declaration of a struct, union or enum.
     Forward = 9,
     /// Another name of a type.
     Typedef = 10,

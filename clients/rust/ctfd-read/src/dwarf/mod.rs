@@ -1,8 +1,12 @@
 //! Debug information in DWARF, of versions 2 to 5.
 
 mod classes;
+pub mod collector;
+mod imports;
+mod line;
 pub mod names;
 pub mod sections;
 pub mod tags;
 pub mod types;
+mod unit_types;
 pub mod units;

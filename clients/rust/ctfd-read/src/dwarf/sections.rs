@@ -4,7 +4,7 @@
 use crate::dwarf::units::Slice;
 use crate::elf;
 use crate::error::{refuse, Result};
-use crate::image::Image;
+use crate::image::{Elf, Image};
 use gimli::{constants as dw, SectionId, UnitHeader, UnitType};
 use gimli::{AttributeValue, DwarfFileType, DwarfPackage, DwoId, EndianSlice, RunTimeEndian};
 use std::borrow::Cow;
@@ -63,20 +63,18 @@ impl<'a> Sections<'a> {
     /// some folders, and .dwo files.
     pub fn load(image: &'a Image, folders: &[PathBuf]) -> Result<Self> {
         let file = image.elf()?;
-        let main = gimli::Dwarf::load(|id: SectionId| match is_needed(id) {
-            true => elf::section(image, &file, id.name()),
-            false => Ok(Cow::default()),
-        })?;
+        let mut needed = needed_of(image, &file);
+        let main =
+            gimli::Dwarf::load(|id| needed.remove(&id).unwrap_or_else(|| Ok(Cow::default())))?;
         let endian = elf::endian(&file);
         let (splits, skeletons) = (Vec::new(), HashMap::new());
         let mut sections = Sections { main, common: None, endian, splits, skeletons };
         if let Some(common) = elf::alternate_file(image, folders)? {
             let file = common.elf()?;
+            let mut needed = needed_of(&common, &file);
             let owned = |id: SectionId| -> Result<Cow<'a, [u8]>> {
-                match is_needed(id) {
-                    true => Ok(Cow::Owned(elf::section(&common, &file, id.name())?.into_owned())),
-                    false => Ok(Cow::default()),
-                }
+                let found = needed.remove(&id).unwrap_or_else(|| Ok(Cow::default()))?;
+                Ok(Cow::Owned(found.into_owned()))
             };
             sections.common = Some(gimli::Dwarf::load(owned)?);
         }
@@ -130,10 +128,23 @@ impl<'a> Sections<'a> {
     }
 }
 
-/// Whether types and symbols need a section. Lines are read with each unit.
-fn is_needed(id: SectionId) -> bool {
-    use SectionId::{DebugAranges, DebugLoc, DebugLocLists, DebugMacinfo, DebugMacro};
-    !matches!(id, DebugAranges | DebugLoc | DebugLocLists | DebugMacinfo | DebugMacro)
+/// The sections that types and symbols need. Lines are read with each unit.
+const NEEDED: [SectionId; 10] = [
+    SectionId::DebugAbbrev,
+    SectionId::DebugAddr,
+    SectionId::DebugInfo,
+    SectionId::DebugLine,
+    SectionId::DebugLineStr,
+    SectionId::DebugRanges,
+    SectionId::DebugRngLists,
+    SectionId::DebugStr,
+    SectionId::DebugStrOffsets,
+    SectionId::DebugTypes,
+];
+
+/// These of a file; the first in gimli's order that can't be had refuses it.
+fn needed_of<'a>(image: &'a Image, file: &Elf<'a>) -> HashMap<SectionId, Result<Cow<'a, [u8]>>> {
+    NEEDED.into_iter().zip(elf::sections(image, file, NEEDED.map(|id| id.name()))).collect()
 }
 
 /// What a unit says of the .dwo file that it stands for.

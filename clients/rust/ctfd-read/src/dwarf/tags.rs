@@ -71,6 +71,13 @@ impl SingleTags {
     pub fn clear(&mut self) {
         self.keys.clear();
     }
+
+    /// Some structs.
+    #[cfg(test)]
+    pub fn of_structs(names: &[&str]) -> SingleTags {
+        let keys = names.iter().map(|name| tag_key(Kind::Struct, name.as_bytes())).collect();
+        SingleTags { keys }
+    }
 }
 
 /// What stands for a tag in tables.

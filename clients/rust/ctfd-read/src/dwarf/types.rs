@@ -1,359 +1,38 @@
 //! The types of C in a program's debug information, as a table.
 
-use crate::descriptions::{Description, Descriptions, Statement, SymbolFilter};
+use crate::descriptions::{Description, Statement, SymbolFilter};
 use crate::dwarf::names::{Language, Prefixes};
-use crate::dwarf::tags::SingleTags;
+use crate::dwarf::unit_types::{JoinedEntries, Loss, UnitTypes};
 use crate::dwarf::units::{scopes, Debug, Entry, Scope, Unit};
 use crate::error::{refuse, Result};
-use crate::join::{Joiner, NumberHasher, Piece};
-use crate::progress::{Listener, Work};
-use crate::symbols::{Symbol, Symbols};
-use crate::table::{Encoding, Enumerator, Kind, Member, Parts, Record, Table};
-use crate::verify::Judges;
-use gimli::{constants as dw, DwLang, DwTag, Reader as _, RunTimeEndian, UnitOffset};
-use rayon::prelude::*;
+use crate::join::NumberHasher;
+use crate::table::{Encoding, Enumerator, Kind, Member, Parts, Record};
+use gimli::{constants as dw, DwTag, Reader as _, RunTimeEndian, UnitOffset};
 use std::borrow::Cow;
-use std::collections::{BTreeMap, HashMap, HashSet};
+use std::collections::HashMap;
 use std::hash::BuildHasherDefault;
 use std::rc::Rc;
 
 /// A declaration, an abstract function and a copy of it are three; damage may form a cycle.
 const LONGEST_CHAIN: usize = 16;
 const LONGEST_TYPE: usize = 512;
-/// How many units one thread reads and joins before they are joined with those of others.
-const GROUP: usize = 16;
-/// How many such groups are read at a time.
-const GROUPS: usize = 16;
-/// How often all is read: again where a tag turned out to have several definitions.
-const MOST_ROUNDS: usize = 3;
-/// Files with fewer bytes of entries are read in less time than it takes to find their tags first.
-const WORTH_TAGS: usize = 1 << 24;
 
 const SIGNED: u8 = 1;
 const CHARACTER: u8 = 2;
 const BOOLEAN: u8 = 4;
-
-/// What one unit tells.
-#[derive(Default)]
-struct UnitTypes<'a> {
-    records: Vec<Record<'a>>,
-    roots: Vec<u32>,
-    told: Vec<Statement<'a>>,
-    losses: Vec<String>,
-}
-
-enum Outcome<'a> {
-    OfC(UnitTypes<'a>),
-    Foreign(DwLang),
-    Nothing,
-}
-
-/// What all units told so far.
-#[derive(Default)]
-pub struct Collector<'a> {
-    joiner: Joiner<'a>,
-    symbols: Descriptions<'a>,
-    roots: Vec<u32>,
-    losses: Vec<String>,
-    units: usize,
-    foreign: BTreeMap<String, usize>,
-}
-
-/// What some units told, joined.
-struct Group<'a> {
-    piece: Piece<'a>,
-    conflicts: HashSet<u64>,
-    unit_types: UnitTypes<'a>,
-    units: usize,
-    foreign: Vec<DwLang>,
-}
-
-/// Reads all units of some files, each with the name that a refusal has in front.
-pub fn collect<'a>(
-    files: &[(Debug<'a>, String)],
-    wanted: &[Symbol<'a>],
-    is_ilp32: bool,
-    listener: &Listener,
-) -> Result<Collector<'a>> {
-    let mut tags = SingleTags::default();
-    if files.iter().map(|(debug, _)| debug.entry_bytes()).sum::<usize>() >= WORTH_TAGS {
-        tags = SingleTags::of(files.iter().map(|(debug, _)| debug));
-    }
-    for left in (0..MOST_ROUNDS).rev() {
-        let mut collector = Collector::default();
-        let work = listener.begin(files.iter().map(|(debug, _)| debug.units() as u64).sum());
-        for (debug, name) in files {
-            let read = collector.read(debug, wanted, is_ilp32, &tags, &work);
-            read.map_err(|error| error.of(name))?;
-        }
-        let conflicts = std::mem::take(collector.joiner.conflicts());
-        match left {
-            _ if conflicts.is_empty() => return Ok(collector),
-            1 => tags.clear(),
-            _ => tags.remove(conflicts),
-        }
-    }
-    refuse("its types can't be told apart")
-}
-
-/// Refuses a dictionary that does not tell what the units of some files do; how many types of theirs
-/// were compared.
-pub fn verify(
-    files: &[(Debug<'_>, String)],
-    is_ilp32: bool,
-    written: &Judges<'_>,
-) -> Result<usize> {
-    let filter = SymbolFilter::new(&[]);
-    let mut count = 0;
-    for (debug, name) in files {
-        let imports = imports(debug)?;
-        let judged = |number: usize| -> Result<usize> {
-            match read_unit(debug, number, &filter, &imports, is_ilp32)? {
-                Outcome::OfC(unit) => written.judge(&unit.records, &unit.roots),
-                _ => Ok(0),
-            }
-        };
-        let of_file: Result<usize> = (0..debug.units()).into_par_iter().map(judged).sum();
-        count += of_file.map_err(|error| error.of(name))?;
-    }
-    written.finish()?;
-    Ok(count)
-}
-
-impl<'a> Collector<'a> {
-    /// Reads all units of a program: many at a time, joined one after the other in their order.
-    fn read(
-        &mut self,
-        debug: &Debug<'a>,
-        wanted: &[Symbol<'a>],
-        is_ilp32: bool,
-        tags: &SingleTags,
-        work: &Work<'_>,
-    ) -> Result<()> {
-        let filter = SymbolFilter::new(wanted);
-        let imports = imports(debug)?;
-        let read = |number: usize| {
-            work.add(1);
-            read_unit(debug, number, &filter, &imports, is_ilp32)
-        };
-        let numbers: Vec<usize> = (0..debug.units()).collect();
-        let groups: Vec<&[usize]> = numbers.chunks(GROUP).collect();
-        let mut ready: Vec<Result<Group>> = Vec::new();
-        for some in groups.chunks(GROUPS).chain([&[][..]]) {
-            let before = std::mem::take(&mut ready);
-            let (next, joined) = rayon::join(
-                || some.par_iter().map(|numbers| Group::read(numbers, read, tags)).collect(),
-                || before.into_iter().try_for_each(|one| one.map(|one| self.take(one))),
-            );
-            joined?;
-            ready = next;
-        }
-        Ok(())
-    }
-
-    fn take(&mut self, group: Group<'a>) {
-        for language in group.foreign {
-            *self.foreign.entry(language_name(language)).or_default() += 1;
-        }
-        self.units += group.units;
-        self.joiner.conflicts().extend(group.conflicts);
-        let to = self.joiner.join(group.piece);
-        let UnitTypes { roots, told, losses, .. } = group.unit_types.renumbered(&to);
-        self.roots.extend(roots);
-        self.losses.extend(losses);
-        told.into_iter().for_each(|told| self.symbols.tell(told));
-    }
-
-    /// The table, with what is told of symbols, and the types that are wanted for themselves.
-    pub fn finish(
-        self,
-        wanted: &Symbols<'_>,
-        is_linked: bool,
-        is_ilp32: bool,
-    ) -> Result<(Table<'a>, Vec<u32>)> {
-        let described = |(name, units): (&String, &usize)| match units {
-            1 => format!("1 unit in {name}"),
-            _ => format!("{units} units in {name}"),
-        };
-        let listed: Vec<String> = self.foreign.iter().map(described).collect();
-        if self.units == 0 && !listed.is_empty() {
-            let listed = listed.join(" and ");
-            return refuse(format!(
-                "its debug information is of {listed}: types of C, C++ and Rust are read"
-            ));
-        }
-        let (mut table, to) = self.joiner.into_table();
-        let place = |n: u32| to[n as usize];
-        for one in &wanted.listed {
-            let said = self.symbols.description_of(one, is_linked);
-            if one.is_function {
-                let function = said.and_then(|said| said.function.as_ref());
-                table.functions.push(function.map(|record| record.renumbered(place)));
-            } else {
-                table.objects.push(said.map_or(0, |said| place(said.of)));
-            }
-        }
-        table.is_ilp32 = is_ilp32;
-        table.losses = self.losses;
-        table.losses.extend(listed.iter().map(|one| {
-            format!(
-                "{one} of the program: types of C, C++ and Rust are read; what it tells is left out"
-            )
-        }));
-        Ok((table, self.roots.into_iter().map(place).collect()))
-    }
-}
-
-impl<'a> Group<'a> {
-    /// Reads some units and joins them, in the thread that reads them: what is left of each is freed
-    /// where it was made.
-    fn read(
-        numbers: &[usize],
-        read: impl Fn(usize) -> Result<Outcome<'a>>,
-        tags: &SingleTags,
-    ) -> Result<Group<'a>> {
-        let mut joiner = Joiner::default();
-        let mut all = UnitTypes::default();
-        let (mut units, mut foreign) = (0, Vec::new());
-        for &number in numbers {
-            match read(number)? {
-                Outcome::Nothing => {}
-                Outcome::Foreign(language) => foreign.push(language),
-                Outcome::OfC(mut unit_types) => {
-                    units += 1;
-                    let records = std::mem::take(&mut unit_types.records);
-                    let to = joiner.join(Piece::new(records, tags));
-                    all.append(unit_types.renumbered(&to));
-                }
-            }
-        }
-        let (piece, to, conflicts) = joiner.into_piece(tags);
-        Ok(Group { piece, conflicts, unit_types: all.renumbered(&to), units, foreign })
-    }
-}
-
-impl<'a> UnitTypes<'a> {
-    /// The same with other numbers for what it names, without its records.
-    fn renumbered(mut self, to: &[u32]) -> UnitTypes<'a> {
-        self.roots.iter_mut().for_each(|n| *n = to[*n as usize]);
-        for told in &mut self.told {
-            told.said.of = to[told.said.of as usize];
-            if let Some(function) = &mut told.said.function {
-                function.renumber(|n| to[n as usize]);
-            }
-        }
-        self
-    }
-
-    /// Takes in what another tells, but for its records.
-    fn append(&mut self, mut other: UnitTypes<'a>) {
-        self.roots.append(&mut other.roots);
-        self.told.append(&mut other.told);
-        self.losses.append(&mut other.losses);
-    }
-}
-
-/// What a unit tells, and the units that it imports.
-fn read_unit<'a>(
-    debug: &Debug<'a>,
-    number: usize,
-    filter: &SymbolFilter<'_>,
-    imports: &HashMap<u64, Vec<u64>>,
-    is_ilp32: bool,
-) -> Result<Outcome<'a>> {
-    let unit = debug.open(number)?;
-    let top = Entry::top(&unit)?;
-    if top.tag == dw::DW_TAG_partial_unit {
-        return Ok(Outcome::Nothing);
-    }
-    match top.constant(dw::DW_AT_language).map(|said| DwLang(said as u16)) {
-        Some(dw::DW_LANG_Mips_Assembler | DwLang(0x31)) => return Ok(Outcome::Nothing),
-        Some(language) if Language::of(language).is_none() => {
-            return Ok(Outcome::Foreign(language));
-        }
-        _ => {}
-    }
-    let mut reader = Reader::new(debug, filter, is_ilp32);
-    reader.unit(&unit)?;
-    for &key in imports.get(&debug.start(number)).into_iter().flatten() {
-        reader.unit(debug.unit_of(key)?)?;
-    }
-    Ok(Outcome::OfC(reader.unit_types))
-}
-
-/// For each unit those that dwz made of what several have in common, and that it imports first.
-fn imports(debug: &Debug<'_>) -> Result<HashMap<u64, Vec<u64>>> {
-    let numbers = 0..debug.units();
-    let mut made = HashMap::new();
-    let is_partial = |number: usize| -> Result<bool> {
-        if debug.version(number) >= 5 {
-            return Ok(debug.is_partial(number));
-        }
-        let unit = debug.open(number)?;
-        let top = Entry::top(&unit)?;
-        Ok(top.tag == dw::DW_TAG_partial_unit)
-    };
-    let partial: Vec<bool> =
-        numbers.clone().into_par_iter().map(is_partial).collect::<Result<_>>()?;
-    if !debug.has_common() && !partial.contains(&true) {
-        return Ok(made);
-    }
-    let whole = numbers.into_par_iter().filter(|&number| !partial[number]);
-    let listed: Vec<(u64, Vec<u64>)> = whole
-        .map(|number| Ok((debug.start(number), imported_units(debug, &debug.open(number)?)?)))
-        .collect::<Result<_>>()?;
-    let mut met = HashSet::new();
-    for (start, named_by) in listed {
-        let mut own = Vec::new();
-        let mut todo: Vec<u64> = named_by.into_iter().filter(|&key| met.insert(key)).collect();
-        while let Some(key) = todo.pop() {
-            own.push(key);
-            todo.extend(
-                imported_units(debug, debug.unit_of(key)?)?.into_iter().filter(|&k| met.insert(k)),
-            );
-        }
-        made.insert(start, own);
-    }
-    Ok(made)
-}
-
-/// The units that one imports.
-fn imported_units<'a>(debug: &Debug<'a>, unit: &Unit<'a>) -> Result<Vec<u64>> {
-    let mut made = Vec::new();
-    let top = Entry::top(unit)?;
-    for one in top.children_of(|tag| tag == dw::DW_TAG_imported_unit)? {
-        if let Some(key) = debug.key(&one?, dw::DW_AT_import)? {
-            made.push(debug.unit_of(key)?.start);
-        }
-    }
-    Ok(made)
-}
-
-/// How a language is called.
-fn language_name(language: DwLang) -> String {
-    let name = match language.0 {
-        0x16 => "Go",
-        0x13 => "D",
-        0x03 | 0x0d | 0x2e | 0x2f => "Ada",
-        0x07 | 0x08 | 0x0e | 0x22 | 0x23 => "Fortran",
-        0x09 => "Pascal",
-        0x10 => "Objective-C",
-        0x11 => "Objective-C++",
-        0x1e => "Swift",
-        0x0b => "Java",
-        0x0a => "Modula-2",
-        0x17 => "Modula-3",
-        other => return format!("language 0x{other:x}"),
-    };
-    name.to_owned()
-}
 
 /// Reads one unit, with those that it imports. An entry has a number from when it is first named.
 pub(super) struct Reader<'d, 'a> {
     pub(super) debug: &'d Debug<'a>,
     asked: &'d SymbolFilter<'d>,
     is_ilp32: bool,
-    unit_types: UnitTypes<'a>,
+    /// What was read for units before it.
+    joined: &'d JoinedEntries,
+    /// The start of the unit that is read.
+    start: u64,
+    pub(super) unit_types: UnitTypes<'a>,
+    /// The key of the entry of which a record is made.
+    entry: u64,
     numbers: HashMap<u64, u32, BuildHasherDefault<NumberHasher>>,
     todo: Vec<(&'d Unit<'a>, UnitOffset, u32)>,
     index: u32,
@@ -362,12 +41,22 @@ pub(super) struct Reader<'d, 'a> {
 }
 
 impl<'d, 'a> Reader<'d, 'a> {
-    fn new(debug: &'d Debug<'a>, asked: &'d SymbolFilter<'d>, is_ilp32: bool) -> Reader<'d, 'a> {
+    /// A reader of the unit that begins at `start`.
+    pub(super) fn new(
+        debug: &'d Debug<'a>,
+        start: u64,
+        asked: &'d SymbolFilter<'d>,
+        joined: &'d JoinedEntries,
+        is_ilp32: bool,
+    ) -> Reader<'d, 'a> {
         Reader {
             debug,
             asked,
             is_ilp32,
+            joined,
+            start,
             unit_types: UnitTypes::default(),
+            entry: 0,
             numbers: HashMap::default(),
             todo: Vec::new(),
             index: 0,
@@ -376,7 +65,7 @@ impl<'d, 'a> Reader<'d, 'a> {
     }
 
     /// The types, functions and objects in a unit and in its functions.
-    fn unit(&mut self, unit: &'d Unit<'a>) -> Result<()> {
+    pub(super) fn unit(&mut self, unit: &'d Unit<'a>) -> Result<()> {
         let is_scoped = self.prefixes(unit)?.is_some();
         let language = if is_scoped { Language::Scoped } else { Language::C };
         let scopes = scopes(unit, language)?;
@@ -401,6 +90,7 @@ impl<'d, 'a> Reader<'d, 'a> {
     /// Reads all that was named and not read yet.
     fn finish(&mut self) -> Result<()> {
         while let Some((unit, offset, number)) = self.todo.pop() {
+            self.entry = unit.key(offset);
             let record = self.record(Entry::read(unit, offset)?)?;
             self.unit_types.records[number as usize - 1] = record;
         }
@@ -414,23 +104,41 @@ impl<'d, 'a> Reader<'d, 'a> {
 
     fn number(&mut self, unit: &'d Unit<'a>, offset: UnitOffset) -> u32 {
         let key = unit.key(offset);
+        self.known_number(key).unwrap_or_else(|| self.fresh_number(unit, key))
+    }
+
+    /// The number of an entry that was named before, by this unit or one before it.
+    #[inline]
+    fn known_number(&mut self, key: u64) -> Option<u32> {
         if let Some(&known) = self.numbers.get(&key) {
-            return known;
+            return Some(known);
         }
+        let joined = self.joined.number(key)?;
         let made = self.add(Record::unknown());
         self.numbers.insert(key, made);
-        self.todo.push((unit, offset, made));
+        self.unit_types.joined.push((made, joined));
+        Some(made)
+    }
+
+    /// A number for an entry, which is read later.
+    fn fresh_number(&mut self, unit: &'d Unit<'a>, key: u64) -> u32 {
+        let made = self.add(Record::unknown());
+        self.numbers.insert(key, made);
+        self.todo.push((unit, UnitOffset((key - unit.start) as usize), made));
+        if unit.start != self.start {
+            self.unit_types.shared.push((key, made));
+        }
         made
     }
 
     /// The number of the type that an entry names; 0 where it names none.
     pub(super) fn of(&mut self, entry: &Entry<'d, 'a>) -> Result<u32> {
         let Some(key) = self.debug.key(entry, dw::DW_AT_type)? else { return Ok(0) };
-        if let Some(&known) = self.numbers.get(&key) {
+        if let Some(known) = self.known_number(key) {
             return Ok(known);
         }
         let unit = if entry.unit.has(key) { entry.unit } else { self.debug.unit_of(key)? };
-        Ok(self.number(unit, UnitOffset((key - unit.start) as usize)))
+        Ok(self.fresh_number(unit, key))
     }
 
     fn record(&mut self, mut entry: Entry<'d, 'a>) -> Result<Record<'a>> {
@@ -677,7 +385,8 @@ impl<'d, 'a> Reader<'d, 'a> {
     }
 
     pub(super) fn lost(&mut self, line: &str) {
-        self.unit_types.losses.push(line.to_owned());
+        let (entry, unit) = (self.entry, self.start);
+        self.unit_types.losses.push(Loss { entry, unit, line: line.to_owned() });
     }
 
     // Symbols.

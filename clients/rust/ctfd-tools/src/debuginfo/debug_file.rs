@@ -7,8 +7,11 @@
 use super::sections::{DebugSection, RelocationKind};
 use ctfd::Model;
 use ctfd_read::debuggee::{Debuggee, Head, Section, Segment};
+use ctfd_read::entry_symbols::identity_of;
 use ctfd_read::error::{Error, Result};
-use object::elf::{self, SHN_ABS, SHN_LORESERVE};
+use ctfd_read::opening::deflated;
+use ctfd_read::symbols::SymbolTable;
+use object::elf::{self, SHN_LORESERVE};
 use object::write::elf::{FileHeader, ProgramHeader, Rel, SectionHeader, Writer};
 use object::Endianness;
 use std::borrow::Cow;
@@ -18,6 +21,8 @@ use std::collections::HashMap;
 const SECTION_IN_64: usize = 6;
 const SECTION_IN_32: usize = 14;
 const LONGEST_ALIGN: u64 = 16;
+const DICTIONARY: &[u8] = b".SUNW_ctf";
+const ALIGN_OF_DICTIONARY: u64 = 4;
 
 /// The bytes of a section in the file that is written.
 enum Bytes<'a> {
@@ -74,11 +79,13 @@ impl<'a> OutputSection<'a> {
     }
 }
 
-/// A file beside a program. The symbols may come from another copy of it.
+/// A file beside a program. The symbols may come from another copy of it, and the dictionary may
+/// stand in it too.
 pub fn beside(
     program: &Debuggee<'_>,
     symbols: &Debuggee<'_>,
     debug: &[DebugSection],
+    dictionary: Option<&[u8]>,
 ) -> Result<Vec<u8>> {
     let mut numbers = HashMap::new();
     let mut listed = Vec::new();
@@ -103,17 +110,59 @@ pub fn beside(
             }
         }
     }
+    listed.extend(dictionary.map(|ctf| of_dictionary(ctf, symbols, table)).transpose()?);
     file(program.model, &program.head, &program.segments, listed)
+}
+
+/// The section of a dictionary, compressed as CTF has it. It links to the symbol table of a number,
+/// where its entries go by that.
+fn of_dictionary<'a>(
+    ctf: &'a [u8],
+    symbols: &Debuggee<'_>,
+    table: usize,
+) -> Result<OutputSection<'a>> {
+    let bytes = Bytes::Some(deflated(ctf)?);
+    let mut made = OutputSection::new(DICTIONARY, elf::SHT_PROGBITS, bytes);
+    let is_by_table = identity_of(ctf).is_some_and(|one| one.table == SymbolTable::Symtab);
+    if is_by_table && symbols.section_of(SymbolTable::Symtab.word()).is_some() {
+        made.header.sh_link = table as u32;
+    }
+    made.header.sh_addralign = ALIGN_OF_DICTIONARY;
+    Ok(made)
 }
 
 /// A file of types alone.
 pub fn of_types(model: Model, debug: &[DebugSection]) -> Result<Vec<u8>> {
+    file(model, &head_of(model), &[], debug.iter().map(OutputSection::of_debug).collect())
+}
+
+/// The header of a file that is of no program.
+fn head_of(model: Model) -> Head {
     let machine = match model {
         Model::Lp64 => elf::EM_X86_64,
         Model::Ilp32 => elf::EM_386,
     };
-    let head = Head { kind: elf::ET_EXEC, machine, entry: 0, flags: 0, system: 0 };
-    file(model, &head, &[], debug.iter().map(OutputSection::of_debug).collect())
+    Head { kind: elf::ET_EXEC, machine, entry: 0, flags: 0, system: 0 }
+}
+
+/// A file of a dictionary and of the symbols that go with it, a table and its names.
+pub fn of_dictionary_alone(
+    model: Model,
+    ctf: &[u8],
+    symbols: Option<(&[u8], &[u8])>,
+) -> Result<Vec<u8>> {
+    let mut listed = Vec::new();
+    if let Some((table, strings)) = symbols {
+        let bytes = Bytes::Some(table.into());
+        let mut made = OutputSection::new(&b".symtab"[..], elf::SHT_SYMTAB, bytes);
+        made.header.sh_link = 2;
+        made.header.sh_addralign = word_of(model);
+        made.header.sh_entsize = if model == Model::Lp64 { 24 } else { 16 };
+        let strings = Bytes::Some(strings.into());
+        listed.extend([made, OutputSection::new(&b".strtab"[..], elf::SHT_STRTAB, strings)]);
+    }
+    listed.push(OutputSection::new(DICTIONARY, elf::SHT_PROGBITS, Bytes::Some(ctf.into())));
+    file(model, &head_of(model), &[], listed)
 }
 
 /// A section of the program: a note as it is, and of others what they take in memory.
@@ -146,10 +195,12 @@ fn symbol_table<'a>(
     };
     let by_name: HashMap<Vec<u8>, u16> =
         program.sections.iter().enumerate().filter_map(number_of).collect();
+    // A symbol of a section that is not written has no address: it goes to the table itself, which
+    // is not in memory either.
     let new_number = |old: u16| match symbols.sections.get(usize::from(old)) {
         _ if old == 0 || old >= SHN_LORESERVE => old,
-        Some(section) => by_name.get(section.name).copied().unwrap_or(SHN_ABS),
-        None => SHN_ABS,
+        Some(section) => by_name.get(section.name).copied().unwrap_or(place as u16),
+        None => place as u16,
     };
     let at = match symbols.model {
         Model::Lp64 => SECTION_IN_64,

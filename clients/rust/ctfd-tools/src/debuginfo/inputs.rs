@@ -31,6 +31,11 @@ impl Files {
         Ok(made)
     }
 
+    /// A dictionary by itself, the program that it is of, and another copy of that.
+    pub fn of_images(dictionary: Image, program: Image, symbols: Option<Image>) -> Files {
+        Files { file: dictionary, program: Some(program), symbols }
+    }
+
     fn judge(&self) -> Outcome<()> {
         let path = shown(self.file.path());
         let why = match &self.program {

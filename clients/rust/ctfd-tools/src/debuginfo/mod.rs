@@ -2,7 +2,7 @@
 
 mod aliases;
 mod arguments;
-mod debug_file;
+pub mod debug_file;
 mod entries;
 mod inputs;
 mod options;
@@ -31,11 +31,13 @@ use ctfd_read::entry_symbols::own_symbols;
 use ctfd_read::error::reason;
 use ctfd_read::opening::Origin;
 use entries::Entries;
-use inputs::{without_symbols, Files, Numbers};
+pub use inputs::Files;
+use inputs::{without_symbols, Numbers};
 use object::elf::EM_X86_64;
 use options::{Words, NAME};
 use sections::{compress, of_dwarf, DebugSection, RelocationKind};
 use std::ffi::OsString;
+use std::fmt::{self, Display};
 use std::io::Write as _;
 use std::os::unix::ffi::OsStrExt as _;
 use std::path::{Path, PathBuf};
@@ -63,15 +65,34 @@ pub fn main(words: Vec<OsString>) -> ExitCode {
 }
 
 /// A debug file, and what should be known of it.
-struct DebugFile {
-    bytes: Vec<u8>,
+pub struct DebugFile {
+    /// The file.
+    pub bytes: Vec<u8>,
     /// What is in it.
-    counts: String,
+    pub counts: Counts,
     /// Of its symbols.
     note: Option<String>,
     /// Of names that stand for several types.
     names: Option<String>,
     build_id: Vec<u8>,
+}
+
+/// How much a debug file tells.
+#[derive(Clone, Copy, Debug, Default, PartialEq, Eq)]
+pub struct Counts {
+    /// Types.
+    pub types: usize,
+    /// Variables and constants.
+    pub objects: usize,
+    /// Functions.
+    pub functions: usize,
+}
+
+impl Display for Counts {
+    fn fmt(&self, to: &mut fmt::Formatter<'_>) -> fmt::Result {
+        let Counts { types, objects, functions } = self;
+        write!(to, "{types} types, {objects} objects, {functions} functions")
+    }
 }
 
 fn run(words: &Words) -> Outcome<()> {
@@ -116,6 +137,15 @@ fn in_folder(folder: &Path, build_id: &[u8]) -> Outcome<PathBuf> {
 fn debug_file_of(words: &Words) -> Outcome<DebugFile> {
     let files = Files::open(words)?;
     judge_output(words)?;
+    debug_file_from(words, &files)
+}
+
+/// The debug file of a program with a name, with the dictionary in it or without.
+pub fn of_files(name: &Path, files: &Files, has_dictionary: bool) -> Outcome<DebugFile> {
+    debug_file_from(&Words::of_program(name, has_dictionary), files)
+}
+
+fn debug_file_from(words: &Words, files: &Files) -> Outcome<DebugFile> {
     let program = files.debuggee()?;
     let copy = files.copy(program.as_ref())?;
     let mut found = files.dictionary(words.model, program.as_ref())?;
@@ -193,15 +223,18 @@ impl<'a> Parts<'_, 'a> {
         let selection = Selection::new(opened.catalog);
         let model = model_of(opened.catalog);
         let debug = self.sections(opened, &selection, &symbols)?;
+        let dictionary = self.words.has_dictionary.then_some(&*opened.handed.ctf);
         let bytes = match (self.program, self.symbols) {
-            (Some(program), Some(symbols)) => debug_file::beside(program, symbols, &debug)?,
+            (Some(program), Some(symbols)) => {
+                debug_file::beside(program, symbols, &debug, dictionary)?
+            }
             _ => debug_file::of_types(model, &debug)?,
         };
         let functions = symbols.iter().filter(|one| one.signature().is_some()).count();
         let (types, objects) = (opened.catalog.all().count(), symbols.len() - functions);
         Ok(DebugFile {
             bytes,
-            counts: format!("{types} types, {objects} objects, {functions} functions"),
+            counts: Counts { types, objects, functions },
             note,
             names: selection.aliases.line(),
             build_id: self.program.map(|one| one.build_id().to_vec()).unwrap_or_default(),

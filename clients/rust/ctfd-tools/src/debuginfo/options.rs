@@ -1,6 +1,7 @@
 //! The words of `ctfd-debuginfo`: the file, the debug file to write, and what is known beside them.
 
 use crate::arguments;
+use crate::wrong_words;
 use clap::{value_parser, Arg, Command};
 use ctfd::Model;
 use std::ffi::OsString;
@@ -35,12 +36,30 @@ pub struct Words {
     pub is_compressed: bool,
     /// The data model, where it is asked for.
     pub model: Option<Model>,
+    /// Whether the dictionary stands in the debug file.
+    pub has_dictionary: bool,
 }
 
 impl Words {
+    /// Those by which all that is known of a program is written, perhaps with its dictionary.
+    pub fn of_program(path: &Path, has_dictionary: bool) -> Words {
+        Words {
+            file: path.to_owned(),
+            output: PathBuf::new(),
+            is_folder: false,
+            symbols: None,
+            program: None,
+            parent: None,
+            has_arguments: true,
+            is_compressed: true,
+            model: None,
+            has_dictionary,
+        }
+    }
+
     /// Those of a command line. What is wrong with it is told, and ends the process.
     pub fn parsed(words: Vec<OsString>) -> Words {
-        let matches = options().get_matches_from(words);
+        let matches = wrong_words::matched(options(), words);
         let path = |name: &str| matches.get_one::<PathBuf>(name).cloned();
         let word = |name: &str| matches.get_one::<String>(name).map(String::as_str);
         Words {
@@ -56,6 +75,7 @@ impl Words {
                 "ilp32" => Model::Ilp32,
                 _ => Model::Lp64,
             }),
+            has_dictionary: false,
         }
     }
 

@@ -3,6 +3,7 @@
 use super::options::NAME;
 use super::packages::Unpacked;
 use super::Read;
+use crate::elsewhere;
 use crate::progress::with_bar;
 use crate::types::catalog::Catalog;
 use crate::types::crowded::{is_crowded, CROWDED};
@@ -79,7 +80,7 @@ pub fn with_file<T>(
     parent: Option<&Path>,
     run: impl FnOnce(&Opened<'_, '_>) -> Outcome<T>,
 ) -> Outcome<T> {
-    let image = Image::open(path)?;
+    let image = elsewhere::open(path, reading)?;
     let mut found = opening::handed(&image, &with_bar(reading, path))?;
     if found.is_made && parent.is_some() {
         return Err(Failure::Refused(format!("{}: {ALONE}", shown(path))));

@@ -1,6 +1,7 @@
 //! The words of `ctfd-diff`: the two files, and what is wanted of their differences.
 
 use crate::arguments::{self, file, flag};
+use crate::wrong_words;
 use clap::{value_parser, Arg, ArgAction, ArgMatches, Command};
 use ctfd_read::inputs::Options;
 use std::ffi::OsString;
@@ -59,7 +60,7 @@ pub struct Words {
 impl Words {
     /// Those of a command line. What is wrong with it is told, and ends the process.
     pub fn parsed(words: Vec<OsString>) -> Words {
-        Words::of(&options().get_matches_from(words))
+        Words::of(&wrong_words::matched(options(), words))
     }
 
     fn of(matches: &ArgMatches) -> Words {

@@ -1,7 +1,8 @@
 //! The libraries of two packages, or of two folders: which of the old is which of the new.
 
 use super::options::{Words, NAME};
-use crate::output::{on_path, Folder};
+use crate::output::Folder;
+use crate::packages::{self, Format};
 use crate::types::failure::{Failure, Outcome};
 use crate::types::json::Object;
 use crate::types::open::shown;
@@ -11,20 +12,12 @@ use ctfd_read::error::{reason, Error};
 use ctfd_read::exports::soname;
 use ctfd_read::image::Image;
 use std::collections::BTreeMap;
-use std::fs::{self, File};
-use std::io::Read as _;
+use std::fs;
 use std::path::{Path, PathBuf};
-use std::process::{Command, Stdio};
 
-/// How each package of Debian begins.
-const MAGIC: &[u8] = b"!<arch>\ndebian-binary";
 /// Where debug files are, below a folder or in a package.
 const DEBUG: &str = "usr/lib/debug";
-/// How many times its bytes a package may unpack to, and how much more.
-const MOST_TIMES: u64 = 256;
-const AT_LEAST: u64 = 1 << 30;
 const DEEPEST: usize = 64;
-const UNPACKER: &str = "dpkg-deb";
 
 /// Whether a path is that of a package or a folder.
 pub fn has_libraries(path: &Path) -> bool {
@@ -32,10 +25,7 @@ pub fn has_libraries(path: &Path) -> bool {
 }
 
 fn is_package(path: &Path) -> bool {
-    let mut begins = [0; MAGIC.len()];
-    let is_file = fs::metadata(path).is_ok_and(|about| about.is_file());
-    let read = |mut file: File| file.read_exact(&mut begins);
-    is_file && File::open(path).and_then(read).is_ok() && begins == MAGIC
+    Format::of(path) == Some(Format::Debian)
 }
 
 /// A library, and what programs that were linked with it ask for.
@@ -189,53 +179,14 @@ fn library(path: PathBuf) -> Option<Library> {
 
 /// Unpacks the regular files of a package.
 fn unpack(package: &Path, into: &Path) -> Outcome<()> {
-    let refused = |said: String| Failure::Refused(format!("{}: {said}", shown(package)));
     if !is_package(package) {
-        return Err(refused("it is no package of Debian (.deb)".to_owned()));
+        let path = shown(package);
+        return Err(Failure::Refused(format!("{path}: it is no package of Debian (.deb)")));
     }
-    let Some(unpacker) = on_path(UNPACKER) else {
-        return Err(refused(format!(
-            "{UNPACKER}, which unpacks it, is not on the PATH: unpack it, and name the folder"
-        )));
-    };
-    let bytes = fs::metadata(package).map_or(0, |about| about.len());
-    let most = MOST_TIMES.saturating_mul(bytes).saturating_add(AT_LEAST);
-    let mut child = Command::new(unpacker)
-        .arg("--fsys-tarfile")
-        .arg(package.canonicalize().unwrap_or_else(|_| package.to_owned()))
-        .stdout(Stdio::piped())
-        .stderr(Stdio::null())
-        .spawn()
-        .map_err(|error| refused(reason(&error)))?;
-    let output = child.stdout.take().map(|output| output.take(most));
-    let unpacked = output.map_or(Ok(0), |output| unpack_tar(output, into));
-    let _ = child.kill(); // it has ended, unless the package is damaged or too large
-    let status = child.wait().map_err(|error| refused(reason(&error)))?;
-    match unpacked {
-        Ok(_) if !status.success() => Err(refused("it is damaged".to_owned())),
-        Ok(0) => {
-            warn_by(NAME, &format!("{}: it has no files", shown(package)));
-            Ok(())
-        }
-        Ok(_) => Ok(()),
-        Err(error) => Err(refused(format!("it can't be unpacked: {}", reason(&error)))),
+    if packages::unpack(package, Format::Debian, into, |_| true)? == 0 {
+        warn_by(NAME, &format!("{}: it has no files", shown(package)));
     }
-}
-
-/// Unpacks the regular files of an archive; how many there were. None is written outside of the
-/// folder.
-fn unpack_tar(bytes: impl std::io::Read, into: &Path) -> std::io::Result<usize> {
-    let mut archive = tar::Archive::new(bytes);
-    archive.set_preserve_mtime(false);
-    let mut count = 0;
-    for entry in archive.entries()? {
-        let mut entry = entry?;
-        if entry.header().entry_type().is_file() {
-            count += usize::from(entry.unpack_in(into)?);
-        }
-    }
-    std::io::copy(&mut archive.into_inner(), &mut std::io::sink())?;
-    Ok(count)
+    Ok(())
 }
 
 #[cfg(test)]

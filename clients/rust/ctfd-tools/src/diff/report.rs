@@ -237,7 +237,7 @@ impl Report<'_> {
         if were.is_empty() != are.is_empty() {
             let path = if were.is_empty() { old.path() } else { new.path() };
             self.left.push(format!(
-                "{path}: nothing is told of its functions and objects, and they are not compared"
+                "{path}: it has no types of functions and objects, so they are not compared"
             ));
         }
         for change in symbol_changes::changes(&were, &are) {

@@ -144,7 +144,7 @@ impl From<Number> for Used {
     }
 }
 
-/// A member: where it lies in bits, and what is told of it.
+/// A member's name, its offset in bits and its type.
 #[derive(Clone, Debug, PartialEq)]
 pub struct Place {
     /// Its name, behind those of members that it lies in.

@@ -3,6 +3,7 @@
 mod options;
 mod rows;
 
+use crate::elsewhere;
 use crate::standard;
 use crate::types::crowded::{is_crowded, CROWDED};
 use crate::types::failure::{Failure, Outcome};
@@ -10,7 +11,6 @@ use crate::types::open::{handed_by, shown, with_catalog, without_parent, Parents
 use crate::types::output::{self, Output};
 use crate::types::warn_by;
 use ctfd_read::error::reason;
-use ctfd_read::image::Image;
 use options::{Words, NAME};
 use rows::Rows;
 use std::ffi::OsString;
@@ -66,7 +66,7 @@ fn run(words: &Words) -> Outcome<()> {
 
 /// Adds the types of a file.
 fn add(words: &Words, parents: &Parents<'_>, path: &Path, rows: &mut Rows) -> Outcome<()> {
-    let image = Image::open(path)?;
+    let image = elsewhere::open(path, &words.reading)?;
     let mut found = handed_by(NAME, &image, &words.reading, words.parent.is_some())?;
     if found.has_more_names() {
         found.add_names();

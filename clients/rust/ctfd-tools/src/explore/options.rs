@@ -1,6 +1,7 @@
 //! The words of `ctfd-explore`: the files, and the page.
 
 use crate::arguments;
+use crate::wrong_words;
 use clap::{value_parser, Arg, ArgAction, Command};
 use ctfd_read::inputs::Options;
 use std::ffi::OsString;
@@ -29,7 +30,7 @@ pub struct Words {
 impl Words {
     /// Those of a command line. What is wrong with it is told, and ends the process.
     pub fn parsed(words: Vec<OsString>) -> Words {
-        let matches = options().get_matches_from(words);
+        let matches = wrong_words::matched(options(), words);
         Words {
             files: matches.get_many("FILE").unwrap_or_default().cloned().collect(),
             output: matches.get_one::<PathBuf>("output").cloned().unwrap_or_default(),

@@ -2,6 +2,7 @@
 
 use super::modules::{written_name, Module};
 use super::options::NAME;
+use crate::elsewhere;
 use crate::progress::with_bar;
 use crate::types::catalog::{Catalog, Lists, Volume};
 use crate::types::failure::told;
@@ -129,10 +130,13 @@ impl FileTypes {
     }
 
     /// The types of a file that is mapped.
-    pub fn of_module(module: &Module, parent: Option<&Path>) -> Result<FileTypes> {
+    pub fn of_module(
+        module: &Module,
+        parent: Option<&Path>,
+        reading: &Options,
+    ) -> Result<FileTypes> {
         let image = &module.image;
-        let mut handed =
-            opening::handed_before_strip(image, &with_bar(&Options::default(), image.path()))?;
+        let mut handed = opening::handed_before_strip(image, &with_bar(reading, image.path()))?;
         handed.widen(image)?;
         FileTypes::open(handed, image.path(), parent)
     }
@@ -142,10 +146,10 @@ impl FileTypes {
         path: &Path,
         program: Option<&Module>,
         parent: Option<&Path>,
+        reading: &Options,
     ) -> Result<FileTypes> {
-        let image = Image::open(path)?;
-        let mut handed =
-            opening::handed_before_strip(&image, &with_bar(&Options::default(), path))?;
+        let image = elsewhere::open(path, reading)?;
+        let mut handed = opening::handed_before_strip(&image, &with_bar(reading, path))?;
         if image.is_elf() {
             if let Some(program) = program {
                 judge_build(&image, program)?;

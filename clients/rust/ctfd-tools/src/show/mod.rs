@@ -93,7 +93,7 @@ fn run(words: &Words) -> std::result::Result<bool, Failure> {
     let modules = modules(&space, words.types.is_none(), |line| warn_by(NAME, line))?;
     let sources = sources(words, &modules);
     let typed: TypesOfFiles = sources.iter().map(|_| OnceCell::new()).collect();
-    let target = Target::new(&space, &modules, sources, &typed, words.parent.as_deref());
+    let target = Target::new(&space, &modules, sources, &typed, words);
     target.judge_types()?;
     let limits = Limits { elements: words.elements, repeats: REPEATS };
     let style = Style { limits, is_hexadecimal: words.is_hexadecimal };

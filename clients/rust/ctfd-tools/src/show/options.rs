@@ -1,7 +1,9 @@
 //! The words of `ctfd-show`: where to look, what for, and how it is printed.
 
 use crate::arguments;
+use crate::wrong_words;
 use clap::{value_parser, Arg, ArgAction, ArgGroup, ArgMatches, Command};
+use ctfd_read::inputs::Options;
 use std::ffi::OsString;
 use std::os::unix::ffi::OsStringExt as _;
 use std::path::PathBuf;
@@ -56,6 +58,8 @@ pub struct Words {
     pub types: Option<PathBuf>,
     /// The parent of the dictionaries.
     pub parent: Option<PathBuf>,
+    /// How files are read.
+    pub reading: Options,
     /// The linked list that each expression is the head of.
     pub follow: Option<Follow>,
     /// Whether numbers are in hexadecimal.
@@ -71,7 +75,7 @@ pub struct Words {
 impl Words {
     /// Those of a command line. What is wrong with it is told, and ends the process.
     pub fn parsed(words: Vec<OsString>) -> Words {
-        let matches = options().get_matches_from(words);
+        let matches = wrong_words::matched(options(), words);
         let path = |name: &str| matches.get_one::<PathBuf>(name).cloned();
         let place = match (matches.get_one::<u32>("pid"), path("core")) {
             (Some(&pid), _) => Place::Process(pid),
@@ -85,6 +89,7 @@ impl Words {
             program: path("program"),
             types: path("types"),
             parent: path("parent"),
+            reading: Options { elsewhere: arguments::stores(&matches), ..Options::default() },
             follow: texts(&matches, "list")
                 .pop()
                 .map(|member| Follow { member, inside: texts(&matches, "of").pop() }),
@@ -134,6 +139,7 @@ fn options() -> Command {
         .arg(expressions.value_parser(value_parser!(OsString)))
         .group(ArgGroup::new("place").args(["pid", "core"]).required(true))
         .args(of_process)
+        .arg(arguments::store())
         .args(of_printing())
         .args(of_going_on())
         .arg(arguments::file("service", "for older scripts: the library answers").hide(true))

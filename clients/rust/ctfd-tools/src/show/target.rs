@@ -2,11 +2,13 @@
 
 use super::file_types::FileTypes;
 use super::modules::Module;
+use super::options::Words;
 use super::space::Space;
 use crate::types::catalog::Catalog;
 use crate::types::text::printable;
 use ctfd::Model;
 use ctfd_read::error::{refuse, Error, Result};
+use ctfd_read::inputs::Options;
 use std::cell::OnceCell;
 use std::path::{Path, PathBuf};
 
@@ -38,6 +40,7 @@ pub struct Target<'t> {
     pub(super) modules: &'t [Module],
     pub(super) homes: Vec<Home<'t>>,
     parent: Option<&'t Path>,
+    reading: &'t Options,
     /// The data model of the program.
     pub model: Model,
 }
@@ -49,13 +52,14 @@ impl<'t> Target<'t> {
         modules: &'t [Module],
         sources: Vec<Source<'t>>,
         typed: &'t TypesOfFiles,
-        parent: Option<&'t Path>,
+        words: &'t Words,
     ) -> Target<'t> {
         let is_64 = modules.first().is_none_or(|one| one.image.data_is_64().unwrap_or(true));
         let home = |(source, typed)| Home { source, typed, catalog: OnceCell::new() };
         let homes = sources.into_iter().zip(typed).map(home).collect();
         let model = if is_64 { Model::Lp64 } else { Model::Ilp32 };
-        Target { space, modules, homes, parent, model }
+        let parent = words.parent.as_deref();
+        Target { space, modules, homes, parent, reading: &words.reading, model }
     }
 
     /// Refuses types that are named for the program and can't be read.
@@ -130,8 +134,8 @@ impl<'t> Target<'t> {
     pub(super) fn open(&self, home: usize) -> Result<(&'t FileTypes, &Catalog<'t>)> {
         let Home { source, typed, catalog } = &self.homes[home];
         let typed = typed.get_or_init(|| match (&source.named, source.module) {
-            (Some(path), module) => FileTypes::of_path(path, module, self.parent),
-            (None, Some(module)) => FileTypes::of_module(module, self.parent),
+            (Some(path), module) => FileTypes::of_path(path, module, self.parent, self.reading),
+            (None, Some(module)) => FileTypes::of_module(module, self.parent, self.reading),
             (None, None) => refuse("no file has types"),
         });
         let typed = typed.as_ref().map_err(|error| Error(error.0.clone()))?;

@@ -3,7 +3,7 @@
 use super::figures::Order;
 use super::text::is_pattern;
 use crate::arguments::{self, file, flag, word};
-use clap::error::ErrorKind;
+use crate::wrong_words;
 use clap::{value_parser, Arg, ArgAction, ArgGroup, ArgMatches, Command};
 use ctfd_read::inputs::Options;
 use std::ffi::{OsStr, OsString};
@@ -93,8 +93,8 @@ pub struct Words {
 impl Words {
     /// Those of a command line. What is wrong with it is told, and ends the process.
     pub fn parsed(words: Vec<OsString>) -> Words {
-        let made = Words::of(&options().get_matches_from(with_counts(words)));
-        let refuse = |said: &str| -> ! { options().error(ErrorKind::ValueValidation, said).exit() };
+        let made = Words::of(&wrong_words::matched(options(), with_counts(words)));
+        let refuse = |said: &str| -> ! { wrong_words::refuse_because(&options(), said) };
         let is_of_one =
             matches!(made.question, Question::Header | Question::Picture(_) | Question::Treemap);
         if made.files.len() > 1 && is_of_one {
@@ -345,6 +345,7 @@ fn inputs() -> Vec<Arg> {
         value("debug-folder", "FOLDER", "where to look for debug files, before /usr/lib/debug")
             .value_parser(value_parser!(PathBuf))
             .action(ArgAction::Append),
+        arguments::store(),
         flag("no-cache", "for older scripts: nothing is kept, so nothing changes").hide(true),
         value("service", "CTFD", "for older scripts: the library in this command answers")
             .hide(true),

@@ -14,7 +14,7 @@ use super::text::{is_pattern, printable, without_tag, TAGS};
 use super::told::symbol_lists;
 use super::whole::Whole;
 use super::{declare, header, json, members, picture, records, reorganize, symbols, treemap, warn};
-use ctfd_read::image::Image;
+use crate::elsewhere;
 use ctfd_read::nearest::suggestion;
 use ctfd_read::opening::Origin;
 use std::borrow::Cow;
@@ -30,7 +30,7 @@ pub fn file(
     path: &Path,
     output: &mut dyn Write,
 ) -> Outcome<bool> {
-    let image = Image::open(path)?;
+    let image = elsewhere::open(path, &words.reading)?;
     let given = Given::of(words)?;
     let mut found = handed(&image, words)?;
     given.put(&mut found)?;

@@ -1,4 +1,4 @@
-//! The functions and objects of a program of which its dictionary tells something.
+//! The functions and objects of a program whose types its dictionary has.
 
 use super::catalog::{Catalog, Told};
 use ctfd_read::opening::{Handed, Origin};
@@ -10,16 +10,16 @@ const LONGEST_NAME: usize = 4096;
 const OBJECT: u8 = 1;
 const FUNCTION: u8 = 2;
 
-/// Whether something is told of symbols that were found so.
+/// Whether symbols that were found in this way have types.
 pub fn is_told(origin: Origin) -> bool {
     matches!(origin, Origin::Named | Origin::Linked | Origin::Guessed | Origin::Given)
 }
 
-/// A symbol of which something is told.
+/// A symbol that has a type.
 pub struct ToldSymbol {
     /// Its name, of what is no UTF-8 the escapes.
     pub name: Vec<u8>,
-    /// What is told of it.
+    /// Its type.
     pub told: Told,
 }
 

@@ -44,4 +44,4 @@ returns c =
     let charged = c.charge.ensures in
     let count = c.bytes.ensures.count ∙ ap kept_bytes c.own.ensures in
     let to = publishes_done c.args.d c.args.name.now (slot_of c.in-Some.slot.now) c.args.self.now slot_at_d none free (omega (arith, le, charged, count)) in
-    rw to (subst (λ (k : Kept). Makes c.args.self.now (publishes_kept c.args.name.now k c.args.self.now) c.publish_loaded.result c.publish_loaded.new.self) (c.in_ok-loaded.ensures ∙ c.own-2.ensures) c.publish_loaded.ensures)
+    rw to (subst (λ (k : Kept). Makes c.args.self.now (publishes_kept c.args.name.now k c.args.self.now) c.publish_free.result c.publish_free.new.self) (c.in_ok-loaded.ensures ∙ c.own-2.ensures) c.publish_free.ensures)

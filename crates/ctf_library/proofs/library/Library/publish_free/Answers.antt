@@ -4,7 +4,7 @@ use Rattle.ctf_library.proofs.Counting.{counted_charge}
 use Rattle.ctf_library.specs.Charged.{bytes_published}
 use Rattle.ctf_protocol.specs.sessions.Charges.{publication_bytes}
 use Rattle.ctf_protocol.specs.sessions.State.{Publication}
-use Rattle.ctf_library.proofs.library.Library.publish_loaded.Goals as goal
+use Rattle.ctf_library.proofs.library.Library.publish_free.Goals as goal
 
 pub add-requires-clause-small : goal.add-requires-clause-small
 add-requires-clause-small c =

@@ -1,0 +1,66 @@
+//! What a store tells of a build: a word and its value on each line.
+
+use crate::debuginfo::Counts;
+use crate::types::text::printable;
+use std::fmt::{self, Display};
+
+/// What is known of a build.
+#[derive(Clone, Debug, Default, PartialEq, Eq)]
+pub struct About {
+    /// The name of its file.
+    pub name: String,
+    /// How much its debug file tells.
+    pub counts: Counts,
+    /// How many constructs CTF does not hold.
+    pub losses: usize,
+    /// The bytes of the file with the debug information that it was made from.
+    pub original: u64,
+}
+
+impl About {
+    /// What stands in a file; what is not told there is none.
+    pub fn parsed(text: &str) -> About {
+        let word = |name: &str| {
+            let mut lines = text.lines();
+            lines.find_map(|line| line.strip_prefix(name)?.strip_prefix(' ')).unwrap_or_default()
+        };
+        let count = |name: &str| word(name).parse().unwrap_or(0);
+        About {
+            name: printable(word("name").as_bytes()).into_owned(),
+            counts: Counts {
+                types: count("types"),
+                objects: count("objects"),
+                functions: count("functions"),
+            },
+            losses: count("lost"),
+            original: word("original").parse().unwrap_or(0),
+        }
+    }
+}
+
+impl Display for About {
+    fn fmt(&self, to: &mut fmt::Formatter<'_>) -> fmt::Result {
+        let Counts { types, objects, functions } = self.counts;
+        writeln!(to, "name {}", printable(self.name.as_bytes()))?;
+        writeln!(to, "types {types}\nobjects {objects}\nfunctions {functions}")?;
+        writeln!(to, "lost {}\noriginal {}", self.losses, self.original)
+    }
+}
+
+#[cfg(test)]
+mod tests {
+    use super::About;
+    use crate::debuginfo::Counts;
+
+    #[test]
+    fn what_is_written_is_read() {
+        let about = About {
+            name: "lib x.so.1".to_owned(),
+            counts: Counts { types: 1, objects: 2, functions: 3 },
+            losses: 4,
+            original: 5,
+        };
+        assert_eq!(About::parsed(&about.to_string()), about);
+        assert_eq!(About::parsed("nonsense\nname\ntypes many"), About::default());
+    }
+}

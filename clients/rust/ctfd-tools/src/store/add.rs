@@ -1,0 +1,134 @@
+//! `ctfd-store add`: makes the debug file of each build that is found, and puts it into a store.
+
+use super::build_id::BuildId;
+use super::builds::Store;
+use super::entry::Entry;
+use super::index::Sums;
+use super::inputs::{Group, Inputs, Refusal};
+use super::options::{Adding, NAME};
+use super::stage::{Change, Stage};
+use crate::messages::{LOSSY, REFUSED};
+use crate::progress::Bar;
+use crate::types::failure::Outcome;
+use crate::types::open::shown;
+use crate::types::output::Output;
+use crate::types::warn_by;
+use ctfd_read::error::Result;
+use ctfd_read::inputs::Options;
+use ctfd_read::progress::Progress as _;
+use rayon::prelude::*;
+use std::collections::BTreeMap;
+use std::io::Write as _;
+use std::sync::atomic::{AtomicU64, Ordering};
+use std::sync::{Mutex, PoisonError};
+
+/// How many builds came to what.
+#[derive(Clone, Copy, Default)]
+struct Tally {
+    added: usize,
+    replaced: usize,
+    same: usize,
+}
+
+/// Builds that are written, and wait to be put where they are found.
+struct Waiting<'s> {
+    stage: &'s Stage<'s>,
+    written: BTreeMap<BuildId, Sums>,
+    tally: Tally,
+    refusals: Vec<Refusal>,
+}
+
+impl Waiting<'_> {
+    /// Takes a build that is written, and puts all where they are found once they are enough.
+    fn take(&mut self, id: BuildId, sums: Sums) -> Result<()> {
+        self.written.insert(id, sums);
+        match self.written.len() >= self.stage.count_at_once() {
+            true => self.put(),
+            false => Ok(()),
+        }
+    }
+
+    /// Puts all that wait where they are found.
+    fn put(&mut self) -> Result<()> {
+        for change in self.stage.put(std::mem::take(&mut self.written))? {
+            *match change {
+                Change::Added => &mut self.tally.added,
+                Change::Replaced => &mut self.tally.replaced,
+                Change::None => &mut self.tally.same,
+            } += 1;
+        }
+        Ok(())
+    }
+}
+
+/// Adds what the words name. What is refused is told, and the rest is added.
+pub fn run(words: &Adding) -> Outcome<u8> {
+    let store = Store::open_to_write(&words.store)?;
+    let mut inputs = Inputs::of(&words.files);
+    let stage = Stage::new(&store)?;
+    let waiting = Waiting {
+        stage: &stage,
+        written: BTreeMap::new(),
+        tally: Tally::default(),
+        refusals: Vec::new(),
+    };
+    let waiting = Mutex::new(waiting);
+    let done = write_all(words, &inputs, &stage, &waiting);
+    let mut waiting = waiting.into_inner().unwrap_or_else(PoisonError::into_inner);
+    let put = waiting.put(); // those that were whole when another could not be written too
+    let mut refusals = waiting.refusals;
+    refusals.extend(std::mem::take(&mut inputs.refusals));
+    refusals.sort_unstable();
+    for Refusal { path, why } in &refusals {
+        warn_by(NAME, &format!("{}: {}", shown(path), inputs.named(why)));
+    }
+    done.and(put)?;
+    tell(words, waiting.tally, refusals.len())
+}
+
+/// Writes the builds, many at a time, up to the first that can't be written.
+fn write_all(
+    words: &Adding,
+    inputs: &Inputs,
+    stage: &Stage<'_>,
+    waiting: &Mutex<Waiting<'_>>,
+) -> Result<()> {
+    let folders = inputs.folders.iter().chain(&words.folders).cloned().collect();
+    let reading = Options { folders, is_one: true, ..Options::default() };
+    let bar = Bar::new(format!("adding to {}", shown(&words.store)));
+    let (count, total) = (AtomicU64::new(0), inputs.groups.len() as u64);
+    let groups: Vec<&Group> = inputs.groups.values().collect();
+    let done = groups.par_iter().try_for_each(|group| {
+        let made = Entry::of(group, &reading, words.has_programs);
+        let written = made.map(|entry| stage.write(&entry).map(|sums| (entry.id, sums)));
+        let mut waiting = waiting.lock().unwrap_or_else(PoisonError::into_inner);
+        match written {
+            Ok(written) => {
+                let (id, sums) = written?;
+                waiting.take(id, sums)?;
+            }
+            Err(why) => waiting.refusals.push(Refusal::of(&group.types, why)),
+        }
+        bar.advance(count.fetch_add(1, Ordering::Relaxed) + 1, total);
+        Ok(())
+    });
+    bar.end();
+    done
+}
+
+/// Prints how much was added; the status.
+fn tell(words: &Adding, tally: Tally, refused: usize) -> Outcome<u8> {
+    let Tally { added, replaced, same } = tally;
+    let mut lines = Output::new();
+    let store = shown(&words.store);
+    writeln!(
+        lines,
+        "{store}: {added} added, {replaced} replaced, {same} the same, {refused} refused"
+    )?;
+    lines.flush()?;
+    Ok(match (added + replaced + same, refused) {
+        (_, 0) => 0,
+        (0, _) => REFUSED,
+        _ => LOSSY,
+    })
+}

@@ -1,0 +1,151 @@
+//! The words of `ctfd-store`: what is to be done, and with which store.
+
+use crate::arguments::{self, file, flag};
+use crate::wrong_words;
+use clap::{value_parser, Arg, ArgAction, ArgMatches, Command};
+use std::ffi::OsString;
+use std::path::PathBuf;
+
+/// The command's name.
+pub const NAME: &str = "ctfd-store";
+const ABOUT: &str = "\
+Keeps the types of programs by their build-ids, in a folder that any web server serves to gdb, lldb,
+elfutils and all that speak debuginfod's protocol.";
+
+/// What is to be done.
+pub enum Words {
+    /// Builds are put into a store.
+    Add(Adding),
+    /// All files of a store are judged.
+    Check(PathBuf),
+    /// Its builds are listed, as JSON or for a reader.
+    List(PathBuf, bool),
+    /// What a log says is not there is listed.
+    Missing(PathBuf),
+    /// Builds are taken out of a store.
+    Remove(Removing),
+    /// How much is in a store is told.
+    Stats(PathBuf),
+}
+
+/// What is added.
+pub struct Adding {
+    /// The store.
+    pub store: PathBuf,
+    /// Programs, debug files, folders and packages.
+    pub files: Vec<PathBuf>,
+    /// Whether programs are kept beside their types.
+    pub has_programs: bool,
+    /// Folders of debug files.
+    pub folders: Vec<PathBuf>,
+}
+
+/// What is removed.
+pub struct Removing {
+    /// The store.
+    pub store: PathBuf,
+    /// Build-ids.
+    pub ids: Vec<String>,
+    /// Those that were last added more than so many days ago, too.
+    pub older: Option<u64>,
+}
+
+impl Words {
+    /// Those of a command line. What is wrong with it is told, and ends the process.
+    pub fn parsed(words: Vec<OsString>) -> Words {
+        let matches = wrong_words::matched(options(), words);
+        let (word, matches) = matches.subcommand().unwrap_or(("", &matches));
+        let store = matches.get_one::<PathBuf>("DIR").cloned().unwrap_or_default();
+        match word {
+            "add" => Words::Add(adding(store, matches)),
+            "check" => Words::Check(store),
+            "list" => Words::List(store, matches.get_flag("json")),
+            "missing" => Words::Missing(store),
+            "remove" => Words::Remove(removing(store, matches)),
+            _ => Words::Stats(store),
+        }
+    }
+}
+
+fn adding(store: PathBuf, matches: &ArgMatches) -> Adding {
+    let paths = |name: &str| matches.get_many(name).unwrap_or_default().cloned().collect();
+    Adding {
+        store,
+        files: paths("FILE"),
+        has_programs: matches.get_flag("executables"),
+        folders: paths("debug-folder"),
+    }
+}
+
+fn removing(store: PathBuf, matches: &ArgMatches) -> Removing {
+    Removing {
+        store,
+        ids: matches.get_many("ID").unwrap_or_default().cloned().collect(),
+        older: matches.get_one("older").copied(),
+    }
+}
+
+fn options() -> Command {
+    arguments::command(NAME, ABOUT).subcommand_required(true).subcommands([
+        add(),
+        check(),
+        list(),
+        missing(),
+        remove(),
+        stats(),
+    ])
+}
+
+/// A word for what is to be done with a store.
+fn action(name: &'static str, about: &'static str) -> Command {
+    let store = Arg::new("DIR").required(true).value_parser(value_parser!(PathBuf));
+    Command::new(name).about(about).arg(store.help("the store, a folder"))
+}
+
+fn add() -> Command {
+    action("add", "Puts the types of programs into a store.")
+        .arg(
+            Arg::new("FILE")
+                .required(true)
+                .num_args(1..)
+                .value_parser(value_parser!(PathBuf))
+                .help("programs, libraries, modules, debug files, folders of such, .deb and .rpm"),
+        )
+        .arg(flag("executables", "keep the programs too, which core files need"))
+        .arg(
+            file("debug-folder", "where to look for debug files, before /usr/lib/debug")
+                .value_name("FOLDER")
+                .action(ArgAction::Append),
+        )
+}
+
+fn check() -> Command {
+    action("check", "Judges all files of a store, by the library and by its index.")
+}
+
+fn list() -> Command {
+    action("list", "Lists the builds of a store.").arg(flag("json", "a JSON object on each line"))
+}
+
+fn missing() -> Command {
+    action(
+        "missing",
+        "Reads a web server's log, and lists the builds that were asked for and are not there.",
+    )
+}
+
+fn remove() -> Command {
+    action("remove", "Takes builds out of a store.")
+        .arg(Arg::new("ID").num_args(0..).required_unless_present("older").help("build-ids"))
+        .arg(
+            Arg::new("older")
+                .long("older")
+                .value_name("DAYS")
+                .value_parser(value_parser!(u64))
+                .help("all that were last added more than so many days ago"),
+        )
+}
+
+fn stats() -> Command {
+    action("stats", "Tells how much is in a store.")
+}
