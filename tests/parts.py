@@ -112,7 +112,7 @@ def parts(program: str) -> list[Part]:
         # Stores of types by build-id, and the servers that people put in front of them.
         Part("store", [python, "-m", "unittest", "discover", "-s", "tests/store", "-t", "tests"],
              words=over, after=("archive", "compiled")),
-        Part("ilp32", ["tests/ilp32.sh", program]),
+        Part("ilp32", ["tests/ilp32.sh", program], after=("archive", "compiled")),
         Part("house", ["tests/house.py"]),
         Part("style", ["tests/style.py"]),
         Part("links", ["tests/links.py"]),
