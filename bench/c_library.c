@@ -18,8 +18,8 @@ static struct numbers values;
 static void open_all(void)
 {
     uint64_t place = 0;
-    enum ctfd_status status = ctfd_open(&types, bytes, bytes_len, "", 0, "", 0, false, false,
-        false, &place);
+    enum ctfd_status status = ctfd_open(
+        &types, bytes, bytes_len, "", 0, "", 0, false, false, false, &place);
     if (status != CTFD_OK) {
         fprintf(stderr, "%s at %llu\n", ctfd_status_name(status), (unsigned long long)place);
         exit(1);
@@ -58,8 +58,7 @@ static void collect_type(uint16_t t, uint32_t kind)
     char text[256];
     uint16_t found = 0;
     add_number(&all, t);
-    if (kind == CTFD_POINTER || kind == CTFD_TYPEDEF || kind == CTFD_CONST ||
-        kind == CTFD_VOLATILE)
+    if (kind == CTFD_POINTER || kind == CTFD_TYPEDEF || kind == CTFD_CONST || kind == CTFD_VOLATILE)
         add_number(&referring, t);
     if (kind == CTFD_ARRAY)
         add_number(&arrays, t);
@@ -227,9 +226,8 @@ static size_t ask_firsts(const char *question)
         const struct named *one = &enumerators.at[i];
         if (strcmp(question, "value") == 0)
             sum += ctfd_enum_name(&types, (uint16_t)one->of, (int32_t)values.at[i], text,
-                sizeof text, &len) == CTFD_OK;
-        else if (ctfd_enum_value(&types, (uint16_t)one->of, one->text, one->len, &value) ==
-            CTFD_OK)
+                       sizeof text, &len) == CTFD_OK;
+        else if (ctfd_enum_value(&types, (uint16_t)one->of, one->text, one->len, &value) == CTFD_OK)
             sum += (uint64_t)value;
     }
     return enumerators.len;

@@ -379,7 +379,7 @@ SESSIONS = [
 
 
 HELD = [
-    Held("memory: 30 dictionaries of 32,766 typedefs", small_types, SMALL_SLOTS * SMALL_BYTES, 5.0),
+    Held("memory: 30 dictionaries of 32,766 typedefs", small_types, SMALL_SLOTS * SMALL_BYTES, 4.0),
 ]
 
 

@@ -21,7 +21,11 @@
 #include <time.h>
 #include <unistd.h>
 
-enum { EVENTS = 256, ROOM = 1 << 18, WAITS = 1 << 24 };
+enum {
+    EVENTS = 256,
+    ROOM = 1 << 18,
+    WAITS = 1 << 24
+};
 static char room[ROOM];
 
 struct client {
@@ -45,7 +49,7 @@ static double now(void)
 
 static struct sockaddr_un address(const char *path)
 {
-    struct sockaddr_un made = {.sun_family = AF_UNIX};
+    struct sockaddr_un made = { .sun_family = AF_UNIX };
     strncpy(made.sun_path, path, sizeof made.sun_path - 1);
     return made;
 }
@@ -119,7 +123,7 @@ static void ask(const char *path, int count, int at_once, size_t times, double s
     int ready = epoll_create1(0), next = at_once;
     struct epoll_event events[EVENTS];
     for (int at = 0; at < count; at++) {
-        struct epoll_event event = {.events = EPOLLIN, .data.ptr = &all[at]};
+        struct epoll_event event = { .events = EPOLLIN, .data.ptr = &all[at] };
         all[at].socket = connected(path, begin);
         if (epoll_ctl(ready, EPOLL_CTL_ADD, all[at].socket, &event) < 0)
             fail("epoll");
@@ -142,8 +146,8 @@ static void ask(const char *path, int count, int at_once, size_t times, double s
             answered += replies;
             client->owed -= replies;
             if (client->unsent > 0) { /* replies make room for what was not sent */
-                ssize_t sent = send(client->socket, burst + len - client->unsent, client->unsent,
-                    MSG_DONTWAIT);
+                ssize_t sent = send(
+                    client->socket, burst + len - client->unsent, client->unsent, MSG_DONTWAIT);
                 if (sent > 0)
                     client->unsent -= sent;
             }
@@ -169,7 +173,7 @@ static void echo(const char *path)
     int listener = socket(AF_UNIX, SOCK_STREAM, 0), ready = epoll_create1(0);
     if (bind(listener, (struct sockaddr *)&at, sizeof at) < 0 || listen(listener, 1024) < 0)
         fail(path);
-    struct epoll_event events[EVENTS], event = {.events = EPOLLIN, .data.fd = listener};
+    struct epoll_event events[EVENTS], event = { .events = EPOLLIN, .data.fd = listener };
     epoll_ctl(ready, EPOLL_CTL_ADD, listener, &event);
     for (;;) {
         int found = epoll_wait(ready, events, EVENTS, -1);

@@ -20,7 +20,11 @@ typedef ctf_file_t file;
 #include <stdlib.h>
 #include <string.h>
 
-enum { STRUCTS = 2000, MEMBERS = 8, PARENTS = 20000 };
+enum {
+    STRUCTS = 2000,
+    MEMBERS = 8,
+    PARENTS = 20000
+};
 
 static ctf_encoding_t of_int = { CTF_INT_SIGNED, 0, 32 };
 static char names[STRUCTS][32];

@@ -4,7 +4,8 @@
 usage: bench/store.py [--clients N] [--requests N] [--peer N] [--threads N] PACKAGE.deb..
 
 Adds the packages to a new store: time, and bytes of the packages, of the debug files in them, and
-of all that is in the store. Has debuginfod scan the same packages: time, and bytes of its index.
+of all that is in the store. Has debuginfod scan the same packages: time, and bytes of its index, once
+what its database had only logged is in it: that log has 4 MB or none, as it happens.
 Then clients ask nginx, by the lines of docs/STORE.md, and debuginfod for debug files of all builds
 in turn, each by a connection of its own: requests in a second, how long the median and the 99th of
 a hundred took, and the server's processor time. The dictionary is asked of nginx alone. debuginfod
@@ -16,6 +17,7 @@ from __future__ import annotations
 import argparse
 import asyncio
 import os
+import sqlite3
 import subprocess
 import sys
 import tempfile
@@ -87,6 +89,16 @@ def metrics(server: servers.Server) -> str:
         return text
 
 
+def index_size(index: Path) -> int:
+    """The bytes of debuginfod's index, with all that was logged of it."""
+    with sqlite3.connect(index, timeout=60) as database:
+        is_busy, *_ = database.execute("PRAGMA wal_checkpoint(TRUNCATE)").fetchone()
+        if is_busy:
+            raise SystemExit(f"{index}: debuginfod still writes it")
+    database.close()
+    return index.stat().st_size
+
+
 def scanned(packages: Sequence[str], folder: Path, threads: int) -> servers.Server:
     """elfutils' server, once it has scanned the packages."""
     place, index, port = folder / "packages", folder / "index", servers.free_port()
@@ -102,8 +114,7 @@ def scanned(packages: Sequence[str], folder: Path, threads: int) -> servers.Serv
         time.sleep(0.5)
     print(f"debuginfod's scan: {time.monotonic() - begun:.1f} s, "
           f"{processor(server):.1f} s of processors")
-    size = sum(one.stat().st_size for one in folder.glob("index*"))
-    print(f"debuginfod's index: {size} bytes")
+    print(f"debuginfod's index: {index_size(index)} bytes")
     return server
 
 

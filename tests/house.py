@@ -15,7 +15,7 @@ from pathlib import Path
 from typing import Iterator
 
 TOP = Path(__file__).resolve().parents[1]
-ROOT = {".ci", ".gitignore", "CHANGELOG.md", "HANDLES", "Makefile", "README.md", "VERSION", "bench",
+ROOT = {".ci", ".clang-format", ".gitignore", "CHANGELOG.md", "HANDLES", "Makefile", "README.md", "VERSION", "bench",
         "clients", "crates", "crates.txt", "docs", "examples", "scripts", "tests", "wip"}
 PROFILE = re.compile(rb"\A(# callgrind format|desc: |creator: callgrind|PERFILE2|cachegrind)")
 MACHINE = re.compile(rb"(?<![\w.])/(work|root|farm|home/(?!user|you)\w+)/")

@@ -57,7 +57,7 @@ fn over<'a>(alloc: Global, parts: &'a Parts) -> Option<Judged<'a>> {
         sym: None,
         strs: None,
     };
-    match Judged::lent(alloc, lent, DataModel::Lp64) {
+    match Judged::judge(alloc, lent, DataModel::Lp64) {
         Ok(dictionary) => Some(dictionary),
         Err(_) => None,
     }

@@ -19,7 +19,7 @@ PAGES = Path(__file__).resolve().parents[1] / "docs" / "man"
 COMMANDS = ("ctfd-convert", "ctfd-debuginfo", "ctfd-diff", "ctfd-explore", "ctfd-front", "ctfd-show",
             "ctfd-store", "ctfd-types")
 # The first words of a command that has options of its own for each.
-ACTIONS = {"ctfd-store": ("add", "check", "list", "missing", "remove", "stats")}
+ACTIONS = {"ctfd-store": ("add", "check", "fetch", "list", "missing", "remove", "stats")}
 # In a help: an option, and whether a value stands behind it. In a page: an item that begins so.
 HELPED = re.compile(r"^ +(?:-\w, )?--([a-z][\w-]*)( <)?", re.MULTILINE)
 PAGED = re.compile(r"Fl -([a-z][\w-]*)( (?:Op )?Ar)?")

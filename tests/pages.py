@@ -45,9 +45,9 @@ FOR_USERS = {
 FOR_MAINTAINERS = {
     "docs/ARCHITECTURE.md": 4670,
     "docs/CONTRIBUTING.md": 2000,
-    "docs/DECISIONS.md": 5600,
+    "docs/DECISIONS.md": 5800,
     "docs/GATE.md": 1200,
-    "docs/PERFORMANCE.md": 4300,
+    "docs/PERFORMANCE.md": 4500,
     "docs/PROMISES.md": 2940,
     "docs/PROVING.md": 4000,
     "docs/READING.md": 940,

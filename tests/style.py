@@ -1,6 +1,8 @@
 #!/usr/bin/env python3
 """Checks the style of all that stands outside of crates/, which `rt fmt` has: Rust by rustfmt, as
-clients/rust/rustfmt.toml has it, shell scripts by shellcheck, Python by pyflakes.
+clients/rust/rustfmt.toml has it, C and C++ by clang-format 14, as .clang-format has it, shell
+scripts by shellcheck, Python by pyflakes. C that tests give to compilers as an input is left as
+it is.
 
 usage: tests/style.py
 
@@ -17,6 +19,10 @@ import house
 
 TOP = Path(__file__).resolve().parents[1]
 RUSTFMT = ("rustfmt", "--check", "--edition", "2021", "--config-path", "clients/rust/rustfmt.toml")
+CLANG_FORMAT = ("clang-format-14", "--dry-run", "--Werror", "--style=file")
+OF_C = (".c", ".h", ".cc", ".cpp")
+INPUTS = tuple(f"tests/{name}/" for name in
+               ("convert", "debuginfo", "doors", "gdb", "ilp32", "reader", "show"))
 
 
 def sources() -> list[Path]:
@@ -31,6 +37,11 @@ def is_script(path: Path) -> bool:
     with path.open("rb") as file:
         first = file.readline(64)
     return first.startswith(b"#!") and first.rstrip().endswith((b"/sh", b"bash"))
+
+
+def is_formatted_c(path: Path) -> bool:
+    name = str(path.relative_to(TOP))
+    return path.suffix in OF_C and not name.startswith(INPUTS)
 
 
 def complains(words: tuple[str, ...], files: list[Path]) -> bool:
@@ -55,6 +66,8 @@ def main() -> int:
     scripts = [path for path in files if is_script(path)]
     tools = [(RUSTFMT if shutil.which("rustfmt") else (), "rustfmt",
               [path for path in files if path.suffix == ".rs"]),
+             (CLANG_FORMAT if shutil.which(CLANG_FORMAT[0]) else (), "clang-format",
+              [path for path in files if is_formatted_c(path)]),
              (("shellcheck", "-x") if shutil.which("shellcheck") else (), "shellcheck", scripts),
              (pyflakes(), "pyflakes", [path for path in files if path.suffix == ".py"])]
     failed = 0

@@ -69,7 +69,9 @@ struct ctfd_service {
 };
 
 /* What each handle begins as. */
+/* clang-format off */
 #define CTFD_NONE { false, NULL }
+/* clang-format on */
 
 /* CTFD_OK, or 1 + the number of a fault in docs/FAULTS.md, which says what to do about it. */
 enum ctfd_status {
@@ -142,6 +144,7 @@ enum ctfd_status {
 /* The name of a status, as docs/FAULTS.md and replies have it: "NoType". "" for other numbers. */
 static inline const char *ctfd_status_name(unsigned status)
 {
+    /* clang-format off */
     static const char *const names[] = {
         "Ok", "Memory", "TooShort", "BadMagic", "BadVersion", "Compressed", "ShortHeader",
         "BadOrder", "BadAlign", "PastEnd", "BadStrings", "Truncated", "BadKind", "TooMany",
@@ -154,6 +157,7 @@ static inline const char *ctfd_status_name(unsigned status)
         "NameTaken", "NotPublished", "NotUpdated", "LongReply", "NotJson", "BadRequest", "LongLine",
         "ModelDiffers", "QuotaFull", "FixedParent"
     };
+    /* clang-format on */
     return status < sizeof names / sizeof names[0] ? names[status] : "";
 }
 
@@ -227,8 +231,7 @@ enum ctfd_status ctfd_model(struct ctfd *handle, uint32_t *out);
 /* The names of its parent and of the parent's label, as its header has them: empty where there is
  * none. */
 enum ctfd_status ctfd_parent_name(struct ctfd *handle, char *text, size_t text_len, uint64_t *len);
-enum ctfd_status ctfd_parent_label(struct ctfd *handle, char *text, size_t text_len,
-    uint64_t *len);
+enum ctfd_status ctfd_parent_label(struct ctfd *handle, char *text, size_t text_len, uint64_t *len);
 
 /* A label is a mark of the tool that wrote the dictionary: types up to `last` were there then. */
 struct ctfd_label {
@@ -239,10 +242,10 @@ struct ctfd_label {
 /* How many labels there are; the one of a number, CTFD_NO_LABEL behind them; the last type of the
  * first one of a name, CTFD_NO_LABEL where none has it. */
 enum ctfd_status ctfd_label_count(struct ctfd *handle, uint64_t *out);
-enum ctfd_status ctfd_label(struct ctfd *handle, size_t index, char *name, size_t name_len,
-    struct ctfd_label *out);
-enum ctfd_status ctfd_label_last(struct ctfd *handle, const char *name, size_t name_len,
-    uint32_t *out);
+enum ctfd_status ctfd_label(
+    struct ctfd *handle, size_t index, char *name, size_t name_len, struct ctfd_label *out);
+enum ctfd_status ctfd_label_last(
+    struct ctfd *handle, const char *name, size_t name_len, uint32_t *out);
 
 /* A label by the row. Its name stands in the dictionary's own lists. */
 struct ctfd_label_row {
@@ -261,8 +264,8 @@ enum ctfd_status ctfd_labels(struct ctfd *handle, size_t from, struct ctfd_label
 enum ctfd_status ctfd_kind(struct ctfd *handle, uint16_t t, uint32_t *out);
 
 /* The name in its record, without struct, union or enum in front: empty where it has none. */
-enum ctfd_status ctfd_declared_name(struct ctfd *handle, uint16_t t, char *text, size_t text_len,
-    uint64_t *len);
+enum ctfd_status ctfd_declared_name(
+    struct ctfd *handle, uint16_t t, char *text, size_t text_len, uint64_t *len);
 
 /* 1 where it is visible to look-ups by name, else 0. */
 enum ctfd_status ctfd_root(struct ctfd *handle, uint16_t t, uint32_t *out);
@@ -317,10 +320,10 @@ enum ctfd_status ctfd_enumerator(struct ctfd *handle, uint16_t t, size_t index, 
 
 /* The name of the first enumerator of an enum that has a value, and the value of the first that has
  * a name. CTFD_NO_MEMBER where none has it; of other kinds CTFD_WRONG_KIND. */
-enum ctfd_status ctfd_enum_name(struct ctfd *handle, uint16_t t, int32_t value, char *text,
-    size_t text_len, uint64_t *len);
-enum ctfd_status ctfd_enum_value(struct ctfd *handle, uint16_t t, const char *name,
-    size_t name_len, int32_t *value);
+enum ctfd_status ctfd_enum_name(
+    struct ctfd *handle, uint16_t t, int32_t value, char *text, size_t text_len, uint64_t *len);
+enum ctfd_status ctfd_enum_value(
+    struct ctfd *handle, uint16_t t, const char *name, size_t name_len, int32_t *value);
 
 /* Members and enumerators by the row. The name of one stands `name_at` bytes behind the beginning
  * of a list of the dictionary that has the type, with a zero byte behind it: of the CTF section
@@ -379,8 +382,8 @@ struct ctfd_type_row {
 /* Fills rows with the dictionary's own types, from number `from` on, counted from 0, and as far as
  * both reach; rows behind the last stay. `*count` is how many it has in all. Those of a parent are
  * in rows of its own handle. */
-enum ctfd_status ctfd_types(struct ctfd *handle, size_t from, struct ctfd_type_row *rows,
-    size_t rows_len, uint64_t *count);
+enum ctfd_status ctfd_types(
+    struct ctfd *handle, size_t from, struct ctfd_type_row *rows, size_t rows_len, uint64_t *count);
 
 /* A type in a visit: `type` is that of a member of the struct or union `holder`, which lies in
  * `depth` others and begins `offset` bits behind the beginning of the outermost: UINT64_MAX past 64
@@ -403,8 +406,8 @@ struct ctfd_visit_row {
  * there, has nothing in it. `*count` is how many rows all take; where that is more than rows_len,
  * it is rows_len + 1, however many there are: ask again with more, as twice as many. It takes as
  * long as the rows that it fills. */
-enum ctfd_status ctfd_visit(struct ctfd *handle, uint16_t t, struct ctfd_visit_row *rows,
-    size_t rows_len, uint64_t *count);
+enum ctfd_status ctfd_visit(
+    struct ctfd *handle, uint16_t t, struct ctfd_visit_row *rows, size_t rows_len, uint64_t *count);
 
 /* What a function type returns, and the type of an argument: a last 0 says that more may follow.
  * Refused alike. */
@@ -414,8 +417,8 @@ enum ctfd_status ctfd_argument(struct ctfd *handle, uint16_t t, size_t index, ui
 /* Fills rows with the types of a function type's arguments, as ctfd_argument gives them, from
  * number `from` on and as far as both reach; rows behind the last stay. `*count` is how many it has
  * in all, as ctfd_length. Of other kinds CTFD_WRONG_KIND. */
-enum ctfd_status ctfd_arguments(struct ctfd *handle, uint16_t t, size_t from, uint16_t *rows,
-    size_t rows_len, uint64_t *count);
+enum ctfd_status ctfd_arguments(
+    struct ctfd *handle, uint16_t t, size_t from, uint16_t *rows, size_t rows_len, uint64_t *count);
 
 /* ---- what a type comes to: typedefs and qualifiers are followed */
 
@@ -440,8 +443,8 @@ enum ctfd_status ctfd_path(struct ctfd *handle, uint16_t t, const char *names, s
 
 /* Its name as C spells it, as in a cast: "struct point *", "int (*)[10]". CTFD_TOO_LONG past 65,536
  * bytes. Takes memory. */
-enum ctfd_status ctfd_name(struct ctfd *handle, uint16_t t, char *text, size_t text_len,
-    uint64_t *len);
+enum ctfd_status ctfd_name(
+    struct ctfd *handle, uint16_t t, char *text, size_t text_len, uint64_t *len);
 
 /* What a value of it holds that begins at bit `offset` of `memory`, as a debugger shows it:
  * "{x = 1, y = -2}". CTFD_SHORT_MEMORY, CTFD_INCOMPLETE, CTFD_TOO_BIG, CTFD_TOO_LONG. Takes
@@ -462,12 +465,11 @@ enum ctfd_status ctfd_pointer(struct ctfd *handle, uint16_t t, uint16_t *out);
 /* ---- the program's symbols */
 
 /* The number of the first symbol of a name that a dictionary can tell of; CTFD_NO_SYMBOL. */
-enum ctfd_status ctfd_symbol(struct ctfd *handle, const char *name, size_t name_len,
-    uint32_t *out);
+enum ctfd_status ctfd_symbol(struct ctfd *handle, const char *name, size_t name_len, uint32_t *out);
 
 /* The name of a symbol; CTFD_NO_SYMBOL. */
-enum ctfd_status ctfd_symbol_name(struct ctfd *handle, uint32_t number, char *text,
-    size_t text_len, uint64_t *len);
+enum ctfd_status ctfd_symbol_name(
+    struct ctfd *handle, uint32_t number, char *text, size_t text_len, uint64_t *len);
 
 /* The type of an object; CTFD_NO_SYMBOL, CTFD_NOT_DATA, CTFD_NO_INFO where nothing is told. */
 enum ctfd_status ctfd_object(struct ctfd *handle, uint32_t number, uint16_t *out);
@@ -482,8 +484,8 @@ struct ctfd_function {
 /* What is told of a function, and the type of an argument; CTFD_NO_SYMBOL, CTFD_NOT_FUNCTION,
  * CTFD_NO_INFO, and CTFD_NO_MEMBER behind the last argument. */
 enum ctfd_status ctfd_function(struct ctfd *handle, uint32_t number, struct ctfd_function *out);
-enum ctfd_status ctfd_function_argument(struct ctfd *handle, uint32_t number, size_t index,
-    uint16_t *out);
+enum ctfd_status ctfd_function_argument(
+    struct ctfd *handle, uint32_t number, size_t index, uint16_t *out);
 
 /* The same of a function type, by its number: CTFD_WRONG_KIND of other kinds. */
 enum ctfd_status ctfd_signature(struct ctfd *handle, uint16_t t, struct ctfd_function *out);
@@ -536,20 +538,20 @@ enum ctfd_status ctfd_create_child(struct ctfd *handle, struct ctfd *parent, con
 /* Each adds a type and answers its number. `root` says that it is visible to look-ups by name. A
  * last argument 0 of a function says that more may follow; `tag` is CTFD_STRUCT, CTFD_UNION or
  * CTFD_ENUM. */
-enum ctfd_status ctfd_add_integer(struct ctfd *handle, const char *name, size_t name_len,
-    bool root, uint8_t encoding, uint8_t offset, uint16_t bits, uint64_t size, uint16_t *out);
+enum ctfd_status ctfd_add_integer(struct ctfd *handle, const char *name, size_t name_len, bool root,
+    uint8_t encoding, uint8_t offset, uint16_t bits, uint64_t size, uint16_t *out);
 enum ctfd_status ctfd_add_float(struct ctfd *handle, const char *name, size_t name_len, bool root,
     uint8_t encoding, uint8_t offset, uint16_t bits, uint64_t size, uint16_t *out);
-enum ctfd_status ctfd_add_pointer(struct ctfd *handle, const char *name, size_t name_len,
-    bool root, uint16_t to, uint16_t *out);
-enum ctfd_status ctfd_add_typedef(struct ctfd *handle, const char *name, size_t name_len,
-    bool root, uint16_t to, uint16_t *out);
-enum ctfd_status ctfd_add_volatile(struct ctfd *handle, const char *name, size_t name_len,
-    bool root, uint16_t to, uint16_t *out);
-enum ctfd_status ctfd_add_const(struct ctfd *handle, const char *name, size_t name_len, bool root,
-    uint16_t to, uint16_t *out);
-enum ctfd_status ctfd_add_restrict(struct ctfd *handle, const char *name, size_t name_len,
-    bool root, uint16_t to, uint16_t *out);
+enum ctfd_status ctfd_add_pointer(
+    struct ctfd *handle, const char *name, size_t name_len, bool root, uint16_t to, uint16_t *out);
+enum ctfd_status ctfd_add_typedef(
+    struct ctfd *handle, const char *name, size_t name_len, bool root, uint16_t to, uint16_t *out);
+enum ctfd_status ctfd_add_volatile(
+    struct ctfd *handle, const char *name, size_t name_len, bool root, uint16_t to, uint16_t *out);
+enum ctfd_status ctfd_add_const(
+    struct ctfd *handle, const char *name, size_t name_len, bool root, uint16_t to, uint16_t *out);
+enum ctfd_status ctfd_add_restrict(
+    struct ctfd *handle, const char *name, size_t name_len, bool root, uint16_t to, uint16_t *out);
 enum ctfd_status ctfd_add_array(struct ctfd *handle, const char *name, size_t name_len, bool root,
     uint16_t contents, uint16_t index, uint32_t count, uint16_t *out);
 enum ctfd_status ctfd_add_function(struct ctfd *handle, const char *name, size_t name_len,
@@ -560,15 +562,15 @@ enum ctfd_status ctfd_add_union(struct ctfd *handle, const char *name, size_t na
     uint64_t size, uint16_t *out);
 enum ctfd_status ctfd_add_enum(struct ctfd *handle, const char *name, size_t name_len, bool root,
     uint64_t size, uint16_t *out);
-enum ctfd_status ctfd_add_forward(struct ctfd *handle, const char *name, size_t name_len,
-    bool root, uint32_t tag, uint16_t *out);
-enum ctfd_status ctfd_add_unknown(struct ctfd *handle, const char *name, size_t name_len,
-    bool root, uint16_t *out);
+enum ctfd_status ctfd_add_forward(
+    struct ctfd *handle, const char *name, size_t name_len, bool root, uint32_t tag, uint16_t *out);
+enum ctfd_status ctfd_add_unknown(
+    struct ctfd *handle, const char *name, size_t name_len, bool root, uint16_t *out);
 
 /* Adds a member to a pending struct or union, at `offset` bits where `has_offset`, else behind its
  * last member, and answers where it lies. */
-enum ctfd_status ctfd_add_member(struct ctfd *handle, uint16_t t, const char *name,
-    size_t name_len, uint16_t type, bool has_offset, uint64_t offset, uint64_t *out);
+enum ctfd_status ctfd_add_member(struct ctfd *handle, uint16_t t, const char *name, size_t name_len,
+    uint16_t type, bool has_offset, uint64_t offset, uint64_t *out);
 
 /* Adds a member to a pending struct or union, at `offset` bits, and gives the struct or union `size`
  * bytes, more or fewer than it had. Its type need have no size, and it may end behind the struct;
@@ -577,10 +579,10 @@ enum ctfd_status ctfd_add_member_at(struct ctfd *handle, uint16_t t, const char 
     size_t name_len, uint16_t type, uint64_t offset, uint64_t size);
 
 /* Adds an enumerator to a pending enum; a label that covers types up to `last`. */
-enum ctfd_status ctfd_add_enumerator(struct ctfd *handle, uint16_t t, const char *name,
-    size_t name_len, int32_t value);
-enum ctfd_status ctfd_add_label(struct ctfd *handle, const char *name, size_t name_len,
-    uint32_t last);
+enum ctfd_status ctfd_add_enumerator(
+    struct ctfd *handle, uint16_t t, const char *name, size_t name_len, int32_t value);
+enum ctfd_status ctfd_add_label(
+    struct ctfd *handle, const char *name, size_t name_len, uint32_t last);
 
 /* Makes all that is pending part of the dictionary; drops it. Both answer how many types the
  * dictionary then has. */
@@ -589,8 +591,8 @@ enum ctfd_status ctfd_discard(struct ctfd *handle, uint64_t *types);
 
 /* The bytes of what is open, from byte `from` on and as far as `bytes_len` reaches, and how many
  * there are in all. */
-enum ctfd_status ctfd_bytes(struct ctfd *handle, uint64_t from, void *bytes, size_t bytes_len,
-    uint64_t *len);
+enum ctfd_status ctfd_bytes(
+    struct ctfd *handle, uint64_t from, void *bytes, size_t bytes_len, uint64_t *len);
 
 /* ---- the line protocol in process
  *
@@ -625,8 +627,8 @@ enum ctfd_status ctfd_load(struct ctfd_service *handle, const char *name, size_t
 enum ctfd_status ctfd_leave(struct ctfd_service *handle, uint32_t session);
 
 /* Gives the last reply again. */
-enum ctfd_status ctfd_reply(struct ctfd_service *handle, char *text, size_t text_len,
-    uint64_t *len);
+enum ctfd_status ctfd_reply(
+    struct ctfd_service *handle, char *text, size_t text_len, uint64_t *len);
 
 /* The library is built with these sizes; another compiler's enums or alignment would not fit. */
 #ifdef __cplusplus

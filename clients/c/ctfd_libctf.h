@@ -28,7 +28,10 @@ extern "C" {
 #ifndef __sun
 typedef unsigned int uint_t;
 typedef unsigned long ulong_t;
-typedef enum { B_FALSE, B_TRUE } boolean_t;
+typedef enum {
+    B_FALSE,
+    B_TRUE
+} boolean_t;
 #endif
 
 /* ---- types and constants, by their names in sys/ctf_api.h and sys/ctf.h */
@@ -206,11 +209,12 @@ int ctf_version(int version);
 /* The caller keeps the sections until the file is closed. Symbols of ELF32 are told by their
  * cts_entsize, and make the model ILP32. A compressed dictionary is inflated where the part for ELF
  * files is there; else it is refused. */
-ctf_file_t *ctf_bufopen(const ctf_sect_t *ctf, const ctf_sect_t *symbols,
-    const ctf_sect_t *strings, int *error);
+ctf_file_t *ctf_bufopen(
+    const ctf_sect_t *ctf, const ctf_sect_t *symbols, const ctf_sect_t *strings, int *error);
 
 /* Open a file of a CTF section alone, or an ELF file that has one. What is no regular file is
- * refused at once, with EINVAL. */
+ * refused at once, with EINVAL. Where the environment names stores by CTFD_STORE, an ELF file without
+ * one is asked for by its build-id: EREMOTEIO if that failed, or if what came was refused. */
 ctf_file_t *ctf_open(const char *name, int *error);
 ctf_file_t *ctf_fdopen(int fd, int *error);
 
@@ -254,13 +258,12 @@ int ctf_array_info(ctf_file_t *fp, ctf_id_t type, ctf_arinfo_t *array);
 /* The length of the whole name; as much of it is written as fits before a zero byte. With a
  * qualifier that and a ` stand in front of the name in it: "struct module`node *". */
 ssize_t ctf_type_lname(ctf_file_t *fp, ctf_id_t type, char *text, size_t size);
-ssize_t ctf_type_qlname(ctf_file_t *fp, ctf_id_t type, char *text, size_t size,
-    const char *qualifier);
+ssize_t ctf_type_qlname(
+    ctf_file_t *fp, ctf_id_t type, char *text, size_t size, const char *qualifier);
 
 /* NULL where it does not fit. The last is the declaration of a name: "int (*name)[10]". */
 char *ctf_type_name(ctf_file_t *fp, ctf_id_t type, char *text, size_t size);
-char *ctf_type_qname(ctf_file_t *fp, ctf_id_t type, char *text, size_t size,
-    const char *qualifier);
+char *ctf_type_qname(ctf_file_t *fp, ctf_id_t type, char *text, size_t size, const char *qualifier);
 char *ctf_type_cname(ctf_file_t *fp, ctf_id_t type, char *text, size_t size, const char *name);
 
 /* Orders types; 1 where two are the same but for typedefs, qualifiers and their dictionary. */
@@ -321,18 +324,18 @@ int ctf_label_info(ctf_file_t *fp, const char *name, ctf_lblinfo_t *info);
  * in each other, are judged when its bytes are wanted. */
 
 ctf_file_t *ctf_create(int *error);
-ctf_id_t ctf_add_integer(ctf_file_t *fp, uint_t flag, const char *name,
-    const ctf_encoding_t *encoding);
-ctf_id_t ctf_add_float(ctf_file_t *fp, uint_t flag, const char *name,
-    const ctf_encoding_t *encoding);
+ctf_id_t ctf_add_integer(
+    ctf_file_t *fp, uint_t flag, const char *name, const ctf_encoding_t *encoding);
+ctf_id_t ctf_add_float(
+    ctf_file_t *fp, uint_t flag, const char *name, const ctf_encoding_t *encoding);
 ctf_id_t ctf_add_pointer(ctf_file_t *fp, uint_t flag, const char *name, ctf_id_t type);
 ctf_id_t ctf_add_typedef(ctf_file_t *fp, uint_t flag, const char *name, ctf_id_t type);
 ctf_id_t ctf_add_volatile(ctf_file_t *fp, uint_t flag, const char *name, ctf_id_t type);
 ctf_id_t ctf_add_const(ctf_file_t *fp, uint_t flag, const char *name, ctf_id_t type);
 ctf_id_t ctf_add_restrict(ctf_file_t *fp, uint_t flag, const char *name, ctf_id_t type);
 ctf_id_t ctf_add_array(ctf_file_t *fp, uint_t flag, const ctf_arinfo_t *array);
-ctf_id_t ctf_add_function(ctf_file_t *fp, uint_t flag, const char *name,
-    const ctf_funcinfo_t *info, const ctf_id_t *argv);
+ctf_id_t ctf_add_function(ctf_file_t *fp, uint_t flag, const char *name, const ctf_funcinfo_t *info,
+    const ctf_id_t *argv);
 ctf_id_t ctf_add_struct(ctf_file_t *fp, uint_t flag, const char *name);
 ctf_id_t ctf_add_union(ctf_file_t *fp, uint_t flag, const char *name);
 

@@ -22,7 +22,7 @@ _ctfd()
     elif [[ ${1##*/} == ctfd && $COMP_CWORD == 1 ]]; then
         options="serve dump"
     elif [[ ${1##*/} == ctfd-store && $COMP_CWORD == 1 ]]; then
-        options="add check list missing remove stats"
+        options="add check fetch list missing remove stats"
     fi
     if [[ -n $options ]]; then
         mapfile -t COMPREPLY < <(compgen -W "$options" -- "$word")

@@ -77,8 +77,7 @@ static const char *own_name(ctf_id_t type, int kind)
     case CTF_K_FUNCTION:
     case CTF_K_VOLATILE:
     case CTF_K_CONST:
-    case CTF_K_RESTRICT:
-        return "";
+    case CTF_K_RESTRICT: return "";
     }
     if (name == NULL)
         fail("name", why());
@@ -143,9 +142,7 @@ static void put_record(ctf_id_t type, int kind)
         break;
     case CTF_K_STRUCT:
     case CTF_K_UNION:
-    case CTF_K_ENUM:
-        put_number("size", ctf_type_size(types, type));
-        break;
+    case CTF_K_ENUM: put_number("size", ctf_type_size(types, type)); break;
     case CTF_K_ARRAY:
         if (ctf_array_info(types, type, &array) != 0)
             fail("array", why());
@@ -158,13 +155,9 @@ static void put_record(ctf_id_t type, int kind)
             fail("arguments", why());
         put_signature(&info, args);
         break;
-    case CTF_K_FORWARD:
-        printf(" tag=%.*s", (int)strcspn(spelled(type), " "), spelled(type));
-        break;
-    case CTF_K_UNKNOWN:
-        break;
-    default:
-        printf(" to=%ld", ctf_type_reference(types, type));
+    case CTF_K_FORWARD: printf(" tag=%.*s", (int)strcspn(spelled(type), " "), spelled(type)); break;
+    case CTF_K_UNKNOWN: break;
+    default: printf(" to=%ld", ctf_type_reference(types, type));
     }
 }
 
@@ -271,8 +264,8 @@ int main(int argc, char **argv)
     ctf = section(argv[1]);
     symbols = argc == 4 ? section(argv[2]) : (ctf_sect_t){ 0 };
     strings = argc == 4 ? section(argv[3]) : (ctf_sect_t){ 0 };
-    types = argc == 4 ? ctf_bufopen(&ctf, &symbols, &strings, &error) :
-        ctf_bufopen(&ctf, NULL, NULL, &error);
+    types = argc == 4 ? ctf_bufopen(&ctf, &symbols, &strings, &error)
+                      : ctf_bufopen(&ctf, NULL, NULL, &error);
     if (types == NULL)
         fail(argv[1], ctf_errmsg(error));
     put_head();

@@ -39,8 +39,7 @@ static void tell(const char *what, unsigned t, enum ctfd_status status, uint64_t
 
 static void tell_text(const char *what, unsigned t, enum ctfd_status status, uint64_t len)
 {
-    printf("%s %u: %s\n", what, t,
-        status == CTFD_OK ? shown(room, len) : ctfd_status_name(status));
+    printf("%s %u: %s\n", what, t, status == CTFD_OK ? shown(room, len) : ctfd_status_name(status));
 }
 
 static void numbers(uint16_t t)
@@ -193,8 +192,9 @@ static void enumerators_by_rows(uint16_t t)
         memset(rows, 0x5a, sizeof rows);
         if (ctfd_enumerators(&types, t, from, rows, 3, &count) != CTFD_OK)
             return;
-        for (i = 0; i < 3 && ctfd_enumerator(&types, t, from + i, room, sizeof room, &value,
-                                 &len) == CTFD_OK; i++) {
+        for (i = 0; i < 3 &&
+             ctfd_enumerator(&types, t, from + i, room, sizeof room, &value, &len) == CTFD_OK;
+             i++) {
             if (from + i >= count || rows[i].value != value ||
                 !stands(rows[i].name_list, rows[i].name_at, room, len))
                 printf("enumerator %u %zu: another row\n", t, from + i);
@@ -208,8 +208,8 @@ static void enumerators_by_rows(uint16_t t)
 
 /* A visit's rows, as the single calls have them: each type, and then its members in turn. `next` is
  * the number of the row that is compared, behind the last of them where there are no more. */
-static void visit_by_calls(const struct ctfd_visit_row *rows, size_t count, size_t *next,
-    struct ctfd_visit_row at)
+static void visit_by_calls(
+    const struct ctfd_visit_row *rows, size_t count, size_t *next, struct ctfd_visit_row at)
 {
     struct ctfd_member one;
     uint32_t kind = CTFD_UNKNOWN;
@@ -218,10 +218,11 @@ static void visit_by_calls(const struct ctfd_visit_row *rows, size_t count, size
     enum ctfd_status status = ctfd_resolve(&types, at.type, &holder);
     if (at.stands_for != (status == CTFD_OK ? holder : 0))
         printf("visit %u %zu: stands for another type\n", rows->type, *next - 1);
-    if (status != CTFD_OK || ctfd_kind(&types, holder, &kind) != CTFD_OK || (kind != CTFD_STRUCT && kind != CTFD_UNION))
+    if (status != CTFD_OK || ctfd_kind(&types, holder, &kind) != CTFD_OK ||
+        (kind != CTFD_STRUCT && kind != CTFD_UNION))
         return;
-    for (i = 0; *next < count &&
-         ctfd_member(&types, holder, i, room, sizeof room, &one) == CTFD_OK; i++) {
+    for (i = 0; *next < count && ctfd_member(&types, holder, i, room, sizeof room, &one) == CTFD_OK;
+         i++) {
         const struct ctfd_visit_row *row = &rows[(*next)++];
         if (row->offset != at.offset + one.offset || row->type != one.type ||
             row->holder != holder || row->depth != at.depth + 1 ||
@@ -237,8 +238,8 @@ static void visit_by_rows(uint16_t t)
     static struct ctfd_visit_row rows[4096], fewer[4];
     uint64_t count = 0, all = 0, len;
     size_t next = 1;
-    if (ctfd_visit(&types, t, rows, sizeof rows / sizeof rows[0], &all) != CTFD_OK ||
-        all == 0 || all > sizeof rows / sizeof rows[0]) {
+    if (ctfd_visit(&types, t, rows, sizeof rows / sizeof rows[0], &all) != CTFD_OK || all == 0 ||
+        all > sizeof rows / sizeof rows[0]) {
         if (ctfd_length(&types, t, &count) == CTFD_OK)
             printf("visit %u: not told\n", t);
         return;
@@ -283,8 +284,7 @@ static void symbol_of(uint64_t len)
 {
     uint32_t number = 0;
     enum ctfd_status status = ctfd_symbol(&types, room, len, &number);
-    printf("symbol %s: %s\n", shown(room, len),
-        status == CTFD_OK ? "" : ctfd_status_name(status));
+    printf("symbol %s: %s\n", shown(room, len), status == CTFD_OK ? "" : ctfd_status_name(status));
     if (status == CTFD_OK)
         printf("symbol number %s: %u\n", escaped, number);
 }
@@ -327,7 +327,7 @@ int main(int argc, char **argv)
     strings = strs;
     /* With a word more the lists are lent. */
     if ((argc == 5 ? ctfd_open_lent : ctfd_open)(&types, ctf.at, ctf.len, sym.at, sym.len, strs.at,
-        strs.len, true, true, false, &place) != CTFD_OK)
+            strs.len, true, true, false, &place) != CTFD_OK)
         return 1;
     ctfd_count(&types, &count);
     for (t = 0; t <= count + 1 + sizeof others / sizeof others[0]; t++) {

@@ -18,13 +18,13 @@ static const char *const kind_names[] = { "unknown", "integer", "float", "pointe
 
 static unsigned checks, failures;
 
-#define CHECK(holds)                                                  \
-    do {                                                              \
-        checks++;                                                     \
-        if (!(holds)) {                                               \
-            failures++;                                               \
+#define CHECK(holds) \
+    do { \
+        checks++; \
+        if (!(holds)) { \
+            failures++; \
             printf("%s:%d: not so: %s\n", __FILE__, __LINE__, #holds); \
-        }                                                             \
+        } \
     } while (0)
 
 /* Prints what was counted, and gives the exit status. */
@@ -88,8 +88,8 @@ static inline void print_name(const char *text, size_t len)
     putchar('"');
 }
 
-static inline enum ctfd_status open_alone(struct ctfd *types, const struct bytes *ctf, bool ilp32,
-    uint64_t *place)
+static inline enum ctfd_status open_alone(
+    struct ctfd *types, const struct bytes *ctf, bool ilp32, uint64_t *place)
 {
     return ctfd_open(types, ctf->at, ctf->len, "", 0, "", 0, false, false, ilp32, place);
 }

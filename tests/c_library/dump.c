@@ -114,30 +114,22 @@ static void print_detail(uint16_t t, uint32_t kind)
     case CTFD_FLOAT:
         print_number("size", status, bytes);
         ctfd_encoding(&types, t, &encoding);
-        printf(" encoding=%u offset=%u bits=%u", encoding.encoding, encoding.offset,
-            encoding.bits);
+        printf(" encoding=%u offset=%u bits=%u", encoding.encoding, encoding.offset, encoding.bits);
         break;
     case CTFD_STRUCT:
     case CTFD_UNION:
-    case CTFD_ENUM:
-        print_number("size", status, bytes);
-        break;
+    case CTFD_ENUM: print_number("size", status, bytes); break;
     case CTFD_ARRAY:
         ctfd_array(&types, t, &array);
         printf(" contents=%u index=%u count=%u", array.contents, array.index, array.count);
         break;
-    case CTFD_FUNCTION:
-        print_function(t);
-        break;
+    case CTFD_FUNCTION: print_function(t); break;
     case CTFD_FORWARD:
         ctfd_tag(&types, t, &tag);
         printf(" tag=%s", kind_names[tag]);
         break;
-    case CTFD_UNKNOWN:
-        break;
-    default:
-        ctfd_reference(&types, t, &to);
-        printf(" to=%u", to);
+    case CTFD_UNKNOWN: break;
+    default: ctfd_reference(&types, t, &to); printf(" to=%u", to);
     }
 }
 
@@ -189,8 +181,7 @@ static void stop(const char *what, enum ctfd_status status, const uint64_t *plac
 {
     if (status == CTFD_OK)
         return;
-    fprintf(stderr, "%s: %s at %llu\n", what, ctfd_status_name(status),
-        (unsigned long long)*place);
+    fprintf(stderr, "%s: %s at %llu\n", what, ctfd_status_name(status), (unsigned long long)*place);
     exit(1);
 }
 
@@ -216,9 +207,11 @@ int main(int argc, char **argv)
         else
             return 2;
     }
-    stop("open", ctfd_open(&types, ctf.at, ctf.len, sym.at != NULL ? sym.at : ctf.at, sym.len,
-        strs.at != NULL ? strs.at : ctf.at, strs.len, sym.at != NULL, strs.at != NULL, ilp32,
-        &place), &place);
+    stop("open",
+        ctfd_open(&types, ctf.at, ctf.len, sym.at != NULL ? sym.at : ctf.at, sym.len,
+            strs.at != NULL ? strs.at : ctf.at, strs.len, sym.at != NULL, strs.at != NULL, ilp32,
+            &place),
+        &place);
     if (above.at != NULL) {
         stop("parent", open_alone(&parent, &above, ilp32, &place), &place);
         stop("import", ctfd_import(&types, &parent, &place), &place);

@@ -40,8 +40,8 @@ static struct bytes damaged(const struct bytes *from)
         exit(2);
     memcpy(made.at, from->at, made.len);
     for (i = 0; i < times && made.len != 0; i++) {
-        uint32_t at = below(3) == 0 ? below(made.len < 36 ? (uint32_t)made.len : 36) :
-            below((uint32_t)made.len);
+        uint32_t at = below(3) == 0 ? below(made.len < 36 ? (uint32_t)made.len : 36)
+                                    : below((uint32_t)made.len);
         if (below(2) == 0)
             made.at[at] ^= (uint8_t)(1u << below(8));
         else
@@ -54,12 +54,9 @@ static struct bytes damaged(const struct bytes *from)
 static uint16_t some_type(void)
 {
     switch (below(8)) {
-    case 0:
-        return (uint16_t)next();
-    case 1:
-        return (uint16_t)(32768 + below(16));
-    default:
-        return (uint16_t)below(540);
+    case 0: return (uint16_t)next();
+    case 1: return (uint16_t)(32768 + below(16));
+    default: return (uint16_t)below(540);
     }
 }
 
@@ -192,9 +189,7 @@ static void ask_text(struct ctfd *d)
     switch (below(11)) {
     case 0: status = ctfd_name(d, t, text, room, &len); break;
     case 1: status = ctfd_declared_name(d, t, text, room, &len); break;
-    case 2:
-        status = ctfd_show(d, t, memory.at, memory.len, below(600), text, room, &len);
-        break;
+    case 2: status = ctfd_show(d, t, memory.at, memory.len, below(600), text, room, &len); break;
     case 3: status = ctfd_member(d, t, some_index(), text, room, &member); break;
     case 4: status = ctfd_enumerator(d, t, some_index(), text, room, &value, &len); break;
     case 5: status = ctfd_symbol_name(d, below(2000), text, room, &len); break;
@@ -214,8 +209,7 @@ static void ask_text(struct ctfd *d)
 /* A visit into a block of just that length. */
 static void ask_visit(struct ctfd *d, uint16_t t, size_t len)
 {
-    struct ctfd_visit_row *rows =
-        (struct ctfd_visit_row *)calloc(len != 0 ? len : 1, sizeof *rows);
+    struct ctfd_visit_row *rows = (struct ctfd_visit_row *)calloc(len != 0 ? len : 1, sizeof *rows);
     uint64_t all = 77;
     enum ctfd_status status;
     if (rows == NULL)
@@ -276,10 +270,9 @@ static void ask_dictionary(struct ctfd *d, size_t len)
 static void ask_rows(struct ctfd *d)
 {
     size_t len = below(5), room = len != 0 ? len : 1;
-    struct ctfd_member_row *members =
-        (struct ctfd_member_row *)calloc(room, sizeof *members);
-    struct ctfd_enumerator_row *enumerators =
-        (struct ctfd_enumerator_row *)calloc(room, sizeof *enumerators);
+    struct ctfd_member_row *members = (struct ctfd_member_row *)calloc(room, sizeof *members);
+    struct ctfd_enumerator_row *enumerators = (struct ctfd_enumerator_row *)calloc(
+        room, sizeof *enumerators);
     uint64_t all = 77;
     uint16_t t = some_type();
     enum ctfd_status status;
@@ -323,8 +316,8 @@ static void add(struct ctfd *d)
     case 9: count(ctfd_add_enum(d, name, len, root, 4, &t)); break;
     case 10: count(ctfd_add_forward(d, name, len, root, below(12), &t)); break;
     case 11:
-        count(ctfd_add_member(d, (uint16_t)below(20), name, len, (uint16_t)below(20),
-            below(2) == 0, next(), &wide));
+        count(ctfd_add_member(
+            d, (uint16_t)below(20), name, len, (uint16_t)below(20), below(2) == 0, next(), &wide));
         break;
     case 15:
         count(ctfd_add_member_at(d, (uint16_t)below(20), name, len, (uint16_t)below(20), below(99),
@@ -361,12 +354,8 @@ static void change(const struct bytes *dictionaries, size_t len, const struct by
     uint64_t place = 0;
     enum ctfd_status status;
     switch (below(16)) {
-    case 0:
-        status = ctfd_import(&open_ones[at], &open_ones[other], &place);
-        break;
-    case 1:
-        status = ctfd_create(&open_ones[at], has, &place);
-        break;
+    case 0: status = ctfd_import(&open_ones[at], &open_ones[other], &place); break;
+    case 1: status = ctfd_create(&open_ones[at], has, &place); break;
     case 2:
         status = ctfd_create_child(&open_ones[at], &open_ones[other], "p", below(2), "", 0, &place);
         break;
@@ -376,8 +365,8 @@ static void change(const struct bytes *dictionaries, size_t len, const struct by
         was = false;
         break;
     default:
-        status = ctfd_open(&open_ones[at], ctf.at, ctf.len, sym.at, sym.len, strs.at, strs.len,
-            has, has || below(2) == 0, below(4) == 0, &place);
+        status = ctfd_open(&open_ones[at], ctf.at, ctf.len, sym.at, sym.len, strs.at, strs.len, has,
+            has || below(2) == 0, below(4) == 0, &place);
     }
     opened += status == CTFD_OK;
     refused += status != CTFD_OK;
@@ -447,10 +436,10 @@ static void send_lines(const struct bytes *lines, unsigned rounds)
         line.len = end != NULL ? (size_t)(end - line.at) : lines->len - from;
         from += line.len + 1;
         made = damaged(&line);
-        CHECK((below(2) == 0
-            ? ctfd_line(&service, (const char *)made.at, made.len, text, room, &len)
-            : ctfd_line_as(&service, 1 + (uint32_t)below(3), (const char *)made.at, made.len, text,
-                room, &len)) == CTFD_OK);
+        CHECK(
+            (below(2) == 0 ? ctfd_line(&service, (const char *)made.at, made.len, text, room, &len)
+                           : ctfd_line_as(&service, 1 + (uint32_t)below(3), (const char *)made.at,
+                                 made.len, text, room, &len)) == CTFD_OK);
         CHECK(len != 0);
         if (below(1000) == 0)
             CHECK(ctfd_leave(&service, (uint32_t)below(4)) == CTFD_OK);

@@ -109,7 +109,7 @@ def of_crates(crates: Path) -> Api:
     api.statuses = {"CTFD_OK": 0, **{f"CTFD_{name}": 1 + int(n) for name, n in numbers}}
     said = dict(re.findall(r'Fault::(\w+) => "(\w+)"', faults))
     api.names = ["Ok", *(said[name] for name, _ in numbers)]
-    shown = (crates / "ctf_c" / "src" / "given.rt").read_text(encoding="utf-8")
+    shown = (crates / "ctf_c" / "src" / "out_pointers.rt").read_text(encoding="utf-8")
     api.kinds = {f"CTFD_{name.upper()}": int(n)
                  for name, n in re.findall(r"Kind::K(\w+) => (\d+),", shown)}
     return api

@@ -213,7 +213,9 @@ static void put_pair(struct made *made)
 /* 512 structs in each other, each twice in the next: 2^513 rows, of which some are filled. */
 static int visit_doubled(unsigned rows_len)
 {
-    enum { DEEP = 512 };
+    enum {
+        DEEP = 512
+    };
     static const char strings[] = "\0int";
     struct made made = { (uint8_t *)malloc(100 + 24 * DEEP), 0, 1 };
     struct ctfd_visit_row *rows = (struct ctfd_visit_row *)calloc(rows_len, sizeof *rows);
@@ -263,7 +265,9 @@ static int on_depth(const char *name, ctf_id_t type, ulong_t offset, int depth, 
 /* 512 structs of a child in each other, around 512 of its parent, around an integer. */
 static void visit_deep_pair(void)
 {
-    enum { DEEP = 512 };
+    enum {
+        DEEP = 512
+    };
     static const char strings[] = "\0int";
     struct made parent = { (uint8_t *)malloc(100 + 16 * DEEP), 0, 1 };
     struct made child = { (uint8_t *)malloc(100 + 16 * DEEP), 0, 1 };

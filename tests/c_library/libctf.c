@@ -105,16 +105,17 @@ static void types(void)
     CHECK(ctf_type_pointer(lua, state) == pointer && ctf_type_reference(lua, pointer) == state);
     CHECK(ctf_errno(lua) == 0);
     CHECK(is(ctf_type_name(lua, state, text, sizeof text), "struct lua_State"));
-    CHECK(is(ctf_type_qname(lua, pointer, text, sizeof text, "genunix"),
-        "struct genunix`lua_State *"));
+    CHECK(is(
+        ctf_type_qname(lua, pointer, text, sizeof text, "genunix"), "struct genunix`lua_State *"));
     CHECK(is(ctf_type_qname(lua, alias, text, sizeof text, "m"), "m`lua_State"));
     CHECK(ctf_type_lname(lua, state, text, 7) == 16 && is(text, "struct"));
     CHECK(ctf_type_name(lua, state, text, 16) == NULL && ctf_errno(lua) == ECTF_NAMELEN);
     CHECK(ctf_type_name(lua, state, text, 17) == text);
     CHECK(ctf_errno(lua) == ECTF_NAMELEN);
     CHECK(ctf_lookup_by_name(lua, "struct nothing") == CTF_ERR);
-    CHECK(ctf_errno(lua) == ECTF_NOTYPE && is(ctf_errmsg(ctf_errno(lua)),
-        "NotFound: no type has this name, or no pointer leads there"));
+    CHECK(ctf_errno(lua) == ECTF_NOTYPE &&
+        is(ctf_errmsg(ctf_errno(lua)),
+            "NotFound: no type has this name, or no pointer leads there"));
     CHECK(ctf_type_kind(lua, 0) == -1 && ctf_errno(lua) == ECTF_BADID);
     CHECK(ctf_type_reference(lua, state) == CTF_ERR && ctf_errno(lua) == ECTF_NOTREF);
     CHECK(ctf_type_size(lua, 70000) == -1 && ctf_errno(lua) == ECTF_BADID);

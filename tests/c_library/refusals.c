@@ -36,10 +36,10 @@ static bool is_untouched(void)
     return memcmp(&got, &filled, sizeof got) == 0;
 }
 
-#define REFUSED(call, status)        \
-    do {                             \
-        CHECK((call) == (status));   \
-        CHECK(is_untouched());       \
+#define REFUSED(call, status) \
+    do { \
+        CHECK((call) == (status)); \
+        CHECK(is_untouched()); \
         memset(&got, 0x5a, sizeof got); \
     } while (0)
 
@@ -307,17 +307,17 @@ static void lend(const struct bytes *ctf)
     if (lent.at == NULL)
         exit(2);
     memcpy(lent.at, ctf->at, ctf->len);
-    CHECK(ctfd_open_lent(&types, "", 0, "", 0, "", 0, false, false, false, &place) ==
-        CTFD_TOO_SHORT);
+    CHECK(
+        ctfd_open_lent(&types, "", 0, "", 0, "", 0, false, false, false, &place) == CTFD_TOO_SHORT);
     CHECK(place == 0 && !types.full);
     CHECK(ctfd_open_lent(&types, lent.at, lent.len, "", 0, "", 0, false, false, true, &place) ==
         CTFD_OK);
     CHECK(ctfd_open_lent(&types, lent.at, lent.len - 1, "", 0, "", 0, false, false, false,
-        &place) == CTFD_PAST_END);
-    CHECK(ctfd_open_lent(&types, lent.at, 35, "", 0, "", 0, false, false, false,
-        &place) == CTFD_SHORT_HEADER);
-    CHECK(ctfd_open_lent(&types, lent.at, lent.len, "abc", 3, "", 0, true, false, false,
-        &place) == CTFD_BAD_SYMTAB);
+              &place) == CTFD_PAST_END);
+    CHECK(ctfd_open_lent(&types, lent.at, 35, "", 0, "", 0, false, false, false, &place) ==
+        CTFD_SHORT_HEADER);
+    CHECK(ctfd_open_lent(&types, lent.at, lent.len, "abc", 3, "", 0, true, false, false, &place) ==
+        CTFD_BAD_SYMTAB);
     CHECK(ctfd_count(&types, &count) == CTFD_OK && count == 526);
     CHECK(ctfd_create_child(&child, &types, "lua", 3, "", 0, &place) == CTFD_OK);
     ctfd_close(&types);
@@ -365,7 +365,7 @@ int main(int argc, char **argv)
     sym = read_in(argv[1], "lua.sym");
     strs = read_in(argv[1], "lua.str");
     CHECK(ctfd_open(&types, ctf.at, ctf.len, sym.at, sym.len, strs.at, strs.len, true, true, false,
-        &place) == CTFD_OK);
+              &place) == CTFD_OK);
     ask_of_none(&types);
     refuse_type(&types, 527, CTFD_NO_TYPE);
     REFUSED(ctfd_pointer(&types, 527, &got.to), CTFD_NO_TYPE);

@@ -54,14 +54,14 @@ static uint64_t place;
 
 static enum ctfd_status open_lua(void)
 {
-    return ctfd_open(&fresh, ctf.at, ctf.len, sym.at, sym.len, strs.at, strs.len, true, true,
-        false, &place);
+    return ctfd_open(
+        &fresh, ctf.at, ctf.len, sym.at, sym.len, strs.at, strs.len, true, true, false, &place);
 }
 
 static enum ctfd_status lend_lua(void)
 {
-    return ctfd_open_lent(&fresh, ctf.at, ctf.len, sym.at, sym.len, strs.at, strs.len, true, true,
-        false, &place);
+    return ctfd_open_lent(
+        &fresh, ctf.at, ctf.len, sym.at, sym.len, strs.at, strs.len, true, true, false, &place);
 }
 
 static enum ctfd_status create(void)
@@ -173,8 +173,8 @@ static void refuse(const char *what, enum ctfd_status (*call)(void))
         /* A text that is refused room to grow is tried with less, and then is as it should be. */
         CHECK(status == CTFD_MEMORY || (status == CTFD_OK && call == show));
         /* A draft may keep room that it made for more; it is given back when the draft is. */
-        CHECK(live == held || (live > held && (call == add || call == add_member ||
-                                                   call == add_member_at)));
+        CHECK(live == held ||
+            (live > held && (call == add || call == add_member || call == add_member_at)));
         CHECK(fingerprint(&fresh) == was);
         CHECK((fingerprint(&types) ^ fingerprint(&base)) == others);
     }

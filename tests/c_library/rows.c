@@ -225,13 +225,13 @@ int main(int argc, char **argv)
     sym = read_file(argv[2]);
     strings = read_file(argv[3]);
     if (ctfd_open(&types, section.at, section.len, sym.at, sym.len, strings.at, strings.len,
-        sym.len != 0, strings.len != 0, false, &place) != CTFD_OK)
+            sym.len != 0, strings.len != 0, false, &place) != CTFD_OK)
         return 1;
     compare_all(&sym);
     if (argc == 5) {
         above = read_file(argv[4]);
-        CHECK(ctfd_open(&parent, above.at, above.len, "", 0, "", 0, false, false, false,
-            &place) == CTFD_OK);
+        CHECK(ctfd_open(&parent, above.at, above.len, "", 0, "", 0, false, false, false, &place) ==
+            CTFD_OK);
         CHECK(ctfd_import(&types, &parent, &place) == CTFD_OK);
         compare_all(&sym);
         free_bytes(&above);

@@ -18,8 +18,8 @@ static unsigned compared;
 static const char *as(struct ctfd_service *service, uint32_t session, const char *line)
 {
     uint64_t len = 0;
-    enum ctfd_status status =
-        ctfd_line_as(service, session, line, strlen(line), reply, ROOM - 1, &len);
+    enum ctfd_status status = ctfd_line_as(
+        service, session, line, strlen(line), reply, ROOM - 1, &len);
     CHECK(status == CTFD_OK && len > 0 && len < ROOM && reply[len - 1] == '\n');
     reply[status == CTFD_OK && len > 0 && len < ROOM ? len - 1 : 0] = 0;
     return reply;
@@ -32,7 +32,8 @@ static bool is(const char *seen, const char *wanted)
     return strcmp(seen, wanted) == 0;
 }
 
-static enum ctfd_status load(struct ctfd_service *service, const char *name, const struct bytes *ctf)
+static enum ctfd_status load(
+    struct ctfd_service *service, const char *name, const struct bytes *ctf)
 {
     return ctfd_load(service, name, strlen(name), ctf->at, ctf->len);
 }
@@ -45,7 +46,8 @@ static void check_length(struct ctfd_service *service)
     memset(line, ' ', most + 1);
     memcpy(line, "{}", 2);
     line[most + 1] = 0;
-    CHECK(is(as(service, 7, line), "{\"fault\":{\"code\":59,\"name\":\"LongLine\",\"place\":0},\"s\":0}"));
+    CHECK(is(as(service, 7, line),
+        "{\"fault\":{\"code\":59,\"name\":\"LongLine\",\"place\":0},\"s\":0}"));
     line[most] = 0;
     CHECK(is(as(service, 7, line),
         "{\"fault\":{\"code\":58,\"name\":\"BadRequest\",\"place\":0},\"s\":7}"));
@@ -134,8 +136,10 @@ static void check_leaving(const struct bytes *ctf)
     static const char take[] = "{\"op\":\"take\",\"owner\":5,\"name\":\"mine\"}";
     CHECK(ctfd_begin(&service) == CTFD_OK);
     CHECK(load(&service, "lua", ctf) == CTFD_OK);
-    CHECK(strstr(as(&service, 5, "{\"op\":\"take\",\"owner\":0,\"name\":\"lua\"}"), "\"ok\"") != NULL);
-    CHECK(strstr(as(&service, 5, "{\"op\":\"publish\",\"d\":1,\"name\":\"mine\"}"), "\"ok\"") != NULL);
+    CHECK(strstr(as(&service, 5, "{\"op\":\"take\",\"owner\":0,\"name\":\"lua\"}"), "\"ok\"") !=
+        NULL);
+    CHECK(strstr(as(&service, 5, "{\"op\":\"publish\",\"d\":1,\"name\":\"mine\"}"), "\"ok\"") !=
+        NULL);
     CHECK(strstr(as(&service, 5, "{\"op\":\"reset\"}"), "\"ok\"") != NULL);
     CHECK(is(as(&service, 6, take), "{\"ok\":{\"d\":1,\"types\":526},\"s\":6}"));
     CHECK(ctfd_leave(&service, 5) == CTFD_OK);

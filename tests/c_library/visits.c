@@ -72,8 +72,7 @@ int main(void)
     CHECK(is_visited(32769, "0 0 -\n1 0 first\n1 64 second\n"));
     CHECK(ctfd_visit(&types, 2, &row, 1, &count) == CTFD_NO_PARENT && count == 7);
     CHECK(ctfd_import(&types, &parent, &place) == CTFD_OK);
-    CHECK(is_visited(32769,
-        "0 0 -\n1 0 first\n2 0 x\n2 32 y\n1 64 second\n2 64 x\n2 96 y\n"));
+    CHECK(is_visited(32769, "0 0 -\n1 0 first\n2 0 x\n2 32 y\n1 64 second\n2 64 x\n2 96 y\n"));
     CHECK(is_visited(2, "0 0 -\n1 0 x\n1 32 y\n"));
     CHECK(is_visited(1, "0 0 -\n"));
     CHECK(ctfd_visit(&types, 32770, &row, 1, &count) == CTFD_NO_TYPE && count == 7);

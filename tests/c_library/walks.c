@@ -89,12 +89,8 @@ static void put_type(struct made *made, unsigned number)
         put16(made, 1 + below(made->types));
         put32(made, 1 + below(2));
         break;
-    case 4:
-        put_record(made, CTF_K_POINTER, 0, below(number));
-        break;
-    case 5:
-        put_record(made, CTF_K_TYPEDEF + below(4), 0, 1 + below(earlier));
-        break;
+    case 4: put_record(made, CTF_K_POINTER, 0, below(number)); break;
+    case 5: put_record(made, CTF_K_TYPEDEF + below(4), 0, 1 + below(earlier)); break;
     case 6:
         members = below(4);
         put_record(made, below(2) == 0 ? CTF_K_STRUCT : CTF_K_UNION, members, 8);
@@ -117,9 +113,7 @@ static void put_type(struct made *made, unsigned number)
         put16(made, below(number));
         put16(made, 1 + below(earlier));
         break;
-    default:
-        put_record(made, CTF_K_INTEGER, 0, 4);
-        put32(made, (1 + below(2)) << 24 | 32);
+    default: put_record(made, CTF_K_INTEGER, 0, 4); put32(made, (1 + below(2)) << 24 | 32);
     }
 }
 
@@ -244,7 +238,7 @@ static int same_enumerator(const char *name, int value, void *arg)
     uint64_t len = 0;
     int32_t found = 0;
     CHECK(ctfd_enumerator(list->types, (uint16_t)list->of, list->len++, text, sizeof text, &found,
-        &len) == CTFD_OK);
+              &len) == CTFD_OK);
     CHECK(found == value && len == strlen(name) && memcmp(text, name, len) == 0);
     return 0;
 }
@@ -273,8 +267,7 @@ static void compare_lists(ctf_file_t *fp, struct ctfd *types, ctf_id_t t)
     if (ended(fp, ctf_enum_iter(fp, t, same_enumerator, &enumerators)) != CTFD_OK)
         CHECK(ctf_fault(fp) == ctfd_enumerator(types, to, 0, text, 0, &value, &len));
     else
-        CHECK(ctfd_enumerator(types, to, enumerators.len, text, 0, &value, &len) ==
-            CTFD_NO_MEMBER);
+        CHECK(ctfd_enumerator(types, to, enumerators.len, text, 0, &value, &len) == CTFD_NO_MEMBER);
 }
 
 /* The first enumerator of a value and of a name, by looking at each. */
@@ -289,16 +282,19 @@ static void compare_enumerators(ctf_file_t *fp, struct ctfd *types, ctf_id_t t)
     enum ctfd_status status;
     if (asked < 5) {
         const char *name = ctf_enum_name(fp, t, (int)asked - 1);
-        for (i = 0; (status = ctfd_enumerator(types, (uint16_t)t, i, text, sizeof text, &value,
-                         &len)) == CTFD_OK && value != (int32_t)asked - 1; i++)
+        for (i = 0; (status = ctfd_enumerator(
+                         types, (uint16_t)t, i, text, sizeof text, &value, &len)) == CTFD_OK &&
+             value != (int32_t)asked - 1;
+             i++)
             continue;
         CHECK((name != NULL) == (status == CTFD_OK) &&
-            (name != NULL ? strlen(name) == len && memcmp(name, text, len) == 0 :
-                            ctf_fault(fp) == status));
+            (name != NULL ? strlen(name) == len && memcmp(name, text, len) == 0
+                          : ctf_fault(fp) == status));
         return;
     }
-    for (i = 0; (status = ctfd_enumerator(types, (uint16_t)t, i, text, sizeof text, &value,
-                     &len)) == CTFD_OK; i++) {
+    for (i = 0; (status = ctfd_enumerator(
+                     types, (uint16_t)t, i, text, sizeof text, &value, &len)) == CTFD_OK;
+         i++) {
         if (len == strlen(names[asked - 5]) && memcmp(text, names[asked - 5], len) == 0)
             break;
     }
@@ -330,12 +326,14 @@ static void compare_details(ctf_file_t *fp, struct ctfd *types, ctf_id_t t)
     uint16_t to = 0;
     enum ctfd_status status = ctfd_encoding(types, (uint16_t)t, &encoding);
     CHECK(ended(fp, ctf_type_encoding(fp, t, &own_encoding)) == status);
-    CHECK(status != CTFD_OK || (own_encoding.cte_format == encoding.encoding &&
-        own_encoding.cte_offset == encoding.offset && own_encoding.cte_bits == encoding.bits));
+    CHECK(status != CTFD_OK ||
+        (own_encoding.cte_format == encoding.encoding &&
+            own_encoding.cte_offset == encoding.offset && own_encoding.cte_bits == encoding.bits));
     status = ctfd_array(types, (uint16_t)t, &array);
     CHECK(ended(fp, ctf_array_info(fp, t, &own_array)) == status);
-    CHECK(status != CTFD_OK || (own_array.ctr_contents == array.contents &&
-        own_array.ctr_index == array.index && own_array.ctr_nelems == array.count));
+    CHECK(status != CTFD_OK ||
+        (own_array.ctr_contents == array.contents && own_array.ctr_index == array.index &&
+            own_array.ctr_nelems == array.count));
     status = ctfd_return(types, (uint16_t)t, &to);
     CHECK(ended(fp, ctf_func_info_by_id(fp, t, &info)) == status);
     CHECK(ended(fp, ctf_func_args_by_id(fp, t, 4, args)) == status);
@@ -400,21 +398,11 @@ static int again(const char *name, struct inside *in)
     ctf_id_t type = (ctf_id_t)below((uint32_t)in->types + 2);
     CHECK(name != NULL && strlen(name) <= 1);
     switch (below(8)) {
-    case 0:
-        (void)ctf_setmodel(in->fp, below(2) == 0 ? CTF_MODEL_ILP32 : CTF_MODEL_LP64);
-        break;
-    case 1:
-        (void)ctf_type_qname(in->fp, type, text, sizeof text, "m");
-        break;
-    case 2:
-        (void)ctf_import(in->fp, NULL);
-        break;
-    case 3:
-        ctf_close(ctf_dup(in->fp));
-        break;
-    case 4:
-        (void)ctf_type_compat(in->fp, type, in->fp, 1);
-        break;
+    case 0: (void)ctf_setmodel(in->fp, below(2) == 0 ? CTF_MODEL_ILP32 : CTF_MODEL_LP64); break;
+    case 1: (void)ctf_type_qname(in->fp, type, text, sizeof text, "m"); break;
+    case 2: (void)ctf_import(in->fp, NULL); break;
+    case 3: ctf_close(ctf_dup(in->fp)); break;
+    case 4: (void)ctf_type_compat(in->fp, type, in->fp, 1); break;
     default:
         if (in->depth < 3) {
             in->depth++;

@@ -9,7 +9,10 @@
 #include <stdlib.h>
 #include <string.h>
 
-enum { LINE = 1 << 21, REPLY = 1 << 23 };
+enum {
+    LINE = 1 << 21,
+    REPLY = 1 << 23
+};
 
 struct buffers {
     char *line, *reply;
@@ -34,15 +37,14 @@ static void *answer(void *given)
 
 int main(int argc, char **argv)
 {
-    struct buffers buffers = {malloc(LINE), malloc(REPLY)};
+    struct buffers buffers = { malloc(LINE), malloc(REPLY) };
     pthread_attr_t attributes;
     pthread_t thread;
     void *failed = "no thread";
     size_t bytes = argc == 2 ? strtoul(argv[1], NULL, 10) * 1024 : 0;
     if (buffers.line == NULL || buffers.reply == NULL || bytes < PTHREAD_STACK_MIN)
         return 2;
-    if (pthread_attr_init(&attributes) == 0 &&
-        pthread_attr_setstacksize(&attributes, bytes) == 0 &&
+    if (pthread_attr_init(&attributes) == 0 && pthread_attr_setstacksize(&attributes, bytes) == 0 &&
         pthread_create(&thread, &attributes, answer, &buffers) == 0)
         pthread_join(thread, &failed);
     free(buffers.line);

@@ -3,13 +3,15 @@ from __future__ import annotations
 
 import io
 import json
+import shutil
 import subprocess
+import sys
 import tarfile
 from pathlib import Path
 from typing import Any, Iterable, Optional
 
 from doors import support as doors
-from doors.support import Case, Outcome, Word, tool
+from doors.support import CLIENTS, LIBRARY, Case, Outcome, Word, tool
 
 SOURCE = """
 struct packet { char kind; struct packet *next; short port; } first;
@@ -20,6 +22,26 @@ int main(void) { return weigh(&first, shade); }
 """
 BUILD_IDS, INDEX = "buildid", "SHA256SUMS"
 DEBUG = "usr/lib/debug"
+TYPES = Path(__file__).with_name("types.c")
+# The headers of libctf's calls, each by what a compiler is told for it.
+HEADERS = {"illumos": (), "gnu": ("-DGNU", "-I", CLIENTS / "c/gnu")}
+# A package of some files, which stand in a folder.
+SPEC = """
+Name: {name}
+Version: 1
+Release: 1
+Summary: {name}
+License: none
+AutoReqProv: no
+%description
+{name}
+%install
+cp -a {root}/. %{{buildroot}}
+%files
+{files}
+"""
+# rpmbuild changes nothing of the files, and writes below one folder alone.
+UNCHANGED = ("debug_package %{nil}", "__os_install_post %{nil}", "_build_id_links none")
 # After so long a command hangs: no test measures how long one takes.
 SECONDS = 600
 
@@ -97,6 +119,47 @@ class StoreCase(Case):
         for part, data in parts.items():
             (folder / part).write_bytes(data)
         subprocess.run(["ar", "rc", made, *(folder / part for part in parts)], check=True)
+        return made
+
+    def package_of_rpm(self, name: str, files: dict[str, bytes], *defined: str) -> Path:
+        """A package of RPM with files of some names."""
+        self.needs("rpmbuild", "rpm2cpio")
+        top = self.folder / f"{name}.rpmbuild"
+        root, spec = top / "root", top / f"{name}.spec"
+        for path, data in files.items():
+            (root / path).parent.mkdir(parents=True, exist_ok=True)
+            (root / path).write_bytes(data)
+        listed = "\n".join(f"/{path}" for path in files)
+        spec.write_text(SPEC.format(name=name, root=root, files=listed))
+        words = [word for one in (f"_topdir {top}", f"_dbpath {top}/db", *UNCHANGED, *defined)
+                 for word in ("--define", one)]
+        done = subprocess.run(["rpmbuild", "-bb", "--quiet", *words, spec], capture_output=True,
+                              text=True, cwd=top)
+        self.assertEqual(done.returncode, 0, done.stderr)
+        return next(top.glob("RPMS/*/*.rpm"))
+
+    def prefix(self) -> Path:
+        """A folder with the library for C and `ctfd-store`, as they are installed."""
+        made, part = self.folder / "prefix", LIBRARY.with_name("libctfd_elf.so")
+        if not made.exists():
+            if not (LIBRARY.exists() and part.exists()):
+                message = "skipped: no libctfd.so and libctfd_elf.so are built"
+                print(message, file=sys.stderr)
+                self.skipTest(message)
+            for folder in ("lib", "bin"):
+                (made / folder).mkdir(parents=True)
+            for library in (LIBRARY, part):
+                shutil.copy(library, made / "lib" / f"{library.name}.0")
+            shutil.copy(tool("store"), made / "bin/ctfd-store")
+        return made
+
+    def libctf(self, header: str) -> Path:
+        """A program that opens files by libctf's calls, of one of the headers."""
+        self.needs("gcc")
+        made, libraries = self.folder / f"types.{header}", self.prefix() / "lib"
+        words = ["gcc", "-std=gnu11", "-I", CLIENTS / "c", *HEADERS[header], TYPES, "-o", made,
+                 libraries / "libctfd.so.0", f"-Wl,-rpath,{libraries}"]
+        subprocess.run(words, check=True)
         return made
 
 

@@ -213,30 +213,28 @@ class Places(StoreCase):
         self.add("--debug-folder", self.folder / "debug", stripped)
         self.assert_sound()
 
-    def test_a_package_of_rpm(self) -> None:
-        self.needs("rpm2cpio", "cpio", "gzip")
+    def test_packages_of_rpm(self) -> None:
+        """A program and its debug file in two packages, compressed in several ways."""
         program = self.program()
-        # rpm2cpio reads the archive behind the header of a package; that is the least of one.
-        folder = self.folder / "root/usr/bin"
-        folder.mkdir(parents=True)
-        shutil.copy(program, folder / "x")
-        archive = subprocess.run("find . -depth | cpio --quiet -o -H newc | gzip -n", shell=True,
-                                 cwd=self.folder / "root", capture_output=True, check=True).stdout
-        package = self.folder / "x-1.x86_64.rpm"
-        package.write_bytes(lead_of_rpm() + archive)
-        probe = subprocess.run(["rpm2cpio", package], capture_output=True)
-        if probe.returncode != 0:
-            self.skipTest("this rpm2cpio wants more of a package")
-        self.add(package)
-        self.assert_sound()
-        self.assertEqual([one["name"] for one in self.listed()], ["x"])
-
-
-def lead_of_rpm() -> bytes:
-    """The lead of a package, and two headers without entries."""
-    lead = b"\xed\xab\xee\xdb\x03\x00" + bytes(90)
-    header = b"\x8e\xad\xe8\x01" + bytes(12)
-    return lead + header + header
+        stripped, debug = self.parted(program)
+        first, rest = build_id(program)[:2], build_id(program)[2:]
+        for number, payload in enumerate(("w9.gzdio", "w2.xzdio", "w3.zstdio")):
+            defined = f"_binary_payload {payload}"
+            packages = [
+                self.package_of_rpm(f"x{number}", {"usr/bin/x": stripped.read_bytes()}, defined),
+                self.package_of_rpm(f"x{number}-debuginfo", {
+                    f"{DEBUG}/.build-id/{first}/{rest}.debug": debug.read_bytes(),
+                    "usr/share/doc/x": b"text\n"}, defined)]
+            store = self.folder / f"store{number}"
+            self.add("--executables", *packages, store=store)
+            self.assert_sound(store)
+            build = self.build(program, store)
+            self.assertEqual((build / "executable").read_bytes(), stripped.read_bytes())
+            self.assertIn("name x\n", (build / "about").read_text())
+        damaged = packages[0].read_bytes()
+        packages[0].write_bytes(damaged[:len(damaged) // 2])
+        done = self.add(packages[0], status=2)
+        self.assertRegex(done.errors, r"x2-1-1\.x86_64\.rpm: it (is damaged|can't be unpacked)")
 
 
 class Refused(StoreCase):

@@ -5,6 +5,7 @@ never end are left by their clients.
 """
 from __future__ import annotations
 
+import errno
 import gzip
 import struct
 import threading
@@ -14,11 +15,12 @@ import zlib
 from collections import Counter
 from concurrent.futures import ThreadPoolExecutor
 from http.server import BaseHTTPRequestHandler, ThreadingHTTPServer
+from pathlib import Path
 from typing import Callable, Counter as Counts, Dict
 
 from doors.support import clean, tool
 
-from .support import SOURCE, StoreCase, build_id, run
+from .support import HEADERS, SOURCE, StoreCase, build_id, run
 
 SECTION = "section/.SUNW_ctf"
 PIECE = bytes(1 << 20)
@@ -26,6 +28,11 @@ PIECE = bytes(1 << 20)
 MOST_BYTES, MOST_MEGABYTES = (64 + 16) << 20, 300
 # Those that wait; the others are asked one after the other.
 WAITING = ("drip", "silent", "stalled")
+# Those that libctf's calls ask too, which run the same command, and those of which debuginfod-find
+# says that they have nothing.
+BY_LIBCTF = ("a_page", "too_long", "endless", "bomb", "bomb_of_a_few_bytes", "a_program", "damaged",
+             "short", "mixed", "other_build", "a_debug_file_of_nothing")
+AS_ABSENT = ("absent", "empty", "cut", "broken")
 
 
 class Handler(BaseHTTPRequestHandler):
@@ -172,13 +179,19 @@ class Servers(StoreCase):
         self.addCleanup(self.server.shutdown)
         threading.Thread(target=self.server.serve_forever, daemon=True).start()
 
+    def url(self, kind: str) -> str:
+        """The store that a server of some kind is."""
+        return f"http://127.0.0.1:{self.server.server_address[1]}/{kind}"
+
+    def environment(self, kept: Path) -> Dict[str, str]:
+        return clean({"XDG_CACHE_HOME": str(kept), "HOME": str(kept), "DEBUGINFOD_URLS": "",
+                      "no_proxy": "*"})
+
     def asked(self, kind: str) -> str:
         """What is wrong with how a server of some kind is answered; empty where it is refused."""
         kept = self.folder / f"kept.{kind}"
-        url = f"http://127.0.0.1:{self.server.server_address[1]}/{kind}"
-        done = run(tool("types"), "--store", url, self.id, "struct packet",
-                   environment=clean({"XDG_CACHE_HOME": str(kept), "HOME": str(kept),
-                                      "DEBUGINFOD_URLS": "", "no_proxy": "*"}))
+        done = run(tool("types"), "--store", self.url(kind), self.id, "struct packet",
+                   environment=self.environment(kept))
         lines = done.errors.splitlines()
         left = [path for path in kept.rglob("*") if path.is_file()]
         is_refused = (done.status, len(lines), done.output, left) == (1, 1, "", [])
@@ -194,6 +207,22 @@ class Servers(StoreCase):
             waiting = [pool.submit(self.asked, kind) for kind in WAITING]
             wrong = [*map(self.asked, others), *(one.result() for one in waiting)]
         self.assertEqual([one for one in wrong if one], [])
+
+    def test_libctfs_calls_refuse_them(self) -> None:
+        stripped, _ = self.parted(self.built)
+        for header in HEADERS:
+            door = self.libctf(header)
+            for kind in (*BY_LIBCTF, *AS_ABSENT) if header == "gnu" else BY_LIBCTF[:2]:
+                kept = self.folder / f"kept.{header}.{kind}"
+                done = run(door, stripped, environment={**self.environment(kept),
+                                                        "CTFD_STORE": self.url(kind)})
+                self.assertEqual(done.status, 1, (kind, done.text))
+                begins = (f"{errno.EREMOTEIO}: CTFD_STORE was asked, in vain"
+                          if kind in BY_LIBCTF else "1008: no section .SUNW_ctf")
+                self.assertTrue(done.output.startswith(begins), (kind, done.output))
+                self.assertEqual(done.errors, "")
+                self.assertEqual([path for path in kept.rglob("*") if path.is_file()], [])
+                self.assertLess(self.server.sent[kind], 2 * MOST_BYTES)
 
 
 if __name__ == "__main__":

@@ -127,6 +127,9 @@ class Recipes(StoreCase):
         for words in ((tool("types"), self.away / "program", "weigh"),
                       (tool("types"), self.id, "weigh"),
                       (tool("convert"), self.away / "program", self.folder / "out"),
+                      (tool("debuginfo"), self.away / "program", self.folder / "out"),
+                      (self.libctf("illumos"), self.away / "program"),
+                      (self.libctf("gnu"), self.away / "program"),
                       (tool("store"), "add", self.folder / "new", self.away / "program")):
             subprocess.run(["strace", "-f", "-o", trace, "-e",
                             "trace=socket,connect,execve,openat", *words],

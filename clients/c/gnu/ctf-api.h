@@ -75,8 +75,15 @@ typedef struct ctf_snapshot_id {
 } ctf_snapshot_id_t;
 
 typedef enum ctf_sect_names {
-    CTF_SECT_HEADER, CTF_SECT_LABEL, CTF_SECT_OBJT, CTF_SECT_FUNC, CTF_SECT_VAR, CTF_SECT_TYPE,
-    CTF_SECT_STR, CTF_SECT_OBJTIDX = CTF_SECT_OBJT, CTF_SECT_FUNCIDX = CTF_SECT_FUNC
+    CTF_SECT_HEADER,
+    CTF_SECT_LABEL,
+    CTF_SECT_OBJT,
+    CTF_SECT_FUNC,
+    CTF_SECT_VAR,
+    CTF_SECT_TYPE,
+    CTF_SECT_STR,
+    CTF_SECT_OBJTIDX = CTF_SECT_OBJT,
+    CTF_SECT_FUNCIDX = CTF_SECT_FUNC
 } ctf_sect_names_t;
 
 #define CTF_FUNC_VARARG 0x1
@@ -115,21 +122,70 @@ typedef enum ctf_sect_names {
 
 #define ECTF_BASE 1000
 enum {
-    ECTF_FMT = ECTF_BASE, ECTF_BFDERR, ECTF_CTFVERS, ECTF_BFD_AMBIGUOUS, ECTF_SYMTAB, ECTF_SYMBAD,
-    ECTF_STRBAD, ECTF_CORRUPT, ECTF_NOCTFDATA, ECTF_NOCTFBUF, ECTF_NOSYMTAB, ECTF_NOPARENT,
-    ECTF_DMODEL, ECTF_LINKADDEDLATE, ECTF_ZALLOC, ECTF_DECOMPRESS, ECTF_STRTAB, ECTF_BADNAME,
-    ECTF_BADID, ECTF_NOTSOU, ECTF_NOTENUM, ECTF_NOTSUE, ECTF_NOTINTFP, ECTF_NOTARRAY, ECTF_NOTREF,
-    ECTF_NAMELEN, ECTF_NOTYPE, ECTF_SYNTAX, ECTF_NOTFUNC, ECTF_NOFUNCDAT, ECTF_NOTDATA,
-    ECTF_NOTYPEDAT, ECTF_NOLABEL, ECTF_NOLABELDATA, ECTF_NOTSUP, ECTF_NOENUMNAM, ECTF_NOMEMBNAM,
-    ECTF_RDONLY, ECTF_DTFULL, ECTF_FULL, ECTF_DUPLICATE, ECTF_CONFLICT, ECTF_OVERROLLBACK,
-    ECTF_COMPRESS, ECTF_ARCREATE, ECTF_ARNNAME, ECTF_SLICEOVERFLOW, ECTF_DUMPSECTUNKNOWN,
-    ECTF_DUMPSECTCHANGED, ECTF_NOTYET, ECTF_INTERNAL, ECTF_NONREPRESENTABLE, ECTF_NEXT_END,
-    ECTF_NEXT_WRONGFUN, ECTF_NEXT_WRONGFP, ECTF_FLAGS, ECTF_NEEDSBFD, ECTF_INCOMPLETE, ECTF_NONAME
+    ECTF_FMT = ECTF_BASE,
+    ECTF_BFDERR,
+    ECTF_CTFVERS,
+    ECTF_BFD_AMBIGUOUS,
+    ECTF_SYMTAB,
+    ECTF_SYMBAD,
+    ECTF_STRBAD,
+    ECTF_CORRUPT,
+    ECTF_NOCTFDATA,
+    ECTF_NOCTFBUF,
+    ECTF_NOSYMTAB,
+    ECTF_NOPARENT,
+    ECTF_DMODEL,
+    ECTF_LINKADDEDLATE,
+    ECTF_ZALLOC,
+    ECTF_DECOMPRESS,
+    ECTF_STRTAB,
+    ECTF_BADNAME,
+    ECTF_BADID,
+    ECTF_NOTSOU,
+    ECTF_NOTENUM,
+    ECTF_NOTSUE,
+    ECTF_NOTINTFP,
+    ECTF_NOTARRAY,
+    ECTF_NOTREF,
+    ECTF_NAMELEN,
+    ECTF_NOTYPE,
+    ECTF_SYNTAX,
+    ECTF_NOTFUNC,
+    ECTF_NOFUNCDAT,
+    ECTF_NOTDATA,
+    ECTF_NOTYPEDAT,
+    ECTF_NOLABEL,
+    ECTF_NOLABELDATA,
+    ECTF_NOTSUP,
+    ECTF_NOENUMNAM,
+    ECTF_NOMEMBNAM,
+    ECTF_RDONLY,
+    ECTF_DTFULL,
+    ECTF_FULL,
+    ECTF_DUPLICATE,
+    ECTF_CONFLICT,
+    ECTF_OVERROLLBACK,
+    ECTF_COMPRESS,
+    ECTF_ARCREATE,
+    ECTF_ARNNAME,
+    ECTF_SLICEOVERFLOW,
+    ECTF_DUMPSECTUNKNOWN,
+    ECTF_DUMPSECTCHANGED,
+    ECTF_NOTYET,
+    ECTF_INTERNAL,
+    ECTF_NONREPRESENTABLE,
+    ECTF_NEXT_END,
+    ECTF_NEXT_WRONGFUN,
+    ECTF_NEXT_WRONGFP,
+    ECTF_FLAGS,
+    ECTF_NEEDSBFD,
+    ECTF_INCOMPLETE,
+    ECTF_NONAME
 };
 #define ECTF_NERR (ECTF_NONAME - ECTF_BASE + 1)
 
-typedef int ctf_visit_f(const char *name, ctf_id_t type, unsigned long offset, int depth,
-    void *arg);
+typedef int ctf_visit_f(
+    const char *name, ctf_id_t type, unsigned long offset, int depth, void *arg);
 typedef int ctf_member_f(const char *name, ctf_id_t type, unsigned long offset, void *arg);
 typedef int ctf_enum_f(const char *name, int value, void *arg);
 typedef int ctf_variable_f(const char *name, ctf_id_t type, void *arg);
@@ -142,7 +198,10 @@ typedef int ctf_archive_member_f(ctf_dict_t *fp, const char *name, void *arg);
 /* A call that is GNU's alone, or another than illumos' of its name. */
 #define CTFD_GNU(name) __asm__("ctfd_gnu_" name)
 
-/* ---- open and close */
+/* ---- open and close
+ *
+ * Where the environment names stores by CTFD_STORE, an ELF file without a dictionary is asked for by
+ * its build-id: EREMOTEIO if that failed, or if what came was refused. */
 ctf_archive_t *ctf_open(const char *name, const char *target, int *error) CTFD_GNU("open");
 ctf_archive_t *ctf_fdopen(int fd, const char *name, const char *target, int *error)
     CTFD_GNU("fdopen");
@@ -154,8 +213,8 @@ ctf_dict_t *ctf_dict_open(const ctf_archive_t *archive, const char *name, int *e
     CTFD_GNU("dict_open");
 ctf_dict_t *ctf_arc_open_by_name(const ctf_archive_t *archive, const char *name, int *error)
     CTFD_GNU("dict_open");
-ctf_dict_t *ctf_bufopen(const ctf_sect_t *ctf, const ctf_sect_t *symbols,
-    const ctf_sect_t *strings, int *error) CTFD_GNU("bufopen");
+ctf_dict_t *ctf_bufopen(const ctf_sect_t *ctf, const ctf_sect_t *symbols, const ctf_sect_t *strings,
+    int *error) CTFD_GNU("bufopen");
 ctf_dict_t *ctf_simple_open(const char *ctf, size_t ctf_len, const char *symbols,
     size_t symbols_len, size_t entsize, const char *strings, size_t strings_len, int *error)
     CTFD_GNU("simple_open");
@@ -218,10 +277,10 @@ void ctf_next_destroy(ctf_next_t *it) CTFD_GNU("next_destroy");
 /* ---- functions and symbols */
 int ctf_func_info(ctf_dict_t *fp, unsigned long symbol, ctf_funcinfo_t *info);
 int ctf_func_args(ctf_dict_t *fp, unsigned long symbol, uint32_t argc, ctf_id_t *argv);
-int ctf_func_type_info(ctf_dict_t *fp, ctf_id_t type, ctf_funcinfo_t *info)
-    __asm__("ctf_func_info_by_id");
-int ctf_func_type_args(ctf_dict_t *fp, ctf_id_t type, uint32_t argc, ctf_id_t *argv)
-    __asm__("ctf_func_args_by_id");
+int ctf_func_type_info(ctf_dict_t *fp, ctf_id_t type, ctf_funcinfo_t *info) __asm__(
+    "ctf_func_info_by_id");
+int ctf_func_type_args(ctf_dict_t *fp, ctf_id_t type, uint32_t argc, ctf_id_t *argv) __asm__(
+    "ctf_func_args_by_id");
 ctf_id_t ctf_lookup_by_symbol(ctf_dict_t *fp, unsigned long symbol) CTFD_GNU("symbol");
 ctf_id_t ctf_lookup_by_symbol_name(ctf_dict_t *fp, const char *name) CTFD_GNU("symbol_named");
 ctf_id_t ctf_symbol_next(ctf_dict_t *fp, ctf_next_t **it, const char **name, int functions)
@@ -245,13 +304,13 @@ ctf_dict_t *ctf_create(int *error) CTFD_GNU("create");
 ctf_id_t ctf_add_array(ctf_dict_t *fp, uint32_t flag, const ctf_arinfo_t *array);
 ctf_id_t ctf_add_const(ctf_dict_t *fp, uint32_t flag, ctf_id_t type) CTFD_GNU("add_const");
 ctf_id_t ctf_add_enum(ctf_dict_t *fp, uint32_t flag, const char *name) CTFD_GNU("add_enum");
-ctf_id_t ctf_add_float(ctf_dict_t *fp, uint32_t flag, const char *name,
-    const ctf_encoding_t *encoding);
+ctf_id_t ctf_add_float(
+    ctf_dict_t *fp, uint32_t flag, const char *name, const ctf_encoding_t *encoding);
 ctf_id_t ctf_add_forward(ctf_dict_t *fp, uint32_t flag, const char *name, uint32_t kind);
 ctf_id_t ctf_add_function(ctf_dict_t *fp, uint32_t flag, const ctf_funcinfo_t *info,
     const ctf_id_t *argv) CTFD_GNU("add_function");
-ctf_id_t ctf_add_integer(ctf_dict_t *fp, uint32_t flag, const char *name,
-    const ctf_encoding_t *encoding);
+ctf_id_t ctf_add_integer(
+    ctf_dict_t *fp, uint32_t flag, const char *name, const ctf_encoding_t *encoding);
 ctf_id_t ctf_add_pointer(ctf_dict_t *fp, uint32_t flag, ctf_id_t type) CTFD_GNU("add_pointer");
 ctf_id_t ctf_add_type(ctf_dict_t *fp, ctf_dict_t *from, ctf_id_t type);
 ctf_id_t ctf_add_typedef(ctf_dict_t *fp, uint32_t flag, const char *name, ctf_id_t type);
@@ -262,8 +321,7 @@ ctf_id_t ctf_add_struct_sized(ctf_dict_t *fp, uint32_t flag, const char *name, s
     CTFD_GNU("add_struct_sized");
 ctf_id_t ctf_add_union_sized(ctf_dict_t *fp, uint32_t flag, const char *name, size_t size)
     CTFD_GNU("add_union_sized");
-ctf_id_t ctf_add_unknown(ctf_dict_t *fp, uint32_t flag, const char *name)
-    CTFD_GNU("add_unknown");
+ctf_id_t ctf_add_unknown(ctf_dict_t *fp, uint32_t flag, const char *name) CTFD_GNU("add_unknown");
 ctf_id_t ctf_add_volatile(ctf_dict_t *fp, uint32_t flag, ctf_id_t type) CTFD_GNU("add_volatile");
 int ctf_add_enumerator(ctf_dict_t *fp, ctf_id_t type, const char *name, int value);
 int ctf_add_member(ctf_dict_t *fp, ctf_id_t sou, const char *name, ctf_id_t type)
@@ -279,8 +337,7 @@ ctf_snapshot_id_t ctf_snapshot(ctf_dict_t *fp) CTFD_GNU("snapshot");
 int ctf_rollback(ctf_dict_t *fp, ctf_snapshot_id_t to) CTFD_GNU("rollback");
 int ctf_discard(ctf_dict_t *fp);
 int ctf_write(ctf_dict_t *fp, int fd);
-unsigned char *ctf_write_mem(ctf_dict_t *fp, size_t *size, size_t threshold)
-    CTFD_GNU("write_mem");
+unsigned char *ctf_write_mem(ctf_dict_t *fp, size_t *size, size_t threshold) CTFD_GNU("write_mem");
 int ctf_link_add_linker_symbol(ctf_dict_t *fp, ctf_link_sym_t *symbol) CTFD_GNU("link_symbol");
 
 #ifdef __cplusplus

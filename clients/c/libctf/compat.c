@@ -115,17 +115,13 @@ static bool alike(struct walk *walk, struct pair pair)
         return false;
     switch (left) {
     case CTFD_INTEGER:
-    case CTFD_FLOAT:
-        return same_encodings(walk, pair);
-    case CTFD_POINTER:
-        return same_pointers(walk, pair);
-    case CTFD_ARRAY:
-        return same_arrays(walk, pair);
+    case CTFD_FLOAT: return same_encodings(walk, pair);
+    case CTFD_POINTER: return same_pointers(walk, pair);
+    case CTFD_ARRAY: return same_arrays(walk, pair);
     case CTFD_STRUCT:
     case CTFD_UNION:
         return ctf_type_size(walk->lfp, pair.left) == ctf_type_size(walk->rfp, pair.right);
-    default:
-        return left == CTFD_ENUM || left == CTFD_FORWARD;
+    default: return left == CTFD_ENUM || left == CTFD_FORWARD;
     }
 }
 
@@ -135,8 +131,10 @@ static bool met(struct walk *walk, struct pair pair)
     uint16_t left = 0, right = 0;
     if (ctf_type_cmp(walk->lfp, pair.left, walk->rfp, pair.right) == 0)
         return true;
-    if ((pair.left != 0 && ctfd__done(walk->lfp, ctfd__resolution_of(walk->lfp, pair.left, &left))) ||
-        (pair.right != 0 && ctfd__done(walk->rfp, ctfd__resolution_of(walk->rfp, pair.right, &right))))
+    if ((pair.left != 0 &&
+            ctfd__done(walk->lfp, ctfd__resolution_of(walk->lfp, pair.left, &left))) ||
+        (pair.right != 0 &&
+            ctfd__done(walk->rfp, ctfd__resolution_of(walk->rfp, pair.right, &right))))
         return false;
     pair.left = left;
     pair.right = right;

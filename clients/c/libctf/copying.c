@@ -14,14 +14,14 @@ struct copy {
     ctf_file_t *to, *from;
     struct {
         uint16_t was, is;
-    } *known;
+    } * known;
     uint32_t known_len; /* a power of two */
     uint32_t count;
     uint32_t depth;
     uint32_t there; /* how many types the other file had */
     struct empty {
         uint16_t in, names;
-    } *empty; /* numbers here, and in the source, of what is not filled yet */
+    } * empty; /* numbers here, and in the source, of what is not filled yet */
     uint32_t empty_len, empty_room;
 };
 
@@ -133,8 +133,7 @@ static bool says_the_same(struct copy *copy, uint16_t t, uint32_t kind, uint16_t
         details = ctfd__details(copy->to, there);
         return details != NULL && details->count == count &&
             ctf_enum_iter(copy->from, (ctf_id_t)t, same_enumerator, &compared) == 0;
-    default:
-        return true;
+    default: return true;
     }
 }
 
@@ -164,8 +163,8 @@ static int copy_enumerator(const char *name, int value, void *arg)
 }
 
 /* A struct, union or enum, without what it holds: that waits. */
-static ctf_id_t copy_tagged(struct copy *copy, uint_t flag, uint16_t t, uint32_t kind,
-    const char *name)
+static ctf_id_t copy_tagged(
+    struct copy *copy, uint_t flag, uint16_t t, uint32_t kind, const char *name)
 {
     ctf_id_t is;
     uint64_t size = 0;
@@ -237,8 +236,8 @@ static ctf_id_t copy_function(struct copy *copy, uint_t flag, uint16_t t, const 
     return is;
 }
 
-static ctf_id_t copy_reference(struct copy *copy, uint_t flag, uint16_t t, uint32_t kind,
-    const char *name)
+static ctf_id_t copy_reference(
+    struct copy *copy, uint_t flag, uint16_t t, uint32_t kind, const char *name)
 {
     uint16_t to = 0;
     ctf_id_t is;
@@ -249,22 +248,17 @@ static ctf_id_t copy_reference(struct copy *copy, uint_t flag, uint16_t t, uint3
     if (is == CTF_ERR)
         return CTF_ERR;
     switch (kind) {
-    case CTFD_POINTER:
-        return ctf_add_pointer(copy->to, flag, name, is);
-    case CTFD_TYPEDEF:
-        return ctf_add_typedef(copy->to, flag, name, is);
-    case CTFD_VOLATILE:
-        return ctf_add_volatile(copy->to, flag, name, is);
-    case CTFD_CONST:
-        return ctf_add_const(copy->to, flag, name, is);
-    default:
-        return ctf_add_restrict(copy->to, flag, name, is);
+    case CTFD_POINTER: return ctf_add_pointer(copy->to, flag, name, is);
+    case CTFD_TYPEDEF: return ctf_add_typedef(copy->to, flag, name, is);
+    case CTFD_VOLATILE: return ctf_add_volatile(copy->to, flag, name, is);
+    case CTFD_CONST: return ctf_add_const(copy->to, flag, name, is);
+    default: return ctf_add_restrict(copy->to, flag, name, is);
     }
 }
 
 /* Adds a copy of a type that is not there. */
-static ctf_id_t copy_type(struct copy *copy, uint_t flag, uint16_t t, uint32_t kind,
-    const char *name)
+static ctf_id_t copy_type(
+    struct copy *copy, uint_t flag, uint16_t t, uint32_t kind, const char *name)
 {
     ctf_encoding_t encoding;
     ctf_arinfo_t array;
@@ -289,19 +283,17 @@ static ctf_id_t copy_type(struct copy *copy, uint_t flag, uint16_t t, uint32_t k
         array.ctr_contents = copied(copy, array.ctr_contents);
         array.ctr_index = array.ctr_contents == CTF_ERR ? CTF_ERR : copied(copy, array.ctr_index);
         return array.ctr_index == CTF_ERR ? CTF_ERR : ctf_add_array(copy->to, flag, &array);
-    case CTFD_FUNCTION:
-        return copy_function(copy, flag, t, name);
+    case CTFD_FUNCTION: return copy_function(copy, flag, t, name);
     case CTFD_STRUCT:
     case CTFD_UNION:
-    case CTFD_ENUM:
-        return copy_tagged(copy, flag, t, kind, name);
-    case CTFD_FORWARD:
-        return ctf_add_forward(copy->to, flag, name, tag_of(copy->from, t));
+    case CTFD_ENUM: return copy_tagged(copy, flag, t, kind, name);
+    case CTFD_FORWARD: return ctf_add_forward(copy->to, flag, name, tag_of(copy->from, t));
     case CTFD_UNKNOWN:
-        return ctfd__done(copy->to, ctfd__add_type(copy->to, CTFD_UNKNOWN, 0, name, flag != 0,
-            &made)) != 0 ? CTF_ERR : (ctf_id_t)made;
-    default:
-        return copy_reference(copy, flag, t, kind, name);
+        return ctfd__done(
+                   copy->to, ctfd__add_type(copy->to, CTFD_UNKNOWN, 0, name, flag != 0, &made)) != 0
+            ? CTF_ERR
+            : (ctf_id_t)made;
+    default: return copy_reference(copy, flag, t, kind, name);
     }
 }
 

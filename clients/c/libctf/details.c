@@ -100,12 +100,9 @@ static const char *lent(const ctf_file_t *fp, bool is_lent, uint32_t list, uint6
     if (!is_lent)
         return NULL;
     switch (list) {
-    case CTFD_IN_SECTION:
-        return (const char *)fp->lists.data[0] + at;
-    case CTFD_IN_STRINGS:
-        return (const char *)fp->lists.data[2] + at;
-    default:
-        return "";
+    case CTFD_IN_SECTION: return (const char *)fp->lists.data[0] + at;
+    case CTFD_IN_STRINGS: return (const char *)fp->lists.data[2] + at;
+    default: return "";
     }
 }
 
@@ -210,8 +207,8 @@ struct ctfd__details *ctfd__read(ctf_file_t *fp, uint16_t t)
 }
 
 /* Reads the name of an item into the room. */
-static enum ctfd_status read_name(ctf_file_t *fp, uint16_t t, uint32_t kind, uint32_t i,
-    uint64_t *len)
+static enum ctfd_status read_name(
+    ctf_file_t *fp, uint16_t t, uint32_t kind, uint32_t i, uint64_t *len)
 {
     struct ctfd_member member = { 0, 0, 0 };
     enum ctfd_status status;

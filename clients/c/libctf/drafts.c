@@ -42,8 +42,8 @@ static ctf_id_t add(ctf_file_t *fp, uint_t flag, uint32_t kind, uint32_t tag, co
     struct ctfd__type **type)
 {
     uint16_t t = 0;
-    enum ctfd_status status = ctfd__add_type(fp, kind, tag, name != NULL ? name : "",
-        flag == CTF_ADD_ROOT, &t);
+    enum ctfd_status status = ctfd__add_type(
+        fp, kind, tag, name != NULL ? name : "", flag == CTF_ADD_ROOT, &t);
     if (ctfd__done(fp, status) != 0)
         return CTF_ERR;
     fp->is_touched = true;
@@ -72,8 +72,8 @@ static uint64_t storage_of(uint_t bits)
     return bytes;
 }
 
-static ctf_id_t add_scalar(ctf_file_t *fp, uint_t flag, uint32_t kind, const char *name,
-    const ctf_encoding_t *encoding)
+static ctf_id_t add_scalar(
+    ctf_file_t *fp, uint_t flag, uint32_t kind, const char *name, const ctf_encoding_t *encoding)
 {
     struct ctfd__type *made;
     ctf_id_t t;
@@ -89,20 +89,20 @@ static ctf_id_t add_scalar(ctf_file_t *fp, uint_t flag, uint32_t kind, const cha
     return t;
 }
 
-ctf_id_t ctf_add_integer(ctf_file_t *fp, uint_t flag, const char *name,
-    const ctf_encoding_t *encoding)
+ctf_id_t ctf_add_integer(
+    ctf_file_t *fp, uint_t flag, const char *name, const ctf_encoding_t *encoding)
 {
     return add_scalar(fp, flag, CTFD_INTEGER, name, encoding);
 }
 
-ctf_id_t ctf_add_float(ctf_file_t *fp, uint_t flag, const char *name,
-    const ctf_encoding_t *encoding)
+ctf_id_t ctf_add_float(
+    ctf_file_t *fp, uint_t flag, const char *name, const ctf_encoding_t *encoding)
 {
     return add_scalar(fp, flag, CTFD_FLOAT, name, encoding);
 }
 
-static ctf_id_t add_reference(ctf_file_t *fp, uint_t flag, const char *name, ctf_id_t type,
-    uint32_t kind)
+static ctf_id_t add_reference(
+    ctf_file_t *fp, uint_t flag, const char *name, ctf_id_t type, uint32_t kind)
 {
     struct ctfd__type *made;
     ctf_id_t t;
@@ -114,32 +114,27 @@ static ctf_id_t add_reference(ctf_file_t *fp, uint_t flag, const char *name, ctf
     return t;
 }
 
-ctf_id_t ctf_add_pointer(ctf_file_t *fp, uint_t flag, const char *name,
-    ctf_id_t type)
+ctf_id_t ctf_add_pointer(ctf_file_t *fp, uint_t flag, const char *name, ctf_id_t type)
 {
     return add_reference(fp, flag, name, type, CTFD_POINTER);
 }
 
-ctf_id_t ctf_add_typedef(ctf_file_t *fp, uint_t flag, const char *name,
-    ctf_id_t type)
+ctf_id_t ctf_add_typedef(ctf_file_t *fp, uint_t flag, const char *name, ctf_id_t type)
 {
     return add_reference(fp, flag, name, type, CTFD_TYPEDEF);
 }
 
-ctf_id_t ctf_add_volatile(ctf_file_t *fp, uint_t flag, const char *name,
-    ctf_id_t type)
+ctf_id_t ctf_add_volatile(ctf_file_t *fp, uint_t flag, const char *name, ctf_id_t type)
 {
     return add_reference(fp, flag, name, type, CTFD_VOLATILE);
 }
 
-ctf_id_t ctf_add_const(ctf_file_t *fp, uint_t flag, const char *name,
-    ctf_id_t type)
+ctf_id_t ctf_add_const(ctf_file_t *fp, uint_t flag, const char *name, ctf_id_t type)
 {
     return add_reference(fp, flag, name, type, CTFD_CONST);
 }
 
-ctf_id_t ctf_add_restrict(ctf_file_t *fp, uint_t flag, const char *name,
-    ctf_id_t type)
+ctf_id_t ctf_add_restrict(ctf_file_t *fp, uint_t flag, const char *name, ctf_id_t type)
 {
     return add_reference(fp, flag, name, type, CTFD_RESTRICT);
 }
@@ -158,8 +153,7 @@ ctf_id_t ctf_add_array(ctf_file_t *fp, uint_t flag, const ctf_arinfo_t *array)
     ctf_id_t t;
     if (array == NULL)
         return ctfd__system(fp, EINVAL);
-    if (!may_add(fp, flag, array->ctr_contents) ||
-        !may_add(fp, flag, array->ctr_index))
+    if (!may_add(fp, flag, array->ctr_contents) || !may_add(fp, flag, array->ctr_index))
         return CTF_ERR;
     if (fp->is_live && ctfd__kind_of(fp, (uint16_t)array->ctr_index, &kind) == CTFD_OK &&
         kind == CTFD_FORWARD)
@@ -170,8 +164,8 @@ ctf_id_t ctf_add_array(ctf_file_t *fp, uint_t flag, const ctf_arinfo_t *array)
     return t;
 }
 
-ctf_id_t ctf_add_function(ctf_file_t *fp, uint_t flag, const char *name,
-    const ctf_funcinfo_t *info, const ctf_id_t *argv)
+ctf_id_t ctf_add_function(
+    ctf_file_t *fp, uint_t flag, const char *name, const ctf_funcinfo_t *info, const ctf_id_t *argv)
 {
     struct ctfd__type *made;
     ctf_id_t t;
@@ -204,8 +198,8 @@ ctf_id_t ctf_add_function(ctf_file_t *fp, uint_t flag, const char *name,
 }
 
 /* A struct, union or enum: a forward of its name becomes it, under its number. */
-static ctf_id_t add_tagged(ctf_file_t *fp, uint_t flag, uint32_t kind, const char *name,
-    uint64_t size)
+static ctf_id_t add_tagged(
+    ctf_file_t *fp, uint_t flag, uint32_t kind, const char *name, uint64_t size)
 {
     struct ctfd__type *made;
     uint16_t t;
@@ -254,15 +248,15 @@ ctf_id_t ctf_add_forward(ctf_file_t *fp, uint_t flag, const char *name, uint_t k
     return add(fp, flag, CTFD_FORWARD, kind, name, &made);
 }
 
-int ctf_add_member(ctf_file_t *fp, ctf_id_t sou, const char *name, ctf_id_t type,
-    ulong_t offset)
+int ctf_add_member(ctf_file_t *fp, ctf_id_t sou, const char *name, ctf_id_t type, ulong_t offset)
 {
     if (!ctfd__is_type(fp, sou) || !ctfd__is_type(fp, type))
         return (int)CTF_ERR;
     if (fp->recipe == NULL)
         return (int)ctfd__fail(fp, CTFD_READ_ONLY);
-    return ctfd__done(fp, ctfd__add_member(fp, (uint16_t)sou, name != NULL ? name : "",
-        (uint16_t)type, offset != ULONG_MAX, offset));
+    return ctfd__done(fp,
+        ctfd__add_member(fp, (uint16_t)sou, name != NULL ? name : "", (uint16_t)type,
+            offset != ULONG_MAX, offset));
 }
 
 int ctf_add_enumerator(ctf_file_t *fp, ctf_id_t type, const char *name, int value)

@@ -255,8 +255,8 @@ static bool checksum_of(const struct ctfd_elf_lists *lists, unsigned long *check
         if (len == 0)
             continue;
         sum = crc32(sum, &kind, 1);
-        sum = crc32(sum, (const unsigned char *)lists->strings.at + symbols[i].st_name,
-            (uInt)len + 1);
+        sum = crc32(
+            sum, (const unsigned char *)lists->strings.at + symbols[i].st_name, (uInt)len + 1);
     }
     *checksum = sum;
     return i == count;
@@ -361,7 +361,8 @@ static void find_variables(const struct file *file, struct ctfd_elf_lists *lists
     if (gelf_getehdr(file->elf, &header) == NULL || header.e_type == ET_REL || data == NULL ||
         gelf_getshdr(table, &section) == NULL || section.sh_entsize == 0 || symbols == NULL)
         return;
-    names = (const char **)malloc((size_t)(section.sh_size / section.sh_entsize + 1) * sizeof *names);
+    names = (const char **)malloc(
+        (size_t)(section.sh_size / section.sh_entsize + 1) * sizeof *names);
     lists->variables.at = malloc(count + 1);
     if (names == NULL || lists->variables.at == NULL) {
         free(names);
@@ -378,49 +379,109 @@ static void find_variables(const struct file *file, struct ctfd_elf_lists *lists
     for (i = 0; i < count; i++) {
         bool is_there = symbols[i].st_name < lists->strings.len;
         name = is_there ? (const char *)lists->strings.at + symbols[i].st_name : "";
-        ((unsigned char *)lists->variables.at)[i] =
-            bsearch(&name, names, len, sizeof *names, compare_names) == NULL;
+        ((unsigned char *)lists->variables.at)[i] = bsearch(&name, names, len, sizeof *names,
+                                                        compare_names) == NULL;
     }
     lists->variables.len = count;
     free(names);
 }
 
+/* ---- the build */
+
+/* Takes the build-id that a section of notes has; false where it has none. */
+static bool take_id(Elf_Data *notes, struct ctfd_elf_lists *lists)
+{
+    size_t at = 0, name, text;
+    GElf_Nhdr note;
+    while ((at = gelf_getnote(notes, at, &note, &name, &text)) != 0) {
+        const char *bytes = (const char *)notes->d_buf;
+        if (note.n_type != NT_GNU_BUILD_ID || note.n_namesz != sizeof ELF_NOTE_GNU ||
+            memcmp(bytes + name, ELF_NOTE_GNU, sizeof ELF_NOTE_GNU) != 0)
+            continue;
+        if (note.n_descsz < 2 || note.n_descsz > CTFD_LONGEST_ID)
+            return false;
+        memcpy(lists->id, bytes + text, note.n_descsz);
+        lists->id_len = note.n_descsz;
+        return true;
+    }
+    return false;
+}
+
+/* Finds the build-id of a file, by which others may have its types. */
+static void find_id(const struct file *file, struct ctfd_elf_lists *lists)
+{
+    Elf_Scn *section = NULL;
+    while ((section = elf_nextscn(file->elf, section)) != NULL) {
+        GElf_Shdr header;
+        Elf_Data *notes;
+        int error;
+        if (gelf_getshdr(section, &header) == NULL || header.sh_type != SHT_NOTE)
+            continue;
+        notes = data_of(section, &error);
+        if (notes != NULL && take_id(notes, lists))
+            return;
+    }
+}
+
 /* ---- files */
 
-static int read_elf(const struct file *file, struct ctfd_elf_lists *lists)
+/* Opens an ELF file; false where it is none. */
+static bool open_file(int fd, struct file *file)
+{
+    if (elf_version(EV_CURRENT) == EV_NONE)
+        return false;
+    file->elf = elf_begin(fd, ELF_C_READ, NULL);
+    if (file->elf == NULL)
+        return false;
+    if (elf_kind(file->elf) == ELF_K_ELF && elf_getshdrstrndx(file->elf, &file->names) == 0)
+        return true;
+    elf_end(file->elf);
+    return false;
+}
+
+static int read_elf(
+    const struct file *file, const struct file *program, struct ctfd_elf_lists *lists)
 {
     Elf_Scn *section = named(file, ".SUNW_ctf");
     int error;
     if (section == NULL)
         section = named(file, ".ctf");
-    if (section == NULL)
+    if (section == NULL) {
+        find_id(file, lists);
         return CTFD__NO_SECTION;
+    }
     lists->ilp32 = gelf_getclass(file->elf) == ELFCLASS32;
     error = take_dictionary(section, &lists->ctf);
     if (error == 0)
         error = find_symbols(file, section, lists);
     if (error == 0)
-        find_variables(file, lists);
+        find_variables(program, lists);
     return error;
 }
 
-int ctfd_elf_read(int fd, struct ctfd_elf_lists *lists)
+/* Frees what was found where not all was; the build-id stays. */
+static void drop_lists(struct ctfd_elf_lists *lists)
 {
-    struct file file;
+    free(lists->ctf.at);
+    memset(&lists->ctf, 0, sizeof lists->ctf);
+    drop_table(lists);
+}
+
+int ctfd_elf_read(int fd, int program, struct ctfd_elf_lists *lists)
+{
+    struct file file, other;
     int error = CTFD__BAD_ELF;
     memset(lists, 0, sizeof *lists);
-    if (elf_version(EV_CURRENT) == EV_NONE)
+    if (!open_file(fd, &file))
         return error;
-    file.elf = elf_begin(fd, ELF_C_READ, NULL);
-    if (file.elf == NULL)
-        return error;
-    if (elf_kind(file.elf) == ELF_K_ELF && elf_getshdrstrndx(file.elf, &file.names) == 0)
-        error = read_elf(&file, lists);
+    if (program == fd)
+        error = read_elf(&file, &file, lists);
+    else if (open_file(program, &other)) {
+        error = read_elf(&file, &other, lists);
+        elf_end(other.elf);
+    }
     elf_end(file.elf);
-    if (error == 0)
-        return 0;
-    free(lists->ctf.at);
-    drop_table(lists);
-    memset(lists, 0, sizeof *lists);
+    if (error != 0)
+        drop_lists(lists);
     return error;
 }

@@ -11,17 +11,70 @@ struct numbers {
 
 /* By their statuses. Those that illumos has no number for have one behind ECTF_FAULT. */
 static const struct numbers statuses[] = {
-    { 0, 0 }, { ENOMEM, ENOMEM }, { 1009, 1009 }, { 1009, 1009 }, { 1002, 1002 }, { 1014, 1015 },
-    { 1009, 1009 }, { 1007, 1007 }, { 1007, 1007 }, { 1007, 1007 }, { 1007, 1007 },
-    { 1007, 1007 }, { 1007, 1007 }, { 1007, 1039 }, { 1019, 1017 }, { 1007, 1007 },
-    { 1007, 1007 }, { 1007, 1007 }, { 1007, 1007 }, { 1007, 1007 }, { 1004, 1004 }, { 0, 1011 },
-    { 0, 1011 }, { 0, 1011 }, { 1011, 1011 }, { 1020, 1018 }, { 1026, 1024 }, { 0, 1057 },
-    { 0, 1007 }, { 1038, 1036 }, { 1021, 1019 }, { 1021, 1019 }, { 0, 1025 }, { 1028, 1026 },
-    { 1029, 1027 }, { 1010, 1010 }, { 1032, 1030 }, { 1030, 1028 }, { 1033, 1031 },
-    { 1034, 1032 }, { 1020, 1018 }, { 1041, 1039 }, { 1042, 1040 }, { 0, 1037 }, { 1040, 1038 },
-    { 0, 1007 }, { 0, 1007 }, { 0, 1017 }, { 0, 1039 }, { 0, 1007 }, { 0, 1050 }, { 0, 1050 },
-    { 0, 1050 }, { 1039, 1037 }, { 0, 1050 }, { 0, 1050 }, { 0, 1050 }, { 0, 1050 }, { 0, 1050 },
-    { 0, 1050 }, { 0, 1050 }, { 1012, 1012 }, { 0, 1050 }, { 0, 1037 },
+    { 0, 0 },
+    { ENOMEM, ENOMEM },
+    { 1009, 1009 },
+    { 1009, 1009 },
+    { 1002, 1002 },
+    { 1014, 1015 },
+    { 1009, 1009 },
+    { 1007, 1007 },
+    { 1007, 1007 },
+    { 1007, 1007 },
+    { 1007, 1007 },
+    { 1007, 1007 },
+    { 1007, 1007 },
+    { 1007, 1039 },
+    { 1019, 1017 },
+    { 1007, 1007 },
+    { 1007, 1007 },
+    { 1007, 1007 },
+    { 1007, 1007 },
+    { 1007, 1007 },
+    { 1004, 1004 },
+    { 0, 1011 },
+    { 0, 1011 },
+    { 0, 1011 },
+    { 1011, 1011 },
+    { 1020, 1018 },
+    { 1026, 1024 },
+    { 0, 1057 },
+    { 0, 1007 },
+    { 1038, 1036 },
+    { 1021, 1019 },
+    { 1021, 1019 },
+    { 0, 1025 },
+    { 1028, 1026 },
+    { 1029, 1027 },
+    { 1010, 1010 },
+    { 1032, 1030 },
+    { 1030, 1028 },
+    { 1033, 1031 },
+    { 1034, 1032 },
+    { 1020, 1018 },
+    { 1041, 1039 },
+    { 1042, 1040 },
+    { 0, 1037 },
+    { 1040, 1038 },
+    { 0, 1007 },
+    { 0, 1007 },
+    { 0, 1017 },
+    { 0, 1039 },
+    { 0, 1007 },
+    { 0, 1050 },
+    { 0, 1050 },
+    { 0, 1050 },
+    { 1039, 1037 },
+    { 0, 1050 },
+    { 0, 1050 },
+    { 0, 1050 },
+    { 0, 1050 },
+    { 0, 1050 },
+    { 0, 1050 },
+    { 0, 1050 },
+    { 1012, 1012 },
+    { 0, 1050 },
+    { 0, 1037 },
 };
 
 /* An error that is no status. */
@@ -32,8 +85,10 @@ struct error {
 
 /* From CTFD__NO_PART on. */
 static const struct error others[] = {
-    { { 1014, 1008 }, "an ELF file or a compressed section: link libctfd_elf, or put its .so beside libctfd.so" },
-    { { 1008, 1008 }, "the ELF file has no section .SUNW_ctf or .ctf: ctfd-convert --section makes one" },
+    { { 1014, 1008 },
+        "an ELF file or a compressed section: link libctfd_elf, or put its .so beside libctfd.so" },
+    { { 1008, 1008 },
+        "the ELF file has no section .SUNW_ctf or .ctf: ctfd-convert --section makes one" },
     { { 1001, 1000 }, "the ELF file is damaged" },
     { { 1017, 1015 }, "the compressed section does not inflate to what its header says" },
     { { 1027, 1025 }, "the name does not fit into the buffer: ctf_type_lname returns its length" },
@@ -53,6 +108,8 @@ static const struct error others[] = {
     { { 1033, 1031 }, "nothing is told of a symbol of this name" },
     { { 1036, 1047 }, "no section of this number to dump" },
     { { 1036, 1048 }, "the dump began with another section" },
+    { { EREMOTEIO, EREMOTEIO },
+        "CTFD_STORE was asked, in vain: `ctfd-store fetch FILE -` says why" },
 };
 
 /* The last error of a call that opened nothing. */
@@ -185,16 +242,11 @@ enum ctfd_status ctf_fault(ctf_file_t *fp)
     case CTFD__NOT_ENUM:
     case CTFD__NOT_ARRAY:
     case CTFD__NOT_NUMBER:
-    case CTFD__NOT_SIGNATURE:
-        return CTFD_WRONG_KIND;
-    case CTFD__NO_ENUMERATOR:
-        return CTFD_NO_MEMBER;
-    case CTFD__NO_FUNCTION_INFO:
-        return CTFD_NO_INFO;
-    case CTFD__NO_LABELS:
-        return CTFD_NO_LABEL;
-    default:
-        return error < CTFD__NO_PART ? (enum ctfd_status)error : CTFD_OK;
+    case CTFD__NOT_SIGNATURE: return CTFD_WRONG_KIND;
+    case CTFD__NO_ENUMERATOR: return CTFD_NO_MEMBER;
+    case CTFD__NO_FUNCTION_INFO: return CTFD_NO_INFO;
+    case CTFD__NO_LABELS: return CTFD_NO_LABEL;
+    default: return error < CTFD__NO_PART ? (enum ctfd_status)error : CTFD_OK;
     }
 }
 
@@ -202,18 +254,13 @@ enum ctfd_status ctf_fault(ctf_file_t *fp)
 static const char *of_several(int number)
 {
     switch (number) {
-    case ECTF_CORRUPT:
-        return "a rule of the format is broken: ctf_fault says which";
-    case ECTF_NOCTFBUF:
-        return status_message(CTFD_BAD_MAGIC);
-    case ECTF_NOPARENT:
-        return status_message(CTFD_NO_PARENT);
-    case ECTF_ZMISSING:
-        return others[0].message;
-    case ECTF_NOTSUP:
-        return "not possible: ctf_fault says why";
-    default:
-        return NULL;
+    case ECTF_CORRUPT: return "a rule of the format is broken: ctf_fault says which";
+    case ECTF_NOCTFBUF: return status_message(CTFD_BAD_MAGIC);
+    case ECTF_NOPARENT: return status_message(CTFD_NO_PARENT);
+    case ECTF_ZMISSING: return others[0].message;
+    case EREMOTEIO: return others[CTFD__NOT_FETCHED - CTFD__NO_PART].message;
+    case ECTF_NOTSUP: return "not possible: ctf_fault says why";
+    default: return NULL;
     }
 }
 

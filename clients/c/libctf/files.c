@@ -94,8 +94,8 @@ static enum ctfd_status open_lists(const ctf_file_t *fp, int model, struct ctfd 
     const struct ctfd__lists *lists = &fp->lists;
     uint64_t place;
     return (fp->keeps_lists ? ctfd_open_lent : ctfd_open)(types, lists->data[0], lists->len[0],
-        lists->data[1], lists->len[1], lists->data[2], lists->len[2], lists->has[1],
-        lists->has[2], model == CTF_MODEL_ILP32, &place);
+        lists->data[1], lists->len[1], lists->data[2], lists->len[2], lists->has[1], lists->has[2],
+        model == CTF_MODEL_ILP32, &place);
 }
 
 /* Opens them again, for another model or another parent; a refusal leaves all as it was. */
@@ -183,14 +183,14 @@ static int open_inflated(ctf_file_t *fp)
     return (int)open_lists(fp, fp->model, &fp->types);
 }
 
-ctf_file_t *ctf_bufopen(const ctf_sect_t *ctf, const ctf_sect_t *symbols,
-    const ctf_sect_t *strings, int *error)
+ctf_file_t *ctf_bufopen(
+    const ctf_sect_t *ctf, const ctf_sect_t *symbols, const ctf_sect_t *strings, int *error)
 {
     return ctfd__open(ctf, symbols, strings, false, error);
 }
 
-ctf_file_t *ctfd__open(const ctf_sect_t *ctf, const ctf_sect_t *symbols,
-    const ctf_sect_t *strings, bool is_kept, int *error)
+ctf_file_t *ctfd__open(const ctf_sect_t *ctf, const ctf_sect_t *symbols, const ctf_sect_t *strings,
+    bool is_kept, int *error)
 {
     int failed;
     ctf_file_t *fp;

@@ -15,7 +15,7 @@ struct table {
         const char *name;
         uint16_t t;
         uint8_t kind;
-    } *places;
+    } * places;
     uint32_t mask;
 };
 
@@ -93,8 +93,7 @@ static bool find_definitions(ctf_file_t *fp)
     fp->definitions_before = before;
     table.places = (struct place *)calloc(table.mask + 1, sizeof *table.places);
     is_done = fp->definitions != NULL && table.places != NULL &&
-        each_row(&table, enter_definition) == CTFD_OK &&
-        each_row(&table, enter_forward) == CTFD_OK;
+        each_row(&table, enter_definition) == CTFD_OK && each_row(&table, enter_forward) == CTFD_OK;
     free(table.places);
     if (!is_done) {
         free(fp->definitions);
@@ -112,6 +111,6 @@ uint16_t ctfd__definition_of(ctf_file_t *fp, uint16_t t)
         (of->definitions == NULL && !find_definitions(of)))
         return t;
     place = t - of->definitions_before - 1u;
-    return of->definitions[place] != 0
-        ? (uint16_t)(of->definitions[place] + of->definitions_before) : t;
+    return of->definitions[place] != 0 ? (uint16_t)(of->definitions[place] + of->definitions_before)
+                                       : t;
 }

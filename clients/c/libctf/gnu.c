@@ -25,10 +25,14 @@ SEEN int ctfd_gnu_errno(ctf_file_t *fp)
 SEEN const char *ctfd_gnu_errmsg(int number)
 {
     int error;
+    if (number == EREMOTEIO)
+        return ctfd__message(CTFD__NOT_FETCHED);
     if (number < 1000)
         return strerror(number);
     if (number == 1007)
         return "a rule of the format is broken: ctf_fault says which";
+    if (number == 1008)
+        return "no section .SUNW_ctf or .ctf in the ELF file, or no libctfd_elf.so beside libctfd.so";
     if (number == 1031)
         return "No type information available for symbol.";
     for (error = CTFD__NO_PART; error < CTFD__ERRORS; error++) {
@@ -73,8 +77,8 @@ SEEN struct ctfd_gnu_archive *ctfd_gnu_open(const char *name, const char *target
     return archive_of(ctf_open(name, NULL), error);
 }
 
-SEEN struct ctfd_gnu_archive *ctfd_gnu_fdopen(int fd, const char *name, const char *target,
-    int *error)
+SEEN struct ctfd_gnu_archive *ctfd_gnu_fdopen(
+    int fd, const char *name, const char *target, int *error)
 {
     (void)name;
     (void)target;
@@ -113,8 +117,8 @@ SEEN void ctfd_gnu_ref(ctf_file_t *fp)
     fp->uses++;
 }
 
-SEEN ctf_file_t *ctfd_gnu_dict_open(const struct ctfd_gnu_archive *archive, const char *name,
-    int *error)
+SEEN ctf_file_t *ctfd_gnu_dict_open(
+    const struct ctfd_gnu_archive *archive, const char *name, int *error)
 {
     if (name != NULL && strcmp(name, ".ctf") != 0)
         return refused(error, CTFD__NO_ENTRY);
@@ -156,8 +160,8 @@ SEEN ctf_file_t *ctfd_gnu_simple_open(const char *ctf, size_t ctf_len, const cha
     struct gnu_section sections[3] = { { ".ctf", ctf, ctf_len, 0 },
         { ".symtab", symbols, symbols_len, entsize }, { ".strtab", strings, strings_len, 0 } };
     bool has = symbols != NULL && strings != NULL;
-    return ctfd_gnu_bufopen(&sections[0], has ? &sections[1] : NULL, has ? &sections[2] : NULL,
-        error);
+    return ctfd_gnu_bufopen(
+        &sections[0], has ? &sections[1] : NULL, has ? &sections[2] : NULL, error);
 }
 
 /* ---- iterators */
@@ -176,7 +180,15 @@ struct ctf_next {
     struct step *steps;
 };
 
-enum { MEMBERS = 1, ENUMERATORS, TYPES, SYMBOLS, FUNCTIONS, VARIABLES, ARCHIVES };
+enum {
+    MEMBERS = 1,
+    ENUMERATORS,
+    TYPES,
+    SYMBOLS,
+    FUNCTIONS,
+    VARIABLES,
+    ARCHIVES
+};
 
 SEEN void ctfd_gnu_next_destroy(struct ctf_next *it)
 {
@@ -230,8 +242,7 @@ static struct ctfd__details *listed(ctf_file_t *fp, uint16_t t, bool is_of_enum)
     return NULL;
 }
 
-SEEN const char *ctfd_gnu_enum_next(ctf_file_t *fp, ctf_id_t type, struct ctf_next **it,
-    int *value)
+SEEN const char *ctfd_gnu_enum_next(ctf_file_t *fp, ctf_id_t type, struct ctf_next **it, int *value)
 {
     struct ctfd__details *details;
     ctf_id_t t = ctf_type_resolve(fp, type);
@@ -304,8 +315,8 @@ SEEN ssize_t ctfd_gnu_member_next(ctf_file_t *fp, ctf_id_t type, struct ctf_next
             *member = (ctf_id_t)item->type;
         if ((flags & 1) != 0 && *own == '\0' && item->type != 0 &&
             ctfd__resolution_of(fp, item->type, &in) == CTFD_OK && in != 0 &&
-            ctfd__kind_of(fp, in, &kind) == CTFD_OK && (kind == CTFD_STRUCT || kind == CTFD_UNION) &&
-            !step_in(fp, *it, in, at))
+            ctfd__kind_of(fp, in, &kind) == CTFD_OK &&
+            (kind == CTFD_STRUCT || kind == CTFD_UNION) && !step_in(fp, *it, in, at))
             return -1;
         return (ssize_t)at;
     }
@@ -363,8 +374,8 @@ SEEN int ctfd_gnu_type_iter_all(ctf_file_t *fp, int (*each)(ctf_id_t, int, void 
     return ctf_type_iter(fp, B_TRUE, on_type, &of);
 }
 
-SEEN ctf_file_t *ctfd_gnu_archive_next(const struct ctfd_gnu_archive *archive,
-    struct ctf_next **it, const char **name, int skip_parent, int *error)
+SEEN ctf_file_t *ctfd_gnu_archive_next(const struct ctfd_gnu_archive *archive, struct ctf_next **it,
+    const char **name, int skip_parent, int *error)
 {
     int why = 0;
     uint32_t count = 0, before = 0;
@@ -491,8 +502,8 @@ static int on_label(const char *name, void *arg)
     return of->each(name, &info, of->arg);
 }
 
-SEEN int ctfd_gnu_label_iter(ctf_file_t *fp,
-    int (*each)(const char *, const ctf_lblinfo_t *, void *), void *arg)
+SEEN int ctfd_gnu_label_iter(
+    ctf_file_t *fp, int (*each)(const char *, const ctf_lblinfo_t *, void *), void *arg)
 {
     struct each_label of = { fp, each, arg, false };
     int said = ctf_label_iter(fp, on_label, &of);
@@ -502,8 +513,8 @@ SEEN int ctfd_gnu_label_iter(ctf_file_t *fp,
 /* ---- symbols */
 
 /* A symbol of one in the making. */
-static bool find_added(const struct ctfd__recipe *of, const char *name, bool variables,
-    uint16_t *type)
+static bool find_added(
+    const struct ctfd__recipe *of, const char *name, bool variables, uint16_t *type)
 {
     uint32_t i;
     for (i = 0; i < of->symbols_len; i++) {
@@ -537,9 +548,8 @@ static unsigned sorts_of(bool variables)
 static ctf_id_t symbol_of(ctf_file_t *fp, const char *name, bool variables)
 {
     uint16_t type = 0;
-    bool is_there = fp->recipe != NULL
-        ? find_added(fp->recipe, name, variables, &type)
-        : find_object(fp, name, variables, &type) ||
+    bool is_there = fp->recipe != NULL ? find_added(fp->recipe, name, variables, &type)
+                                       : find_object(fp, name, variables, &type) ||
             ctfd__find_symbol_label(fp, name, sorts_of(variables), &type);
     return is_there ? (ctf_id_t)type : ctfd__fail(fp, CTFD__NO_SYMBOL_TYPE);
 }
@@ -563,8 +573,8 @@ SEEN ctf_id_t ctfd_gnu_variable(ctf_file_t *fp, const char *name)
     return symbol_of(fp, name, true);
 }
 
-SEEN ctf_file_t *ctfd_gnu_arc_symbol_named(struct ctfd_gnu_archive *archive, const char *name,
-    ctf_id_t *type, int *error)
+SEEN ctf_file_t *ctfd_gnu_arc_symbol_named(
+    struct ctfd_gnu_archive *archive, const char *name, ctf_id_t *type, int *error)
 {
     ctf_id_t found = symbol_of(archive->fp, name, false);
     if (found == CTF_ERR)
@@ -597,8 +607,8 @@ static bool is_variable(const ctf_file_t *fp, uint32_t i)
 }
 
 /* The next symbol of an opened file: those of its symbol table, and then those of its labels. */
-static bool next_symbol(ctf_file_t *fp, struct ctf_next *it, const char **name, uint8_t sort,
-    uint16_t *type)
+static bool next_symbol(
+    ctf_file_t *fp, struct ctf_next *it, const char **name, uint8_t sort, uint16_t *type)
 {
     uint32_t count = (uint32_t)(fp->lists.len[1] / CTFD_SYMBOL);
     struct ctfd_function function;
@@ -622,8 +632,8 @@ static bool next_symbol(ctf_file_t *fp, struct ctf_next *it, const char **name, 
     return false;
 }
 
-static ctf_id_t next_of_sort(ctf_file_t *fp, struct ctf_next **it, const char **name, int what,
-    uint8_t sort)
+static ctf_id_t next_of_sort(
+    ctf_file_t *fp, struct ctf_next **it, const char **name, int what, uint8_t sort)
 {
     uint16_t type = 0;
     if (!begun_in(fp, it, what))
@@ -635,8 +645,8 @@ static ctf_id_t next_of_sort(ctf_file_t *fp, struct ctf_next **it, const char **
     return ctfd__fail(fp, CTFD__NEXT_END);
 }
 
-SEEN ctf_id_t ctfd_gnu_symbol_next(ctf_file_t *fp, struct ctf_next **it, const char **name,
-    int functions)
+SEEN ctf_id_t ctfd_gnu_symbol_next(
+    ctf_file_t *fp, struct ctf_next **it, const char **name, int functions)
 {
     return next_of_sort(fp, it, name, functions ? FUNCTIONS : SYMBOLS,
         functions ? CTFD_SORT_FUNCTION : CTFD_SORT_OBJECT);
@@ -647,8 +657,8 @@ SEEN ctf_id_t ctfd_gnu_variable_next(ctf_file_t *fp, struct ctf_next **it, const
     return next_of_sort(fp, it, name, VARIABLES, CTFD_SORT_VARIABLE);
 }
 
-SEEN int ctfd_gnu_variable_iter(ctf_file_t *fp, int (*each)(const char *, ctf_id_t, void *),
-    void *arg)
+SEEN int ctfd_gnu_variable_iter(
+    ctf_file_t *fp, int (*each)(const char *, ctf_id_t, void *), void *arg)
 {
     struct ctf_next *it = NULL;
     const char *name = NULL;
@@ -730,8 +740,8 @@ SEEN ctf_id_t ctfd_gnu_add_enum(ctf_file_t *fp, uint_t flag, const char *name)
     return ctf_add_enum(fp, flag, name, 4);
 }
 
-SEEN ctf_id_t ctfd_gnu_add_function(ctf_file_t *fp, uint_t flag, const ctf_funcinfo_t *info,
-    const ctf_id_t *argv)
+SEEN ctf_id_t ctfd_gnu_add_function(
+    ctf_file_t *fp, uint_t flag, const ctf_funcinfo_t *info, const ctf_id_t *argv)
 {
     return ctf_add_function(fp, flag, NULL, info, argv);
 }
@@ -760,8 +770,10 @@ SEEN ctf_id_t ctfd_gnu_add_unknown(ctf_file_t *fp, uint_t flag, const char *name
     if (fp->recipe == NULL)
         return ctfd__fail(fp, CTFD_READ_ONLY);
     fp->is_touched = true;
-    return ctfd__done(fp, ctfd__add_type(fp, CTFD_UNKNOWN, 0, name != NULL ? name : "", flag != 0, &t))
-            != 0 ? CTF_ERR : (ctf_id_t)t;
+    return ctfd__done(fp,
+               ctfd__add_type(fp, CTFD_UNKNOWN, 0, name != NULL ? name : "", flag != 0, &t)) != 0
+        ? CTF_ERR
+        : (ctf_id_t)t;
 }
 
 SEEN int ctfd_gnu_add_member(ctf_file_t *fp, ctf_id_t sou, const char *name, ctf_id_t type)

@@ -10,10 +10,22 @@
 #define SEEN __attribute__((visibility("default")))
 
 /* The sections, by their numbers in GNU's header. */
-enum { HEADER, LABELS, OBJECTS, FUNCTIONS, VARIABLES, TYPES, STRINGS };
+enum {
+    HEADER,
+    LABELS,
+    OBJECTS,
+    FUNCTIONS,
+    VARIABLES,
+    TYPES,
+    STRINGS
+};
 
 /* How a type is put: with those that it leads to, the width of a bit-field, the word ID in front. */
-enum { CHAIN = 1, WIDTH = 2, ID = 4 };
+enum {
+    CHAIN = 1,
+    WIDTH = 2,
+    ID = 4
+};
 
 /* All items of a section, which are made at once and given one by one. */
 struct ctfd_gnu_dump {
@@ -55,8 +67,8 @@ static void drop(struct item *item)
 
 static bool append(struct ctfd_gnu_dump *of, struct item *item)
 {
-    if (fclose(item->out) != 0 || !ctfd__room_for_one(&of->items, of->len, &of->room,
-                                      sizeof of->items[0])) {
+    if (fclose(item->out) != 0 ||
+        !ctfd__room_for_one(&of->items, of->len, &of->room, sizeof of->items[0])) {
         free(item->text);
         (void)ctfd__fail(of->fp, CTFD_MEMORY);
         return false;
@@ -97,8 +109,8 @@ static bool put_one(FILE *out, ctf_file_t *fp, ctf_id_t t, int kind, int how)
     char *name = ctfd_gnu_type_aname(fp, t);
     if (name == NULL)
         return false;
-    fprintf(out, "%s0x%lx: (kind %i) %s", (how & ID) != 0 ? "ID " : "", (unsigned long)t, kind,
-        name);
+    fprintf(
+        out, "%s0x%lx: (kind %i) %s", (how & ID) != 0 ? "ID " : "", (unsigned long)t, kind, name);
     free(name);
     if (kind == CTF_K_INTEGER || kind == CTF_K_FLOAT)
         put_encoding(out, fp, t, size, how);
@@ -261,8 +273,8 @@ static int add_words(struct ctfd_gnu_dump *of, const char *what, const char *wor
     return append(of, &item) ? 0 : -1;
 }
 
-static int add_range(struct ctfd_gnu_dump *of, const char *what, unsigned long from,
-    unsigned long to)
+static int add_range(
+    struct ctfd_gnu_dump *of, const char *what, unsigned long from, unsigned long to)
 {
     char words[64];
     if (from == to)
@@ -296,8 +308,8 @@ static int add_header(struct ctfd_gnu_dump *of)
         if (add_range(of, sections[i], word_at(bytes, 12 + 4 * i), word_at(bytes, 16 + 4 * i)) != 0)
             return -1;
     }
-    return add_range(of, "String section", word_at(bytes, 28),
-        word_at(bytes, 28) + word_at(bytes, 32));
+    return add_range(
+        of, "String section", word_at(bytes, 28), word_at(bytes, 28) + word_at(bytes, 32));
 }
 
 struct strings {
@@ -322,23 +334,17 @@ static int add_all(struct ctfd_gnu_dump *of)
 {
     struct strings with = { of, 0 };
     switch (of->section) {
-    case HEADER:
-        return add_header(of);
+    case HEADER: return add_header(of);
     case LABELS:
         if (ctfd_gnu_label_iter(of->fp, add_label, of) == 0)
             return 0;
         return of->fp->error == CTFD__NO_LABELS ? 0 : -1;
     case OBJECTS:
-    case FUNCTIONS:
-        return add_symbols(of, of->section == FUNCTIONS);
-    case VARIABLES:
-        return ctfd_gnu_variable_iter(of->fp, add_variable, of);
-    case TYPES:
-        return ctfd_gnu_type_iter_all(of->fp, add_type, of);
-    case STRINGS:
-        return ctf_string_iter(of->fp, add_string, &with);
-    default:
-        return (int)ctfd__fail(of->fp, CTFD__NO_DUMP);
+    case FUNCTIONS: return add_symbols(of, of->section == FUNCTIONS);
+    case VARIABLES: return ctfd_gnu_variable_iter(of->fp, add_variable, of);
+    case TYPES: return ctfd_gnu_type_iter_all(of->fp, add_type, of);
+    case STRINGS: return ctf_string_iter(of->fp, add_string, &with);
+    default: return (int)ctfd__fail(of->fp, CTFD__NO_DUMP);
     }
 }
 

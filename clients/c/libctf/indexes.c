@@ -119,8 +119,8 @@ uint32_t ctfd__of_name(ctf_file_t *fp, struct ctfd__details *details, const char
     }
     hash = hash_of_name(fp, name);
     i = heads_of(index, count)[hash & index->mask];
-    while (i != 0 && (index->entries[i - 1].hash != hash ||
-                         strcmp(details->items[i - 1].name, name) != 0))
+    while (i != 0 &&
+        (index->entries[i - 1].hash != hash || strcmp(details->items[i - 1].name, name) != 0))
         i = index->entries[i - 1].next;
     return i != 0 ? i - 1 : count;
 }

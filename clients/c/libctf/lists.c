@@ -7,8 +7,7 @@
 static struct ctfd__details *details_of(ctf_file_t *fp, uint16_t t, bool is_of_enum)
 {
     struct ctfd__details *details = ctfd__details(fp, t);
-    if (details != NULL &&
-        (is_of_enum ? details->kind == CTFD_ENUM : ctfd__has_members(details)))
+    if (details != NULL && (is_of_enum ? details->kind == CTFD_ENUM : ctfd__has_members(details)))
         return details;
     if (details != NULL || fp->error == CTFD_WRONG_KIND)
         (void)ctfd__fail(fp, is_of_enum ? CTFD__NOT_ENUM : CTFD_WRONG_KIND);
@@ -112,8 +111,8 @@ const char *ctf_enum_name(ctf_file_t *fp, ctf_id_t type, int value)
 }
 
 /* The value of the first enumerator of a name. */
-static enum ctfd_status find_value(ctf_file_t *fp, uint16_t t, struct ctfd__details *details,
-    const char *name, int32_t *value)
+static enum ctfd_status find_value(
+    ctf_file_t *fp, uint16_t t, struct ctfd__details *details, const char *name, int32_t *value)
 {
     ctf_file_t *of = ctfd__owner(fp, t);
     uint32_t i;

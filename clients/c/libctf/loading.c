@@ -1,11 +1,14 @@
 /* loading.c - stands in libctfd.so for the part for ELF files, and loads it where it is needed: the
  * library then asks for no other to be there. */
+#define _GNU_SOURCE
+
 #include "private.h"
 
 #include <dlfcn.h>
+#include <stdlib.h>
 #include <string.h>
 
-HIDDEN int ctfd_elf_read(int fd, struct ctfd_elf_lists *lists);
+HIDDEN int ctfd_elf_read(int fd, int program, struct ctfd_elf_lists *lists);
 HIDDEN int ctfd_elf_inflate(const void *bytes, size_t len, struct ctfd_elf_list *made);
 
 /* Looks up a call of the part, which stands beside this library or where the system has it. The
@@ -20,12 +23,12 @@ static bool found(const char *name, void *call, size_t size)
     return true;
 }
 
-int ctfd_elf_read(int fd, struct ctfd_elf_lists *lists)
+int ctfd_elf_read(int fd, int program, struct ctfd_elf_lists *lists)
 {
-    int (*call)(int, struct ctfd_elf_lists *);
+    int (*call)(int, int, struct ctfd_elf_lists *);
     if (!found("ctfd_elf_read", &call, sizeof call))
         return CTFD__NO_PART;
-    return call(fd, lists);
+    return call(fd, program, lists);
 }
 
 int ctfd_elf_inflate(const void *bytes, size_t len, struct ctfd_elf_list *made)
@@ -34,4 +37,13 @@ int ctfd_elf_inflate(const void *bytes, size_t len, struct ctfd_elf_list *made)
     if (!found("ctfd_elf_inflate", &call, sizeof call))
         return CTFD__NO_PART;
     return call(bytes, len, made);
+}
+
+/* Links that lead to the library are followed, as one from a system's folder to another. */
+bool ctfd__place(char *path)
+{
+    static const char here;
+    Dl_info about;
+    return dladdr(&here, &about) != 0 && about.dli_fname != NULL &&
+        realpath(about.dli_fname, path) != NULL;
 }

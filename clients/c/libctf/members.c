@@ -41,8 +41,8 @@ static uint16_t nested_in(ctf_file_t *fp, uint16_t member)
 static enum ctfd_status search_in(struct search *search, uint16_t t, uint32_t depth);
 
 /* Looks in a member without a name, at a place of what holds it. */
-static enum ctfd_status search_nested(struct search *search, uint16_t member, uint64_t at,
-    uint32_t depth)
+static enum ctfd_status search_nested(
+    struct search *search, uint16_t member, uint64_t at, uint32_t depth)
 {
     uint16_t t = depth == 0 ? 0 : nested_in(search->fp, member);
     enum ctfd_status status;
@@ -103,8 +103,8 @@ int ctf_member_info(ctf_file_t *fp, ctf_id_t type, const char *name, ctf_membinf
         return (int)CTF_ERR;
     status = CTFD_NO_SLOT;
     if (fp->recipe == NULL)
-        status = ctfd_field(&fp->types, (uint16_t)type, name, strlen(name), &search.offset,
-            &search.type);
+        status = ctfd_field(
+            &fp->types, (uint16_t)type, name, strlen(name), &search.offset, &search.type);
     if (status == CTFD_NO_SLOT || status == CTFD_NO_MEMBER) {
         status = aggregate_of(fp, (uint16_t)type, &t);
         if (status == CTFD_OK)

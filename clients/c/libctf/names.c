@@ -126,8 +126,8 @@ static bool more_heads(struct ctfd__texts *texts)
 }
 
 /* The text of a table, or NULL. */
-static struct ctfd__text *text_in(const struct ctfd__texts *texts, uint64_t hash, const char *text,
-    size_t len)
+static struct ctfd__text *text_in(
+    const struct ctfd__texts *texts, uint64_t hash, const char *text, size_t len)
 {
     struct ctfd__text *it = texts->heads[(size_t)hash & (texts->heads_len - 1)];
     while (it != NULL && (it->hash != hash || it->len != len || memcmp(it->text, text, len) != 0))

@@ -62,6 +62,7 @@ struct ctfd__page {
 };
 
 struct ctfd__recipe;
+struct ctfd_elf_lists;
 
 struct ctf_file {
     /* What questions are asked of. Nothing is open here of a dictionary in the making, which answers
@@ -122,6 +123,7 @@ enum {
     CTFD__NO_SYMBOL_TYPE, /* nothing is told of a symbol of this name */
     CTFD__NO_DUMP, /* ctf_dump of a section that there is not */
     CTFD__OTHER_DUMP, /* ctf_dump of another section than it began with */
+    CTFD__NOT_FETCHED, /* a store was asked for a build, and something went wrong */
     CTFD__ERRORS,
     CTFD__SYSTEM = 1000
 };
@@ -181,8 +183,8 @@ HIDDEN uint64_t ctfd__hash(struct ctfd__texts *texts, const char *text, size_t l
 
 /* A call that writes a text, and a text that such a call wrote, kept; NULL where it is refused. */
 typedef enum ctfd_status ctfd__text_f(struct ctfd *types, char *text, size_t size, uint64_t *len);
-typedef enum ctfd_status ctfd__numbered_f(struct ctfd *types, uint32_t number, char *text,
-    size_t size, uint64_t *len);
+typedef enum ctfd_status ctfd__numbered_f(
+    struct ctfd *types, uint32_t number, char *text, size_t size, uint64_t *len);
 HIDDEN const char *ctfd__told(ctf_file_t *fp, ctfd__text_f *call);
 HIDDEN const char *ctfd__numbered(ctf_file_t *fp, ctfd__numbered_f *call, uint32_t number);
 
@@ -248,6 +250,21 @@ HIDDEN void ctfd__free(ctf_file_t *fp);
 /* NULL, once the error is told to who wants to know. */
 HIDDEN ctf_file_t *ctfd__refused(int *error, int why);
 
+/* ---- fetching.c: types by build-id */
+
+/* Asks the stores that CTFD_STORE names for the types of a build: a file in memory for the caller to
+ * close, or an error; CTFD__NO_SECTION where none is named, and where none has the build. */
+HIDDEN int ctfd__fetch(const struct ctfd_elf_lists *lists, int *made);
+
+/* ---- trusted.c */
+
+/* The place of a command of ours, in PATH_MAX bytes; false where there is none that no other user
+ * could have put there. */
+HIDDEN bool ctfd__find_command(const char *name, char *path);
+
+/* Where libctfd.so is, in PATH_MAX bytes; false where nobody knows. Not there in the archive. */
+HIDDEN bool ctfd__place(char *path);
+
 /* ---- errors.c: the numbers of illumos and of GNU */
 
 HIDDEN int ctfd__number(int error);
@@ -285,12 +302,12 @@ HIDDEN enum ctfd_status ctfd__indirect_return(ctf_file_t *fp, uint16_t t, uint16
 HIDDEN enum ctfd_status ctfd__indirect_size(ctf_file_t *fp, uint16_t t, uint64_t *bytes);
 HIDDEN enum ctfd_status ctfd__indirect_align(ctf_file_t *fp, uint16_t t, uint64_t *bytes);
 HIDDEN enum ctfd_status ctfd__indirect_array(ctf_file_t *fp, uint16_t t, struct ctfd_array *array);
-HIDDEN enum ctfd_status ctfd__indirect_encoding(ctf_file_t *fp, uint16_t t,
-    struct ctfd_encoding *encoding);
-HIDDEN enum ctfd_status ctfd__indirect_signature(ctf_file_t *fp, uint16_t t,
-    struct ctfd_function *out);
-HIDDEN enum ctfd_status ctfd__indirect_find(ctf_file_t *fp, const char *text, size_t len,
-    uint16_t *t);
+HIDDEN enum ctfd_status ctfd__indirect_encoding(
+    ctf_file_t *fp, uint16_t t, struct ctfd_encoding *encoding);
+HIDDEN enum ctfd_status ctfd__indirect_signature(
+    ctf_file_t *fp, uint16_t t, struct ctfd_function *out);
+HIDDEN enum ctfd_status ctfd__indirect_find(
+    ctf_file_t *fp, const char *text, size_t len, uint16_t *t);
 
 static inline enum ctfd_status ctfd__kind_of(ctf_file_t *fp, uint16_t t, uint32_t *kind)
 {
@@ -372,8 +389,8 @@ static inline enum ctfd_status ctfd__array_of(ctf_file_t *fp, uint16_t t, struct
     return ctfd__indirect_array(fp, t, array);
 }
 
-static inline enum ctfd_status ctfd__encoding_of(ctf_file_t *fp, uint16_t t,
-    struct ctfd_encoding *encoding)
+static inline enum ctfd_status ctfd__encoding_of(
+    ctf_file_t *fp, uint16_t t, struct ctfd_encoding *encoding)
 {
     enum ctfd_status status = ctfd_encoding(&fp->types, t, encoding);
     if (status == CTFD_OK || status != CTFD_NO_SLOT)
@@ -381,8 +398,8 @@ static inline enum ctfd_status ctfd__encoding_of(ctf_file_t *fp, uint16_t t,
     return ctfd__indirect_encoding(fp, t, encoding);
 }
 
-static inline enum ctfd_status ctfd__signature_of(ctf_file_t *fp, uint16_t t,
-    struct ctfd_function *out)
+static inline enum ctfd_status ctfd__signature_of(
+    ctf_file_t *fp, uint16_t t, struct ctfd_function *out)
 {
     enum ctfd_status status = ctfd_signature(&fp->types, t, out);
     if (status == CTFD_OK || status != CTFD_NO_SLOT)
@@ -390,8 +407,8 @@ static inline enum ctfd_status ctfd__signature_of(ctf_file_t *fp, uint16_t t,
     return ctfd__indirect_signature(fp, t, out);
 }
 
-static inline enum ctfd_status ctfd__type_named(ctf_file_t *fp, const char *text, size_t len,
-    uint16_t *t)
+static inline enum ctfd_status ctfd__type_named(
+    ctf_file_t *fp, const char *text, size_t len, uint16_t *t)
 {
     enum ctfd_status status = ctfd_find(&fp->types, text, len, t);
     if (status == CTFD_OK || status != CTFD_NO_SLOT)
@@ -450,7 +467,12 @@ struct ctfd__symbol {
     uint8_t sort;
 };
 
-enum { CTFD_SORT_OBJECT, CTFD_SORT_FUNCTION, CTFD_SORT_VARIABLE, CTFD_SORTS };
+enum {
+    CTFD_SORT_OBJECT,
+    CTFD_SORT_FUNCTION,
+    CTFD_SORT_VARIABLE,
+    CTFD_SORTS
+};
 
 /* How the labels of symbols begin, by their sort. */
 HIDDEN extern const char *const ctfd__symbol_labels[CTFD_SORTS];
@@ -506,15 +528,15 @@ HIDDEN bool ctfd__is_there(ctf_file_t *fp, uint16_t t);
 HIDDEN bool ctfd__room_for_one(void *block, uint32_t len, uint32_t *room, size_t size);
 
 /* Adds a type; its number is written. */
-HIDDEN enum ctfd_status ctfd__add_type(ctf_file_t *fp, uint32_t kind, uint32_t tag,
-    const char *name, bool root, uint16_t *t);
-HIDDEN enum ctfd_status ctfd__add_member(ctf_file_t *fp, uint16_t t, const char *name,
-    uint16_t type, bool has_offset, uint64_t offset);
-HIDDEN enum ctfd_status ctfd__add_enumerator(ctf_file_t *fp, uint16_t t, const char *name,
-    int32_t value);
+HIDDEN enum ctfd_status ctfd__add_type(
+    ctf_file_t *fp, uint32_t kind, uint32_t tag, const char *name, bool root, uint16_t *t);
+HIDDEN enum ctfd_status ctfd__add_member(
+    ctf_file_t *fp, uint16_t t, const char *name, uint16_t type, bool has_offset, uint64_t offset);
+HIDDEN enum ctfd_status ctfd__add_enumerator(
+    ctf_file_t *fp, uint16_t t, const char *name, int32_t value);
 HIDDEN enum ctfd_status ctfd__add_mark(ctf_file_t *fp, const char *name, uint32_t last);
-HIDDEN enum ctfd_status ctfd__add_symbol(ctf_file_t *fp, const char *name, uint16_t type,
-    uint8_t sort);
+HIDDEN enum ctfd_status ctfd__add_symbol(
+    ctf_file_t *fp, const char *name, uint16_t type, uint8_t sort);
 
 /* Room for so many items of a type; false where there is no memory. */
 HIDDEN bool ctfd__room_for_items(ctf_file_t *fp, struct ctfd__type *type, uint32_t items);
@@ -548,13 +570,13 @@ HIDDEN void ctfd__define_name(struct ctfd__recipe *of, uint32_t place);
 /* The type of a name in a kind's space, of those that are visible, or of the first so many: a
  * definition before a forward, the last before others. 0 where there is none. */
 HIDDEN uint16_t ctfd__named(ctf_file_t *fp, uint32_t kind, const char *name, size_t len);
-HIDDEN uint16_t ctfd__named_among(ctf_file_t *fp, uint32_t kind, const char *name, size_t len,
-    uint32_t count);
+HIDDEN uint16_t ctfd__named_among(
+    ctf_file_t *fp, uint32_t kind, const char *name, size_t len, uint32_t count);
 
 /* ---- recipe_sizes.c: pending or not */
 
-HIDDEN enum ctfd_status ctfd__recipe_resolution(ctf_file_t *fp, uint16_t t, ctf_file_t **of,
-    uint16_t *to);
+HIDDEN enum ctfd_status ctfd__recipe_resolution(
+    ctf_file_t *fp, uint16_t t, ctf_file_t **of, uint16_t *to);
 HIDDEN enum ctfd_status ctfd__recipe_size(ctf_file_t *fp, uint16_t t, uint64_t *bytes);
 HIDDEN enum ctfd_status ctfd__recipe_align(ctf_file_t *fp, uint16_t t, uint64_t *bytes);
 
@@ -563,15 +585,15 @@ __extension__ typedef unsigned __int128 ctfd__wide;
 
 /* How many bits a value fills, and where a member goes by itself. */
 HIDDEN enum ctfd_status ctfd__bits_of(ctf_file_t *fp, uint16_t t, ctfd__wide *bits);
-HIDDEN enum ctfd_status ctfd__place_for(ctf_file_t *fp, const struct ctfd__type *type,
-    uint16_t member, ctfd__wide *at);
+HIDDEN enum ctfd_status ctfd__place_for(
+    ctf_file_t *fp, const struct ctfd__type *type, uint16_t member, ctfd__wide *at);
 
 /* ---- recipe_answers.c: what is visible */
 
 HIDDEN struct ctfd__details *ctfd__recipe_details(ctf_file_t *fp, uint16_t t);
 HIDDEN enum ctfd_status ctfd__recipe_pointer(ctf_file_t *fp, uint16_t t, uint16_t *to);
-HIDDEN enum ctfd_status ctfd__recipe_find(ctf_file_t *fp, const char *text, size_t len,
-    uint16_t *t);
+HIDDEN enum ctfd_status ctfd__recipe_find(
+    ctf_file_t *fp, const char *text, size_t len, uint16_t *t);
 
 /* ---- recipe_bytes.c */
 
@@ -586,8 +608,8 @@ HIDDEN uint32_t ctfd__label_count(ctf_file_t *fp);
 HIDDEN int ctfd__symbol_of_label(ctf_file_t *fp, uint32_t i, const char **name, uint16_t *type);
 
 /* Finds the first label of a symbol of this name; `sorts` has a bit for each sort. */
-HIDDEN bool ctfd__find_symbol_label(ctf_file_t *fp, const char *name, unsigned sorts,
-    uint16_t *type);
+HIDDEN bool ctfd__find_symbol_label(
+    ctf_file_t *fp, const char *name, unsigned sorts, uint16_t *type);
 
 /* The same for a symbol of the file's symbol table, by its number and the one sort. */
 HIDDEN bool ctfd__label_of_symbol(ctf_file_t *fp, ulong_t symbol, int sort, uint16_t *type);
@@ -599,10 +621,10 @@ char *ctfd_gnu_type_aname(ctf_file_t *fp, ctf_id_t type);
 int ctfd_gnu_member_count(ctf_file_t *fp, ctf_id_t type);
 const char *ctfd_gnu_enum_next(ctf_file_t *fp, ctf_id_t type, struct ctf_next **it, int *value);
 int ctfd_gnu_type_iter_all(ctf_file_t *fp, int (*each)(ctf_id_t, int, void *), void *arg);
-int ctfd_gnu_label_iter(ctf_file_t *fp, int (*each)(const char *, const ctf_lblinfo_t *, void *),
-    void *arg);
-ctf_id_t ctfd_gnu_symbol_next(ctf_file_t *fp, struct ctf_next **it, const char **name,
-    int functions);
+int ctfd_gnu_label_iter(
+    ctf_file_t *fp, int (*each)(const char *, const ctf_lblinfo_t *, void *), void *arg);
+ctf_id_t ctfd_gnu_symbol_next(
+    ctf_file_t *fp, struct ctf_next **it, const char **name, int functions);
 int ctfd_gnu_variable_iter(ctf_file_t *fp, int (*each)(const char *, ctf_id_t, void *), void *arg);
 void ctfd_gnu_next_destroy(struct ctf_next *it);
 
@@ -614,17 +636,23 @@ struct ctfd_elf_list {
     size_t len;
 };
 
+/* The most bytes of a build-id, as debuginfod takes them. */
+#define CTFD_LONGEST_ID 64
+
 struct ctfd_elf_lists {
     struct ctfd_elf_list ctf;
     struct ctfd_elf_list symbols;
     struct ctfd_elf_list strings;
     struct ctfd_elf_list variables; /* a byte a symbol, of a file that is linked: elf.c */
     bool ilp32;
+    size_t id_len; /* of a file without a dictionary that has a build-id; else 0 */
+    unsigned char id[CTFD_LONGEST_ID];
 };
 
 /* Finds the dictionary in an ELF file, inflated, and the symbol table that it goes by, in the form
- * of ELF64. 0, or an error as ctf_open tells it; then nothing is there to be freed. */
-int ctfd_elf_read(int fd, struct ctfd_elf_lists *lists);
+ * of ELF64. What `program` exports is no variable to GNU's linker: it is the file, or the one that
+ * the file was fetched for. 0, or an error as ctf_open tells it; then nothing is there to be freed. */
+int ctfd_elf_read(int fd, int program, struct ctfd_elf_lists *lists);
 
 /* Inflates a dictionary whose header says that it is compressed. */
 int ctfd_elf_inflate(const void *bytes, size_t len, struct ctfd_elf_list *made);

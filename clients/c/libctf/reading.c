@@ -47,12 +47,12 @@ static ctf_sect_t section_of(const struct ctfd_elf_list *list)
 static ctf_file_t *open_owned(struct ctfd_elf_lists *lists, int *error)
 {
     ctf_sect_t ctf = section_of(&lists->ctf), symbols = section_of(&lists->symbols),
-        strings = section_of(&lists->strings);
+               strings = section_of(&lists->strings);
     bool has_symbols = lists->symbols.at != NULL && lists->strings.at != NULL;
     ctf_file_t *fp;
     symbols.cts_entsize = CTFD_SYMBOL;
-    fp = ctfd__open(&ctf, has_symbols ? &symbols : NULL, has_symbols ? &strings : NULL, true,
-        error);
+    fp = ctfd__open(
+        &ctf, has_symbols ? &symbols : NULL, has_symbols ? &strings : NULL, true, error);
     if (fp != NULL && fp->owned[0] == NULL) {
         fp->owned[0] = lists->ctf.at;
         lists->ctf.at = NULL;
@@ -97,12 +97,27 @@ static ctf_file_t *open_section(int fd, size_t size, int *error)
     return open_owned(&lists, error);
 }
 
+/* Reads what a store has of the build of a file. */
+static int read_fetched(int fd, struct ctfd_elf_lists *lists)
+{
+    int made = -1;
+    int failed = ctfd__fetch(lists, &made);
+    if (failed != 0)
+        return failed;
+    failed = ctfd_elf_read(made, fd, lists);
+    (void)close(made);
+    return failed == 0 || failed == CTFD_MEMORY ? failed : CTFD__NOT_FETCHED;
+}
+
+/* The types of a file that has none are asked for by its build-id, where a store is named. */
 static ctf_file_t *open_elf(int fd, int *error)
 {
     struct ctfd_elf_lists lists;
     int failed;
     memset(&lists, 0, sizeof lists);
-    failed = ctfd_elf_read == NULL ? CTFD__NO_PART : ctfd_elf_read(fd, &lists);
+    failed = ctfd_elf_read == NULL ? CTFD__NO_PART : ctfd_elf_read(fd, fd, &lists);
+    if (failed == CTFD__NO_SECTION)
+        failed = read_fetched(fd, &lists);
     return failed != 0 ? ctfd__refused(error, failed) : open_owned(&lists, error);
 }
 

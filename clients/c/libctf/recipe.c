@@ -109,8 +109,8 @@ bool ctfd__room_for_items(ctf_file_t *fp, struct ctfd__type *type, uint32_t item
         room = room == 0 ? 4 : 2 * room;
     if (room < items)
         room = items;
-    more = (struct ctfd__details *)realloc(type->details,
-        sizeof *more + room * sizeof(struct ctfd__item));
+    more = (struct ctfd__details *)realloc(
+        type->details, sizeof *more + room * sizeof(struct ctfd__item));
     if (more == NULL)
         return false;
     if (type->details == NULL)
@@ -167,8 +167,8 @@ static bool has_details(uint32_t kind)
     return kind == CTFD_FUNCTION || kind == CTFD_STRUCT || kind == CTFD_UNION || kind == CTFD_ENUM;
 }
 
-enum ctfd_status ctfd__add_type(ctf_file_t *fp, uint32_t kind, uint32_t tag, const char *name,
-    bool root, uint16_t *t)
+enum ctfd_status ctfd__add_type(
+    ctf_file_t *fp, uint32_t kind, uint32_t tag, const char *name, bool root, uint16_t *t)
 {
     struct ctfd__recipe *of = fp->recipe;
     struct ctfd__type *type;
@@ -299,8 +299,8 @@ static enum ctfd_status refusal_of_item(ctf_file_t *fp, uint16_t t, bool is_of_e
 }
 
 /* Puts an item behind the others, and remembers when. */
-static enum ctfd_status put_item(ctf_file_t *fp, struct ctfd__type *type, const char *kept,
-    uint64_t at, uint16_t names)
+static enum ctfd_status put_item(
+    ctf_file_t *fp, struct ctfd__type *type, const char *kept, uint64_t at, uint16_t names)
 {
     struct ctfd__recipe *of = fp->recipe;
     struct ctfd__details *details;
@@ -323,8 +323,8 @@ static enum ctfd_status put_item(ctf_file_t *fp, struct ctfd__type *type, const 
     return CTFD_OK;
 }
 
-enum ctfd_status ctfd__add_member(ctf_file_t *fp, uint16_t t, const char *name, uint16_t type,
-    bool has_offset, uint64_t offset)
+enum ctfd_status ctfd__add_member(
+    ctf_file_t *fp, uint16_t t, const char *name, uint16_t type, bool has_offset, uint64_t offset)
 {
     struct ctfd__type *in;
     const char *kept;

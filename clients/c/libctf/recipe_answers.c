@@ -75,16 +75,13 @@ struct tag {
 static const struct tag *tag_of(char first)
 {
     static const struct tag of_struct = { "struct", 6, CTFD_STRUCT },
-        of_union = { "union", 5, CTFD_UNION }, of_enum = { "enum", 4, CTFD_ENUM };
+                            of_union = { "union", 5, CTFD_UNION },
+                            of_enum = { "enum", 4, CTFD_ENUM };
     switch (first) {
-    case 's':
-        return &of_struct;
-    case 'u':
-        return &of_union;
-    case 'e':
-        return &of_enum;
-    default:
-        return NULL;
+    case 's': return &of_struct;
+    case 'u': return &of_union;
+    case 'e': return &of_enum;
+    default: return NULL;
     }
 }
 
@@ -92,8 +89,9 @@ static const struct tag *tag_of(char first)
 static enum ctfd_status find_base(ctf_file_t *fp, const char *text, size_t len, uint16_t *t)
 {
     const struct tag *tag = tag_of(*text);
-    if (tag != NULL && (len < tag->len || memcmp(text, tag->word, tag->len) != 0 ||
-                           (len > tag->len && text[tag->len] != ' ')))
+    if (tag != NULL &&
+        (len < tag->len || memcmp(text, tag->word, tag->len) != 0 ||
+            (len > tag->len && text[tag->len] != ' ')))
         tag = NULL;
     if (tag != NULL && len == tag->len)
         return CTFD_BAD_SYNTAX;
@@ -103,8 +101,8 @@ static enum ctfd_status find_base(ctf_file_t *fp, const char *text, size_t len, 
 }
 
 /* A type that one file has a name for, and the pointers that the file that is asked has to it. */
-static enum ctfd_status find_in(ctf_file_t *fp, ctf_file_t *in, const char *text, size_t len,
-    size_t stars, uint16_t *t)
+static enum ctfd_status find_in(
+    ctf_file_t *fp, ctf_file_t *in, const char *text, size_t len, size_t stars, uint16_t *t)
 {
     uint16_t at = 0;
     enum ctfd_status status = in->recipe != NULL ? find_base(in, text, len, &at)

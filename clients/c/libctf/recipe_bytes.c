@@ -7,8 +7,9 @@
 #include <stdlib.h>
 #include <string.h>
 
-const char *const ctfd__symbol_labels[CTFD_SORTS] = { "ctfd.data:", "ctfd.function:",
-    "ctfd.variable:" };
+const char *const ctfd__symbol_labels[CTFD_SORTS] = {
+    "ctfd.data:", "ctfd.function:", "ctfd.variable:"
+};
 
 static enum ctfd_status put_item(ctf_file_t *fp, struct ctfd *to, const struct ctfd__put *put)
 {
@@ -28,29 +29,23 @@ static enum ctfd_status put_function(struct ctfd *to, const struct ctfd__type *t
     uint32_t i;
     for (i = 0; i < details->count; i++)
         arguments[i] = details->items[i].type;
-    return ctfd_add_function(to, type->name, strlen(type->name), type->root != 0,
-        type->is.returned, arguments, details->count, &t);
+    return ctfd_add_function(to, type->name, strlen(type->name), type->root != 0, type->is.returned,
+        arguments, details->count, &t);
 }
 
 /* The call that adds a type which leads to another. */
-typedef enum ctfd_status add_reference_f(struct ctfd *, const char *, size_t, bool, uint16_t,
-    uint16_t *);
+typedef enum ctfd_status add_reference_f(
+    struct ctfd *, const char *, size_t, bool, uint16_t, uint16_t *);
 
 static add_reference_f *adder_of(uint32_t kind)
 {
     switch (kind) {
-    case CTFD_POINTER:
-        return ctfd_add_pointer;
-    case CTFD_TYPEDEF:
-        return ctfd_add_typedef;
-    case CTFD_VOLATILE:
-        return ctfd_add_volatile;
-    case CTFD_CONST:
-        return ctfd_add_const;
-    case CTFD_RESTRICT:
-        return ctfd_add_restrict;
-    default:
-        return NULL;
+    case CTFD_POINTER: return ctfd_add_pointer;
+    case CTFD_TYPEDEF: return ctfd_add_typedef;
+    case CTFD_VOLATILE: return ctfd_add_volatile;
+    case CTFD_CONST: return ctfd_add_const;
+    case CTFD_RESTRICT: return ctfd_add_restrict;
+    default: return NULL;
     }
 }
 
@@ -70,22 +65,14 @@ static enum ctfd_status put_type(struct ctfd *to, const struct ctfd__type *type)
         return ctfd_add_float(to, name, len, root, (uint8_t)encoding->encoding,
             (uint8_t)encoding->offset, (uint16_t)encoding->bits, type->size, &t);
     case CTFD_ARRAY:
-        return ctfd_add_array(to, name, len, root, array->contents, array->index, array->count,
-            &t);
-    case CTFD_FUNCTION:
-        return put_function(to, type);
-    case CTFD_STRUCT:
-        return ctfd_add_struct(to, name, len, root, type->size, &t);
-    case CTFD_UNION:
-        return ctfd_add_union(to, name, len, root, type->size, &t);
-    case CTFD_ENUM:
-        return ctfd_add_enum(to, name, len, root, type->size, &t);
-    case CTFD_FORWARD:
-        return ctfd_add_forward(to, name, len, root, type->tag, &t);
-    case CTFD_UNKNOWN:
-        return ctfd_add_unknown(to, name, len, root, &t);
-    default:
-        return adder_of(type->kind)(to, name, len, root, type->is.to, &t);
+        return ctfd_add_array(to, name, len, root, array->contents, array->index, array->count, &t);
+    case CTFD_FUNCTION: return put_function(to, type);
+    case CTFD_STRUCT: return ctfd_add_struct(to, name, len, root, type->size, &t);
+    case CTFD_UNION: return ctfd_add_union(to, name, len, root, type->size, &t);
+    case CTFD_ENUM: return ctfd_add_enum(to, name, len, root, type->size, &t);
+    case CTFD_FORWARD: return ctfd_add_forward(to, name, len, root, type->tag, &t);
+    case CTFD_UNKNOWN: return ctfd_add_unknown(to, name, len, root, &t);
+    default: return adder_of(type->kind)(to, name, len, root, type->is.to, &t);
     }
 }
 
@@ -110,8 +97,8 @@ static enum ctfd_status put_all(ctf_file_t *fp, struct ctfd *to, struct stand fr
         from.puts++;
     }
     for (; status == CTFD_OK && from.marks < of->marks_visible; from.marks++)
-        status = ctfd_add_label(to, of->marks[from.marks].name,
-            strlen(of->marks[from.marks].name), of->marks[from.marks].last);
+        status = ctfd_add_label(to, of->marks[from.marks].name, strlen(of->marks[from.marks].name),
+            of->marks[from.marks].last);
     return status;
 }
 

@@ -107,8 +107,8 @@ void ctfd__define_name(struct ctfd__recipe *of, uint32_t place)
 }
 
 /* The last of a list that is no forward, else the last, of those up to a place. */
-static uint16_t found_in(const struct ctfd__recipe *of, uint16_t newest, uint32_t count,
-    bool has_forwards)
+static uint16_t found_in(
+    const struct ctfd__recipe *of, uint16_t newest, uint32_t count, bool has_forwards)
 {
     uint16_t type, forward = 0;
     for (type = newest; type != 0; type = of->types[type - 1].older) {
@@ -151,8 +151,8 @@ uint16_t ctfd__named(ctf_file_t *fp, uint32_t kind, const char *name, size_t len
     return there != NULL && there->visible != 0 ? ctfd__number_of(fp, there->visible - 1u) : 0;
 }
 
-uint16_t ctfd__named_among(ctf_file_t *fp, uint32_t kind, const char *name, size_t len,
-    uint32_t count)
+uint16_t ctfd__named_among(
+    ctf_file_t *fp, uint32_t kind, const char *name, size_t len, uint32_t count)
 {
     const struct ctfd__name *there = lookup(fp, kind, name, len);
     uint16_t type = 0;

@@ -57,21 +57,12 @@ static enum ctfd_status size_in(ctf_file_t *fp, uint16_t t, uint32_t depth, uint
             status = CTFD_TOO_BIG;
         *bytes *= type->is.array.count;
         return status;
-    case CTFD_POINTER:
-        *bytes = pointer_size(fp);
-        return CTFD_OK;
-    case CTFD_FUNCTION:
-        *bytes = 0;
-        return CTFD_OK;
-    case CTFD_ENUM:
-        *bytes = enum_size(type);
-        return CTFD_OK;
+    case CTFD_POINTER: *bytes = pointer_size(fp); return CTFD_OK;
+    case CTFD_FUNCTION: *bytes = 0; return CTFD_OK;
+    case CTFD_ENUM: *bytes = enum_size(type); return CTFD_OK;
     case CTFD_UNKNOWN:
-    case CTFD_FORWARD:
-        return CTFD_INCOMPLETE;
-    default:
-        *bytes = type->size;
-        return CTFD_OK;
+    case CTFD_FORWARD: return CTFD_INCOMPLETE;
+    default: *bytes = type->size; return CTFD_OK;
     }
 }
 
@@ -91,8 +82,8 @@ static uint64_t state_of(const ctf_file_t *fp)
 }
 
 /* That of the first member, or, since members of unions lie in one another, the largest. */
-static enum ctfd_status align_of_members(ctf_file_t *fp, struct ctfd__type *type, uint32_t depth,
-    uint64_t *bytes)
+static enum ctfd_status align_of_members(
+    ctf_file_t *fp, struct ctfd__type *type, uint32_t depth, uint64_t *bytes)
 {
     const struct ctfd__details *details = type->details;
     uint64_t state = state_of(fp);
@@ -128,23 +119,14 @@ static enum ctfd_status align_in(ctf_file_t *fp, uint16_t t, uint32_t depth, uin
     type = ctfd__own_type(fp, to);
     switch (type->kind) {
     case CTFD_POINTER:
-    case CTFD_FUNCTION:
-        *bytes = pointer_size(fp);
-        return CTFD_OK;
-    case CTFD_ENUM:
-        *bytes = enum_size(type);
-        return CTFD_OK;
+    case CTFD_FUNCTION: *bytes = pointer_size(fp); return CTFD_OK;
+    case CTFD_ENUM: *bytes = enum_size(type); return CTFD_OK;
     case CTFD_UNKNOWN:
-    case CTFD_FORWARD:
-        return CTFD_INCOMPLETE;
-    case CTFD_ARRAY:
-        return align_in(fp, type->is.array.contents, depth + 1, bytes);
+    case CTFD_FORWARD: return CTFD_INCOMPLETE;
+    case CTFD_ARRAY: return align_in(fp, type->is.array.contents, depth + 1, bytes);
     case CTFD_STRUCT:
-    case CTFD_UNION:
-        return align_of_members(fp, type, depth, bytes);
-    default:
-        *bytes = type->size;
-        return CTFD_OK;
+    case CTFD_UNION: return align_of_members(fp, type, depth, bytes);
+    default: *bytes = type->size; return CTFD_OK;
     }
 }
 
@@ -183,8 +165,8 @@ enum ctfd_status ctfd__bits_of(ctf_file_t *fp, uint16_t t, ctfd__wide *bits)
 }
 
 /* The first place in whole bytes behind the last member that the alignment allows. */
-enum ctfd_status ctfd__place_for(ctf_file_t *fp, const struct ctfd__type *type, uint16_t member,
-    ctfd__wide *at)
+enum ctfd_status ctfd__place_for(
+    ctf_file_t *fp, const struct ctfd__type *type, uint16_t member, ctfd__wide *at)
 {
     const struct ctfd__details *details = type->details;
     const struct ctfd__item *last;

@@ -71,14 +71,10 @@ static uint32_t kind_of(ctf_file_t *fp, uint16_t t)
 static const char *qualifier_of(uint32_t kind)
 {
     switch (kind) {
-    case CTFD_VOLATILE:
-        return "volatile";
-    case CTFD_CONST:
-        return "const";
-    case CTFD_RESTRICT:
-        return "restrict";
-    default:
-        return NULL;
+    case CTFD_VOLATILE: return "volatile";
+    case CTFD_CONST: return "const";
+    case CTFD_RESTRICT: return "restrict";
+    default: return NULL;
     }
 }
 
@@ -229,8 +225,8 @@ static void append_qualifier(struct grown *text, const char *qualifier)
 }
 
 /* The same of one in the making. */
-static bool append_recipe_base(ctf_file_t *fp, struct grown *text, uint16_t base, uint32_t kind,
-    const char *qualifier)
+static bool append_recipe_base(
+    ctf_file_t *fp, struct grown *text, uint16_t base, uint32_t kind, const char *qualifier)
 {
     const char *name = ctfd__declared(fp, base);
     uint32_t tag = kind;
@@ -312,15 +308,14 @@ static ssize_t put(const struct grown *made, char *text, size_t size)
     return (ssize_t)made->len;
 }
 
-static ssize_t spell(ctf_file_t *fp, ctf_id_t type, char *text, size_t size,
-    const char *qualifier, const char *name)
+static ssize_t spell(
+    ctf_file_t *fp, ctf_id_t type, char *text, size_t size, const char *qualifier, const char *name)
 {
     struct declaration made;
     struct grown whole = { NULL, 0, 0, false };
     uint32_t kind = CTFD_UNKNOWN;
     ssize_t len = (ssize_t)CTF_ERR;
-    if (!ctfd__is_type(fp, type) ||
-        ctfd__done(fp, ctfd__kind_of(fp, (uint16_t)type, &kind)) != 0)
+    if (!ctfd__is_type(fp, type) || ctfd__done(fp, ctfd__kind_of(fp, (uint16_t)type, &kind)) != 0)
         return (ssize_t)CTF_ERR;
     memset(&made, 0, sizeof made);
     made.is_named = *name != '\0';
@@ -353,8 +348,8 @@ ssize_t ctf_type_lname(ctf_file_t *fp, ctf_id_t type, char *text, size_t size)
     return measured(fp, spelled(fp, (uint16_t)type, text, size), size);
 }
 
-ssize_t ctf_type_qlname(ctf_file_t *fp, ctf_id_t type, char *text, size_t size,
-    const char *qualifier)
+ssize_t ctf_type_qlname(
+    ctf_file_t *fp, ctf_id_t type, char *text, size_t size, const char *qualifier)
 {
     if (qualifier == NULL)
         return ctf_type_lname(fp, type, text, size);
@@ -372,8 +367,7 @@ char *ctf_type_name(ctf_file_t *fp, ctf_id_t type, char *text, size_t size)
     return fitting(ctf_type_lname(fp, type, text, size), text, size);
 }
 
-char *ctf_type_qname(ctf_file_t *fp, ctf_id_t type, char *text, size_t size,
-    const char *qualifier)
+char *ctf_type_qname(ctf_file_t *fp, ctf_id_t type, char *text, size_t size, const char *qualifier)
 {
     return fitting(ctf_type_qlname(fp, type, text, size, qualifier), text, size);
 }

@@ -84,8 +84,8 @@ static const char *keep_name(ctf_file_t *fp, uint16_t holder, size_t index)
 {
     struct ctfd_member member = { 0, 0, 0 };
     do {
-        if (ctfd__done(fp,
-                ctfd_member(&fp->types, holder, index, fp->room, fp->room_len, &member)) != 0)
+        if (ctfd__done(
+                fp, ctfd_member(&fp->types, holder, index, fp->room, fp->room_len, &member)) != 0)
             return NULL;
         if (member.name_len < fp->room_len)
             return ctfd__kept(fp, (size_t)member.name_len);

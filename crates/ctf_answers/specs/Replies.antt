@@ -9,14 +9,14 @@ use Rattle.ctf_answers.specs.declared.replies.Reply.{Reply}
 abbrev pub reply_of : Reply → answers.Reply
 reply_of r = record { session = r.session; outcome = r.outcome }
 
-abbrev pub changed : Result Counts Fault → Result answers.Answer Fault
-changed (Ok counts) = Ok (counts_view counts)
-changed (Err fault) = Err fault
+abbrev pub change_answer : Result Counts Fault → Result answers.Answer Fault
+change_answer (Ok counts) = Ok (counts_view counts)
+change_answer (Err fault) = Err fault
 
 -- the reply to a change
 abbrev pub said_to : ℕ → Result Counts Fault → answers.Reply
-said_to session outcome = record { session = session; outcome = changed outcome }
+said_to session outcome = record { session = session; outcome = change_answer outcome }
 
 -- the same, not yet addressed to its session
-abbrev pub said : Result Counts Fault → answers.Reply
-said outcome = said_to 0 outcome
+abbrev pub unaddressed_reply : Result Counts Fault → answers.Reply
+unaddressed_reply outcome = said_to 0 outcome

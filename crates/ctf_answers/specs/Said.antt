@@ -4,8 +4,8 @@ use Rattle.ctf_protocol.specs.answers.Answers as answers
 use Rattle.ctf_protocol.specs.answers.Answers.{says, lists, text, truth, number}
 use Rattle.ctf_answers.specs.Singles.{single_of}
 use Rattle.ctf_answers.specs.Told.{record_view, info_view}
-use Rattle.ctf_answers.specs.declared.said.Said.{Said}
-use Rattle.ctf_answers.specs.declared.said.Said.TheVariants as said
+use Rattle.ctf_answers.specs.declared.values.Said.{Said}
+use Rattle.ctf_answers.specs.declared.values.Said.TheVariants as said
 use Rattle.ctf_answers.specs.declared.singles.Entry.{Entry}
 
 abbrev pub entry_view : Entry → answers.Field

@@ -5,8 +5,8 @@ use Rattle.ctf_protocol.specs.answers.Answers as answers
 use Rattle.ctf_protocol.specs.answers.Answers.{says, may_say, text, truth, word, number}
 use Rattle.ctf_model.specs.names.KindNames.{name_of_kind, name_of_tag}
 use Rattle.ctf_records.specs.RecordView.{tag_of}
-use Rattle.ctf_answers.specs.declared.told.RecordAnswer.{RecordAnswer}
-use Rattle.ctf_answers.specs.declared.told.InfoAnswer.{InfoAnswer}
+use Rattle.ctf_answers.specs.declared.type_fields.RecordAnswer.{RecordAnswer}
+use Rattle.ctf_answers.specs.declared.type_fields.InfoAnswer.{InfoAnswer}
 
 abbrev pub type_on : RecordAnswer → answers.Answer
 type_on r =

@@ -7,10 +7,10 @@ ghost use Rattle.ctf_answers.specs.Said.{entry_view, fields_view};
 ghost use Rattle.ctf_answers.specs.Told.{record_view, info_view};
 
 use crate::fields::{Field, Value};
-use crate::listed::Listed;
-use crate::said::Said;
+use crate::item_lists::Listed;
 use crate::singles::{Entry, Single};
-use crate::told::{InfoAnswer, RecordAnswer, field};
+use crate::type_fields::{InfoAnswer, RecordAnswer, field};
+use crate::values::Said;
 use ctf_protocol::Bytes;
 use std::marker::Model;
 
@@ -37,7 +37,7 @@ fn entry<'a>(key: &'static str, value: Single<'a>) -> Entry<'a>
 
 impl<'a> Answer<'a> {
     /// Nothing but that it is done.
-    pub fn done() -> Answer<'a>
+    pub fn of_success() -> Answer<'a>
         ensures { result ≡ [] }
     {
         Answer { said: Said::Done }
@@ -122,7 +122,7 @@ impl<'a> Answer<'a> {
     }
 
     /// A text that was made for it.
-    pub fn made(key: &'static str, text: Bytes) -> Answer<'a>
+    pub fn with_text(key: &'static str, text: Bytes) -> Answer<'a>
         ensures { result ≡ says key.now (said_text text) ∷ [] }
     {
         Answer {

@@ -15,7 +15,7 @@ pub struct Counts {
 }
 
 impl Counts {
-    pub fn done() -> Counts
+    pub fn of_success() -> Counts
         ensures { counts_view result ≡ [] }
     {
         Counts {
@@ -54,7 +54,7 @@ impl Counts {
         ensures { result ≡ counts_view self }
     {
         match (self.first, self.second) {
-            (None, None) => Answer::done(),
+            (None, None) => Answer::of_success(),
             (Some(a), None) => Answer::one(a.key, Single::Number(a.number)),
             (None, Some(a)) => Answer::one(a.key, Single::Number(a.number)),
             (Some(a), Some(b)) => Answer::two(

@@ -1,6 +1,6 @@
 //! The fields of an answer.
 
-use crate::listed::Listed;
+use crate::item_lists::Listed;
 use crate::singles::Single;
 
 /// The value of a field, lent from its answer.

@@ -5,15 +5,15 @@ ghost use Rattle.ctf_protocol.specs.sessions.State.{empty_state};
 ghost use Rattle.ctf_protocol.specs.sessions.SlotQuestions.{answer_to};
 ghost use Rattle.ctf_protocol.specs.sessions.Steps.{publishes_kept};
 ghost use Rattle.ctf_protocol.specs.sessions.Quiet.{is_quiet, is_quiet_change, MayAnswer};
-ghost use Rattle.ctf_answers.specs.Replies.{said, said_to};
+ghost use Rattle.ctf_answers.specs.Replies.{unaddressed_reply, said_to};
 ghost use Rattle.ctf_protocol.specs.declared.requests.Request.TheVariants.{Changes};
 ghost use Rattle.ctf_broker.specs.Loading.{loads_section};
 ghost use Rattle.ctf_broker.specs.Table.{kept_for, library_at};
 ghost use Rattle.ctf_laws.specs.Good.{AreGood, FitsChange};
 ghost use Rattle.ctf_library.specs.Telling.{makes_text};
 
-use crate::held::Held;
 use crate::libraries::{drop_new, found_by, publish_in, step_in};
+use crate::session_library::Held;
 use ctf_answers::{Answer, Counts};
 use ctf_library::{Loaded, MODEL_UNSAID, Pool};
 use ctf_protocol::{Bytes, Change, Fault, Parts, PublicationName, Question, SlotNumber, placeless};
@@ -63,7 +63,7 @@ impl Broker {
     pub fn load(&mut self, name: &PublicationName, dictionary: Loaded) -> Result<Counts, Fault>
         ensures own { Answered (library_at self.old 0)
             (publishes_kept name.now dictionary (library_at self.old 0))
-            (said result) (library_at self.new 0) }
+            (unaddressed_reply result) (library_at self.new 0) }
         ensures others { (other : ℕ) → other ≢ 0
             → kept_for self.new other ≡ kept_for self.old other }
         // Good libraries stay good: what was opened breaks no rule.
@@ -76,7 +76,7 @@ impl Broker {
     fn publish(&mut self, name: &PublicationName, dictionary: Loaded) -> Result<Counts, Fault>
         ensures own { Answered (library_at self.old 0)
             (publishes_kept name.now dictionary (library_at self.old 0))
-            (said result) (library_at self.new 0) }
+            (unaddressed_reply result) (library_at self.new 0) }
         ensures others { (other : ℕ) → other ≢ 0
             → kept_for self.new other ≡ kept_for self.old other }
     {
@@ -89,7 +89,7 @@ impl Broker {
     pub fn load_section(&mut self, name: &PublicationName, ctf: Vec<u8>) -> Result<Counts, Fault>
         ensures own { Answered (library_at self.old 0)
             (loads_section name.now ctf.items (library_at self.old 0))
-            (said result) (library_at self.new 0) }
+            (unaddressed_reply result) (library_at self.new 0) }
         ensures others { (other : ℕ) → other ≢ 0
             → kept_for self.new other ≡ kept_for self.old other }
         ensures good { AreGood (library_at self.old) → AreGood (library_at self.new) }
@@ -134,7 +134,8 @@ impl Broker {
         ensures good { AreGood (library_at self.old) → FitsChange change.now
             → AreGood (library_at self.new) }
         // A session whose library is as new takes no memory.
-        ensures spare { library_at self.new session ≡ empty_state → kept_for self.new session ≡ None }
+        ensures spare { library_at self.new session ≡ empty_state
+            → kept_for self.new session ≡ None }
     {
         let outcome = self.make(session, change);
         drop_new(&mut self.libraries, session);

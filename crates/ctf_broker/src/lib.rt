@@ -2,8 +2,8 @@
 #![tactic(auto)]
 
 mod broker;
-mod held;
 mod libraries;
+mod session_library;
 
 pub use broker::Broker;
 pub use ctf_library::{Library, Loaded, Pool};

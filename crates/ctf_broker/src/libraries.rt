@@ -1,6 +1,6 @@
 //! Sessions and their libraries.
 ghost use Rattle.std.specs.Prelude.{◌≡◌, ◌≢◌, ℕ, IfOk, None, OnErr, true, false};
-ghost use Rattle.ctf_answers.specs.Replies.{said, said_to};
+ghost use Rattle.ctf_answers.specs.Replies.{unaddressed_reply, said_to};
 ghost use Rattle.ctf_protocol.specs.sessions.Runs.{Answered, IsGranted, Steps, found_in};
 ghost use Rattle.ctf_protocol.specs.sessions.State.{empty_state};
 ghost use Rattle.ctf_protocol.specs.sessions.Steps.{publishes_kept};
@@ -8,7 +8,7 @@ ghost use Rattle.ctf_protocol.specs.sessions.Quiet.{is_quiet_change};
 ghost use Rattle.ctf_protocol.specs.declared.requests.Request.TheVariants.{Changes};
 ghost use Rattle.ctf_broker.specs.Table.{kept_for, library_at};
 
-use crate::held::Held;
+use crate::session_library::Held;
 use ctf_answers::Counts;
 use ctf_library::{Loaded, Pool};
 use ctf_protocol::{Change, Fault, PublicationName, placeless};
@@ -30,7 +30,7 @@ pub fn found_by(
     let Some(held) = libraries.get(owner) else {
         return Ok(None);
     };
-    match held.library().published(name.as_slice()) {
+    match held.library().publication(name.as_slice()) {
         Some(loaded) => Ok(Some(loaded.share()?)),
         None => Ok(None),
     }
@@ -93,7 +93,7 @@ pub fn publish_in(
 ) -> Result<Counts, Fault>
     ensures own { Answered (library_at libraries.old.entries session)
         (publishes_kept name.now loaded (library_at libraries.old.entries session))
-        (said result) (library_at libraries.new.entries session) }
+        (unaddressed_reply result) (library_at libraries.new.entries session) }
     ensures others { (other : ℕ) → other ≢ session
         → kept_for libraries.new.entries other ≡ kept_for libraries.old.entries other }
 {

@@ -2,7 +2,7 @@
 use Rattle.std.proofs.Common.{◌≡◌, ℕ, ◌+◌, ◌<◌, List, length, Option, Some, Result, Ok, Err, refl, sym, ap, ◌∙◌, arith}
 use Rattle.std.specs.Prelude.{slice_get}
 use Rattle.ctf_c.proofs.names.Parts.{one_there}
-use Rattle.ctf_c.specs.Given.{Gives, asked}
+use Rattle.ctf_c.specs.Given.{Gives, ask}
 use Rattle.ctf_c.specs.ItemRows.{IsArgument, TellsSymbol, arguments_answered, named_list, return_of}
 use Rattle.ctf_c.specs.Rowed.{GivesRows}
 use Rattle.ctf_c.specs.TypeRows.{TellsType}
@@ -24,26 +24,26 @@ one_given (Err f) status told old new said a b = (a.0 ∙ sym b.0, a.1 ∙ sym b
 -- ---- types: ctfd_size, ctfd_align, ctfd_resolve and ctfd_reference, each over 0
 
 module _ (s : Option Open) (t : ℕ) (row : GivenTypeRow) (h : TellsType s t row) (status said : ℕ) where
-  pub size_in_row : Gives (asked s (λ o. size_answered (space_in o) t)) status 0 said → (status ≡ row.size_status) × (said ≡ row.size)
-  size_in_row g = one_given (asked s (λ o. size_answered (space_in o) t)) status row.size_status 0 said row.size g h.size
+  pub size_in_row : Gives (ask s (λ o. size_answered (space_in o) t)) status 0 said → (status ≡ row.size_status) × (said ≡ row.size)
+  size_in_row g = one_given (ask s (λ o. size_answered (space_in o) t)) status row.size_status 0 said row.size g h.size
 
-  pub align_in_row : Gives (asked s (λ o. align_answered (space_in o) t)) status 0 said → (status ≡ row.align_status) × (said ≡ row.align)
-  align_in_row g = one_given (asked s (λ o. align_answered (space_in o) t)) status row.align_status 0 said row.align g h.align
+  pub align_in_row : Gives (ask s (λ o. align_answered (space_in o) t)) status 0 said → (status ≡ row.align_status) × (said ≡ row.align)
+  align_in_row g = one_given (ask s (λ o. align_answered (space_in o) t)) status row.align_status 0 said row.align g h.align
 
-  pub resolved_in_row : Gives (asked s (λ o. resolved_answered (space_in o) t)) status 0 said → (status ≡ row.resolved_status) × (said ≡ row.resolved)
-  resolved_in_row g = one_given (asked s (λ o. resolved_answered (space_in o) t)) status row.resolved_status 0 said row.resolved g h.resolved
+  pub resolved_in_row : Gives (ask s (λ o. resolved_answered (space_in o) t)) status 0 said → (status ≡ row.resolved_status) × (said ≡ row.resolved)
+  resolved_in_row g = one_given (ask s (λ o. resolved_answered (space_in o) t)) status row.resolved_status 0 said row.resolved g h.resolved
 
-  pub reference_in_row : Gives (asked s (λ o. reference_of (space_in o) t)) status 0 said → (status ≡ row.reference_status) × (said ≡ row.reference)
-  reference_in_row g = one_given (asked s (λ o. reference_of (space_in o) t)) status row.reference_status 0 said row.reference g h.reference
+  pub reference_in_row : Gives (ask s (λ o. reference_of (space_in o) t)) status 0 said → (status ≡ row.reference_status) × (said ≡ row.reference)
+  reference_in_row g = one_given (ask s (λ o. reference_of (space_in o) t)) status row.reference_status 0 said row.reference g h.reference
 
 -- ---- symbols: ctfd_function and ctfd_object
 
 module _ (s : Option Open) (n : ℕ) (row : GivenSymbolRow) (h : TellsSymbol s n row) (status said : ℕ) where
-  pub return_in_row : row.symbol_class ≡ 2 → Gives (asked s (λ o. return_of (function_of (own_in o) n))) status 0 said → (status ≡ row.type_status) × (said ≡ row.tnum)
-  return_in_row is g = one_given (asked s (λ o. return_of (function_of (own_in o) n))) status row.type_status 0 said row.tnum g (h.function is)
+  pub return_in_row : row.symbol_class ≡ 2 → Gives (ask s (λ o. return_of (function_of (own_in o) n))) status 0 said → (status ≡ row.type_status) × (said ≡ row.tnum)
+  return_in_row is g = one_given (ask s (λ o. return_of (function_of (own_in o) n))) status row.type_status 0 said row.tnum g (h.function is)
 
-  pub object_in_row : (row.symbol_class ≡ 2 → ⊥) → Gives (asked s (λ o. object_of (own_in o) n)) status 0 said → (status ≡ row.type_status) × (said ≡ row.tnum)
-  object_in_row other g = one_given (asked s (λ o. object_of (own_in o) n)) status row.type_status 0 said row.tnum g (h.object other)
+  pub object_in_row : (row.symbol_class ≡ 2 → ⊥) → Gives (ask s (λ o. object_of (own_in o) n)) status 0 said → (status ≡ row.type_status) × (said ≡ row.tnum)
+  object_in_row other g = one_given (ask s (λ o. object_of (own_in o) n)) status row.type_status 0 said row.tnum g (h.object other)
 
 -- ---- arguments: ctfd_argument and ctfd_function_argument
 

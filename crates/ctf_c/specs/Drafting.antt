@@ -4,7 +4,7 @@ use Rattle.std.specs.Prelude.{◌≡◌, ◌⊎◌, ◌==◌, ℕ, Bool, true, f
 use Rattle.std.specs.Option.{option_map}
 use Rattle.ctf_draft.specs.Stating.{add_member_at}
 use Rattle.ctf_model.specs.drafts.Adders.{Added, add_enumerator, add_label, add_member, add_type}
-use Rattle.ctf_model.specs.drafts.Drafts.{Draft, discarded, held, new_draft, settled}
+use Rattle.ctf_model.specs.drafts.Drafts.{Draft, rollback, content, new_draft, commit}
 use Rattle.ctf_model.specs.drafts.NewTypes.{NewType, forward}
 use Rattle.ctf_model.specs.format.Dictionary.{Label}
 use Rattle.ctf_model.specs.format.Term.{Enumerator, Member, Tag, struct_tag, union_tag, enum_tag}
@@ -14,8 +14,8 @@ use Rattle.ctf_model.specs.writing.Written.{lists_of, written}
 use Rattle.ctf_model.specs.declared.data_model.DataModel.{DataModel}
 use Rattle.ctf_model.specs.declared.faults.Fault.{Fault}
 use Rattle.ctf_model.specs.declared.faults.TheConstants.Fault.{BAD_REQUEST, NO_SLOT, READ_ONLY, WRONG_KIND}
-use Rattle.ctf_model.specs.opened.Steps.{Stepped, created, enlarged, silent, label_added, member_added, enumerator_added, type_added}
-use Rattle.ctf_c.specs.Given.{asked, status_of}
+use Rattle.ctf_model.specs.opened.Steps.{Stepped, created, enlarge, silent, label_added, member_added, enumerator_added, type_added}
+use Rattle.ctf_c.specs.Given.{ask, status_of}
 use Rattle.ctf_model.specs.opened.Open.{Open, own_in}
 
 -- the same over what is open, of its data model; the parent has to have a name
@@ -36,7 +36,7 @@ tag_numbered n =
 abbrev pub forward_asked : List ℕ → Bool → Option Tag → Option Open → Result Stepped Fault
 forward_asked name root None handle = Err (placeless WRONG_KIND)
 forward_asked name root (Some tag) handle =
-    asked handle (type_added (record { name = name; root = root; body = forward tag }))
+    ask handle (type_added (record { name = name; root = root; body = forward tag }))
 
 -- a number, if it is there
 abbrev pub number_there : Bool → ℕ → Option ℕ
@@ -45,7 +45,7 @@ number_there false n = None
 
 -- a member is added at its place, to a struct or union that has a size with it
 abbrev pub member_added_at : ℕ → Member → ℕ → Open → Result Stepped Fault
-member_added_at t m size = enlarged (λ d. silent (add_member_at d t m size))
+member_added_at t m size = enlarge (λ d. silent (add_member_at d t m size))
 
 -- ---- what is given
 

@@ -27,9 +27,9 @@ abbrev pub status_of : Fault → ℕ
 status_of fault = fault.code + 1
 
 -- what is asked of what is open, if anything is
-abbrev pub asked : {A : Type 0} → Option Open → (Open → Result A Fault) → Result A Fault
-asked None answer = Err (placeless NO_SLOT)
-asked (Some s) answer = answer s
+abbrev pub ask : {A : Type 0} → Option Open → (Open → Result A Fault) → Result A Fault
+ask None answer = Err (placeless NO_SLOT)
+ask (Some s) answer = answer s
 
 -- a value is given with status 0, or the status of the refusal, and what was there stays
 abbrev pub Gives : {A : Type 0} → Result A Fault → ℕ → A → A → Type 0
@@ -118,13 +118,13 @@ pub record Told : Type 0 where
   pub text : List ℕ
   pub len : ℕ
 
--- as much of a text as fits, and its whole length
-abbrev pub told : List ℕ → Told → Told
-told text old = record { text = written_over text old.text; len = length text }
+-- a text truncated to the caller's room, and its full length, as snprintf returns it
+abbrev pub fit_text : List ℕ → Told → Told
+fit_text text old = record { text = written_over text old.text; len = length text }
 
 -- a text is given as far as it fits, with its length, or what was there stays
 abbrev pub GivesText : Result (List ℕ) Fault → ℕ → Told → Told → Type 0
-GivesText (Ok text) status old new = (status ≡ 0) × (new ≡ told text old)
+GivesText (Ok text) status old new = (status ≡ 0) × (new ≡ fit_text text old)
 GivesText (Err fault) status old new = (status ≡ status_of fault) × (new ≡ old)
 
 -- the same where memory may be refused
@@ -155,7 +155,7 @@ GivesMember (Err fault) status old new was is =
 
 abbrev pub GivesEnumerator : Result Enumerator Fault → ℕ → Told → Told → ℤ → ℤ → Type 0
 GivesEnumerator (Ok e) status old new was is =
-    (status ≡ 0) × (new ≡ told e.name old) × (is ≡ e.value)
+    (status ≡ 0) × (new ≡ fit_text e.name old) × (is ≡ e.value)
 GivesEnumerator (Err fault) status old new was is =
     (status ≡ status_of fault) × (new ≡ old) × (is ≡ was)
 
@@ -194,7 +194,7 @@ abbrev pub open_alone : Lists → DataModel → Open
 open_alone lists model =
     record { own = record { lists = lists; model = model }; parent = None; draft = None }
 
--- want of memory hides no rule before those of chains
+-- out of memory hides no rule before those of chains
 abbrev pub IsLate : Lists → Fault → Type 0
 IsLate lists f = (fault_before_chains lists ≡ None) ⊎ (first_fault lists ≡ Some f)
 

@@ -2,7 +2,7 @@
 -- calls answer.
 use Rattle.std.specs.Prelude.{◌≡◌, ℕ, ◌^◌, ◌==◌, min, List, length, Option, Some, Result, Ok, option_map, option_and_then, slice_get, if◌then◌else◌}
 use Rattle.std.specs.List.{range_with_len}
-use Rattle.ctf_c.specs.Given.{Gives, asked}
+use Rattle.ctf_c.specs.Given.{Gives, ask}
 use Rattle.ctf_c.specs.names.Places.{text_in}
 use Rattle.ctf_c.specs.declared.label_rows.GivenLabelRow.{GivenLabelRow}
 use Rattle.ctf_c.specs.declared.symbol_rows.GivenSymbolRow.{GivenSymbolRow}
@@ -52,12 +52,12 @@ return_of f = answer_map (λ s. s.ret) f
 -- for it alone, and 0 where that is refused; and where its name stands
 pub record TellsSymbol (s : Option Open) (n : ℕ) (row : GivenSymbolRow) : Type 0 where
   pub number : row.number ≡ n
-  pub class : asked s (λ o. class_answered (own_in o) n) ≡ Ok row.symbol_class
-  pub function : row.symbol_class ≡ 2 → Gives (asked s (λ o. return_of (function_of (own_in o) n)))
+  pub class : ask s (λ o. class_answered (own_in o) n) ≡ Ok row.symbol_class
+  pub function : row.symbol_class ≡ 2 → Gives (ask s (λ o. return_of (function_of (own_in o) n)))
       row.type_status 0 row.tnum
-  pub object : (row.symbol_class ≡ 2 → ⊥) → Gives (asked s (λ o. object_of (own_in o) n))
+  pub object : (row.symbol_class ≡ 2 → ⊥) → Gives (ask s (λ o. object_of (own_in o) n))
       row.type_status 0 row.tnum
-  pub name : (said : List ℕ) × (asked s (λ o. name_of_symbol (own_in o) n) ≡ Ok said)
+  pub name : (said : List ℕ) × (ask s (λ o. name_of_symbol (own_in o) n) ≡ Ok said)
       × (option_and_then (λ lists. text_in lists row.name_list row.name_at) (own_lists_of s)
       ≡ Some said)
 

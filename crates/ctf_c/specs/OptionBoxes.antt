@@ -6,7 +6,7 @@ use Rattle.ctf_c.specs.contracts.handles.option_box.OptionBox as OptionBoxes
 use Rattle.ctf_model.specs.opened.Open.{Open}
 use Rattle.ctf_c.specs.declared.handle.Handle.{Handle}
 use Rattle.ctf_c.specs.contracts.handle.Handle as Handles
-use Rattle.ctf_open.specs.contracts.opened.OpenDictionary as Dictionaries
+use Rattle.ctf_open.specs.contracts.open_dictionary.OpenDictionary as Dictionaries
 
 -- the row of such a box
 abbrev pub box_row : RattleType

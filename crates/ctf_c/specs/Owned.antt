@@ -7,7 +7,7 @@ use Rattle.std.specs.Coded.{coded_option}
 use Rattle.std.specs.Global.{Global}
 use Rattle.std_heap.specs.contracts.GlobalAllocator.TheImpl.{ghosts}
 use Rattle.ctf_c.specs.handles.Owned.{held_owns}
-use Rattle.ctf_open.specs.contracts.opened.OpenDictionary.{the_row}
+use Rattle.ctf_open.specs.contracts.open_dictionary.OpenDictionary.{the_row}
 
 abbrev pub pointer_owns : Global → Ptr → Option the_row.Denot → Fml
 pointer_owns alloc = held_owns (ghosts.dealloc_token alloc) the_row

@@ -1,7 +1,7 @@
 -- Rows of types. The words are ours; what a row says of a type is what the single calls answer.
 use Rattle.std.specs.Prelude.{◌≡◌, ℕ, List, length, map, Option, Some, Ok, option_and_then}
 use Rattle.std.specs.List.{range_with_len}
-use Rattle.ctf_c.specs.Given.{Gives, asked, flag, number_of_kind}
+use Rattle.ctf_c.specs.Given.{Gives, ask, flag, number_of_kind}
 use Rattle.ctf_c.specs.Rowed.{lists_with}
 use Rattle.ctf_c.specs.names.Places.{text_in}
 use Rattle.ctf_c.specs.declared.type_rows.GivenTypeRow.{GivenTypeRow}
@@ -27,19 +27,19 @@ own_numbers d = map (own_number d.child) (range_with_len 0 (length d.terms))
 -- name stands that its record has
 pub record TellsType (s : Option Open) (t : ℕ) (row : GivenTypeRow) : Type 0 where
   pub number : row.tnum ≡ t
-  pub kind : asked s (λ o. answer_map number_of_kind
+  pub kind : ask s (λ o. answer_map number_of_kind
       (on_shape kind_answered (shape_of (space_type (space_in o) t)))) ≡ Ok row.kind
-  pub root : asked s (λ o. answer_map flag (root_answered (space_type (space_in o) t)))
+  pub root : ask s (λ o. answer_map flag (root_answered (space_type (space_in o) t)))
       ≡ Ok row.root
-  pub items : asked s (λ o. on_shape length_answered (shape_of (space_type (space_in o) t)))
+  pub items : ask s (λ o. on_shape length_answered (shape_of (space_type (space_in o) t)))
       ≡ Ok row.length
-  pub size : Gives (asked s (λ o. size_answered (space_in o) t)) row.size_status 0 row.size
-  pub align : Gives (asked s (λ o. align_answered (space_in o) t)) row.align_status 0 row.align
-  pub resolved : Gives (asked s (λ o. resolved_answered (space_in o) t))
+  pub size : Gives (ask s (λ o. size_answered (space_in o) t)) row.size_status 0 row.size
+  pub align : Gives (ask s (λ o. align_answered (space_in o) t)) row.align_status 0 row.align
+  pub resolved : Gives (ask s (λ o. resolved_answered (space_in o) t))
       row.resolved_status 0 row.resolved
-  pub reference : Gives (asked s (λ o. reference_of (space_in o) t))
+  pub reference : Gives (ask s (λ o. reference_of (space_in o) t))
       row.reference_status 0 row.reference
-  pub name : (said : List ℕ) × (asked s (λ o. name_in (space_type (space_in o) t)) ≡ Ok said)
+  pub name : (said : List ℕ) × (ask s (λ o. name_in (space_type (space_in o) t)) ≡ Ok said)
       × (option_and_then (λ lists. text_in lists row.name_list row.name_at) (lists_with s t)
       ≡ Some said)
 

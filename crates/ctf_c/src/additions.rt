@@ -1,17 +1,17 @@
 //! Exports that add to drafts.
 ghost use Rattle.std.specs.Prelude.{◌≡◌, IfOk, map, option_map};
 ghost use Rattle.ctf_c.specs.Drafting.{Adds, Steps, forward_asked, member_added_at, number_there, tag_numbered};
-ghost use Rattle.ctf_model.specs.opened.Steps.{enlarged, enumerator_added, label_added, member_added, type_added};
-ghost use Rattle.ctf_c.specs.Given.{asked};
+ghost use Rattle.ctf_model.specs.opened.Steps.{enlarge, enumerator_added, label_added, member_added, type_added};
+ghost use Rattle.ctf_c.specs.Given.{ask};
 ghost use Rattle.ctf_open.specs.PartView.{part_in};
 ghost use Rattle.ctf_draft.specs.NewView.{new_body_of};
 ghost use Rattle.ctf_draft.specs.TypeView.{number_of};
 ghost use Rattle.ctf_model.specs.drafts.NewTypes as new;
 ghost use Rattle.ctf_records.specs.RecordView.{tag_of as tag_shown};
 
-use crate::given::{NOT_OPEN, status};
 use crate::handle::Handle;
 use crate::handles::OptionBox;
+use crate::out_pointers::{NOT_OPEN, status};
 use ctf_draft::{AggregateKind, NewBody, ReferenceKind, ScalarKind};
 use ctf_model::{Fault, TypeNum, placeless};
 use ctf_open::{OpenDictionary, Part};
@@ -28,7 +28,7 @@ fn add(
     body: NewBody<'_>,
     out: &mut u16,
 ) -> u32
-    ensures { Steps (asked dictionary.old.held.value
+    ensures { Steps (ask dictionary.old.held.value
         (type_added (record { name = name.now; root = root; body = new_body_of body.entry })))
         result out.old out.new dictionary.old.held.value dictionary.new.held.value }
 {
@@ -51,7 +51,7 @@ fn add_part(
     part: Part<'_>,
     out: &mut u64,
 ) -> u32
-    ensures { Steps (asked dictionary.old.held.value (enlarged (part_in part.entry))) result
+    ensures { Steps (ask dictionary.old.held.value (enlarge (part_in part.entry))) result
         out.old out.new dictionary.old.held.value dictionary.new.held.value }
 {
     let Some(dictionary) = dictionary.get_mut() else {
@@ -79,7 +79,7 @@ pub extern "C" fn ctfd_add_integer(
     size: u64,
     out: &mut u16,
 ) -> u32
-    ensures { Steps (asked handle.old.held.dictionary (type_added (record {
+    ensures { Steps (ask handle.old.held.dictionary (type_added (record {
       name = name.now;
       root = root;
       body = new.integer (record {
@@ -112,7 +112,7 @@ pub extern "C" fn ctfd_add_float(
     size: u64,
     out: &mut u16,
 ) -> u32
-    ensures { Steps (asked handle.old.held.dictionary (type_added (record {
+    ensures { Steps (ask handle.old.held.dictionary (type_added (record {
       name = name.now;
       root = root;
       body = new.float (record { size = size; encoding = encoding; offset = offset; bits = bits });
@@ -137,7 +137,7 @@ pub extern "C" fn ctfd_add_pointer(
     to: u16,
     out: &mut u16,
 ) -> u32
-    ensures { Steps (asked handle.old.held.dictionary
+    ensures { Steps (ask handle.old.held.dictionary
         (type_added (record { name = name.now; root = root; body = new.pointer to })))
         result out.old out.new handle.old.held.dictionary handle.new.held.dictionary }
 {
@@ -155,7 +155,7 @@ pub extern "C" fn ctfd_add_typedef(
     to: u16,
     out: &mut u16,
 ) -> u32
-    ensures { Steps (asked handle.old.held.dictionary
+    ensures { Steps (ask handle.old.held.dictionary
         (type_added (record { name = name.now; root = root; body = new.typedef to })))
         result out.old out.new handle.old.held.dictionary handle.new.held.dictionary }
 {
@@ -173,7 +173,7 @@ pub extern "C" fn ctfd_add_volatile(
     to: u16,
     out: &mut u16,
 ) -> u32
-    ensures { Steps (asked handle.old.held.dictionary
+    ensures { Steps (ask handle.old.held.dictionary
         (type_added (record { name = name.now; root = root; body = new.volatile to })))
         result out.old out.new handle.old.held.dictionary handle.new.held.dictionary }
 {
@@ -191,7 +191,7 @@ pub extern "C" fn ctfd_add_const(
     to: u16,
     out: &mut u16,
 ) -> u32
-    ensures { Steps (asked handle.old.held.dictionary
+    ensures { Steps (ask handle.old.held.dictionary
         (type_added (record { name = name.now; root = root; body = new.const to })))
         result out.old out.new handle.old.held.dictionary handle.new.held.dictionary }
 {
@@ -209,7 +209,7 @@ pub extern "C" fn ctfd_add_restrict(
     to: u16,
     out: &mut u16,
 ) -> u32
-    ensures { Steps (asked handle.old.held.dictionary
+    ensures { Steps (ask handle.old.held.dictionary
         (type_added (record { name = name.now; root = root; body = new.restrict to })))
         result out.old out.new handle.old.held.dictionary handle.new.held.dictionary }
 {
@@ -229,7 +229,7 @@ pub extern "C" fn ctfd_add_array(
     count: u32,
     out: &mut u16,
 ) -> u32
-    ensures { Steps (asked handle.old.held.dictionary
+    ensures { Steps (ask handle.old.held.dictionary
         (type_added (record {
           name = name.now;
           root = root;
@@ -255,7 +255,7 @@ pub extern "C" fn ctfd_add_struct(
     size: u64,
     out: &mut u16,
 ) -> u32
-    ensures { Steps (asked handle.old.held.dictionary
+    ensures { Steps (ask handle.old.held.dictionary
         (type_added (record { name = name.now; root = root; body = new.struct size })))
         result out.old out.new handle.old.held.dictionary handle.new.held.dictionary }
 {
@@ -273,7 +273,7 @@ pub extern "C" fn ctfd_add_union(
     size: u64,
     out: &mut u16,
 ) -> u32
-    ensures { Steps (asked handle.old.held.dictionary
+    ensures { Steps (ask handle.old.held.dictionary
         (type_added (record { name = name.now; root = root; body = new.union size })))
         result out.old out.new handle.old.held.dictionary handle.new.held.dictionary }
 {
@@ -291,7 +291,7 @@ pub extern "C" fn ctfd_add_enum(
     size: u64,
     out: &mut u16,
 ) -> u32
-    ensures { Steps (asked handle.old.held.dictionary
+    ensures { Steps (ask handle.old.held.dictionary
         (type_added (record { name = name.now; root = root; body = new.enum size })))
         result out.old out.new handle.old.held.dictionary handle.new.held.dictionary }
 {
@@ -308,7 +308,7 @@ pub extern "C" fn ctfd_add_unknown(
     root: bool,
     out: &mut u16,
 ) -> u32
-    ensures { Steps (asked handle.old.held.dictionary
+    ensures { Steps (ask handle.old.held.dictionary
         (type_added (record { name = name.now; root = root; body = new.unknown })))
         result out.old out.new handle.old.held.dictionary handle.new.held.dictionary }
 {
@@ -339,7 +339,7 @@ pub extern "C" fn ctfd_add_function(
     args: &[u16],
     out: &mut u16,
 ) -> u32
-    ensures { Steps (asked handle.old.held.dictionary
+    ensures { Steps (ask handle.old.held.dictionary
         (type_added (record { name = name.now; root = root; body = new.function ret args.now })))
         result out.old out.new handle.old.held.dictionary handle.new.held.dictionary }
 {
@@ -407,7 +407,7 @@ pub extern "C" fn ctfd_add_member(
     offset: u64,
     out: &mut u64,
 ) -> u32
-    ensures { Steps (asked handle.old.held.dictionary
+    ensures { Steps (ask handle.old.held.dictionary
         (member_added t name.now tnum (number_there has_offset offset)))
         result out.old out.new handle.old.held.dictionary handle.new.held.dictionary }
 {
@@ -416,8 +416,8 @@ pub extern "C" fn ctfd_add_member(
     add_part(alloc, handle.option_box(), part, out)
 }
 
-/// Adds a member to a struct or union that was added since the last update, at an offset in bits, and
-/// gives the struct or union a size in bytes.
+/// Adds a member to a struct or union that was added since the last update, at an offset in bits,
+/// and gives the struct or union a size in bytes.
 #[unsafe(no_mangle)]
 pub extern "C" fn ctfd_add_member_at(
     alloc: Global,
@@ -428,7 +428,7 @@ pub extern "C" fn ctfd_add_member_at(
     offset: u64,
     size: u64,
 ) -> u32
-    ensures { Adds (asked handle.old.held.dictionary
+    ensures { Adds (ask handle.old.held.dictionary
         (member_added_at t (record { name = name.now; tnum = tnum; offset = offset }) size))
         result handle.old.held.dictionary handle.new.held.dictionary }
 {
@@ -446,7 +446,7 @@ pub extern "C" fn ctfd_add_enumerator(
     name: &[u8],
     value: i32,
 ) -> u32
-    ensures { Adds (asked handle.old.held.dictionary
+    ensures { Adds (ask handle.old.held.dictionary
         (enumerator_added t (record { name = name.now; value = value })))
         result handle.old.held.dictionary handle.new.held.dictionary }
 {
@@ -458,7 +458,7 @@ pub extern "C" fn ctfd_add_enumerator(
 /// Adds a label, with the last type that it covers.
 #[unsafe(no_mangle)]
 pub extern "C" fn ctfd_add_label(alloc: Global, handle: &mut Handle, name: &[u8], last: u32) -> u32
-    ensures { Adds (asked handle.old.held.dictionary
+    ensures { Adds (ask handle.old.held.dictionary
         (label_added (record { name = name.now; last = last })))
         result handle.old.held.dictionary handle.new.held.dictionary }
 {

@@ -1,10 +1,10 @@
 //! Exports that answer many arguments at once, of a function type or of a program's function.
 ghost use Rattle.std.specs.Prelude.{◌≡◌, ◌<◌, ◌≤◌, Some, length, slice_get, take};
-ghost use Rattle.ctf_c.specs.Given.{asked};
+ghost use Rattle.ctf_c.specs.Given.{ask};
 ghost use Rattle.ctf_c.specs.ItemRows.{IsArgument, arguments_answered, named_list};
 ghost use Rattle.ctf_c.specs.Rowed.{GivesRows};
 ghost use Rattle.ctf_c.specs.names.Filling.{Fills, FillsFrom};
-ghost use Rattle.ctf_check.specs.TypedView.{spelled};
+ghost use Rattle.ctf_check.specs.TypedView.{term_in};
 ghost use Rattle.ctf_model.specs.format.Shown.{named_arguments};
 ghost use Rattle.ctf_model.specs.opened.Open.{own_in, space_in};
 ghost use Rattle.ctf_model.specs.opened.Questions.{on_shape, shape_of};
@@ -12,8 +12,8 @@ ghost use Rattle.ctf_model.specs.spaces.Space.{space_type};
 ghost use Rattle.ctf_model.specs.spaces.TypeNumbers.{or_no_type};
 ghost use Rattle.ctf_model.specs.symbols.SymbolQuestions.{function_of};
 
-use crate::given::{dictionary_of, status};
 use crate::handle::Handle;
+use crate::out_pointers::{dictionary_of, status};
 use ctf_check::Typed;
 use ctf_model::{Fault, TypeNum, placeless};
 use ctf_open::{OpenDictionary, named_count};
@@ -42,7 +42,7 @@ fn fill_arguments(args: &Args<'_>, all: usize, from: usize, rows: &mut [u16])
 /// Fills rows with the arguments of a type that was found, and answers how many it has.
 fn arguments_into(found: &Typed<'_>, from: usize, rows: &mut [u16]) -> Result<u64, Fault>
     ensures { FillsFrom IsArgument
-        (on_shape arguments_answered (shape_of (or_no_type (spelled found.now))))
+        (on_shape arguments_answered (shape_of (or_no_type (term_in found.now))))
         from result rows.old rows.new }
 {
     match found.variant() {
@@ -107,7 +107,7 @@ pub extern "C" fn ctfd_arguments(
     count: &mut u64,
 ) -> u32
     ensures same { handle.new.held.dictionary ≡ handle.old.held.dictionary }
-    ensures answer { GivesRows IsArgument (asked handle.old.held.dictionary (λ s.
+    ensures answer { GivesRows IsArgument (ask handle.old.held.dictionary (λ s.
         on_shape arguments_answered (shape_of (space_type (space_in s) t)))) from result
         rows.old rows.new count.old count.new }
 {
@@ -132,7 +132,7 @@ pub extern "C" fn ctfd_function_arguments(
     count: &mut u64,
 ) -> u32
     ensures same { handle.new.held.dictionary ≡ handle.old.held.dictionary }
-    ensures answer { GivesRows IsArgument (asked handle.old.held.dictionary (λ s.
+    ensures answer { GivesRows IsArgument (ask handle.old.held.dictionary (λ s.
         named_list (function_of (own_in s) number))) from result
         rows.old rows.new count.old count.new }
 {

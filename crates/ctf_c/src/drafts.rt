@@ -1,19 +1,19 @@
 //! Exports that make, update and drop drafts, and give the bytes of dictionaries.
 ghost use Rattle.std.specs.Prelude.{◌≡◌, ◌==◌, ◌⊎◌, [], None, Some, Ok, Err, IfOk, IfErr, drop, is_some, length, not, option_copied};
 ghost use Rattle.ctf_c.specs.Drafting.{Creates, Does, StepsAt, created_under};
-ghost use Rattle.ctf_model.specs.opened.Steps.{created, dropped, updated};
-ghost use Rattle.ctf_c.specs.Given.{GivesBytes, asked, model_if};
+ghost use Rattle.ctf_model.specs.opened.Steps.{created, discard_step, step_update};
+ghost use Rattle.ctf_c.specs.Given.{GivesBytes, ask, model_if};
 ghost use Rattle.ctf_model.specs.rules.Refusals.{out_of_memory};
 
-use crate::given::{NOT_OPEN, dictionary_of, model_of, status, write_front};
 use crate::handle::Handle;
-use crate::handles::{OptionBox, boxed};
+use crate::handles::{OptionBox, to_box};
+use crate::out_pointers::{NOT_OPEN, dictionary_of, model_of, status, write_front};
 use ctf_model::{DataModel, Fault, placeless};
 use ctf_open::{Loaded, OpenDictionary};
 use std::alloc::Global;
 
 /// A new draft on the heap.
-fn drafted(
+fn new_draft(
     alloc: Global,
     parent: Option<&Loaded>,
     parname: &[u8],
@@ -27,7 +27,7 @@ fn drafted(
         ⊎ (created (option_copied parent.entry) parname.now parlabel.now model ≡ Err f)) }
 {
     let draft = OpenDictionary::create(alloc, parent, parname, parlabel, model)?;
-    Ok(boxed(alloc, draft)?)
+    Ok(to_box(alloc, draft)?)
 }
 
 /// Makes a draft without a parent, in place of what was open. Where it is refused, what was open
@@ -42,7 +42,7 @@ pub extern "C" fn ctfd_create(
     ensures { Creates (created None [] [] (model_if ilp32)) result place.old place.new
         handle.old.held.dictionary handle.new.held.dictionary }
 {
-    match drafted(alloc, None, &[], &[], model_of(ilp32)) {
+    match new_draft(alloc, None, &[], &[], model_of(ilp32)) {
         Ok(dictionary) => {
             handle.option_box().hold(dictionary);
             0
@@ -69,7 +69,7 @@ fn drafted_under(
     if parname.is_empty() {
         return Err(placeless(Fault::BAD_REQUEST));
     }
-    drafted(alloc, Some(parent.own()), parname, parlabel, parent.model())
+    new_draft(alloc, Some(parent.own()), parname, parlabel, parent.model())
 }
 
 /// Makes a draft over what is open in another handle, of that one's data model, in place of what
@@ -111,7 +111,7 @@ fn update(
     types: &mut u64,
     place: &mut u64,
 ) -> u32
-    ensures { StepsAt (asked dictionary.old.held.value updated) result types.old types.new
+    ensures { StepsAt (ask dictionary.old.held.value step_update) result types.old types.new
         place.old place.new dictionary.old.held.value dictionary.new.held.value }
 {
     let Some(dictionary) = dictionary.get_mut() else {
@@ -139,7 +139,7 @@ pub extern "C" fn ctfd_update(
     types: &mut u64,
     place: &mut u64,
 ) -> u32
-    ensures { StepsAt (asked handle.old.held.dictionary updated) result types.old types.new
+    ensures { StepsAt (ask handle.old.held.dictionary step_update) result types.old types.new
         place.old place.new handle.old.held.dictionary handle.new.held.dictionary }
 {
     update(alloc, handle.option_box(), types, place)
@@ -147,7 +147,7 @@ pub extern "C" fn ctfd_update(
 
 /// Drops what the draft that is open has pending.
 fn discard(dictionary: &mut OptionBox<OpenDictionary>, types: &mut u64) -> u32
-    ensures { Does (asked dictionary.old.held.value dropped) result types.old types.new
+    ensures { Does (ask dictionary.old.held.value discard_step) result types.old types.new
         dictionary.old.held.value dictionary.new.held.value }
 {
     let Some(dictionary) = dictionary.get_mut() else {
@@ -165,7 +165,7 @@ fn discard(dictionary: &mut OptionBox<OpenDictionary>, types: &mut u64) -> u32
 /// Drops what was added since the last update, and gives how many types the dictionary has.
 #[unsafe(no_mangle)]
 pub extern "C" fn ctfd_discard(handle: &mut Handle, types: &mut u64) -> u32
-    ensures { Does (asked handle.old.held.dictionary dropped) result types.old types.new
+    ensures { Does (ask handle.old.held.dictionary discard_step) result types.old types.new
         handle.old.held.dictionary handle.new.held.dictionary }
 {
     discard(handle.option_box(), types)
@@ -182,7 +182,7 @@ fn behind(bytes: &[u8], from: u64) -> &[u8]
 #[unsafe(no_mangle)]
 pub extern "C" fn ctfd_bytes(handle: &mut Handle, from: u64, bytes: &mut [u8], len: &mut u64) -> u32
     ensures same { handle.new.held.dictionary ≡ handle.old.held.dictionary }
-    ensures answer { GivesBytes (asked handle.old.held.dictionary (λ s. Ok s.own.lists.ctf)) from
+    ensures answer { GivesBytes (ask handle.old.held.dictionary (λ s. Ok s.own.lists.ctf)) from
         result (record { text = bytes.old; len = len.old })
         (record { text = bytes.new; len = len.new }) }
 {

@@ -1,12 +1,12 @@
 //! Exports that answer several numbers of a type.
 ghost use Rattle.std.specs.Prelude.{◌≡◌, [], ◌∷◌};
-ghost use Rattle.ctf_c.specs.Given.{Gives, asked};
+ghost use Rattle.ctf_c.specs.Given.{Gives, ask};
 ghost use Rattle.ctf_model.specs.opened.Questions.{array_answered, encoding_answered, path_answered, on_shape, shape_of};
 ghost use Rattle.ctf_model.specs.opened.Open.{space_in};
 ghost use Rattle.ctf_model.specs.spaces.Space.{space_type};
 
-use crate::given::{dictionary_of, status};
 use crate::handle::Handle;
+use crate::out_pointers::{dictionary_of, status};
 use ctf_model::TypeNum;
 
 /// How an integer or a float is encoded: `struct ctfd_encoding`.
@@ -31,7 +31,7 @@ pub struct GivenArray {
 #[unsafe(no_mangle)]
 pub extern "C" fn ctfd_encoding(handle: &mut Handle, t: u16, out: &mut GivenEncoding) -> u32
     ensures same { handle.new.held.dictionary ≡ handle.old.held.dictionary }
-    ensures answer { Gives (asked handle.old.held.dictionary (λ s.
+    ensures answer { Gives (ask handle.old.held.dictionary (λ s.
         on_shape encoding_answered (shape_of (space_type (space_in s) t)))) result
         (record { encoding = out.old.encoding; offset = out.old.offset; bits = out.old.bits })
         (record { encoding = out.new.encoding; offset = out.new.offset; bits = out.new.bits }) }
@@ -54,7 +54,7 @@ pub extern "C" fn ctfd_encoding(handle: &mut Handle, t: u16, out: &mut GivenEnco
 #[unsafe(no_mangle)]
 pub extern "C" fn ctfd_array(handle: &mut Handle, t: u16, out: &mut GivenArray) -> u32
     ensures same { handle.new.held.dictionary ≡ handle.old.held.dictionary }
-    ensures answer { Gives (asked handle.old.held.dictionary (λ s.
+    ensures answer { Gives (ask handle.old.held.dictionary (λ s.
         on_shape array_answered (shape_of (space_type (space_in s) t)))) result
         (record { contents = out.old.contents; index = out.old.index; count = out.old.count })
         (record { contents = out.new.contents; index = out.new.index; count = out.new.count }) }
@@ -83,7 +83,7 @@ pub extern "C" fn ctfd_field(
     to: &mut u16,
 ) -> u32
     ensures same { handle.new.held.dictionary ≡ handle.old.held.dictionary }
-    ensures answer { Gives (asked handle.old.held.dictionary (λ s.
+    ensures answer { Gives (ask handle.old.held.dictionary (λ s.
         path_answered (space_in s) (name.now ∷ []) t)) result
         (record { offset = offset.old; tnum = to.old })
         (record { offset = offset.new; tnum = to.new }) }

@@ -1,22 +1,22 @@
 //! Exports that find an enumerator by its value or its name.
 ghost use Rattle.std.specs.Prelude.{◌≡◌};
 ghost use Rattle.std.specs.Result.{result_map_both};
-ghost use Rattle.ctf_c.specs.Given.{Gives, GivesText, asked};
+ghost use Rattle.ctf_c.specs.Given.{Gives, GivesText, ask};
 ghost use Rattle.ctf_c.specs.names.Firsts.{named_answered, valued_answered};
 ghost use Rattle.ctf_model.specs.opened.Questions.{on_shape, shape_of, answer_map};
 ghost use Rattle.ctf_model.specs.opened.Open.{space_in};
 ghost use Rattle.ctf_model.specs.spaces.Space.{space_type};
 ghost use Rattle.ctf_views.specs.ItemsView.{enumerator as enumerator_view};
 
-use crate::given::{dictionary_of, status, write_front};
 use crate::handle::Handle;
 use crate::names::{with_name, with_value};
+use crate::out_pointers::{dictionary_of, status, write_front};
 use ctf_model::{Fault, TypeNum};
 use ctf_open::OpenDictionary;
 use ctf_views::Enumerator;
 
 /// The first enumerator of an enum that has a value.
-fn valued(dictionary: &OpenDictionary, t: TypeNum, value: i32) -> Result<Enumerator<'_>, Fault>
+fn of_value(dictionary: &OpenDictionary, t: TypeNum, value: i32) -> Result<Enumerator<'_>, Fault>
     ensures { result_map_both enumerator_view (λ f. f) result
         ≡ on_shape (valued_answered value) (shape_of (space_type (space_in dictionary.now) t.0)) }
 {
@@ -25,7 +25,7 @@ fn valued(dictionary: &OpenDictionary, t: TypeNum, value: i32) -> Result<Enumera
 }
 
 /// The first enumerator of an enum that has a name.
-fn named<'a>(
+fn of_name<'a>(
     dictionary: &'a OpenDictionary,
     t: TypeNum,
     name: &[u8],
@@ -47,12 +47,12 @@ pub extern "C" fn ctfd_enum_name(
     len: &mut u64,
 ) -> u32
     ensures same { handle.new.held.dictionary ≡ handle.old.held.dictionary }
-    ensures answer { GivesText (asked handle.old.held.dictionary (λ s. answer_map (λ e. e.name)
+    ensures answer { GivesText (ask handle.old.held.dictionary (λ s. answer_map (λ e. e.name)
         (on_shape (valued_answered value) (shape_of (space_type (space_in s) t))))) result
         (record { text = text.old; len = len.old }) (record { text = text.new; len = len.new }) }
 {
     let dictionary = dictionary_of!(handle);
-    match valued(dictionary, TypeNum(t), value) {
+    match of_value(dictionary, TypeNum(t), value) {
         Ok(enumerator) => {
             write_front(enumerator.name, text);
             *len = enumerator.name.len() as u64;
@@ -66,12 +66,12 @@ pub extern "C" fn ctfd_enum_name(
 #[unsafe(no_mangle)]
 pub extern "C" fn ctfd_enum_value(handle: &mut Handle, t: u16, name: &[u8], value: &mut i32) -> u32
     ensures same { handle.new.held.dictionary ≡ handle.old.held.dictionary }
-    ensures answer { Gives (asked handle.old.held.dictionary (λ s. answer_map (λ e. e.value)
+    ensures answer { Gives (ask handle.old.held.dictionary (λ s. answer_map (λ e. e.value)
         (on_shape (named_answered name.now) (shape_of (space_type (space_in s) t)))))
         result value.old value.new }
 {
     let dictionary = dictionary_of!(handle);
-    match named(dictionary, TypeNum(t), name) {
+    match of_name(dictionary, TypeNum(t), name) {
         Ok(enumerator) => {
             *value = enumerator.value;
             0

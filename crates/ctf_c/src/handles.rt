@@ -10,7 +10,7 @@ pub use option_box::OptionBox;
 use std::alloc::{AllocError, Global};
 
 /// Puts a value on the heap.
-pub fn boxed<T>(alloc: Global, value: T) -> Result<Box<T>, AllocError>
+pub fn to_box<T>(alloc: Global, value: T) -> Result<Box<T>, AllocError>
 where
     T: Drop,
     ensures { IfOk result (λ b. b.value ≡ value) }

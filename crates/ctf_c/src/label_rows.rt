@@ -1,14 +1,14 @@
 //! The export that answers many labels at once, and where their names stand.
 ghost use Rattle.std.specs.Prelude.{◌≡◌, Ok, Some, length};
-ghost use Rattle.ctf_c.specs.Given.{asked};
+ghost use Rattle.ctf_c.specs.Given.{ask};
 ghost use Rattle.ctf_c.specs.ItemRows.{TellsLabel, own_lists_of};
 ghost use Rattle.ctf_c.specs.Rowed.{GivesRows};
 ghost use Rattle.ctf_c.specs.names.Filling.{Fills};
 ghost use Rattle.ctf_model.specs.opened.Open.{own_in};
 
-use crate::given::dictionary_of;
 use crate::handle::Handle;
 use crate::names::label_row;
+use crate::out_pointers::dictionary_of;
 use ctf_open::OpenDictionary;
 
 /// A label: `struct ctfd_label_row`. Its name stands so many bytes behind the beginning of a list,
@@ -47,7 +47,7 @@ pub extern "C" fn ctfd_labels(
 ) -> u32
     ensures same { handle.new.held.dictionary ≡ handle.old.held.dictionary }
     ensures answer { GivesRows (TellsLabel (own_lists_of handle.old.held.dictionary))
-        (asked handle.old.held.dictionary (λ s. Ok (own_in s).labels)) from result
+        (ask handle.old.held.dictionary (λ s. Ok (own_in s).labels)) from result
         rows.old rows.new count.old count.new }
 {
     let dictionary = dictionary_of!(handle);

@@ -3,16 +3,17 @@
 
 mod additions;
 mod argument_rows;
+mod dictionary_calls;
 mod drafts;
 mod encodings;
 mod enumerators;
-mod given;
 mod handle;
 mod handles;
 mod label_rows;
 mod lists;
 mod names;
 mod opening;
+mod out_pointers;
 mod paths;
 mod rows;
 mod service;
@@ -22,4 +23,3 @@ mod texts;
 mod type_rows;
 mod types;
 mod visits;
-mod whole;

@@ -1,12 +1,12 @@
 //! Exports that answer an item of a list.
 ghost use Rattle.std.specs.Prelude.{◌≡◌};
-ghost use Rattle.ctf_c.specs.Given.{GivesEnumerator, GivesMember, asked};
+ghost use Rattle.ctf_c.specs.Given.{GivesEnumerator, GivesMember, ask};
 ghost use Rattle.ctf_model.specs.opened.Questions.{enumerator_answered, member_answered, on_shape, shape_of};
 ghost use Rattle.ctf_model.specs.opened.Open.{space_in};
 ghost use Rattle.ctf_model.specs.spaces.Space.{space_type};
 
-use crate::given::{dictionary_of, status, write_front};
 use crate::handle::Handle;
+use crate::out_pointers::{dictionary_of, status, write_front};
 use ctf_model::TypeNum;
 
 /// A member, apart from its name: `struct ctfd_member`. The offset is in bits.
@@ -28,7 +28,7 @@ pub extern "C" fn ctfd_member(
     out: &mut GivenMember,
 ) -> u32
     ensures same { handle.new.held.dictionary ≡ handle.old.held.dictionary }
-    ensures answer { GivesMember (asked handle.old.held.dictionary (λ s.
+    ensures answer { GivesMember (ask handle.old.held.dictionary (λ s.
         on_shape (member_answered index) (shape_of (space_type (space_in s) t))))
         result name.old name.new
         (record { offset = out.old.offset; name_len = out.old.name_len; tnum = out.old.tnum })
@@ -60,7 +60,7 @@ pub extern "C" fn ctfd_enumerator(
     len: &mut u64,
 ) -> u32
     ensures same { handle.new.held.dictionary ≡ handle.old.held.dictionary }
-    ensures answer { GivesEnumerator (asked handle.old.held.dictionary (λ s.
+    ensures answer { GivesEnumerator (ask handle.old.held.dictionary (λ s.
         on_shape (enumerator_answered index) (shape_of (space_type (space_in s) t)))) result
         (record { text = name.old; len = len.old }) (record { text = name.new; len = len.new })
         value.old value.new }

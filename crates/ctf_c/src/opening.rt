@@ -5,15 +5,15 @@ ghost use Rattle.ctf_check.specs.ListsView.{given};
 ghost use Rattle.ctf_model.specs.opened.Steps.{Refuses};
 ghost use Rattle.ctf_model.specs.rules.Faults.{first_fault};
 
-use crate::given::{NOT_OPEN, list_if, model_of, status};
 use crate::handle::Handle;
-use crate::handles::{OptionBox, boxed};
+use crate::handles::{OptionBox, to_box};
+use crate::out_pointers::{NOT_OPEN, list_if, model_of, status};
 use ctf_model::{DataModel, Fault};
 use ctf_open::OpenDictionary;
 use std::alloc::Global;
 
 /// A dictionary on the heap, over copies of lists.
-fn opened(
+fn open_copies(
     alloc: Global,
     ctf: &[u8],
     sym: Option<&[u8]>,
@@ -30,7 +30,7 @@ fn opened(
         (given ctf.now (option_copied sym.entry) (option_copied strs.entry)) f) }
 {
     let dictionary = OpenDictionary::open(alloc, ctf, sym, strs, model)?;
-    Ok(boxed(alloc, dictionary)?)
+    Ok(to_box(alloc, dictionary)?)
 }
 
 /// A dictionary on the heap, over lists that are lent to it.
@@ -51,7 +51,7 @@ fn opened_lent(
         (given ctf.now (option_copied sym.entry) (option_copied strs.entry)) f) }
 {
     let dictionary = OpenDictionary::open_lent(alloc, ctf, sym, strs, model)?;
-    Ok(boxed(alloc, dictionary)?)
+    Ok(to_box(alloc, dictionary)?)
 }
 
 /// Opens a dictionary from copies of its lists, in place of what was open. Where it is refused,
@@ -78,7 +78,7 @@ pub extern "C" fn ctfd_open(
     }) result place.old place.new handle.old.held.dictionary handle.new.held.dictionary }
 {
     let model = model_of(ilp32);
-    match opened(
+    match open_copies(
         alloc,
         ctf,
         list_if(has_sym, sym),

@@ -1,14 +1,14 @@
 //! The export that follows a path of names.
 ghost use Rattle.std.specs.Prelude.{◌≡◌, ◌⊎◌, Err, IfOk, IfErr, Ok, map};
-ghost use Rattle.ctf_c.specs.Given.{MayGivePath, asked};
+ghost use Rattle.ctf_c.specs.Given.{MayGivePath, ask};
 ghost use Rattle.ctf_c.specs.Naming.{names_given};
 ghost use Rattle.ctf_model.specs.opened.Open.{space_in};
 ghost use Rattle.ctf_layout.specs.Reached.{position_of};
 ghost use Rattle.ctf_model.specs.opened.Questions.{path_answered};
 ghost use Rattle.ctf_model.specs.rules.Refusals.{out_of_memory};
 
-use crate::given::{NOT_OPEN, status};
 use crate::handle::Handle;
+use crate::out_pointers::{NOT_OPEN, status};
 use ctf_model::{Fault, TypeNum};
 use ctf_open::OpenDictionary;
 use std::alloc::{AllocError, Global};
@@ -60,7 +60,7 @@ pub extern "C" fn ctfd_path(
     place: &mut u64,
 ) -> u32
     ensures same { handle.new.held.dictionary ≡ handle.old.held.dictionary }
-    ensures answer { MayGivePath (asked handle.old.held.dictionary (λ s.
+    ensures answer { MayGivePath (ask handle.old.held.dictionary (λ s.
         path_answered (space_in s) (names_given names.now) t)) result
         (record { offset = offset.old; tnum = to.old; place = place.old })
         (record { offset = offset.new; tnum = to.new; place = place.new }) }

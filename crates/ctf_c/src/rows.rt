@@ -1,15 +1,15 @@
 //! Exports that answer many members or enumerators at once, and where their names stand.
 ghost use Rattle.std.specs.Prelude.{◌≡◌, Some};
-ghost use Rattle.ctf_c.specs.Given.{asked};
+ghost use Rattle.ctf_c.specs.Given.{ask};
 ghost use Rattle.ctf_c.specs.Rowed.{GivesRows, lists_with};
 ghost use Rattle.ctf_c.specs.names.Filling.{FillsFrom, TellsEnumerator, TellsMember};
 ghost use Rattle.ctf_model.specs.opened.Questions.{enumerators_answered, members_answered, on_shape, shape_of};
 ghost use Rattle.ctf_model.specs.opened.Open.{space_in};
 ghost use Rattle.ctf_model.specs.spaces.Space.{space_type};
 
-use crate::given::{dictionary_of, status};
 use crate::handle::Handle;
 use crate::names::{enumerators_into, held_type, members_into};
+use crate::out_pointers::{dictionary_of, status};
 use ctf_model::{Fault, TypeNum};
 use ctf_open::OpenDictionary;
 
@@ -75,7 +75,7 @@ pub extern "C" fn ctfd_members(
 ) -> u32
     ensures same { handle.new.held.dictionary ≡ handle.old.held.dictionary }
     ensures answer { GivesRows (TellsMember (lists_with handle.old.held.dictionary t))
-        (asked handle.old.held.dictionary (λ s.
+        (ask handle.old.held.dictionary (λ s.
         on_shape members_answered (shape_of (space_type (space_in s) t)))) from result
         rows.old rows.new count.old count.new }
 {
@@ -101,7 +101,7 @@ pub extern "C" fn ctfd_enumerators(
 ) -> u32
     ensures same { handle.new.held.dictionary ≡ handle.old.held.dictionary }
     ensures answer { GivesRows (TellsEnumerator (lists_with handle.old.held.dictionary t))
-        (asked handle.old.held.dictionary (λ s.
+        (ask handle.old.held.dictionary (λ s.
         on_shape enumerators_answered (shape_of (space_type (space_in s) t)))) from result
         rows.old rows.new count.old count.new }
 {

@@ -4,14 +4,14 @@ ghost use Rattle.std.specs.Prelude.{◌≡◌, None};
 ghost use Rattle.ctf_c.specs.service.Given.{Begins, Repeats, Serves};
 ghost use Rattle.ctf_c.specs.service.Operating.{Leaves, LoadsNamed, OfOpen, ServesAs};
 
-mod given;
 mod handle;
+mod out_pointers;
 mod state;
 
-use crate::given::status;
 use crate::handles::OptionBox;
-use crate::service::given::tell;
+use crate::out_pointers::status;
 use crate::service::handle::Handle;
+use crate::service::out_pointers::tell;
 use crate::service::state::Service;
 use ctf_protocol::{Fault, PublicationName, placeless};
 use std::alloc::Global;

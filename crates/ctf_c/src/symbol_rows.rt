@@ -2,7 +2,7 @@
 ghost use Rattle.std.specs.Prelude.{◌≡◌, ◌<◌, ◌≤◌, ◌*◌, ◌%◌, ◌^◌, Ok, Some, drop, length, min, slice_index};
 ghost use Rattle.std.specs.List.{range_with_len};
 ghost use Rattle.std.specs.Result.{result_map_both};
-ghost use Rattle.ctf_c.specs.Given.{asked};
+ghost use Rattle.ctf_c.specs.Given.{ask};
 ghost use Rattle.ctf_c.specs.ItemRows.{TellsSymbol, class_of_sort, return_of, symbol_numbers};
 ghost use Rattle.ctf_c.specs.Rowed.{GivesRows};
 ghost use Rattle.ctf_c.specs.names.Filling.{Fills};
@@ -11,9 +11,9 @@ ghost use Rattle.ctf_model.specs.opened.Open.{own_in};
 ghost use Rattle.ctf_model.specs.symbols.SymbolQuestions.{function_of, object_of};
 ghost use Rattle.ctf_sections.specs.TableEnds.{EndsAt};
 
-use crate::given::{dictionary_of, give_type};
 use crate::handle::Handle;
 use crate::names::{names_end, symbol_position};
+use crate::out_pointers::{dictionary_of, give_type};
 use ctf_check::Checked;
 use ctf_model::{Fault, TypeNum};
 use ctf_open::OpenDictionary;
@@ -139,7 +139,7 @@ pub extern "C" fn ctfd_symbols(
 ) -> u32
     ensures same { handle.new.held.dictionary ≡ handle.old.held.dictionary }
     ensures answer { GivesRows (TellsSymbol handle.old.held.dictionary)
-        (asked handle.old.held.dictionary (λ s. Ok (symbol_numbers (own_in s)))) from result
+        (ask handle.old.held.dictionary (λ s. Ok (symbol_numbers (own_in s)))) from result
         rows.old rows.new count.old count.new }
 {
     let dictionary = dictionary_of!(handle);

@@ -2,14 +2,14 @@
 ghost use Rattle.std.specs.Prelude.{◌≡◌, Ok, length};
 ghost use Rattle.std.specs.Result.{result_map_both};
 ghost use Rattle.ctf_check.specs.FactsView.{shape_view};
-ghost use Rattle.ctf_c.specs.Given.{Gives, GivesLabel, GivesText, asked, function_answer};
+ghost use Rattle.ctf_c.specs.Given.{Gives, GivesLabel, GivesText, ask, function_answer};
 ghost use Rattle.ctf_model.specs.opened.Questions.{answer_map, label_at, named_answered, on_shape, shape_of, signature_answered};
 ghost use Rattle.ctf_model.specs.opened.Open.{own_in, space_in};
 ghost use Rattle.ctf_model.specs.spaces.Space.{space_type};
 ghost use Rattle.ctf_model.specs.symbols.SymbolQuestions.{function_of, name_of_symbol};
 
-use crate::given::{dictionary_of, flag, give, give_text, give_type, status, write_front};
 use crate::handle::Handle;
+use crate::out_pointers::{dictionary_of, flag, give, give_text, give_type, status, write_front};
 use ctf_check::Shape;
 use ctf_model::{Fault, TypeNum, placeless};
 use ctf_open::{OpenDictionary, named_count};
@@ -42,7 +42,7 @@ pub extern "C" fn ctfd_symbol_name(
     len: &mut u64,
 ) -> u32
     ensures same { handle.new.held.dictionary ≡ handle.old.held.dictionary }
-    ensures answer { GivesText (asked handle.old.held.dictionary (λ s.
+    ensures answer { GivesText (ask handle.old.held.dictionary (λ s.
         name_of_symbol (own_in s) number)) result
         (record { text = text.old; len = len.old })
         (record { text = text.new; len = len.new }) }
@@ -56,7 +56,7 @@ pub extern "C" fn ctfd_symbol_name(
 #[unsafe(no_mangle)]
 pub extern "C" fn ctfd_function(handle: &mut Handle, number: u32, out: &mut GivenFunction) -> u32
     ensures same { handle.new.held.dictionary ≡ handle.old.held.dictionary }
-    ensures answer { Gives (asked handle.old.held.dictionary (λ s.
+    ensures answer { Gives (ask handle.old.held.dictionary (λ s.
         function_answer (function_of (own_in s) number))) result
         (record { arguments = out.old.arguments; varargs = out.old.varargs; ret = out.old.ret })
         (record { arguments = out.new.arguments; varargs = out.new.varargs; ret = out.new.ret }) }
@@ -113,7 +113,7 @@ fn signature_of(dictionary: &OpenDictionary, t: TypeNum) -> Result<GivenFunction
 #[unsafe(no_mangle)]
 pub extern "C" fn ctfd_signature(handle: &mut Handle, t: u16, out: &mut GivenFunction) -> u32
     ensures same { handle.new.held.dictionary ≡ handle.old.held.dictionary }
-    ensures answer { Gives (asked handle.old.held.dictionary (λ s.
+    ensures answer { Gives (ask handle.old.held.dictionary (λ s.
         function_answer (on_shape signature_answered (shape_of (space_type (space_in s) t))))) result
         (record { arguments = out.old.arguments; varargs = out.old.varargs; ret = out.old.ret })
         (record { arguments = out.new.arguments; varargs = out.new.varargs; ret = out.new.ret }) }
@@ -137,7 +137,7 @@ pub extern "C" fn ctfd_function_argument(
     out: &mut u16,
 ) -> u32
     ensures same { handle.new.held.dictionary ≡ handle.old.held.dictionary }
-    ensures answer { Gives (asked handle.old.held.dictionary (λ s.
+    ensures answer { Gives (ask handle.old.held.dictionary (λ s.
         named_answered index (function_of (own_in s) number))) result out.old out.new }
 {
     let dictionary = dictionary_of!(handle);
@@ -148,7 +148,7 @@ pub extern "C" fn ctfd_function_argument(
 #[unsafe(no_mangle)]
 pub extern "C" fn ctfd_label_count(handle: &mut Handle, out: &mut u64) -> u32
     ensures same { handle.new.held.dictionary ≡ handle.old.held.dictionary }
-    ensures answer { Gives (asked handle.old.held.dictionary (λ s. Ok (length (own_in s).labels)))
+    ensures answer { Gives (ask handle.old.held.dictionary (λ s. Ok (length (own_in s).labels)))
         result out.old out.new }
 {
     let dictionary = dictionary_of!(handle);
@@ -164,7 +164,7 @@ pub extern "C" fn ctfd_label(
     out: &mut GivenLabel,
 ) -> u32
     ensures same { handle.new.held.dictionary ≡ handle.old.held.dictionary }
-    ensures answer { GivesLabel (asked handle.old.held.dictionary (λ s.
+    ensures answer { GivesLabel (ask handle.old.held.dictionary (λ s.
         label_at index (own_in s).labels)) result name.old name.new
         (record { name_len = out.old.name_len; last = out.old.last })
         (record { name_len = out.new.name_len; last = out.new.last }) }

@@ -1,13 +1,13 @@
 //! Exports that answer a text.
 ghost use Rattle.std.specs.Prelude.{◌≡◌};
-ghost use Rattle.ctf_c.specs.Given.{GivesText, MayGiveText, asked};
+ghost use Rattle.ctf_c.specs.Given.{GivesText, MayGiveText, ask};
 ghost use Rattle.ctf_model.specs.opened.Open.{space_in};
 ghost use Rattle.ctf_model.specs.opened.Questions.{name_answered, value_answered};
 ghost use Rattle.ctf_model.specs.spaces.Space.{space_type};
 ghost use Rattle.ctf_space.specs.TypeView.{name_in};
 
-use crate::given::{dictionary_of, give_text, status, write_front};
 use crate::handle::Handle;
+use crate::out_pointers::{dictionary_of, give_text, status, write_front};
 use ctf_model::TypeNum;
 use std::alloc::Global;
 
@@ -21,7 +21,7 @@ pub extern "C" fn ctfd_declared_name(
 ) -> u32
     ensures same { handle.new.held.dictionary ≡ handle.old.held.dictionary }
     ensures answer { GivesText
-        (asked handle.old.held.dictionary (λ s. name_in (space_type (space_in s) t))) result
+        (ask handle.old.held.dictionary (λ s. name_in (space_type (space_in s) t))) result
         (record { text = text.old; len = len.old })
         (record { text = text.new; len = len.new }) }
 {
@@ -40,7 +40,7 @@ pub extern "C" fn ctfd_name(
 ) -> u32
     ensures same { handle.new.held.dictionary ≡ handle.old.held.dictionary }
     ensures answer { MayGiveText
-        (asked handle.old.held.dictionary (λ s. name_answered (space_in s) t)) result
+        (ask handle.old.held.dictionary (λ s. name_answered (space_in s) t)) result
         (record { text = text.old; len = len.old })
         (record { text = text.new; len = len.new }) }
 {
@@ -67,7 +67,7 @@ pub extern "C" fn ctfd_show(
     len: &mut u64,
 ) -> u32
     ensures same { handle.new.held.dictionary ≡ handle.old.held.dictionary }
-    ensures answer { MayGiveText (asked handle.old.held.dictionary (λ s.
+    ensures answer { MayGiveText (ask handle.old.held.dictionary (λ s.
         value_answered (space_in s) memory.now offset t)) result
         (record { text = text.old; len = len.old })
         (record { text = text.new; len = len.new }) }

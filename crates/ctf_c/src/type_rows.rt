@@ -1,13 +1,13 @@
 //! The export that answers many types at once, and where their names stand.
 ghost use Rattle.std.specs.Prelude.{◌≡◌, ◌<◌, ℕ, List, Ok, Some, length};
 ghost use Rattle.std.specs.Result.{result_map_both};
-ghost use Rattle.ctf_c.specs.Given.{Gives, asked, flag as flag_of, number_of_kind};
+ghost use Rattle.ctf_c.specs.Given.{Gives, ask, flag as flag_of, number_of_kind};
 ghost use Rattle.ctf_c.specs.Rowed.{GivesRows};
 ghost use Rattle.ctf_c.specs.TypeRows.{IsAsked, TellsFigures, TellsType, own_numbers};
 ghost use Rattle.ctf_c.specs.names.Filling.{Fills};
 ghost use Rattle.ctf_c.specs.names.Places.{text_in};
 ghost use Rattle.ctf_check.specs.CheckedView.{lists_of};
-ghost use Rattle.ctf_check.specs.TypedView.{dictionary_in, spelled};
+ghost use Rattle.ctf_check.specs.TypedView.{dictionary_in, term_in};
 ghost use Rattle.ctf_model.specs.figures.Figures.{referred_by};
 ghost use Rattle.ctf_layout.specs.Fitting.{Fits};
 ghost use Rattle.ctf_model.specs.opened.Open.{Open, own_in};
@@ -18,9 +18,9 @@ ghost use Rattle.ctf_model.specs.spaces.TypePlaces.{own_number as number_of_own}
 ghost use Rattle.ctf_space.specs.SpaceView.{own_lists, space_of};
 ghost use Rattle.ctf_space.specs.TypeView.{name_in};
 
-use crate::given::{dictionary_of, flag, give, give_type};
 use crate::handle::Handle;
 use crate::names::{NamePosition, name_position};
+use crate::out_pointers::{dictionary_of, flag, give, give_type};
 use ctf_check::Typed;
 use ctf_layout::Layout;
 use ctf_model::{Fault, Kind, TypeNum, placeless};
@@ -92,7 +92,7 @@ fn number_of(kind: Kind) -> u32
 #[inline(always)]
 fn referred_to(found: &Typed<'_>) -> Result<TypeNum, Fault>
     ensures { result_map_both (λ t. t.0) (λ f. f) result
-        ≡ referred_by (or_no_type (spelled found.now)) }
+        ≡ referred_by (or_no_type (term_in found.now)) }
 {
     match found.kind() {
         Kind::KPointer | Kind::KTypedef | Kind::KVolatile | Kind::KConst | Kind::KRestrict => {
@@ -105,7 +105,7 @@ fn referred_to(found: &Typed<'_>) -> Result<TypeNum, Fault>
 /// How many members, enumerators or arguments a type has.
 #[inline(always)]
 fn item_count(found: &Typed<'_>) -> u64
-    ensures { on_shape length_answered (shape_of (or_no_type (spelled found.now))) ≡ Ok result }
+    ensures { on_shape length_answered (shape_of (or_no_type (term_in found.now))) ≡ Ok result }
 {
     match found.kind() {
         Kind::KFunction | Kind::KStruct | Kind::KUnion | Kind::KEnum => match found.variant() {
@@ -122,12 +122,12 @@ fn item_count(found: &Typed<'_>) -> u64
 #[inline(always)]
 fn numbers_of(found: &Typed<'_>) -> RecordNumbers
     ensures kind { answer_map number_of_kind
-        (on_shape kind_answered (shape_of (or_no_type (spelled found.now)))) ≡ Ok result.kind }
-    ensures root { answer_map flag_of (root_answered (or_no_type (spelled found.now)))
+        (on_shape kind_answered (shape_of (or_no_type (term_in found.now)))) ≡ Ok result.kind }
+    ensures root { answer_map flag_of (root_answered (or_no_type (term_in found.now)))
         ≡ Ok result.root }
-    ensures length { on_shape length_answered (shape_of (or_no_type (spelled found.now)))
+    ensures length { on_shape length_answered (shape_of (or_no_type (term_in found.now)))
         ≡ Ok result.length }
-    ensures reference { Gives (referred_by (or_no_type (spelled found.now)))
+    ensures reference { Gives (referred_by (or_no_type (term_in found.now)))
         result.reference_status 0 result.reference }
 {
     let mut reference = 0;
@@ -144,7 +144,7 @@ fn numbers_of(found: &Typed<'_>) -> RecordNumbers
 /// Where the name of a type stands.
 #[inline(always)]
 fn name_place(found: &Typed<'_>) -> NamePosition
-    ensures { (name : List ℕ) × (name_in (or_no_type (spelled found.now)) ≡ Ok name)
+    ensures { (name : List ℕ) × (name_in (or_no_type (term_in found.now)) ≡ Ok name)
         × (text_in (lists_of (dictionary_in found.now)) result.list result.at ≡ Some name) }
 {
     name_position(&found.dictionary(), found.name_reference())
@@ -155,11 +155,11 @@ fn name_place(found: &Typed<'_>) -> NamePosition
 fn own_type<'a>(space: &Space<'a>, index: usize) -> Typed<'a>
     requires there { index < length (space_of space.now).own.terms }
     requires short { index < 65536 }
-    ensures found { or_no_type (spelled result)
+    ensures found { or_no_type (term_in result)
         ≡ space_type (space_of space.now) (number_of_own (space_of space.now).own.child index) }
     ensures lists { lists_of (dictionary_in result) ≡ own_lists space.now }
 {
-    space.dictionary().typed(index + 1).unwrap()
+    space.dictionary().type_at(index + 1).unwrap()
 }
 
 /// The number of an own type, from 0.
@@ -235,7 +235,7 @@ pub extern "C" fn ctfd_types(
 ) -> u32
     ensures same { handle.new.held.dictionary ≡ handle.old.held.dictionary }
     ensures answer { GivesRows (TellsType handle.old.held.dictionary)
-        (asked handle.old.held.dictionary (λ s. Ok (own_numbers (own_in s)))) from result
+        (ask handle.old.held.dictionary (λ s. Ok (own_numbers (own_in s)))) from result
         rows.old rows.new count.old count.new }
 {
     let dictionary = dictionary_of!(handle);

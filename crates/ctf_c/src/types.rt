@@ -1,18 +1,18 @@
 //! Exports that answer a number of a type.
 ghost use Rattle.std.specs.Prelude.{◌≡◌, Some, option_map};
 ghost use Rattle.std.specs.Result.{result_map_both};
-ghost use Rattle.ctf_c.specs.Given.{Gives, asked, flag as flag_of, number_of_kind, number_of_tag};
+ghost use Rattle.ctf_c.specs.Given.{Gives, ask, flag as flag_of, number_of_kind, number_of_tag};
 ghost use Rattle.ctf_model.specs.opened.Questions.{align_answered, argument_answered, kind_answered, length_answered, pointer_answered, resolved_answered, return_answered, root_answered, on_shape, shape_of, size_answered, tag_answered, answer_map};
 ghost use Rattle.ctf_model.specs.opened.Open.{space_in};
-ghost use Rattle.ctf_model.specs.figures.Figures.{reference as reference_of, referred as referred_of};
+ghost use Rattle.ctf_model.specs.figures.Figures.{reference as reference_of, referred_type as referred_of};
 ghost use Rattle.ctf_model.specs.format.Shown.{shape};
-ghost use Rattle.ctf_check.specs.TypedView.{spelled};
+ghost use Rattle.ctf_check.specs.TypedView.{term_in};
 ghost use Rattle.ctf_model.specs.spaces.Space.{space_type};
 
-use crate::given::{
+use crate::handle::Handle;
+use crate::out_pointers::{
     dictionary_of, flag_result, give, give_short, give_type, kind_result, tag_result,
 };
-use crate::handle::Handle;
 use ctf_check::Typed;
 use ctf_model::{Fault, Kind, TypeNum, placeless};
 use ctf_open::OpenDictionary;
@@ -21,7 +21,7 @@ use ctf_open::OpenDictionary;
 #[unsafe(no_mangle)]
 pub extern "C" fn ctfd_kind(handle: &mut Handle, t: u16, out: &mut u32) -> u32
     ensures same { handle.new.held.dictionary ≡ handle.old.held.dictionary }
-    ensures answer { Gives (asked handle.old.held.dictionary (λ s.
+    ensures answer { Gives (ask handle.old.held.dictionary (λ s.
         answer_map number_of_kind (on_shape kind_answered (shape_of (space_type (space_in s) t)))))
         result out.old out.new }
 {
@@ -34,7 +34,7 @@ pub extern "C" fn ctfd_kind(handle: &mut Handle, t: u16, out: &mut u32) -> u32
 pub extern "C" fn ctfd_root(handle: &mut Handle, t: u16, out: &mut u32) -> u32
     ensures same { handle.new.held.dictionary ≡ handle.old.held.dictionary }
     ensures answer { Gives
-        (asked handle.old.held.dictionary (λ s.
+        (ask handle.old.held.dictionary (λ s.
         answer_map flag_of (root_answered (space_type (space_in s) t))))
         result out.old out.new }
 {
@@ -46,7 +46,7 @@ pub extern "C" fn ctfd_root(handle: &mut Handle, t: u16, out: &mut u32) -> u32
 #[unsafe(no_mangle)]
 pub extern "C" fn ctfd_tag(handle: &mut Handle, t: u16, out: &mut u32) -> u32
     ensures same { handle.new.held.dictionary ≡ handle.old.held.dictionary }
-    ensures answer { Gives (asked handle.old.held.dictionary (λ s.
+    ensures answer { Gives (ask handle.old.held.dictionary (λ s.
         answer_map number_of_tag (on_shape tag_answered (shape_of (space_type (space_in s) t)))))
         result out.old out.new }
 {
@@ -58,7 +58,7 @@ pub extern "C" fn ctfd_tag(handle: &mut Handle, t: u16, out: &mut u32) -> u32
 #[unsafe(no_mangle)]
 pub extern "C" fn ctfd_length(handle: &mut Handle, t: u16, out: &mut u64) -> u32
     ensures same { handle.new.held.dictionary ≡ handle.old.held.dictionary }
-    ensures answer { Gives (asked handle.old.held.dictionary (λ s.
+    ensures answer { Gives (ask handle.old.held.dictionary (λ s.
         on_shape length_answered (shape_of (space_type (space_in s) t))))
         result out.old out.new }
 {
@@ -70,7 +70,7 @@ pub extern "C" fn ctfd_length(handle: &mut Handle, t: u16, out: &mut u64) -> u32
 #[unsafe(no_mangle)]
 pub extern "C" fn ctfd_size(handle: &mut Handle, t: u16, out: &mut u64) -> u32
     ensures same { handle.new.held.dictionary ≡ handle.old.held.dictionary }
-    ensures answer { Gives (asked handle.old.held.dictionary (λ s. size_answered (space_in s) t))
+    ensures answer { Gives (ask handle.old.held.dictionary (λ s. size_answered (space_in s) t))
         result out.old out.new }
 {
     let dictionary = dictionary_of!(handle);
@@ -81,7 +81,7 @@ pub extern "C" fn ctfd_size(handle: &mut Handle, t: u16, out: &mut u64) -> u32
 #[unsafe(no_mangle)]
 pub extern "C" fn ctfd_align(handle: &mut Handle, t: u16, out: &mut u64) -> u32
     ensures same { handle.new.held.dictionary ≡ handle.old.held.dictionary }
-    ensures answer { Gives (asked handle.old.held.dictionary (λ s. align_answered (space_in s) t))
+    ensures answer { Gives (ask handle.old.held.dictionary (λ s. align_answered (space_in s) t))
         result out.old out.new }
 {
     let dictionary = dictionary_of!(handle);
@@ -92,7 +92,7 @@ pub extern "C" fn ctfd_align(handle: &mut Handle, t: u16, out: &mut u64) -> u32
 #[unsafe(no_mangle)]
 pub extern "C" fn ctfd_resolve(handle: &mut Handle, t: u16, out: &mut u16) -> u32
     ensures same { handle.new.held.dictionary ≡ handle.old.held.dictionary }
-    ensures answer { Gives (asked handle.old.held.dictionary
+    ensures answer { Gives (ask handle.old.held.dictionary
         (λ s. resolved_answered (space_in s) t)) result out.old out.new }
 {
     let dictionary = dictionary_of!(handle);
@@ -101,8 +101,8 @@ pub extern "C" fn ctfd_resolve(handle: &mut Handle, t: u16, out: &mut u16) -> u3
 
 /// What a type that was found points to, renames or qualifies.
 #[inline(always)]
-fn referred(found: &Typed<'_>) -> Result<TypeNum, Fault>
-    ensures { option_map (λ x. referred_of (shape x.body)) (spelled found.now)
+fn referred_type(found: &Typed<'_>) -> Result<TypeNum, Fault>
+    ensures { option_map (λ x. referred_of (shape x.body)) (term_in found.now)
         ≡ Some (result_map_both (λ t. t.0) (λ f. f) result) }
 {
     let Some(to) = found.reference() else {
@@ -121,14 +121,14 @@ fn reference(dictionary: &OpenDictionary, t: TypeNum) -> Result<TypeNum, Fault>
         ≡ reference_of (space_in dictionary.now) t.0 }
 {
     let found = dictionary.space().term(t)?;
-    referred(&found)
+    referred_type(&found)
 }
 
 /// The type that a type points to, renames or qualifies.
 #[unsafe(no_mangle)]
 pub extern "C" fn ctfd_reference(handle: &mut Handle, t: u16, out: &mut u16) -> u32
     ensures same { handle.new.held.dictionary ≡ handle.old.held.dictionary }
-    ensures answer { Gives (asked handle.old.held.dictionary (λ s. reference_of (space_in s) t))
+    ensures answer { Gives (ask handle.old.held.dictionary (λ s. reference_of (space_in s) t))
         result out.old out.new }
 {
     let dictionary = dictionary_of!(handle);
@@ -139,7 +139,7 @@ pub extern "C" fn ctfd_reference(handle: &mut Handle, t: u16, out: &mut u16) -> 
 #[unsafe(no_mangle)]
 pub extern "C" fn ctfd_pointer(handle: &mut Handle, t: u16, out: &mut u16) -> u32
     ensures same { handle.new.held.dictionary ≡ handle.old.held.dictionary }
-    ensures answer { Gives (asked handle.old.held.dictionary (λ s. pointer_answered (space_in s) t))
+    ensures answer { Gives (ask handle.old.held.dictionary (λ s. pointer_answered (space_in s) t))
         result out.old out.new }
 {
     let dictionary = dictionary_of!(handle);
@@ -150,19 +150,19 @@ pub extern "C" fn ctfd_pointer(handle: &mut Handle, t: u16, out: &mut u16) -> u3
 #[unsafe(no_mangle)]
 pub extern "C" fn ctfd_return(handle: &mut Handle, t: u16, out: &mut u16) -> u32
     ensures same { handle.new.held.dictionary ≡ handle.old.held.dictionary }
-    ensures answer { Gives (asked handle.old.held.dictionary (λ s.
+    ensures answer { Gives (ask handle.old.held.dictionary (λ s.
         on_shape return_answered (shape_of (space_type (space_in s) t))))
         result out.old out.new }
 {
     let dictionary = dictionary_of!(handle);
-    give_type(dictionary.returned(TypeNum(t)), out)
+    give_type(dictionary.return_type(TypeNum(t)), out)
 }
 
 /// An argument of a function type, from 0, as it is stored: a last 0 says that more may follow.
 #[unsafe(no_mangle)]
 pub extern "C" fn ctfd_argument(handle: &mut Handle, t: u16, index: usize, out: &mut u16) -> u32
     ensures same { handle.new.held.dictionary ≡ handle.old.held.dictionary }
-    ensures answer { Gives (asked handle.old.held.dictionary (λ s.
+    ensures answer { Gives (ask handle.old.held.dictionary (λ s.
         on_shape (argument_answered index) (shape_of (space_type (space_in s) t))))
         result out.old out.new }
 {

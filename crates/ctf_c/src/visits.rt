@@ -1,15 +1,15 @@
 //! The export that answers what lies in a type, and in what lies in it.
 ghost use Rattle.std.specs.Prelude.{◌≡◌, Ok, Some};
-ghost use Rattle.ctf_c.specs.Given.{asked};
+ghost use Rattle.ctf_c.specs.Given.{ask};
 ghost use Rattle.ctf_c.specs.Visiting.{GivesVisit, TellsIn, Visits};
-ghost use Rattle.ctf_c.specs.names.Visits.{visited};
+ghost use Rattle.ctf_c.specs.names.Visits.{visits_of};
 ghost use Rattle.ctf_model.specs.opened.Questions.{if_there};
 ghost use Rattle.ctf_model.specs.opened.Open.{space_in};
 ghost use Rattle.ctf_model.specs.spaces.Space.{space_type};
 
-use crate::given::{dictionary_of, status};
 use crate::handle::Handle;
 use crate::names::{NOWHERE, Standing, held_type, put, stands_for, visit_inside};
+use crate::out_pointers::{dictionary_of, status};
 use ctf_model::{Fault, TypeNum};
 use ctf_open::OpenDictionary;
 
@@ -36,7 +36,7 @@ pub struct GivenVisitRow {
 /// are rows, where these don't reach.
 fn visit(dictionary: &OpenDictionary, t: TypeNum, rows: &mut [GivenVisitRow]) -> Result<u64, Fault>
     ensures { Visits (TellsIn (Some dictionary.now))
-        (if_there (Ok (visited (space_in dictionary.now) t.0))
+        (if_there (Ok (visits_of (space_in dictionary.now) t.0))
         (space_type (space_in dictionary.now) t.0)) result rows.old rows.new }
 {
     held_type(&dictionary.space(), t)?;
@@ -70,8 +70,8 @@ pub extern "C" fn ctfd_visit(
 ) -> u32
     ensures same { handle.new.held.dictionary ≡ handle.old.held.dictionary }
     ensures answer { GivesVisit (TellsIn handle.old.held.dictionary)
-        (asked handle.old.held.dictionary (λ s.
-        if_there (Ok (visited (space_in s) t)) (space_type (space_in s) t))) result
+        (ask handle.old.held.dictionary (λ s.
+        if_there (Ok (visits_of (space_in s) t)) (space_type (space_in s) t))) result
         rows.old rows.new count.old count.new }
 {
     let dictionary = dictionary_of!(handle);

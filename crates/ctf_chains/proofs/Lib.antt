@@ -3,6 +3,7 @@ pub mod Depths
 pub mod Edges
 pub mod Lists
 pub mod Members
+pub mod OwnNumbers
 pub mod SpelledNumbers
 pub mod Visits
 pub mod WorkLeft

@@ -1,14 +1,14 @@
 -- The table of depths and of visits under way.
-use Rattle.std.proofs.Common.{◌≡◌, ℕ, zero, suc, ◌+◌, ◌-◌, ◌≤◌, ◌<◌, ◌⊎◌, inl, inr, List, ◌∷◌, ◌++◌, length, take, drop, Option, Some, None, get_or, set, ◌≢◌, slice_index_or, slice_set, refl, sym, subst, ◌∙◌, arith, is_some, IsTrue, Bool, true, false, cond, eqb}
+use Rattle.std.proofs.Common.{◌≡◌, ℕ, zero, suc, ◌+◌, ◌-◌, ◌≤◌, ◌<◌, ◌⊎◌, inl, inr, List, ◌∷◌, ◌++◌, length, take, drop, Option, Some, None, get_or, set, ◌≢◌, slice_index_or, slice_set, refl, sym, subst, ◌∙◌, arith, is_some, IsTrue, Bool, true, false, cond, eqb, leb}
 use Rattle.std.specs.List.{AllByRecursion}
-use Rattle.std.proofs.lemmas.Bool.{eqb-true}
+use Rattle.std.proofs.lemmas.Bool.{eqb-false, eqb-true, leb-false, leb-true}
 use Rattle.std.proofs.lemmas.Grind.{get_or-set_at}
 use Rattle.std.proofs.lemmas.List.{get_or-set_other}
 use Rattle.ctf_model.specs.rules.Chains.{targets, IsWithin}
 use Rattle.ctf_chains.specs.Deep.{AreWithinBefore}
 use Rattle.ctf_chains.specs.Places.{Places, places_at, led_to, steps_between}
-use Rattle.ctf_chains.specs.Search.{IsDepth, busy, entry_in, Knows, Leads, OnWay, GoesOn, Answers}
-use Rattle.ctf_chains.specs.declared.entry.Entry.TheVariants.{Unvisited, Busy, Depth}
+use Rattle.ctf_chains.specs.Search.{IsDepth, busy, entry_in, Knows, Leads, OnWay, GoesOn, Found, Answers}
+use Rattle.ctf_chains.specs.declared.entry.Entry.TheVariants.{Unvisited, Depth, TooDeep}
 use Rattle.ctf_chains.proofs.Depths.{IsWithin-more, targets_are, led_at}
 use Rattle.ctf_chains.proofs.Lists.{All-at, not_empty, same_or_not}
 
@@ -36,14 +36,26 @@ empty_knows es known h = record { right = λ j l u. absurd (omega (arith, h j)) 
 
 -- ---- visits under way
 
--- only the mark stands for a visit that is under way
-pub busy_is : (n : ℕ) → Busy ≡ entry_in n → n ≡ busy
-busy_is n e = at (eqb n 0) (eqb n busy) refl e
+-- an entry that is no depth of the budget is greater than any
+deep_is : (budget n : ℕ) → TooDeep ≡ entry_in budget n → budget + 1 < n
+deep_is budget n e = at (eqb n 0) (leb (n - 1) budget) refl refl e
   where
-    at : (none way : Bool) → eqb n busy ≡ way → Busy ≡ cond none Unvisited (cond way Busy (Depth (n - 1))) → n ≡ busy
-    at true way h e = absurd cc
-    at false true h e = eqb-true n busy h
-    at false false h e = absurd cc
+    at : (none le : Bool) → eqb n 0 ≡ none → leb (n - 1) budget ≡ le → TooDeep ≡ cond none Unvisited (cond le (Depth (n - 1)) TooDeep) → budget + 1 < n
+    at true le a b e = absurd cc
+    at false true a b e = absurd cc
+    at false false a b e = let more : budget < n - 1 = leb-false (n - 1) budget b in omega arith
+
+depth_is : (budget n d : ℕ) → Depth d ≡ entry_in budget n → (n ≡ d + 1) × (d ≤ budget)
+depth_is budget n d e = at (eqb n 0) (leb (n - 1) budget) refl refl e
+  where
+    at : (none le : Bool) → eqb n 0 ≡ none → leb (n - 1) budget ≡ le → Depth d ≡ cond none Unvisited (cond le (Depth (n - 1)) TooDeep) → (n ≡ d + 1) × (d ≤ budget)
+    at true le a b e = absurd cc
+    at false false a b e = absurd cc
+    at false true a b e =
+        let same : d ≡ n - 1 = cc in
+        let short : n - 1 ≤ budget = leb-true (n - 1) budget b in
+        let other = eqb-false n 0 a in
+        (omega (arith, other), omega arith)
 
 descends : (es : List (List ℕ)) (i n k : ℕ) → Leads es i i → k < n → IsWithin es k i → ⊥
 descends es i zero k a lt w = omega arith
@@ -53,8 +65,36 @@ descends es i (suc n) k a lt w =
     descends es i n f.0 a (omega arith) f.2
 
 -- a record whose visit leads back to it is deep
-pub cycle_is_deep : (es : List (List ℕ)) (known : List ℕ) (i k : ℕ) → OnWay es known i → slice_index_or known i 0 ≡ busy → IsWithin es k i → ⊥
+cycle_is_deep : (es : List (List ℕ)) (known : List ℕ) (i k : ℕ) → OnWay es known i → slice_index_or known i 0 ≡ busy → IsWithin es k i → ⊥
 cycle_is_deep es known i k a is w = descends es i (suc k) k (a.leads i is) (omega arith) w
+
+-- an entry that tells a depth
+pub known_depth : (es : List (List ℕ)) (known : List ℕ) (i budget d : ℕ) → Knows es known → budget ≤ 512 → Depth d ≡ entry_in budget (slice_index_or known i 0) → Found es budget i known known d
+known_depth es known i budget d a short e =
+    let is = depth_is budget (slice_index_or known i 0) d e in
+    let number : slice_index_or known i 0 ≡ d + 1 = is.0 in
+    let le : d ≤ budget = is.1 in
+    let one_less : slice_index_or known i 0 - 1 ≡ d = omega arith in
+    let P : ℕ → Type 0 = λ n. IsDepth es i n in
+    record {
+      depth = subst P one_less (a.right i (omega arith) (omega arith));
+      affordable = le;
+      entered = omega arith;
+      ended = record { was = λ j h. h; stays = λ j h. h };
+    }
+
+-- and one that tells that the budget is not enough
+pub known_deep : (es : List (List ℕ)) (known : List ℕ) (i budget : ℕ) → Knows es known → OnWay es known i → slice_index_or known i 0 ≤ busy → TooDeep ≡ entry_in budget (slice_index_or known i 0) → IsWithin es budget i → ⊥
+known_deep es known i budget a on_way most e w = at (eqb (slice_index_or known i 0) busy) refl
+  where
+    at : (way : Bool) → eqb (slice_index_or known i 0) busy ≡ way → ⊥
+    at true same = cycle_is_deep es known i budget on_way (eqb-true (slice_index_or known i 0) busy same) w
+    at false same =
+        let other = eqb-false (slice_index_or known i 0) busy same in
+        let more : budget + 1 < slice_index_or known i 0 = deep_is budget (slice_index_or known i 0) e in
+        let depth = a.right i (omega arith) (omega (arith, other)) in
+        let least : slice_index_or known i 0 - 1 ≤ budget = depth.least budget w in
+        omega arith
 
 step_leads : (es : List (List ℕ)) (i : ℕ) (xs : List ℕ) (j : ℕ) (ys : List ℕ) → targets es i ≡ xs ++ (j ∷ ys) → (k : ℕ) → IsWithin es k i → (m : ℕ) × (m < k) × IsWithin es m j
 unfolding IsWithin

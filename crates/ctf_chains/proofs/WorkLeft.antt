@@ -1,9 +1,9 @@
 -- What the search may still cost.
 use Rattle.std.proofs.Common.{◌≡◌, ℕ, zero, suc, ◌+◌, ◌≤◌, ◌<◌, List, [], ◌∷◌, length, Option, get_or, set, slice_index_or, slice_set, refl, subst, arith}
 use Rattle.ctf_chains.specs.Places.{Places, places_at, full_work}
-use Rattle.ctf_chains.specs.Search.{busy, owed, work_left}
+use Rattle.ctf_chains.specs.Search.{busy, debt, work_left}
 
-work_set : (all : Places) (known : List ℕ) (i entry : ℕ) → i < length all → i < length known → work_left all (set known i entry) + owed (places_at all i) (get_or known i 0) ≡ work_left all known + owed (places_at all i) entry
+work_set : (all : Places) (known : List ℕ) (i entry : ℕ) → i < length all → i < length known → work_left all (set known i entry) + debt (places_at all i) (get_or known i 0) ≡ work_left all known + debt (places_at all i) entry
 unfolding work_left
 work_set [] known i entry a b = absurd (omega arith)
 work_set (places ∷ all) [] i entry a b = absurd (omega arith)
@@ -13,11 +13,11 @@ work_set (places ∷ all) (old ∷ known) (suc i) entry a b = omega (arith, work
 -- to open a record pays for its places
 pub work_opened : (all : Places) (known : List ℕ) (i : ℕ) → i < length all → i < length known → slice_index_or known i 0 ≡ 0 → work_left all (slice_set known i busy) + (1 + length (places_at all i)) ≡ work_left all known
 work_opened all known i a b is =
-    let P : ℕ → Type 0 = λ v. work_left all (set known i busy) + owed (places_at all i) v ≡ work_left all known + 0 in
+    let P : ℕ → Type 0 = λ v. work_left all (set known i busy) + debt (places_at all i) v ≡ work_left all known + 0 in
     let h : work_left all (set known i busy) + (1 + length (places_at all i)) ≡ work_left all known + 0 = subst P is (work_set all known i busy a b) in
     omega arith
 
-owed_none : (places : List (Option ℕ)) (entry : ℕ) → 1 ≤ entry → owed places entry ≡ 0
+owed_none : (places : List (Option ℕ)) (entry : ℕ) → 1 ≤ entry → debt places entry ≡ 0
 owed_none places zero some = absurd (omega arith)
 owed_none places (suc entry) some = refl
 
@@ -32,7 +32,7 @@ unfolding work_left
 none_left [] known h = refl
 none_left (places ∷ all) [] h = refl
 none_left (places ∷ all) (entry ∷ known) h =
-    let here : owed places entry ≡ 0 = owed_none places entry (h 0 (omega arith)) in
+    let here : debt places entry ≡ 0 = owed_none places entry (h 0 (omega arith)) in
     let rest : work_left all known ≡ 0 = none_left all known (λ j lt. h (suc j) (omega arith)) in
     omega arith
 

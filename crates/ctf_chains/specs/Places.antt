@@ -28,5 +28,5 @@ full_work [] = 0
 full_work (places ∷ all) = record_work places + full_work all
 
 -- a count that stops at the greatest number of 64 bits
-abbrev pub capped : ℕ → ℕ
-capped n = min n (2 ^ 64 - 1)
+abbrev pub cap : ℕ → ℕ
+cap n = min n (2 ^ 64 - 1)

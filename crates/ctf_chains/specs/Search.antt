@@ -1,10 +1,10 @@
 -- What the search for long chains knows on its way. Source: ours.
-use Rattle.std.specs.Prelude.{◌≡◌, ℕ, zero, suc, ◌+◌, ◌-◌, ◌==◌, ◌≤◌, ◌<◌, List, [], ◌∷◌, Option, slice_index_or, MatchOption, if◌then◌else◌}
+use Rattle.std.specs.Prelude.{◌≡◌, ℕ, zero, suc, ◌+◌, ◌-◌, ◌==◌, ◌≤◌, ◌<◌, List, [], ◌∷◌, Option, nat_le, slice_index_or, MatchOption, if◌then◌else◌}
 use Rattle.std.specs.List.{AllByRecursion}
 use Rattle.ctf_model.specs.rules.Chains.{IsWithin}
 use Rattle.ctf_chains.specs.Places.{Places, record_work}
 use Rattle.ctf_chains.specs.declared.entry.Entry.{Entry}
-use Rattle.ctf_chains.specs.declared.entry.Entry.TheVariants.{Unvisited, Busy, Depth}
+use Rattle.ctf_chains.specs.declared.entry.Entry.TheVariants.{Unvisited, Depth, TooDeep}
 
 -- ---- depths
 
@@ -30,9 +30,10 @@ pub record IsDepth (es : List (List ℕ)) (i d : ℕ) : Type 0 where
 abbrev pub busy : ℕ
 busy = 0xffff
 
--- what a number of the table stands for
-abbrev pub entry_in : ℕ → Entry
-entry_in n = if n == 0 then Unvisited else if n == busy then Busy else Depth (n - 1)
+-- what a number of the table stands for, where there is a budget
+abbrev pub entry_in : ℕ → ℕ → Entry
+entry_in budget n =
+    if n == 0 then Unvisited else if nat_le (n - 1) budget then Depth (n - 1) else TooDeep
 
 -- the depths in the table are right
 pub record Knows (es : List (List ℕ)) (known : List ℕ) : Type 0 where
@@ -67,12 +68,12 @@ Answers es budget i before after found =
 -- ---- work
 
 -- what a record may still cost: nothing once the table has an entry for it
-abbrev pub owed : List (Option ℕ) → ℕ → ℕ
-owed places zero = record_work places
-owed places (suc entry) = 0
+abbrev pub debt : List (Option ℕ) → ℕ → ℕ
+debt places zero = record_work places
+debt places (suc entry) = 0
 
 -- what all records may still cost
 unfoldable pub work_left : Places → List ℕ → ℕ
 work_left [] known = 0
 work_left (places ∷ all) [] = 0
-work_left (places ∷ all) (entry ∷ known) = owed places entry + work_left all known
+work_left (places ∷ all) (entry ∷ known) = debt places entry + work_left all known

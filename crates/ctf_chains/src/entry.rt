@@ -1,28 +1,35 @@
 //! What the table of depths knows of a record.
-ghost use Rattle.std.specs.Prelude.{◌≡◌};
+ghost use Rattle.std.specs.Prelude.{◌≡◌, ◌≤◌};
+ghost use Rattle.ctf_model.specs.rules.Chains.{longest_chain};
 ghost use Rattle.ctf_chains.specs.Search.{entry_in};
 
-/// The mark of a record whose visit is under way.
+/// The mark of a record whose visit is under way. It is greater than any budget.
 pub(crate) const BUSY: u16 = u16::MAX;
 
-/// What is known of a record.
+/// What is known of a record where there is a budget.
 #[derive(Clone, Copy)]
 pub(crate) enum Entry {
     /// Nothing yet.
     Unvisited,
-    /// Its visit is under way: a chain that meets it again has no end.
-    Busy,
-    /// The length of the longest chain from it.
+    /// The length of the longest chain from it, for which the budget is enough.
     Depth(u16),
+    /// The budget is not enough, or its visit is under way: a chain that meets it again has no end.
+    TooDeep,
 }
 
-/// The entry that a number of the table stands for.
-pub(crate) fn entry_of(number: u16) -> Entry
-    ensures { result ≡ entry_in number }
+/// What a number of the table stands for. A depth is told by one compare.
+#[inline(always)]
+pub(crate) fn entry_of(number: u16, budget: u16) -> Entry
+    requires { budget ≤ longest_chain }
+    ensures { result ≡ entry_in budget number }
 {
-    match number {
-        0 => Entry::Unvisited,
-        BUSY => Entry::Busy,
-        known => Entry::Depth(known - 1),
+    let depth = number.wrapping_sub(1);
+    if depth <= budget {
+        return Entry::Depth(depth);
+    }
+    if number == 0 {
+        Entry::Unvisited
+    } else {
+        Entry::TooDeep
     }
 }

@@ -1,12 +1,13 @@
 //! Where in its bytes a record says the types that its steps lead to.
 ghost use Rattle.std.specs.Prelude.{◌≡◌, ◌<◌, drop, length, slice_index};
 ghost use Rattle.ctf_model.specs.rules.Chains.{own_index as own_index_of};
+ghost use Rattle.ctf_model.specs.spaces.TypePlaces.{own_number};
 ghost use Rattle.ctf_records.specs.ListedView.{numbers_listed};
 ghost use Rattle.ctf_records.specs.RecordView.{bytes_of};
 ghost use Rattle.ctf_chains.specs.Numbers.{numbers, spot};
 
 use crate::chain::Chain;
-use ctf_model::{Kind, Place, TypeNum};
+use ctf_model::{Kind, TypeNum};
 use ctf_records::{Listed, Record};
 
 /// Where the numbers of the types stand.
@@ -66,12 +67,24 @@ pub fn place_number(source: &Record<'_>, chain: Chain, k: usize) -> TypeNum
     places(source, chain).get(k)
 }
 
+/// The number of the first own type.
+#[inline(always)]
+fn first_own(child: bool) -> u16
+    ensures { result ≡ own_number child 0 }
+{
+    if child { 0x8001 } else { 1 }
+}
+
 /// The own type that a number names, from 0, where there are that many.
+#[inline(always)]
+#[tactic(auto, using(crate::proofs::OwnNumbers::below_own, crate::proofs::OwnNumbers::at_own))]
 pub(crate) fn own_index(child: bool, count: usize, number: TypeNum) -> Option<usize>
     ensures { result ≡ own_index_of child count number.0 }
 {
-    match number.place(child) {
-        Place::Own(i) if i < count => Some(i),
-        _ => None,
+    let first = first_own(child);
+    if number.0 < first {
+        return None;
     }
+    let i = (number.0 - first) as usize;
+    if i < count { Some(i) } else { None }
 }

@@ -1,5 +1,5 @@
 //! The first record that a chain of too many steps begins at.
-ghost use Rattle.std.specs.Prelude.{◌≡◌, ℕ, ◌+◌, ◌<◌, ◌≤◌, ◌⊎◌, length, IfOk, IfSome, IsSome, None, Ok, MatchOption, slice_index_or};
+ghost use Rattle.std.specs.Prelude.{◌≡◌, ℕ, ◌+◌, ◌<◌, ◌≤◌, ◌⊎◌, length, IfOk, IfSome, IsSome, None, Ok, slice_index_or};
 ghost use Rattle.ctf_model.specs.rules.Chains.{longest_chain};
 ghost use Rattle.ctf_chains.specs.Deep.{IsLeastDeep};
 ghost use Rattle.ctf_chains.specs.Places.{full_work, steps_between};
@@ -13,13 +13,6 @@ use std::sync::ledger::Ledger;
 
 /// The greatest number of steps that a chain may have.
 pub const LONGEST_CHAIN: u16 = 512;
-
-/// The depth of a record that is known, if the budget is enough for it.
-fn within(depth: u16, budget: u16) -> Option<u16>
-    ensures { MatchOption result (budget < depth) (λ same. (same ≡ depth) × (depth ≤ budget)) }
-{
-    if depth <= budget { Some(depth) } else { None }
-}
 
 fn longer(a: u16, b: u16) -> u16
     ensures both { a ≤ result × b ≤ result }
@@ -55,16 +48,16 @@ fn depth<L: Ledger, G: Graph<L>>(
     ensures once { IsSome result → work.new + work_left (G.places graph.now) known.new
         ≡ work.old + work_left (G.places graph.now) known.old }
 {
-    match entry_of(known[i]) {
-        Entry::Busy => None,
-        Entry::Depth(depth) => within(depth, budget),
-        Entry::Unvisited => visit(graph, known, work, i, budget),
+    match entry_of(known[i], budget) {
+        Entry::Depth(depth) => Some(depth),
+        Entry::Unvisited => visit_below(graph, known, work, i, budget),
+        Entry::TooDeep => None,
     }
 }
 
 /// The same for a record that was not visited.
 #[cycle(deep)]
-#[inline(never)]
+#[inline(always)]
 fn visit<L: Ledger, G: Graph<L>>(
     graph: &G,
     known: &mut [u16],
@@ -104,6 +97,63 @@ fn visit<L: Ledger, G: Graph<L>>(
     Some(longest)
 }
 
+/// `visit` out of line, for the recursion: the loop over all records inlines it, which saves a call
+/// for most records.
+#[cycle(deep)]
+#[inline(never)]
+fn visit_below<L: Ledger, G: Graph<L>>(
+    graph: &G,
+    known: &mut [u16],
+    work: &mut Ticks<L>,
+    i: usize,
+    budget: u16,
+) -> Option<u16>
+    requires same { length known.old ≡ length (G.places graph.now) }
+    requires record { i < length (G.places graph.now) }
+    requires budget { budget ≤ longest_chain }
+    requires knows { Knows (steps_between (G.places graph.now)) known.old }
+    requires on_way { OnWay (steps_between (G.places graph.now)) known.old i }
+    requires unvisited { slice_index_or known.old i 0 ≡ 0 }
+    ensures knows { Knows (steps_between (G.places graph.now)) known.new }
+    ensures answer { Answers (steps_between (G.places graph.now)) budget i known.old known.new
+        result }
+    ensures work { work.new + work_left (G.places graph.now) known.new
+        ≤ work.old + work_left (G.places graph.now) known.old }
+    ensures once { IsSome result → work.new + work_left (G.places graph.now) known.new
+        ≡ work.old + work_left (G.places graph.now) known.old }
+{
+    visit(graph, known, work, i, budget)
+}
+
+/// `depth` for the loop over all records, with `visit` inlined.
+#[inline(always)]
+fn depth_first<L: Ledger, G: Graph<L>>(
+    graph: &G,
+    known: &mut [u16],
+    work: &mut Ticks<L>,
+    i: usize,
+    budget: u16,
+) -> Option<u16>
+    requires same { length known.old ≡ length (G.places graph.now) }
+    requires record { i < length (G.places graph.now) }
+    requires budget { budget ≤ longest_chain }
+    requires knows { Knows (steps_between (G.places graph.now)) known.old }
+    requires on_way { OnWay (steps_between (G.places graph.now)) known.old i }
+    ensures knows { Knows (steps_between (G.places graph.now)) known.new }
+    ensures answer { Answers (steps_between (G.places graph.now)) budget i known.old known.new
+        result }
+    ensures work { work.new + work_left (G.places graph.now) known.new
+        ≤ work.old + work_left (G.places graph.now) known.old }
+    ensures once { IsSome result → work.new + work_left (G.places graph.now) known.new
+        ≡ work.old + work_left (G.places graph.now) known.old }
+{
+    match entry_of(known[i], budget) {
+        Entry::Depth(depth) => Some(depth),
+        Entry::Unvisited => visit(graph, known, work, i, budget),
+        Entry::TooDeep => None,
+    }
+}
+
 /// Looks through the records in turn, with a table that knows nothing yet.
 fn first_of<L: Ledger, G: Graph<L>>(
     graph: &G,
@@ -118,7 +168,7 @@ fn first_of<L: Ledger, G: Graph<L>>(
     ensures once { result ≡ None → work.new ≡ work.old + full_work (G.places graph.now) }
 {
     for i in 0..graph.len() {
-        if depth(graph, known, work, i, LONGEST_CHAIN).is_none() {
+        if depth_first(graph, known, work, i, LONGEST_CHAIN).is_none() {
             return Some(i);
         }
     }

@@ -1,6 +1,6 @@
 //! A count of work that nothing but a tick changes.
 ghost use Rattle.std.specs.Prelude.{◌≡◌, ◌+◌, ◌<◌};
-ghost use Rattle.ctf_chains.specs.Places.{capped};
+ghost use Rattle.ctf_chains.specs.Places.{cap};
 
 use std::marker::Model;
 use std::sync::ledger::{Blank, Book, Ledger, Share};
@@ -16,13 +16,13 @@ pub struct Ticks<L: Ledger> {
 
 impl<L: Ledger> Model for Ticks<L> {
     ghost use Rattle.std.specs.Prelude.{ℕ, ◌≡◌, ◌<◌};
-    ghost use Rattle.ctf_chains.specs.Places.{capped};
+    ghost use Rattle.ctf_chains.specs.Places.{cap};
 
     ghost Value = { ℕ };
 
     ghost view = { λ t. t.book.total };
 
-    ghost invariant = { λ t. (0 < t.share.parts) × (t.count ≡ capped t.book.total) };
+    ghost invariant = { λ t. (0 < t.share.parts) × (t.count ≡ cap t.book.total) };
 }
 
 impl<L: Ledger> Ticks<L> {
@@ -41,6 +41,7 @@ impl<L: Ledger> Ticks<L> {
         }
     }
 
+    #[inline(always)]
     pub fn tick(&mut self)
         ensures { self.new ≡ self.old + 1 }
     {
@@ -50,7 +51,7 @@ impl<L: Ledger> Ticks<L> {
 
     /// The number, as far as 64 bits go.
     pub fn count(&self) -> u64
-        ensures { result ≡ capped self.now }
+        ensures { result ≡ cap self.now }
     {
         self.count
     }

@@ -54,19 +54,23 @@ impl<'a, L: Ledger> Graph<L> for Types<'a> {
     ghost places_of = { λ g r. map (own_index_of g.child (length (records g.bytes.now)))
         (numbers_listed r) };
 
+    #[inline(always)]
     fn len(&self) -> usize {
         self.starts.len()
     }
 
+    #[inline(always)]
     fn open(&self, i: usize, work: &mut Ticks<L>) -> Listed<'a> {
         work.tick();
         places(&record_started(self.bytes, self.starts, i), self.chain)
     }
 
+    #[inline(always)]
     fn place_count(&self, opened: Listed<'a>) -> usize {
         opened.count()
     }
 
+    #[inline(always)]
     fn place(&self, opened: Listed<'a>, k: usize, work: &mut Ticks<L>) -> Option<usize> {
         work.tick();
         own_index(self.child, self.starts.len(), opened.get(k))

@@ -5,6 +5,7 @@ pub mod Indexed
 pub mod Naming
 pub mod Needing
 pub mod Order
+pub mod PlainNames
 pub mod Reading
 pub mod Sites
 pub mod EntryStages

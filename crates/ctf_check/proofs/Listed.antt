@@ -1,10 +1,12 @@
 -- The types that a record lists, one after the other.
-use Rattle.std.proofs.Common.{◌≡◌, ℕ, ◌+◌, ◌<◌, ◌≤◌, max, Bool, false, List, length, drop, ap}
+use Rattle.std.proofs.Common.{◌≡◌, ℕ, ◌+◌, ◌-◌, ◌<◌, ◌≤◌, max, Bool, true, false, cond, eqb, List, length, drop, ap, refl, arith}
 use Rattle.std.specs.Prelude.{slice_index, ◌||◌}
 use Rattle.std.specs.List.{list_any}
+use Rattle.std.proofs.lemmas.Bool.{eqb-false, eqb-true}
 use Rattle.std.proofs.lemmas.List.{drop_more, drop_all}
 use Rattle.ctf_model.specs.rules.Needs.{greatest_in_parent, number_in_parent}
-use Rattle.ctf_check.specs.Enough.{enough_among, enough_for}
+use Rattle.ctf_model.specs.declared.numbers.Place.TheVariants.{Nowhere, Own}
+use Rattle.ctf_check.specs.Enough.{enough_among, enough_at, enough_for}
 
 pub any_next : (p : ℕ → Bool) (ns : List ℕ) (i n : ℕ) → i < length ns → n ≡ slice_index ns i → list_any p (drop i ns) ≡ (p n || list_any p (drop (i + 1) ns))
 any_next p ns i n lt e = rw e (ap (list_any p) (drop_more ns i 0 lt))
@@ -27,3 +29,11 @@ enough_next child ns i n lt e = rw e (ap (enough_among child) (drop_more ns i 0 
 pub enough_end : (child : Bool) (ns : List ℕ) (i : ℕ) → length ns ≤ i → enough_among child (drop i ns) ≡ 0
 unfolding enough_among
 enough_end child ns i le = ap (enough_among child) (drop_all i ns le)
+
+-- in a dictionary that is no child so many types are enough as a number says
+pub enough_plain : (child : Bool) (n : ℕ) → child ≡ false → n ≡ enough_for child n
+enough_plain child n plain = rw plain (go (eqb n 0) refl)
+  where
+    go : (none : Bool) → eqb n 0 ≡ none → n ≡ enough_at n (cond none Nowhere (Own (n - 1)))
+    go true e = let is : n ≡ 0 = eqb-true n 0 e in rw is refl
+    go false e = let other = eqb-false n 0 e in let same : n ≡ n - 1 + 1 = omega (arith, other) in same

@@ -2,7 +2,7 @@
 use Rattle.std.proofs.Common.{◌≡◌, ℕ, zero, suc, ◌+◌, Bool, true, false, cond, eqb, ltb, drop, List, [], ◌∷◌, ◌++◌, length, Option, Some, None, Result, refl, sym, ap, subst, ◌∙◌, arith, ◌⊎◌, inl, inr}
 use Rattle.std.specs.Prelude.{map}
 use Rattle.std.specs.Option.{option_or}
-use Rattle.ctf_model.specs.rules.Faults.{or_later, first_broken, header_rules, header_fault, on_ctf, walk_fault, types, place_of, truncated, bad_kind, too_many, bad_name, bad_reference, value_deep, decl_deep, bad_funcs, bad_symbol_type, bad_symtab, edges_by, first_nameless, sites, rules, first_fault}
+use Rattle.ctf_model.specs.rules.Faults.{or_later, first_broken, header_rules, header_fault, on_ctf, walk_fault, types, place_of, cut_record, bad_kind, too_many, bad_name, bad_reference, value_deep, decl_deep, bad_funcs, bad_symbol_type, bad_symtab, edges_by, first_nameless, sites, rules, first_fault}
 use Rattle.ctf_model.specs.format.Header.{fields, is_child, section}
 use Rattle.ctf_model.specs.format.Lists.{Lists, tables}
 use Rattle.ctf_model.specs.format.Section.{Piece, record_or_stop, walk, front_len, records}
@@ -84,7 +84,7 @@ from_names s = or_later 13 (bad_name s) (option_or (of_types s) (symbols_fault s
 stages : (s : Lists) → first_fault s ≡ option_or (header_fault s.ctf) (option_or (records_fault (types s.ctf)) (from_names s))
 unfolding first_fault rules bad_reference edges_by
 stages s =
-    first_append 1 (map on_ctf header_rules) (truncated ∷ bad_kind ∷ too_many ∷ bad_name ∷ bad_reference ∷ value_deep ∷ decl_deep ∷ bad_funcs ∷ bad_symbol_type ∷ bad_symtab ∷ []) s
+    first_append 1 (map on_ctf header_rules) (cut_record ∷ bad_kind ∷ too_many ∷ bad_name ∷ bad_reference ∷ value_deep ∷ decl_deep ∷ bad_funcs ∷ bad_symbol_type ∷ bad_symtab ∷ []) s
     ∙ ap (option_or (header_fault s.ctf)) (records_stage (walk_fault (types s.ctf)) (ltb 32766 (length (types s.ctf))) (or_later 13 (bad_name s) (or_later 14 (bad_reference s) (or_later 15 (value_deep s) (or_later 16 (decl_deep s) (symbols_fault s))))) (types_stop s.ctf)
     ∙ ap (λ (f : Option Fault). option_or (records_fault (types s.ctf)) (or_later 13 (bad_name s) f)) (types_stage (bad_reference s) (value_deep s) (decl_deep s) (symbols_fault s)))
 
@@ -106,7 +106,7 @@ pub before_chains : (s : Lists) → header_fault s.ctf ≡ None → records_faul
 unfolding fault_before_chains rules
 before_chains s header few named there =
     let last = or_later 13 (bad_name s) (or_later 14 (bad_reference s) None) in
-    let staged = first_append 1 (map on_ctf header_rules) (truncated ∷ bad_kind ∷ too_many ∷ bad_name ∷ bad_reference ∷ []) s
+    let staged = first_append 1 (map on_ctf header_rules) (cut_record ∷ bad_kind ∷ too_many ∷ bad_name ∷ bad_reference ∷ []) s
     ∙ ap (option_or (header_fault s.ctf)) (records_stage (walk_fault (types s.ctf)) (ltb 32766 (length (types s.ctf))) last (types_stop s.ctf)) in
     staged ∙ rw (header, few, named, there) refl
 

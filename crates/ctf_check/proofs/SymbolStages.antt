@@ -8,18 +8,18 @@ use Rattle.ctf_model.specs.declared.faults.Fault.{Fault}
 use Rattle.ctf_model.specs.declared.faults.TheConstants.Fault.{BAD_FUNCS, BAD_SYMBOL_TYPE}
 use Rattle.ctf_model.specs.format.Header.{fields, is_child, section}
 use Rattle.ctf_model.specs.format.Lists.{Lists}
-use Rattle.ctf_model.specs.symbols.Symbols.{Symbol, symbols, symbols_of, considered}
+use Rattle.ctf_model.specs.symbols.Symbols.{Symbol, symbols, symbols_of, with_types}
 use Rattle.ctf_model.specs.declared.sections.Section.TheVariants.{SObjects, SFunctions}
 use Rattle.ctf_entries.specs.Sound.{bad_place}
 use Rattle.ctf_check.specs.Stages.{entries_fault, first_mistold, symbols_fault}
 
 -- ---- the parts that the code reads
 
-pub funcs_are : (s : Lists) (table functions : List ℕ) → table ≡ unwrap_or s.sym [] → functions ≡ section s.ctf SFunctions → bad_place (considered (symbols_of s.strs table)) functions ≡ bad_funcs s
+pub funcs_are : (s : Lists) (table functions : List ℕ) → table ≡ unwrap_or s.sym [] → functions ≡ section s.ctf SFunctions → bad_place (with_types (symbols_of s.strs table)) functions ≡ bad_funcs s
 unfolding bad_place bad_funcs function_sites symbols
 funcs_are s table functions e f = rw (e, f) refl
 
-pub entries_are : (s : Lists) (table objects functions : List ℕ) → table ≡ unwrap_or s.sym [] → objects ≡ section s.ctf SObjects → functions ≡ section s.ctf SFunctions → entries_of (considered (symbols_of s.strs table)) objects functions ≡ entries s
+pub entries_are : (s : Lists) (table objects functions : List ℕ) → table ≡ unwrap_or s.sym [] → objects ≡ section s.ctf SObjects → functions ≡ section s.ctf SFunctions → entries_of (with_types (symbols_of s.strs table)) objects functions ≡ entries s
 unfolding entries symbols
 entries_are s table objects functions e o f = rw (e, o, f) refl
 
@@ -30,7 +30,7 @@ mistold_are s child count es e c n = rw (e, c, n) refl
 -- ---- stage by stage
 
 -- the fault of the entries is that of the two rules
-pub entries_fault_is : (s : Lists) (child : Bool) (count : ℕ) (strs : Option (List ℕ)) (table objects functions : List ℕ) (xs : List (ℕ × Symbol)) → xs ≡ considered (symbols_of strs table) → strs ≡ s.strs → table ≡ unwrap_or s.sym [] → objects ≡ section s.ctf SObjects → functions ≡ section s.ctf SFunctions → child ≡ is_child (fields s.ctf) → count ≡ length (types s.ctf)
+pub entries_fault_is : (s : Lists) (child : Bool) (count : ℕ) (strs : Option (List ℕ)) (table objects functions : List ℕ) (xs : List (ℕ × Symbol)) → xs ≡ with_types (symbols_of strs table) → strs ≡ s.strs → table ≡ unwrap_or s.sym [] → objects ≡ section s.ctf SObjects → functions ≡ section s.ctf SFunctions → child ≡ is_child (fields s.ctf) → count ≡ length (types s.ctf)
     → entries_fault child count xs objects functions ≡ or_later BAD_FUNCS (bad_funcs s) (or_later BAD_SYMBOL_TYPE (bad_symbol_type s) None)
 entries_fault_is s child count strs table objects functions xs all names e o f c n =
     rw (all, names, funcs_are s table functions e f, mistold_are s child count _ (entries_are s table objects functions e o f) c n) refl

@@ -2,7 +2,7 @@
 use Rattle.std.specs.Option.{option_map}
 use Rattle.ctf_model.specs.format.Shown as shown
 use Rattle.ctf_records.specs.RecordView.{tag_of}
-use Rattle.ctf_views.specs.VariantView.{seen}
+use Rattle.ctf_views.specs.VariantView.{shown_of}
 use Rattle.ctf_check.specs.declared.facts.Facts.{Facts}
 use Rattle.ctf_check.specs.declared.facts.Shape.{Shape}
 
@@ -13,7 +13,7 @@ shape_view x =
       size = x.size;
       reference = option_map (λ t. t.0) x.reference;
       declares = option_map tag_of x.declares;
-      behind = seen x.behind;
+      behind = shown_of x.behind;
     }
 
 abbrev pub facts_view : Facts → shown.Facts

@@ -1,8 +1,8 @@
 -- What lists show that are owned or lent.
 use Rattle.std.specs.Prelude.{Bool, true, false}
 use Rattle.ctf_check.specs.ListsView.{lists_in}
-use Rattle.ctf_check.specs.declared.held.HeldLists.{HeldLists}
-use Rattle.ctf_check.specs.declared.held.HeldLists.TheVariants.{Owned, Lent}
+use Rattle.ctf_check.specs.declared.holding.HeldLists.{HeldLists}
+use Rattle.ctf_check.specs.declared.holding.HeldLists.TheVariants.{Owned, Lent}
 use Rattle.ctf_model.specs.format.Lists.{Lists}
 use Rattle.ctf_model.specs.format.OwnedLists.{lists_owned}
 

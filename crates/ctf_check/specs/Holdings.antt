@@ -13,8 +13,8 @@ pub record Holding : Type 0 where
 abbrev pub owning : Lists → DataModel → Holding
 owning lists model = record { kept = record { lists = lists; model = model }; owned = true }
 
-abbrev pub lent : Lists → DataModel → Holding
-lent lists model = record { kept = record { lists = lists; model = model }; owned = false }
+abbrev pub lent_holding : Lists → DataModel → Holding
+lent_holding lists model = record { kept = record { lists = lists; model = model }; owned = false }
 
 -- the lists that are its own, if they are
 abbrev pub lists_owned_by : Holding → Option Lists

@@ -17,5 +17,5 @@ abbrev pub record_in : Typed → Record
 record_in x = x.source
 
 -- the type that its record spells; there is one
-abbrev pub spelled : Typed → Option Term
-spelled x = term_of (tables_of x.dictionary) (bytes_of x.source)
+abbrev pub term_in : Typed → Option Term
+term_in x = term_of (tables_of x.dictionary) (bytes_of x.source)

@@ -51,12 +51,12 @@ fn bad_in_items(
     start: usize,
     len: usize,
     count: usize,
-    ends: NameEnds<'_>,
+    ends: &NameEnds<'_>,
 ) -> Option<u64>
     requires named { 4 ≤ len × len ≤ 16 }
     requires room { len * count ≤ length list.now }
     requires near { start + length list.now < 2 ^ 64 }
-    ensures { result ≡ first_nameless (tables_in ends.entry) (item_sites start len count list.now) }
+    ensures { result ≡ first_nameless (tables_in ends.now) (item_sites start len count list.now) }
 {
     for i in 0..count {
         let at = len * i;
@@ -70,9 +70,9 @@ fn bad_in_items(
 /// The first of the names in the list of a record that is bad: its place in the dictionary, where
 /// the record begins at `start`.
 #[tactic(auto, unfolding(ctf_model::specs::rules::Faults::first_nameless))]
-fn bad_in_list(term: &Record<'_>, start: usize, ends: NameEnds<'_>) -> Option<u64>
+fn bad_in_list(term: &Record<'_>, start: usize, ends: &NameEnds<'_>) -> Option<u64>
     requires near { start + length (bytes_of term.now) < 2 ^ 64 }
-    ensures { result ≡ first_nameless (tables_in ends.entry)
+    ensures { result ≡ first_nameless (tables_in ends.now)
         (list_sites start (bytes_of term.now) (kind_in (bytes_of term.now))) }
 {
     let rest = term.rest();
@@ -89,9 +89,9 @@ fn bad_in_list(term: &Record<'_>, start: usize, ends: NameEnds<'_>) -> Option<u6
 /// The first of the names of a record that is bad: its place in the dictionary, where the record
 /// begins at `start`.
 #[tactic(auto, unfolding(ctf_model::specs::rules::Faults::first_nameless))]
-pub fn bad_in_record(term: &Record<'_>, start: usize, ends: NameEnds<'_>) -> Option<u64>
+pub fn bad_in_record(term: &Record<'_>, start: usize, ends: &NameEnds<'_>) -> Option<u64>
     requires near { start + length (bytes_of term.now) < 2 ^ 64 }
-    ensures { result ≡ first_nameless (tables_in ends.entry) (own_sites start (bytes_of term.now)) }
+    ensures { result ≡ first_nameless (tables_in ends.now) (own_sites start (bytes_of term.now)) }
 {
     if ends.names_nothing(term.name_ref()) {
         return Some(start as u64);

@@ -5,7 +5,7 @@ ghost use Rattle.ctf_model.specs.format.Dictionary.{denoted, text_or_empty};
 ghost use Rattle.ctf_chains.specs.Starts.{starts_in};
 ghost use Rattle.ctf_model.specs.rules.Faults.{first_fault, walk_fault};
 ghost use Rattle.ctf_model.specs.format.Header.{section as section_of};
-ghost use Rattle.ctf_model.specs.rules.Needs.{needed};
+ghost use Rattle.ctf_model.specs.rules.Needs.{greatest_needed};
 ghost use Rattle.ctf_model.specs.format.Spelling.{term_of};
 ghost use Rattle.ctf_sections.specs.StringsView.{tables};
 ghost use Rattle.ctf_check.specs.ListsView.{lists_in};
@@ -13,7 +13,7 @@ ghost use Rattle.ctf_model.specs.format.Section.{records};
 ghost use Rattle.ctf_model.specs.format.Shown.{shown};
 ghost use Rattle.ctf_records.specs.Pieces.{piece_numbered};
 ghost use Rattle.ctf_records.specs.RecordView.{piece};
-ghost use Rattle.ctf_views.specs.VariantView.{seen};
+ghost use Rattle.ctf_views.specs.VariantView.{shown_of};
 
 use crate::judged::Judged;
 use crate::lists::LentLists;
@@ -75,7 +75,7 @@ impl<'a> Checked<'a> {
     }
 
     /// The name of a reference of the dictionary.
-    fn named(&self, reference: u32) -> &'a [u8]
+    fn name_at(&self, reference: u32) -> &'a [u8]
         ensures { result.now ≡ text_or_empty (tables_of self.now) reference }
     {
         match self.strings().name(reference) {
@@ -104,7 +104,7 @@ impl<'a> Checked<'a> {
     pub fn parname(&self) -> &'a [u8]
         ensures { result.now ≡ (dictionary_of self.now).parname }
     {
-        self.named(self.judged.header().parname())
+        self.name_at(self.judged.header().parname())
     }
 
     /// The label up to which it uses its parent.
@@ -112,7 +112,7 @@ impl<'a> Checked<'a> {
     pub fn parlabel(&self) -> &'a [u8]
         ensures { result.now ≡ (dictionary_of self.now).parlabel }
     {
-        self.named(self.judged.header().parlabel())
+        self.name_at(self.judged.header().parlabel())
     }
 
     /// The record of an own type; they count from 1. It is found in constant time.
@@ -133,7 +133,7 @@ impl<'a> Checked<'a> {
     ///
     /// Reads each member, argument and symbol once.
     pub fn needs(&self) -> u16
-        ensures { result ≡ needed (dictionary_of self.now) }
+        ensures { result ≡ greatest_needed (dictionary_of self.now) }
     {
         if self.child() {
             greater(
@@ -152,7 +152,7 @@ impl<'a> Checked<'a> {
         ensures { option_map (λ x. x.name) (term_of (tables_of self.now) (bytes_of term.now))
             ≡ Some result.now }
     {
-        self.named(term.name_ref())
+        self.name_at(term.name_ref())
     }
 
     /// What stands behind the head of a type of the dictionary.
@@ -160,7 +160,7 @@ impl<'a> Checked<'a> {
     pub fn variant(&self, term: &Record<'a>) -> Variant<'a>
         requires own { IsOwn self.now term.now }
         ensures { option_map (λ x. shown x.body) (term_of (tables_of self.now) (bytes_of term.now))
-            ≡ Some (seen result) }
+            ≡ Some (shown_of result) }
     {
         variant(term, self.strings())
     }

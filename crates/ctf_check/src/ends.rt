@@ -1,17 +1,24 @@
 //! Which references name something, told by where names end, without reading the names.
-ghost use Rattle.std.specs.Prelude.{◌≡◌, Some, is_none};
+ghost use Rattle.std.specs.Prelude.{◌≡◌, ◌≤◌, ◌^◌, Some, is_none};
 ghost use Rattle.ctf_model.specs.format.Name.{name};
 ghost use Rattle.ctf_sections.specs.StringsView.{tables};
 ghost use Rattle.ctf_sections.specs.TableEnds.{EndsAt};
 
 use ctf_sections::{Strings, end_of_names};
 
+/// A reference below this is to the internal table, and is its offset there.
+const INTERNAL: usize = 0x8000_0000;
+
 /// The tables of names, with the place behind the last name of each; 0 where a table is absent.
 #[derive(Clone, Copy)]
 pub struct NameEnds<'a> {
     strings: Strings<'a>,
+    /// Each reference below this names something: it is told by one compare.
+    plain_end: usize,
     internal_end: usize,
     elf_end: usize,
+    ghost plain: { plain_end ≤ internal_end },
+    ghost low: { plain_end ≤ 2 ^ 31 },
     ghost internal: { EndsAt (Some (tables strings).internal) internal_end },
     ghost elf: { EndsAt (tables strings).elf elf_end },
 }
@@ -28,15 +35,28 @@ impl<'a> NameEnds<'a> {
             Some(table) => end_of_names(table),
             None => 0,
         };
+        let internal_end = end_of_names(internal);
         NameEnds {
             strings: Strings::new(internal, elf),
-            internal_end: end_of_names(internal),
+            plain_end: internal_end.min(INTERNAL),
+            internal_end,
             elf_end,
         }
     }
 
     /// Whether a reference names nothing.
+    #[inline(always)]
     pub fn names_nothing(self, reference: u32) -> bool
+        ensures { result ≡ is_none (name (tables_in self.entry) reference) }
+    {
+        if (reference as usize) < self.plain_end {
+            return false;
+        }
+        self.is_past_the_end(reference)
+    }
+
+    /// The same for any reference, by its table.
+    fn is_past_the_end(self, reference: u32) -> bool
         ensures { result ≡ is_none (name (tables_in self.entry) reference) }
     {
         let offset = (reference & 0x7fff_ffff) as usize;

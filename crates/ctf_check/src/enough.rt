@@ -1,5 +1,5 @@
-//! How many types are enough, so that none that a record names is missing: it is told before the
-//! types are counted.
+//! An upper bound on the type numbers that records refer to, computed before the types are
+//! counted.
 ghost use Rattle.std.specs.Prelude.{◌≡◌, max};
 ghost use Rattle.ctf_records.specs.ListedTypes.{listed_types};
 ghost use Rattle.ctf_records.specs.RecordView.{bytes_of};
@@ -19,9 +19,14 @@ pub fn more(a: usize, b: usize) -> usize
 }
 
 /// How many are enough for a number.
+#[tactic(auto, using(crate::proofs::Listed::enough_plain))]
+#[inline(always)]
 fn enough_for(child: bool, number: TypeNum) -> usize
     ensures { result ≡ enough_for_number child number.0 }
 {
+    if !child {
+        return usize::from(number.0);
+    }
     match number.place(child) {
         Place::Nowhere => { if number.0 == 0 { 0 } else { TOO_MANY } }
         Place::Own(i) => i + 1,

@@ -17,7 +17,7 @@ use crate::lists::LentLists;
 use crate::references::{Numbers, bad_reference};
 use crate::sections::bytes_in;
 use crate::symbols::judge_symbols;
-use crate::walked::walk;
+use crate::walk_result::walk;
 use ctf_chains::Starts;
 use ctf_model::{Fault, Section};
 use ctf_sections::Header;

@@ -2,7 +2,7 @@
 ghost use Rattle.std.specs.Prelude.{◌≡◌, ◌⊎◌, ◌<◌, ◌^◌, IfOk, IfErr, OnOk, None, Some, length, option_map};
 ghost use Rattle.ctf_chains.specs.Starts.{starts_in};
 ghost use Rattle.ctf_check.specs.CheckedView.{lists_of};
-ghost use Rattle.ctf_check.specs.Holdings.{lent as lent_for, lists_owned_by, owning};
+ghost use Rattle.ctf_check.specs.Holdings.{lent_holding as lent_for, lists_owned_by, owning};
 ghost use Rattle.ctf_check.specs.ListsView.{lists_in};
 ghost use Rattle.ctf_check.specs.Stages.{fault_before_chains};
 ghost use Rattle.ctf_model.specs.format.Header.{fields, section as section_of};
@@ -11,7 +11,7 @@ ghost use Rattle.ctf_model.specs.rules.Faults.{first_fault, types as types_of};
 ghost use Rattle.ctf_model.specs.rules.Refusals.{out_of_memory};
 
 use crate::checked::Checked;
-use crate::held::HeldLists;
+use crate::holding::HeldLists;
 use crate::judge::{Findings, check};
 use crate::lists::{LentLists, lent};
 use crate::sections::bytes_in;
@@ -85,7 +85,7 @@ impl<'a> Judged<'a> {
 
     /// Judges lists that are lent, and keeps them so, or tells the first fault. Where memory is
     /// refused, the rules before those of chains are kept.
-    pub fn lent(alloc: Global, lists: LentLists<'a>, model: DataModel) -> Result<Judged<'a>, Fault>
+    pub fn judge(alloc: Global, lists: LentLists<'a>, model: DataModel) -> Result<Judged<'a>, Fault>
         ensures ok { IfOk result (λ j. j ≡ lent_for (lists_in lists.entry) model) }
         ensures exact_ok { OnOk result (first_fault (lists_in lists.entry) ≡ None) }
         ensures exact_err { IfErr result (λ f. (f ≡ out_of_memory)

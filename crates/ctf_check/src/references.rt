@@ -73,7 +73,7 @@ impl Numbers {
 
 /// The first record that names a type which is not there: its number.
 #[tactic(auto, unfolding(crate::specs::Named::first_that_misnames))]
-fn searched(types: &[u8], numbers: Numbers) -> Option<u64>
+fn search_records(types: &[u8], numbers: Numbers) -> Option<u64>
     ensures { result ≡ first_that_misnames numbers.child numbers.count (records types.now) }
 {
     for record in Records::new(types) {
@@ -85,8 +85,8 @@ fn searched(types: &[u8], numbers: Numbers) -> Option<u64>
     None
 }
 
-/// The same, where it is known how many types are enough for the records: they are read only to find
-/// the one for which there are too few.
+/// The same, where it is known how many types are enough for the records: they are read only to
+/// find the one for which there are too few.
 #[tactic(auto, using(crate::proofs::Served::none_misnames))]
 pub fn bad_reference(types: &[u8], numbers: Numbers, enough: usize) -> Option<u64>
     requires enough { enough ≡ records_enough numbers.child (records types.now) }
@@ -95,5 +95,5 @@ pub fn bad_reference(types: &[u8], numbers: Numbers, enough: usize) -> Option<u6
     if enough <= numbers.count {
         return None;
     }
-    searched(types, numbers)
+    search_records(types, numbers)
 }

@@ -10,7 +10,7 @@ use Rattle.ctf_broker.specs.Table.{Libraries}
 use Rattle.ctf_dump.specs.declared.ends.DumpEnd.{DumpEnd}
 use Rattle.ctf_command.specs.declared.starts.NotStarted.{NotStarted}
 use Rattle.ctf_command.specs.declared.starts.NotStarted.TheVariants.{Misused, File}
-use Rattle.ctf_command.specs.declared.wanted.Wanted.{Wanted}
+use Rattle.ctf_command.specs.declared.publications.Wanted.{Wanted}
 use Rattle.ctf_command.specs.Asked.{Asked, all_asked, asked_of}
 use Rattle.ctf_command.specs.Files.{Readings}
 use Rattle.ctf_command.specs.Started.{HasPublished, IsCutOff, IsPublishedFile, IsUnpublished, IsUnpublishedFile, IsUnstarted, PublishedFile, asked_for, publication_of}

@@ -2,7 +2,7 @@
 use Rattle.std.specs.Prelude.{ℕ, ◌==◌, List, [], ◌∷◌, length, Option, Some, None, nat_lt, if◌then◌else◌}
 use Rattle.std.specs.List.{position_or_len, before_first, after_first}
 use Rattle.ctf_protocol.specs.sessions.Publications.{is_publication_name}
-use Rattle.ctf_command.specs.declared.wanted.Wanted.{Wanted}
+use Rattle.ctf_command.specs.declared.publications.Wanted.{Wanted}
 
 -- a file is to be published under a name
 pub record Asked : Type 0 where

@@ -6,7 +6,7 @@ use Rattle.ctf_broker.specs.Loading.{loads_section, section_alone}
 use Rattle.ctf_broker.specs.Table.{Libraries, library_at}
 use Rattle.ctf_command.specs.Asked.{Asked, all_asked}
 use Rattle.ctf_command.specs.Files.{Readings, longest_file}
-use Rattle.ctf_answers.specs.Replies.{said}
+use Rattle.ctf_answers.specs.Replies.{unaddressed_reply}
 use Rattle.ctf_dump.specs.declared.ends.DumpEnd.{DumpEnd}
 use Rattle.ctf_dump.specs.declared.ends.DumpEnd.TheVariants.{Unread, Refused, Memory, Write}
 use Rattle.ctf_command.specs.declared.starts.NotStarted.{NotStarted}
@@ -66,7 +66,7 @@ IsUnpublished old asked (Err end) why = why ≡ File end
 IsUnpublished old asked (Ok section) (File Memory) = ⊤
 IsUnpublished old asked (Ok section) (File (Refused file fault)) =
     (file.now ≡ asked.file)
-    × ((loads_section asked.name section (library_at old 0)).reply ≡ said (Err fault))
+    × ((loads_section asked.name section (library_at old 0)).reply ≡ unaddressed_reply (Err fault))
 IsUnpublished old asked (Ok section) (File (Unread file)) = ⊥
 IsUnpublished old asked (Ok section) (File Write) = ⊥
 IsUnpublished old asked (Ok section) Misused = ⊥

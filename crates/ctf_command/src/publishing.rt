@@ -7,8 +7,8 @@ ghost use Rattle.ctf_command.specs.Files.{bytes_given};
 ghost use Rattle.ctf_command.specs.Started.{IsPublished, IsPublishedFile, IsStarted, IsUnpublished, IsUnpublishedFile, IsUnstarted};
 
 use crate::files::FileReader;
+use crate::publications::{Wanted, all_wanted, are_wanted};
 use crate::starts::NotStarted;
-use crate::wanted::{Wanted, all_wanted, are_wanted};
 use ctf_dump::DumpEnd;
 use ctf_wire::Broker;
 use std::alloc::Global;

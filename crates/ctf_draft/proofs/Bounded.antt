@@ -6,7 +6,7 @@ use Rattle.std.specs.declared.alloc.Global.{Global}
 use Rattle.std.proofs.lemmas.List.{map-append}
 use Rattle.std.proofs.lemmas.Bool.{ltb-true, ltb-false}
 use Rattle.ctf_model.specs.rules.Chains.{IsWithin, by_value, own_index, own_index_at}
-use Rattle.ctf_model.specs.drafts.Drafts.{Draft, all_of, count_of, held}
+use Rattle.ctf_model.specs.drafts.Drafts.{Draft, all_of, count_of, content}
 use Rattle.ctf_model.specs.figures.FigureLaws.{nothing, own_body, value_edges}
 use Rattle.ctf_model.specs.format.Term.{Body, Term}
 use Rattle.ctf_model.specs.format.Term as term
@@ -44,20 +44,20 @@ module _ (d : Draft) (x : Depths) (ok : IsBounded d x) where
       at None g more = more
       at (Some j) g more = absurd (omega (arith, g, low))
 
-  all_led : (i k : ℕ) (ns : List ℕ) → bound x.bounds.items i ≤ suc k → suc k ≤ 512 → ((j : ℕ) → bound x.bounds.items j ≤ k → IsWithin (value_edges (held d)) k j) → AllByRecursion (IsOverAt d x.bounds.items i) ns → AllByRecursion (IsWithin (value_edges (held d)) k) (filter_map own ns)
+  all_led : (i k : ℕ) (ns : List ℕ) → bound x.bounds.items i ≤ suc k → suc k ≤ 512 → ((j : ℕ) → bound x.bounds.items j ≤ k → IsWithin (value_edges (content d)) k j) → AllByRecursion (IsOverAt d x.bounds.items i) ns → AllByRecursion (IsWithin (value_edges (content d)) k) (filter_map own ns)
   all_led i k [] low short below h = tt
   all_led i k (n ∷ ns) low short below h = at (own n) h.0 (all_led i k ns low short below h.1)
     where
-      at : (o : Option ℕ) → MatchOption o (Unit {0}) (IsOver x.bounds.items i) → AllByRecursion (IsWithin (value_edges (held d)) k) (filter_map own ns) → AllByRecursion (IsWithin (value_edges (held d)) k) (cons_option o (filter_map own ns))
+      at : (o : Option ℕ) → MatchOption o (Unit {0}) (IsOver x.bounds.items i) → AllByRecursion (IsWithin (value_edges (content d)) k) (filter_map own ns) → AllByRecursion (IsWithin (value_edges (content d)) k) (cons_option o (filter_map own ns))
       at None g more = more
       at (Some j) g more = (below j (omega (arith, g, low, short)), more)
 
-  pub within_bound : (k i : ℕ) → bound x.bounds.items i ≤ k → k ≤ 512 → IsWithin (value_edges (held d)) k i
+  pub within_bound : (k i : ℕ) → bound x.bounds.items i ≤ k → k ≤ 512 → IsWithin (value_edges (content d)) k i
   unfolding IsWithin
-  within_bound zero i low short = targets_are (held d) i ∙ none_led i (by_value (own_body (held d) i)) low (ok.over i)
+  within_bound zero i low short = targets_are (content d) i ∙ none_led i (by_value (own_body (content d) i)) low (ok.over i)
   within_bound (suc k) i low short =
-      subst (AllByRecursion (IsWithin (value_edges (held d)) k)) (sym (targets_are (held d) i))
-      (all_led i k (by_value (own_body (held d) i)) low short (λ j l. within_bound k j l (omega (arith, short))) (ok.over i))
+      subst (AllByRecursion (IsWithin (value_edges (content d)) k)) (sym (targets_are (content d) i))
+      (all_led i k (by_value (own_body (content d) i)) low short (λ j l. within_bound k j l (omega (arith, short))) (ok.over i))
 
 -- ---- other bounds of the same types
 
@@ -65,8 +65,8 @@ pub lifted_bounded : (d : Draft) (first : ℕ) (x y : Depths) → length d.updat
 lifted_bounded d first x y count same lifted ok = record {
   over = λ i. both_of (IsOverAt d x.bounds.items i) (IsNotedAt d (above_of x.above.items) i) (IsOverAt d y.bounds.items i)
       (λ n o a. match_both (IsOver x.bounds.items i) (IsNoted (length d.updated.terms) (above_of x.above.items) i) (IsOver y.bounds.items i) (λ j. at i j) (own_index (is_some d.parent) (count_of d) n) o a)
-      (by_value (own_body (held d) i)) (ok.over i) (ok.noted i);
-  noted = λ i. subst (λ (ls : List (Vec ℕ Global)). AllByRecursion (IsNotedAt d (above_of ls) i) (by_value (own_body (held d) i))) (sym same) (ok.noted i);
+      (by_value (own_body (content d) i)) (ok.over i) (ok.noted i);
+  noted = λ i. subst (λ (ls : List (Vec ℕ Global)). AllByRecursion (IsNotedAt d (above_of ls) i) (by_value (own_body (content d) i))) (sym same) (ok.noted i);
 }
   where
     at : (i j : ℕ) → IsOver x.bounds.items i j → IsNoted (length d.updated.terms) (above_of x.above.items) i j → IsOver y.bounds.items i j
@@ -76,10 +76,10 @@ lifted_bounded d first x y count same lifted ok = record {
 
 pub noted_bounded : (d : Draft) (x y : Depths) → y.bounds.items ≡ x.bounds.items → ((k p : ℕ) → IsAbove (above_of x.above.items) k p → IsAbove (above_of y.above.items) k p) → IsBounded d x → IsBounded d y
 noted_bounded d x y same grows ok = record {
-  over = λ i. subst (λ (bs : List ℕ). AllByRecursion (IsOverAt d bs i) (by_value (own_body (held d) i))) (sym same) (ok.over i);
+  over = λ i. subst (λ (bs : List ℕ). AllByRecursion (IsOverAt d bs i) (by_value (own_body (content d) i))) (sym same) (ok.over i);
   noted = λ i. all_map (IsNotedAt d (above_of x.above.items) i) (IsNotedAt d (above_of y.above.items) i)
       (λ n. match_of (IsNoted (length d.updated.terms) (above_of x.above.items) i) (IsNoted (length d.updated.terms) (above_of y.above.items) i) (λ j. at i j) (own_index (is_some d.parent) (count_of d) n))
-      (by_value (own_body (held d) i)) (ok.noted i);
+      (by_value (own_body (content d) i)) (ok.noted i);
 }
   where
     at : (i j : ℕ) → IsNoted (length d.updated.terms) (above_of x.above.items) i j → IsNoted (length d.updated.terms) (above_of y.above.items) i j
@@ -92,8 +92,8 @@ none_over bounds i j none = rw none (omega arith)
 
 pub cleared_bounded : (d : Draft) (x y : Depths) → y.bounds.items ≡ [] → y.above.items ≡ x.above.items → IsBounded d x → IsBounded d y
 cleared_bounded d x y none same ok = record {
-  over = λ i. each_of (IsOverAt d y.bounds.items i) (λ n. at i (own_index (is_some d.parent) (count_of d) n)) (by_value (own_body (held d) i));
-  noted = λ i. subst (λ (ls : List (Vec ℕ Global)). AllByRecursion (IsNotedAt d (above_of ls) i) (by_value (own_body (held d) i))) (sym same) (ok.noted i);
+  over = λ i. each_of (IsOverAt d y.bounds.items i) (λ n. at i (own_index (is_some d.parent) (count_of d) n)) (by_value (own_body (content d) i));
+  noted = λ i. subst (λ (ls : List (Vec ℕ Global)). AllByRecursion (IsNotedAt d (above_of ls) i) (by_value (own_body (content d) i))) (sym same) (ok.noted i);
 }
   where
     at : (i : ℕ) (o : Option ℕ) → MatchOption o (Unit {0}) (IsOver y.bounds.items i)
@@ -126,7 +126,7 @@ past_end (x ∷ ts) (suc i) le = past_end ts i (omega arith)
 pub front_bounded : (d : Draft) (count : ℕ) (x y : Depths) → count_of d ≡ count → y.above.items ≡ x.above.items → ((k : ℕ) → k < count → bound y.bounds.items k ≡ bound x.bounds.items k) → IsBounded d x → IsBounded d y
 front_bounded d count x y all same front ok = record {
   over = λ i. at i (low_or_high i count);
-  noted = λ i. subst (λ (ls : List (Vec ℕ Global)). AllByRecursion (IsNotedAt d (above_of ls) i) (by_value (own_body (held d) i))) (sym same) (ok.noted i);
+  noted = λ i. subst (λ (ls : List (Vec ℕ Global)). AllByRecursion (IsNotedAt d (above_of ls) i) (by_value (own_body (content d) i))) (sym same) (ok.noted i);
 }
   where
     here : (i n : ℕ) → i < count → (o : Option ℕ) → own_index (is_some d.parent) (count_of d) n ≡ o → MatchOption o (Unit {0}) (IsOver x.bounds.items i) → MatchOption o (Unit {0}) (IsOver y.bounds.items i)
@@ -137,17 +137,17 @@ front_bounded d count x y all same front ok = record {
         let b = front j (omega (arith, all, low)) in
         omega (arith, h, a, b)
 
-    at : (i : ℕ) → (i < count) ⊎ (count ≤ i) → AllByRecursion (IsOverAt d y.bounds.items i) (by_value (own_body (held d) i))
-    at i (inl lt) = all_map (IsOverAt d x.bounds.items i) (IsOverAt d y.bounds.items i) (λ n. here i n lt (own_index (is_some d.parent) (count_of d) n) refl) (by_value (own_body (held d) i)) (ok.over i)
+    at : (i : ℕ) → (i < count) ⊎ (count ≤ i) → AllByRecursion (IsOverAt d y.bounds.items i) (by_value (own_body (content d) i))
+    at i (inl lt) = all_map (IsOverAt d x.bounds.items i) (IsOverAt d y.bounds.items i) (λ n. here i n lt (own_index (is_some d.parent) (count_of d) n) refl) (by_value (own_body (content d) i)) (ok.over i)
     at i (inr le) = subst (λ (b : Body). AllByRecursion (IsOverAt d y.bounds.items i) (by_value b)) (sym (past_end (all_of d).terms i (omega (arith, all, le)))) tt
 
 -- ---- other types
 
 abbrev Over : Draft → Depths → ℕ → Type 0
-Over d x i = AllByRecursion (IsOverAt d x.bounds.items i) (by_value (own_body (held d) i))
+Over d x i = AllByRecursion (IsOverAt d x.bounds.items i) (by_value (own_body (content d) i))
 
 abbrev Noted : Draft → Depths → ℕ → Type 0
-Noted d x i = AllByRecursion (IsNotedAt d (above_of x.above.items) i) (by_value (own_body (held d) i))
+Noted d x i = AllByRecursion (IsNotedAt d (above_of x.above.items) i) (by_value (own_body (content d) i))
 
 -- numbers that name what they did
 abbrev pub SameAt : Draft → Draft → ℕ → Type 0
@@ -172,10 +172,10 @@ module _ (d e : Draft) (x : Depths) (border : length d.updated.terms ≤ length 
   noted_still i ns same h = both_of (SameAt d e) (IsNotedAt d (above_of x.above.items) i) (IsNotedAt e (above_of x.above.items) i) (λ n. noted_same i n) ns same h
 
   -- the same types, by the numbers that they lead to
-  pub same_bounded : ((i : ℕ) → (by_value (own_body (held e) i) ≡ by_value (own_body (held d) i)) × AllByRecursion (SameAt d e) (by_value (own_body (held d) i))) → IsBounded d x → IsBounded e x
+  pub same_bounded : ((i : ℕ) → (by_value (own_body (content e) i) ≡ by_value (own_body (content d) i)) × AllByRecursion (SameAt d e) (by_value (own_body (content d) i))) → IsBounded d x → IsBounded e x
   same_bounded each ok = record {
-    over = λ i. let h = each i in subst (AllByRecursion (IsOverAt e x.bounds.items i)) (sym h.0) (over_still i (by_value (own_body (held d) i)) h.1 (ok.over i));
-    noted = λ i. let h = each i in subst (AllByRecursion (IsNotedAt e (above_of x.above.items) i)) (sym h.0) (noted_still i (by_value (own_body (held d) i)) h.1 (ok.noted i));
+    over = λ i. let h = each i in subst (AllByRecursion (IsOverAt e x.bounds.items i)) (sym h.0) (over_still i (by_value (own_body (content d) i)) h.1 (ok.over i));
+    noted = λ i. let h = each i in subst (AllByRecursion (IsNotedAt e (above_of x.above.items) i)) (sym h.0) (noted_still i (by_value (own_body (content d) i)) h.1 (ok.noted i));
   }
 
 -- ---- members and enumerators by value

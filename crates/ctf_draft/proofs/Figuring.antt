@@ -4,7 +4,7 @@ use Rattle.std.specs.Prelude.{MatchOption, slice_get, option_map}
 use Rattle.std.proofs.lemmas.Option.{slice_get_within}
 use Rattle.ctf_model.specs.rules.Chains.{own_index}
 use Rattle.ctf_model.specs.format.Dictionary.{Dictionary}
-use Rattle.ctf_model.specs.drafts.Drafts.{Draft, count_of, held}
+use Rattle.ctf_model.specs.drafts.Drafts.{Draft, count_of, content}
 use Rattle.ctf_model.specs.figures.Figures.{Figure, align_body, aligning, at_place, comes_to, figure_in, incomplete, of_found, parents_figure, resolved_body, resolving, size_body, sizing}
 use Rattle.ctf_model.specs.format.Term.{Body, Term}
 use Rattle.ctf_model.specs.format.Term as term
@@ -16,9 +16,9 @@ use Rattle.ctf_model.specs.declared.numbers.Place.{Place}
 use Rattle.ctf_model.specs.declared.numbers.Place.TheVariants.{Nowhere, Own, Parents}
 use Rattle.ctf_model.proofs.OwnTypes.{not_zero, own_inside, own_of, own_positive}
 use Rattle.ctf_model.proofs.Settled.{of_parents}
-use Rattle.ctf_space.specs.SpaceView.{alone}
+use Rattle.ctf_space.specs.SpaceView.{space_alone}
 use Rattle.ctf_draft.specs.Elsewhere.{NamesNone}
-use Rattle.ctf_draft.specs.Sizing.{renamed, sized}
+use Rattle.ctf_draft.specs.Sizing.{alias_target, size_from}
 use Rattle.ctf_draft.specs.declared.sizing.Sizing.{Sizing}
 
 module _ (figure : Figure) (parents : ℕ → Result ℕ Fault) (d : Dictionary) (k n : ℕ) where
@@ -81,7 +81,7 @@ module _ (figure : Figure) (parents : ℕ → Result ℕ Fault) (d : Dictionary)
   elsewhere_at lt r h = h (most - 1) ∙ sym (some_follow lt)
 
 -- by what its size hangs on
-pub by_sizing : (said model : DataModel) → said ≡ model → (parents : ℕ → Result ℕ Fault) (d : Dictionary) (most n : ℕ) → 0 < most → (i : ℕ) (body : Body) (s : Sizing) → own_index d.child (length d.terms) n ≡ Some i → option_map (λ x. x.body) (slice_get d.terms i) ≡ Some body → ((f : ℕ → Result ℕ Fault) → size_body said f body ≡ sized f s) → comes_to (sizing model) parents d most n ≡ sized (comes_to (sizing model) parents d (most - 1)) s
+pub by_sizing : (said model : DataModel) → said ≡ model → (parents : ℕ → Result ℕ Fault) (d : Dictionary) (most n : ℕ) → 0 < most → (i : ℕ) (body : Body) (s : Sizing) → own_index d.child (length d.terms) n ≡ Some i → option_map (λ x. x.body) (slice_get d.terms i) ≡ Some body → ((f : ℕ → Result ℕ Fault) → size_body said f body ≡ size_from f s) → comes_to (sizing model) parents d most n ≡ size_from (comes_to (sizing model) parents d (most - 1)) s
 by_sizing said model same parents d most n lt i body s own got says =
     let f = comes_to (sizing model) parents d (most - 1) in
     own_at (sizing model) parents d most n lt i body own got ∙ ap (λ (m : DataModel). size_body m f body) (sym same) ∙ says f
@@ -90,7 +90,7 @@ abbrev pub by_renamed : (ℕ → Result ℕ Fault) → ℕ → Option ℕ → Re
 by_renamed f n None = Ok n
 by_renamed f n (Some t) = f t
 
-renamed_says : (f : ℕ → Result ℕ Fault) (n : ℕ) (body : Body) → resolved_body f n body ≡ by_renamed f n (renamed body)
+renamed_says : (f : ℕ → Result ℕ Fault) (n : ℕ) (body : Body) → resolved_body f n body ≡ by_renamed f n (alias_target body)
 renamed_says f n (term.typedef t) = refl
 renamed_says f n (term.volatile t) = refl
 renamed_says f n (term.const t) = refl
@@ -107,7 +107,7 @@ renamed_says f n (term.forward t) = refl
 renamed_says f n term.unknown = refl
 
 -- by the type that it stands for
-pub by_renaming : (parents : ℕ → Result ℕ Fault) (d : Dictionary) (most n : ℕ) → 0 < most → (i : ℕ) (body : Body) (t : Option ℕ) → own_index d.child (length d.terms) n ≡ Some i → option_map (λ x. x.body) (slice_get d.terms i) ≡ Some body → t ≡ renamed body → comes_to resolving parents d most n ≡ by_renamed (comes_to resolving parents d (most - 1)) n t
+pub by_renaming : (parents : ℕ → Result ℕ Fault) (d : Dictionary) (most n : ℕ) → 0 < most → (i : ℕ) (body : Body) (t : Option ℕ) → own_index d.child (length d.terms) n ≡ Some i → option_map (λ x. x.body) (slice_get d.terms i) ≡ Some body → t ≡ alias_target body → comes_to resolving parents d most n ≡ by_renamed (comes_to resolving parents d (most - 1)) n t
 by_renaming parents d most n lt i body t own got says =
     let f = comes_to resolving parents d (most - 1) in
     own_at resolving parents d most n lt i body own got ∙ renamed_says f n body ∙ ap (by_renamed f n) (sym says)
@@ -124,22 +124,22 @@ no_parents n i e = at (eqb n 0) e
 
 pub named_by_none : (d : Draft) (n : ℕ) → d.parent ≡ None → 0 < n → own_index (is_some d.parent) (count_of d) n ≡ None → NamesNone d n
 named_by_none d n none some not_own = record {
-  refused = λ figure k. missing_step figure (parents_figure figure d.parent) (held d) k n some (λ i at. no_parents n i (rw none at at)) not_own;
+  refused = λ figure k. missing_step figure (parents_figure figure d.parent) (content d) k n some (λ i at. no_parents n i (rw none at at)) not_own;
 }
 
 pub named_nowhere : (d : Draft) (n : ℕ) → is_some d.parent ≡ true → ((i : ℕ) → place true n ≡ Parents i → ⊥) → 0 < n → own_index (is_some d.parent) (count_of d) n ≡ None → NamesNone d n
 named_nowhere d n child other some not_own = record {
-  refused = λ figure k. missing_step figure (parents_figure figure d.parent) (held d) k n some (λ i at. other i (rw child at at)) not_own;
+  refused = λ figure k. missing_step figure (parents_figure figure d.parent) (content d) k n some (λ i at. other i (rw child at at)) not_own;
 }
 
 -- a parent's type comes to what it does in the parent alone
-pub parents_step : (d : Draft) (p : Dictionary) (model : DataModel) (figure : Figure) (k n i : ℕ) → d.parent ≡ Some p → place true n ≡ Parents i → comes_to figure (parents_figure figure d.parent) (held d) (suc k) n ≡ figure_in figure (alone p model) n
+pub parents_step : (d : Draft) (p : Dictionary) (model : DataModel) (figure : Figure) (k n i : ℕ) → d.parent ≡ Some p → place true n ≡ Parents i → comes_to figure (parents_figure figure d.parent) (content d) (suc k) n ≡ figure_in figure (space_alone p model) n
 parents_step d p model figure k n i is at =
     let here : place (is_some d.parent) n ≡ Parents i = rw is at in
-    of_parents figure (parents_figure figure d.parent) (held d) k n i here ∙ ap (λ (q : Option Dictionary). parents_figure figure q n) is
+    of_parents figure (parents_figure figure d.parent) (content d) k n i here ∙ ap (λ (q : Option Dictionary). parents_figure figure q n) is
 
 -- by what its alignment hangs on
-pub by_aligning : (said model : DataModel) → said ≡ model → (parents : ℕ → Result ℕ Fault) (d : Dictionary) (most n : ℕ) → 0 < most → (i : ℕ) (body : Body) (s : Sizing) → own_index d.child (length d.terms) n ≡ Some i → option_map (λ x. x.body) (slice_get d.terms i) ≡ Some body → ((f : ℕ → Result ℕ Fault) → align_body said f body ≡ sized f s) → comes_to (aligning model) parents d most n ≡ sized (comes_to (aligning model) parents d (most - 1)) s
+pub by_aligning : (said model : DataModel) → said ≡ model → (parents : ℕ → Result ℕ Fault) (d : Dictionary) (most n : ℕ) → 0 < most → (i : ℕ) (body : Body) (s : Sizing) → own_index d.child (length d.terms) n ≡ Some i → option_map (λ x. x.body) (slice_get d.terms i) ≡ Some body → ((f : ℕ → Result ℕ Fault) → align_body said f body ≡ size_from f s) → comes_to (aligning model) parents d most n ≡ size_from (comes_to (aligning model) parents d (most - 1)) s
 by_aligning said model same parents d most n lt i body s own got says =
     let f = comes_to (aligning model) parents d (most - 1) in
     own_at (aligning model) parents d most n lt i body own got ∙ ap (λ (m : DataModel). align_body m f body) (sym same) ∙ says f

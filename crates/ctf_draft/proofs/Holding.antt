@@ -7,7 +7,7 @@ use Rattle.std.proofs.lemmas.Grind.{get_or-set_at}
 use Rattle.ctf_chains.proofs.Lists.{same_or_not}
 use Rattle.ctf_model.specs.drafts.Adders.{against_type, with_body, with_enumerator, with_member}
 use Rattle.ctf_model.specs.drafts.DraftLaws.{IsSound}
-use Rattle.ctf_model.specs.drafts.Drafts.{Draft, all_of, count_of, held, is_absent}
+use Rattle.ctf_model.specs.drafts.Drafts.{Draft, all_of, count_of, content, is_absent}
 use Rattle.ctf_model.specs.figures.FigureLaws.{nothing, own_body}
 use Rattle.ctf_model.specs.format.Dictionary.{Dictionary, Label}
 use Rattle.ctf_model.specs.format.Term.{Body, Term}
@@ -71,7 +71,7 @@ module _ (parname parlabel : List ℕ) (parent : Option Dictionary) (model : Dat
       let all = all_same u v x y terms labels others in
       let count : count_of (made x y terms others) ≡ count_of (made u v terms labels) = ap length all in
       same_bounded (made u v terms labels) (made x y terms others) d (omega (arith, length-take u terms, length-take x terms, le, few))
-      (λ i. (ap (λ (ts : List Term). by_value (get_or ts i nothing).body) all, each_of (SameAt (made u v terms labels) (made x y terms others)) (λ n. ap (λ (c : ℕ). own_index (is_some parent) c n) count) (by_value (own_body (held (made u v terms labels)) i)))) ok
+      (λ i. (ap (λ (ts : List Term). by_value (get_or ts i nothing).body) all, each_of (SameAt (made u v terms labels) (made x y terms others)) (λ n. ap (λ (c : ℕ). own_index (is_some parent) c n) count) (by_value (own_body (content (made u v terms labels)) i)))) ok
 
   module _ (d : Depths) (u v : ℕ) (terms : List Term) (labels : List Label) (s : ℕ) (y : Term) where
     changed : Draft
@@ -86,13 +86,13 @@ module _ (parname parlabel : List ℕ) (parent : Option Dictionary) (model : Dat
     numbers_same : (ns : List ℕ) → AllByRecursion (SameAt (made u v terms labels) (made u v (set terms s y) labels)) ns
     numbers_same ns = each_of (SameAt (made u v terms labels) (made u v (set terms s y) labels)) (λ n. ap (λ (c : ℕ). own_index (is_some parent) c n) count_same) ns
 
-    body_other : (j : ℕ) → j ≢ s → own_body (held (made u v (set terms s y) labels)) j ≡ own_body (held (made u v terms labels)) j
+    body_other : (j : ℕ) → j ≢ s → own_body (content (made u v (set terms s y) labels)) j ≡ own_body (content (made u v terms labels)) j
     body_other j other =
         ap (λ (ts : List Term). (get_or ts j nothing).body) (all_terms parname parlabel parent model u v (set terms s y) labels)
         ∙ ap (λ (z : Term). z.body) (get_or-set_other terms s j y nothing other)
         ∙ sym (ap (λ (ts : List Term). (get_or ts j nothing).body) (all_terms parname parlabel parent model u v terms labels))
 
-    body_here : (j : ℕ) → j ≡ s → s < length terms → own_body (held (made u v (set terms s y) labels)) j ≡ y.body
+    body_here : (j : ℕ) → j ≡ s → s < length terms → own_body (content (made u v (set terms s y) labels)) j ≡ y.body
     body_here j same lt =
         ap (λ (ts : List Term). (get_or ts j nothing).body) (all_terms parname parlabel parent model u v (set terms s y) labels)
         ∙ ap (λ (z : Term). z.body) (get_or-set_at terms s j y nothing same lt)
@@ -101,20 +101,20 @@ module _ (parname parlabel : List ℕ) (parent : Option Dictionary) (model : Dat
     pub changed_bounded : s < length terms → AllByRecursion (IsOverAt (made u v terms labels) d.bounds.items s) (by_value y.body) → AllByRecursion (IsNotedAt (made u v terms labels) (above_of d.above.items) s) (by_value y.body) → IsBounded (made u v terms labels) d → IsBounded (made u v (set terms s y) labels) d
     changed_bounded lt over noted ok = record { over = λ i. over_at i (same_or_not i s); noted = λ i. noted_at i (same_or_not i s) }
       where
-        over_at : (i : ℕ) → (i ≡ s) ⊎ (i ≢ s) → AllByRecursion (IsOverAt (made u v (set terms s y) labels) d.bounds.items i) (by_value (own_body (held (made u v (set terms s y) labels)) i))
+        over_at : (i : ℕ) → (i ≡ s) ⊎ (i ≢ s) → AllByRecursion (IsOverAt (made u v (set terms s y) labels) d.bounds.items i) (by_value (own_body (content (made u v (set terms s y) labels)) i))
         over_at i (inl same) = subst (λ (b : Body). AllByRecursion (IsOverAt (made u v (set terms s y) labels) d.bounds.items i) (by_value b)) (sym (body_here i same lt))
             (over_still (made u v terms labels) (made u v (set terms s y) labels) d border_same i (by_value y.body) (numbers_same (by_value y.body)) (subst (λ (k : ℕ). AllByRecursion (IsOverAt (made u v terms labels) d.bounds.items k) (by_value y.body)) (sym same) over))
         over_at i (inr other) = subst (λ (b : Body). AllByRecursion (IsOverAt (made u v (set terms s y) labels) d.bounds.items i) (by_value b)) (sym (body_other i other))
-            (over_still (made u v terms labels) (made u v (set terms s y) labels) d border_same i (by_value (own_body (held (made u v terms labels)) i)) (numbers_same (by_value (own_body (held (made u v terms labels)) i))) (ok.over i))
+            (over_still (made u v terms labels) (made u v (set terms s y) labels) d border_same i (by_value (own_body (content (made u v terms labels)) i)) (numbers_same (by_value (own_body (content (made u v terms labels)) i))) (ok.over i))
 
-        noted_at : (i : ℕ) → (i ≡ s) ⊎ (i ≢ s) → AllByRecursion (IsNotedAt (made u v (set terms s y) labels) (above_of d.above.items) i) (by_value (own_body (held (made u v (set terms s y) labels)) i))
+        noted_at : (i : ℕ) → (i ≡ s) ⊎ (i ≢ s) → AllByRecursion (IsNotedAt (made u v (set terms s y) labels) (above_of d.above.items) i) (by_value (own_body (content (made u v (set terms s y) labels)) i))
         noted_at i (inl same) = subst (λ (b : Body). AllByRecursion (IsNotedAt (made u v (set terms s y) labels) (above_of d.above.items) i) (by_value b)) (sym (body_here i same lt))
             (noted_still (made u v terms labels) (made u v (set terms s y) labels) d border_same i (by_value y.body) (numbers_same (by_value y.body)) (subst (λ (k : ℕ). AllByRecursion (IsNotedAt (made u v terms labels) (above_of d.above.items) k) (by_value y.body)) (sym same) noted))
         noted_at i (inr other) = subst (λ (b : Body). AllByRecursion (IsNotedAt (made u v (set terms s y) labels) (above_of d.above.items) i) (by_value b)) (sym (body_other i other))
-            (noted_still (made u v terms labels) (made u v (set terms s y) labels) d border_same i (by_value (own_body (held (made u v terms labels)) i)) (numbers_same (by_value (own_body (held (made u v terms labels)) i))) (ok.noted i))
+            (noted_still (made u v terms labels) (made u v (set terms s y) labels) d border_same i (by_value (own_body (content (made u v terms labels)) i)) (numbers_same (by_value (own_body (content (made u v terms labels)) i))) (ok.noted i))
 
   -- what the type at a place leads to
-  body_was : (u v : ℕ) (items : List DraftType) (labels : List Label) (s : ℕ) (t : DraftType) → s < length items → t ≡ get_or items s t → own_body (held (made u v (map type_of items) labels)) s ≡ (type_of t).body
+  body_was : (u v : ℕ) (items : List DraftType) (labels : List Label) (s : ℕ) (t : DraftType) → s < length items → t ≡ get_or items s t → own_body (content (made u v (map type_of items) labels)) s ≡ (type_of t).body
   body_was u v items labels s t lt is =
       ap (λ (ts : List Term). (get_or ts s nothing).body) (all_terms parname parlabel parent model u v (map type_of items) labels)
       ∙ ap (λ (x : Term). x.body) (get_or-map type_of items s t nothing lt ∙ ap type_of (sym is))
@@ -134,7 +134,7 @@ module _ (parname parlabel : List ℕ) (parent : Option Dictionary) (model : Dat
     -- it leads where it did
     pub alike_bounded : by_value (type_of new).body ≡ by_value (type_of t).body → IsBounded (made u v (map type_of (set items s new)) labels) d
     alike_bounded same =
-        let here : by_value (own_body (held (made u v (map type_of items) labels)) s) ≡ by_value (type_of new).body = ap by_value (body_was u v items labels s t lt is) ∙ sym same in
+        let here : by_value (own_body (content (made u v (map type_of items) labels)) s) ≡ by_value (type_of new).body = ap by_value (body_was u v items labels s t lt is) ∙ sym same in
         subst (λ (ts : List Term). IsBounded (made u v ts labels) d) (sym (map-set type_of items s new))
         (changed_bounded d u v (map type_of items) labels s (type_of new) low
         (subst (AllByRecursion (IsOverAt (made u v (map type_of items) labels) d.bounds.items s)) here (ok.over s))
@@ -152,11 +152,11 @@ module _ (parname parlabel : List ℕ) (parent : Option Dictionary) (model : Dat
     pub member_bounded : (m : term.Member) (size : ℕ) (o : Option ℕ) → u ≤ length items → o ≡ own_index (is_some parent) (count_of (made u v (map type_of items) labels)) m.tnum → IsReady u d s o → type_of new ≡ with_body (with_member m size (type_of t).body) (type_of t) → IsBounded (made u v (map type_of (set items s new)) labels) d
     member_bounded m size o few own ready made_so =
         let was = body_was u v items labels s t lt is in
-        let now : (type_of new).body ≡ with_member m size (own_body (held (made u v (map type_of items) labels)) s) = ap (λ (x : Term). x.body) made_so ∙ ap (with_member m size) (sym was) in
+        let now : (type_of new).body ≡ with_member m size (own_body (content (made u v (map type_of items) labels)) s) = ap (λ (x : Term). x.body) made_so ∙ ap (with_member m size) (sym was) in
         subst (λ (ts : List Term). IsBounded (made u v ts labels) d) (sym (map-set type_of items s new))
         (changed_bounded d u v (map type_of items) labels s (type_of new) low
-        (subst (λ (b : Body). AllByRecursion (IsOverAt (made u v (map type_of items) labels) d.bounds.items s) (by_value b)) (sym now) (with_member_all (IsOverAt (made u v (map type_of items) labels) d.bounds.items s) m size (own_body (held (made u v (map type_of items) labels)) s) (ok.over s) (over_new m.tnum o own ready)))
-        (subst (λ (b : Body). AllByRecursion (IsNotedAt (made u v (map type_of items) labels) (above_of d.above.items) s) (by_value b)) (sym now) (with_member_all (IsNotedAt (made u v (map type_of items) labels) (above_of d.above.items) s) m size (own_body (held (made u v (map type_of items) labels)) s) (ok.noted s) (noted_new m.tnum o few own ready))) ok)
+        (subst (λ (b : Body). AllByRecursion (IsOverAt (made u v (map type_of items) labels) d.bounds.items s) (by_value b)) (sym now) (with_member_all (IsOverAt (made u v (map type_of items) labels) d.bounds.items s) m size (own_body (content (made u v (map type_of items) labels)) s) (ok.over s) (over_new m.tnum o own ready)))
+        (subst (λ (b : Body). AllByRecursion (IsNotedAt (made u v (map type_of items) labels) (above_of d.above.items) s) (by_value b)) (sym now) (with_member_all (IsNotedAt (made u v (map type_of items) labels) (above_of d.above.items) s) m size (own_body (content (made u v (map type_of items) labels)) s) (ok.noted s) (noted_new m.tnum o few own ready))) ok)
 
     -- or memory for that was refused
     pub pushed_bounded : {A E : Type 0} (r : Result A E) (m : term.Member) (size : ℕ) (o : Option ℕ) → u ≤ length items → o ≡ own_index (is_some parent) (count_of (made u v (map type_of items) labels)) m.tnum → IsReady u d s o → OnOk r (type_of new ≡ with_body (with_member m size (type_of t).body) (type_of t)) → OnErr r (type_of new ≡ type_of t) → IsBounded (made u v (map type_of (set items s new)) labels) d
@@ -177,7 +177,7 @@ module _ (parname parlabel : List ℕ) (parent : Option Dictionary) (model : Dat
       all : length terms ≡ count_of (made u v terms labels)
       all = sym (ap length (all_terms parname parlabel parent model u v terms labels))
 
-      body : (i : ℕ) → i < u → own_body (held (made u v (take u terms) others)) i ≡ own_body (held (made u v terms labels)) i
+      body : (i : ℕ) → i < u → own_body (content (made u v (take u terms) others)) i ≡ own_body (content (made u v terms labels)) i
       body i lt =
           ap (λ (ts : List Term). (get_or ts i nothing).body) (all_terms parname parlabel parent model u v (take u terms) others)
           ∙ ap (λ (z : Term). z.body) (get_or_take u terms i nothing lt)
@@ -191,13 +191,13 @@ module _ (parname parlabel : List ℕ) (parent : Option Dictionary) (model : Dat
           let b = front j (omega (arith, low, count)) in
           omega (arith, h, a, b)
 
-      over_at : (i : ℕ) → (i < u) ⊎ (u ≤ i) → AllByRecursion (IsOverAt (made u v (take u terms) others) x.bounds.items i) (by_value (own_body (held (made u v (take u terms) others)) i))
+      over_at : (i : ℕ) → (i < u) ⊎ (u ≤ i) → AllByRecursion (IsOverAt (made u v (take u terms) others) x.bounds.items i) (by_value (own_body (content (made u v (take u terms) others)) i))
       over_at i (inr le) = subst (λ (b : Body). AllByRecursion (IsOverAt (made u v (take u terms) others) x.bounds.items i) (by_value b)) (sym (past_end (all_of (made u v (take u terms) others)).terms i (omega (arith, count, le)))) tt
       over_at i (inl lt) =
           both_of (λ n. is_absent (made u v (take u terms) others) n ≡ false) (IsOverAt (made u v terms labels) d.bounds.items i) (IsOverAt (made u v (take u terms) others) x.bounds.items i)
           (λ n there h. over_one i n lt (own_index (is_some parent) (count_of (made u v (take u terms) others)) n) refl
           (subst (λ (o : Option ℕ). MatchOption o (Unit {0}) (IsOver d.bounds.items i)) (ap (λ (c : ℕ). own_index (is_some parent) c n) (sym all) ∙ there_stays (made u v (take u terms) others) (length terms) n (omega (arith, count, few)) there) h))
-          (by_value (own_body (held (made u v (take u terms) others)) i))
+          (by_value (own_body (content (made u v (take u terms) others)) i))
           (sound_names (made u v (take u terms) others) sound i (omega (arith, count, lt)))
           (subst (λ (b : Body). AllByRecursion (IsOverAt (made u v terms labels) d.bounds.items i) (by_value b)) (sym (body i lt)) (ok.over i))
 
@@ -207,8 +207,8 @@ module _ (parname parlabel : List ℕ) (parent : Option Dictionary) (model : Dat
           let low = index_low (count_of (made u v (take u terms) others)) j (place (is_some parent) n) e in
           inl (omega (arith, low, count, length-take u (take u terms), length-take u terms, few))
 
-      noted_at : (i : ℕ) → AllByRecursion (IsNotedAt (made u v (take u terms) others) (above_of x.above.items) i) (by_value (own_body (held (made u v (take u terms) others)) i))
-      noted_at i = each_of (IsNotedAt (made u v (take u terms) others) (above_of x.above.items) i) (λ n. noted_one i n (own_index (is_some parent) (count_of (made u v (take u terms) others)) n) refl) (by_value (own_body (held (made u v (take u terms) others)) i))
+      noted_at : (i : ℕ) → AllByRecursion (IsNotedAt (made u v (take u terms) others) (above_of x.above.items) i) (by_value (own_body (content (made u v (take u terms) others)) i))
+      noted_at i = each_of (IsNotedAt (made u v (take u terms) others) (above_of x.above.items) i) (λ n. noted_one i n (own_index (is_some parent) (count_of (made u v (take u terms) others)) n) refl) (by_value (own_body (content (made u v (take u terms) others)) i))
 
   -- one type more, which is ready
   pub type_bounded : (d : Depths) (u v : ℕ) (terms : List Term) (labels : List Label) (y : Term) (o : Option ℕ) → u ≤ length terms → IsSound (made u v terms labels)
@@ -236,16 +236,16 @@ module _ (parname parlabel : List ℕ) (parent : Option Dictionary) (model : Dat
       same_numbers : (ns : List ℕ) → AllByRecursion (λ n. is_absent (made u v terms labels) n ≡ false) ns → AllByRecursion (SameAt (made u v terms labels) (made u v (terms ++ y ∷ []) labels)) ns
       same_numbers ns h = all_map (λ n. is_absent (made u v terms labels) n ≡ false) (SameAt (made u v terms labels) (made u v (terms ++ y ∷ []) labels)) (λ n g. there_stays (made u v terms labels) (count_of (made u v (terms ++ y ∷ []) labels)) n (omega (arith, all, more)) g) ns h
 
-      old_body : (i : ℕ) → i < length terms → own_body (held (made u v (terms ++ y ∷ []) labels)) i ≡ own_body (held (made u v terms labels)) i
+      old_body : (i : ℕ) → i < length terms → own_body (content (made u v (terms ++ y ∷ []) labels)) i ≡ own_body (content (made u v terms labels)) i
       old_body i lt =
           ap (λ (ts : List Term). (get_or ts i nothing).body) (all_terms parname parlabel parent model u v (terms ++ y ∷ []) labels)
           ∙ ap (λ (z : Term). z.body) (get_or_append_left terms (y ∷ []) nothing i lt)
           ∙ sym (ap (λ (ts : List Term). (get_or ts i nothing).body) (all_terms parname parlabel parent model u v terms labels))
 
-      new_body : (i : ℕ) → i ≡ length terms → own_body (held (made u v (terms ++ y ∷ []) labels)) i ≡ y.body
+      new_body : (i : ℕ) → i ≡ length terms → own_body (content (made u v (terms ++ y ∷ []) labels)) i ≡ y.body
       new_body i same = ap (λ (ts : List Term). (get_or ts i nothing).body) (all_terms parname parlabel parent model u v (terms ++ y ∷ []) labels) ∙ ap (λ (z : Term). z.body) (last_one terms y i same)
 
-      no_body : (i : ℕ) → length terms + 1 ≤ i → own_body (held (made u v (terms ++ y ∷ []) labels)) i ≡ term.unknown
+      no_body : (i : ℕ) → length terms + 1 ≤ i → own_body (content (made u v (terms ++ y ∷ []) labels)) i ≡ term.unknown
       no_body i le = past_end (all_of (made u v (terms ++ y ∷ []) labels)).terms i (omega (arith, more, le))
 
       over_new : (i n : ℕ) → i ≡ length terms → own_index (is_some parent) (count_of (made u v terms labels)) n ≡ o → IsOverAt (made u v terms labels) d.bounds.items i n
@@ -256,17 +256,17 @@ module _ (parname parlabel : List ℕ) (parent : Option Dictionary) (model : Dat
           let first : u ≡ length (take u terms) = omega (arith, length-take u terms, few) in
           subst (λ (k : ℕ). IsNotedAt (made u v terms labels) (above_of d.above.items) k n) (sym same) (subst (λ (q : Option ℕ). MatchOption q (Unit {0}) (IsNoted (length (take u terms)) (above_of d.above.items) (length terms))) (sym own) (match_of (λ j. IsOver d.bounds.items (length terms) j × IsNoted u (above_of d.above.items) (length terms) j) (IsNoted (length (take u terms)) (above_of d.above.items) (length terms)) (λ j p. subst (λ (k : ℕ). IsNoted k (above_of d.above.items) (length terms) j) first p.1) o ready))
 
-      over_at : (i : ℕ) → ((i < length terms) ⊎ (i ≡ length terms)) ⊎ (length terms + 1 ≤ i) → AllByRecursion (IsOverAt (made u v (terms ++ y ∷ []) labels) d.bounds.items i) (by_value (own_body (held (made u v (terms ++ y ∷ []) labels)) i))
+      over_at : (i : ℕ) → ((i < length terms) ⊎ (i ≡ length terms)) ⊎ (length terms + 1 ≤ i) → AllByRecursion (IsOverAt (made u v (terms ++ y ∷ []) labels) d.bounds.items i) (by_value (own_body (content (made u v (terms ++ y ∷ []) labels)) i))
       over_at i (inr le) = rw (no_body i le) tt
       over_at i (inl (inl lt)) = subst (λ (b : Body). AllByRecursion (IsOverAt (made u v (terms ++ y ∷ []) labels) d.bounds.items i) (by_value b)) (sym (old_body i lt))
-          (over_still (made u v terms labels) (made u v (terms ++ y ∷ []) labels) d border i (by_value (own_body (held (made u v terms labels)) i)) (same_numbers (by_value (own_body (held (made u v terms labels)) i)) (sound_names (made u v terms labels) sound i (omega (arith, all, lt)))) (ok.over i))
+          (over_still (made u v terms labels) (made u v (terms ++ y ∷ []) labels) d border i (by_value (own_body (content (made u v terms labels)) i)) (same_numbers (by_value (own_body (content (made u v terms labels)) i)) (sound_names (made u v terms labels) sound i (omega (arith, all, lt)))) (ok.over i))
       over_at i (inl (inr same)) = subst (λ (b : Body). AllByRecursion (IsOverAt (made u v (terms ++ y ∷ []) labels) d.bounds.items i) (by_value b)) (sym (new_body i same))
           (over_still (made u v terms labels) (made u v (terms ++ y ∷ []) labels) d border i (by_value y.body) (same_numbers (by_value y.body) there) (all_map (λ n. own_index (is_some parent) (count_of (made u v terms labels)) n ≡ o) (IsOverAt (made u v terms labels) d.bounds.items i) (λ n own. over_new i n same own) (by_value y.body) held_so))
 
-      noted_at : (i : ℕ) → ((i < length terms) ⊎ (i ≡ length terms)) ⊎ (length terms + 1 ≤ i) → AllByRecursion (IsNotedAt (made u v (terms ++ y ∷ []) labels) (above_of d.above.items) i) (by_value (own_body (held (made u v (terms ++ y ∷ []) labels)) i))
+      noted_at : (i : ℕ) → ((i < length terms) ⊎ (i ≡ length terms)) ⊎ (length terms + 1 ≤ i) → AllByRecursion (IsNotedAt (made u v (terms ++ y ∷ []) labels) (above_of d.above.items) i) (by_value (own_body (content (made u v (terms ++ y ∷ []) labels)) i))
       noted_at i (inr le) = rw (no_body i le) tt
       noted_at i (inl (inl lt)) = subst (λ (b : Body). AllByRecursion (IsNotedAt (made u v (terms ++ y ∷ []) labels) (above_of d.above.items) i) (by_value b)) (sym (old_body i lt))
-          (noted_still (made u v terms labels) (made u v (terms ++ y ∷ []) labels) d border i (by_value (own_body (held (made u v terms labels)) i)) (same_numbers (by_value (own_body (held (made u v terms labels)) i)) (sound_names (made u v terms labels) sound i (omega (arith, all, lt)))) (ok.noted i))
+          (noted_still (made u v terms labels) (made u v (terms ++ y ∷ []) labels) d border i (by_value (own_body (content (made u v terms labels)) i)) (same_numbers (by_value (own_body (content (made u v terms labels)) i)) (sound_names (made u v terms labels) sound i (omega (arith, all, lt)))) (ok.noted i))
       noted_at i (inl (inr same)) = subst (λ (b : Body). AllByRecursion (IsNotedAt (made u v (terms ++ y ∷ []) labels) (above_of d.above.items) i) (by_value b)) (sym (new_body i same))
           (noted_still (made u v terms labels) (made u v (terms ++ y ∷ []) labels) d border i (by_value y.body) (same_numbers (by_value y.body) there) (all_map (λ n. own_index (is_some parent) (count_of (made u v terms labels)) n ≡ o) (IsNotedAt (made u v terms labels) (above_of d.above.items) i) (λ n own. noted_new i n same own) (by_value y.body) held_so))
 
@@ -274,7 +274,7 @@ module _ (parname parlabel : List ℕ) (parent : Option Dictionary) (model : Dat
   pub none_bounded : (d : Depths) (u v : ℕ) (items : List DraftType) (labels : List Label) → items ≡ [] → IsBounded (made u v (map type_of items) labels) d
   none_bounded d u v items labels none = record { over = λ i. rw (leads i) tt; noted = λ i. rw (leads i) tt }
     where
-      leads : (i : ℕ) → by_value (own_body (held (made u v (map type_of items) labels)) i) ≡ []
+      leads : (i : ℕ) → by_value (own_body (content (made u v (map type_of items) labels)) i) ≡ []
       leads i =
           ap (λ (ts : List Term). by_value (get_or ts i nothing).body) (all_terms parname parlabel parent model u v (map type_of items) labels)
           ∙ ap (λ (xs : List DraftType). by_value (get_or (map type_of xs) i nothing).body) none

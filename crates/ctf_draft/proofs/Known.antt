@@ -8,7 +8,7 @@ use Rattle.std.proofs.lemmas.Option.{slice_get-get_or}
 use Rattle.ctf_model.specs.rules.Chains.{by_value, own_index, own_index_at}
 use Rattle.ctf_model.specs.format.Dictionary.{Dictionary, Label}
 use Rattle.ctf_model.specs.drafts.DraftLaws.{IsSound, NamesThere}
-use Rattle.ctf_model.specs.drafts.Drafts.{Draft, all_of, count_of, held, is_absent, space_of}
+use Rattle.ctf_model.specs.drafts.Drafts.{Draft, all_of, count_of, content, is_absent, space_of}
 use Rattle.ctf_model.specs.figures.FigureLaws.{nothing, own_body}
 use Rattle.ctf_model.specs.figures.Figures.{align, aligning, comes_to, most_numbers, parents_figure}
 use Rattle.ctf_model.specs.rules.References.{is_missing_at, references}
@@ -47,25 +47,25 @@ module _ (d e : Draft) (known : List (Option Reach)) (knows : Knows d known) (pa
   abbrev Same : ℕ → Type 0
   Same n = own_index (is_some e.parent) (count_of e) n ≡ own_index (is_some d.parent) (count_of d) n
 
-  module _ (more : count_of d ≤ count_of e) (bodies : (j : ℕ) → j < count_of d → IsKnown known j → own_body (held e) j ≡ own_body (held d) j) (numbers : (j : ℕ) → j < count_of d → IsKnown known j → AllByRecursion Same (by_value (own_body (held d) j))) where
+  module _ (more : count_of d ≤ count_of e) (bodies : (j : ℕ) → j < count_of d → IsKnown known j → own_body (content e) j ≡ own_body (content d) j) (numbers : (j : ℕ) → j < count_of d → IsKnown known j → AllByRecursion Same (by_value (own_body (content d) j))) where
     inside : (j : ℕ) → IsKnown known j → j < count_of d
     inside j k = let it = found (slice_index_or known j None) k in (knows.right j it.0 it.1).inside
 
-    both : (ns : List ℕ) → AllByRecursion Same ns → AllByRecursion (IsKnownAt d known) ns → AllByRecursion (StaysSame (held d) (held e) (IsKnown known)) ns
+    both : (ns : List ℕ) → AllByRecursion Same ns → AllByRecursion (IsKnownAt d known) ns → AllByRecursion (StaysSame (content d) (content e) (IsKnown known)) ns
     both [] s k = tt
     both (n ∷ ns) s k = (record { same = s.0; kept = k.0 }, both ns s.1 k.1)
 
-    stay : Stay (held d) (held e) (IsKnown known)
+    stay : Stay (content d) (content e) (IsKnown known)
     stay = record {
       child = ap is_some parent;
       inside = λ j k. let lt = inside j k in (lt, omega arith);
       body = λ j k. bodies j (inside j k) k;
       closed = λ j k.
           let it = found (slice_index_or known j None) k in
-          both (by_value (own_body (held d) j)) (numbers j (inside j k) k) (knows.closed j it.0 it.1);
+          both (by_value (own_body (content d) j)) (numbers j (inside j k) k) (knows.closed j it.0 it.1);
     }
 
-    own_stays : (j : ℕ) → IsKnown known j → StaysSame (held d) (held e) (IsKnown known) (own_number (is_some d.parent) j)
+    own_stays : (j : ℕ) → IsKnown known j → StaysSame (content d) (content e) (IsKnown known) (own_number (is_some d.parent) j)
     own_stays j k =
         let lt = inside j k in
         let here : own_index (is_some d.parent) (count_of d) (own_number (is_some d.parent) j) ≡ Some j = own_of (is_some d.parent) (count_of d) (own_number (is_some d.parent) j) j (place_of_own (is_some d.parent) j) lt in
@@ -78,9 +78,9 @@ module _ (d e : Draft) (known : List (Option Reach)) (knows : Knows d known) (pa
     same_align : (j : ℕ) → IsKnown known j → align (space_of e) (own_number (is_some e.parent) j) ≡ align (space_of d) (own_number (is_some d.parent) j)
     same_align j k =
         ap (λ (q : Option Dictionary). align (space_of e) (own_number (is_some q) j)) parent
-        ∙ ap (λ (m : DataModel). comes_to (aligning m) (parents_figure (aligning m) e.parent) (held e) most_numbers (own_number (is_some d.parent) j)) model
-        ∙ ap (λ (q : Option Dictionary). comes_to (aligning d.model) (parents_figure (aligning d.model) q) (held e) most_numbers (own_number (is_some d.parent) j)) parent
-        ∙ same_figure (held d) (held e) (IsKnown known) stay (aligning d.model) (figures_ask.aligning_asks d.model) (parents_figure (aligning d.model) d.parent) most_numbers (own_number (is_some d.parent) j) (own_stays j k)
+        ∙ ap (λ (m : DataModel). comes_to (aligning m) (parents_figure (aligning m) e.parent) (content e) most_numbers (own_number (is_some d.parent) j)) model
+        ∙ ap (λ (q : Option Dictionary). comes_to (aligning d.model) (parents_figure (aligning d.model) q) (content e) most_numbers (own_number (is_some d.parent) j)) parent
+        ∙ same_figure (content d) (content e) (IsKnown known) stay (aligning d.model) (figures_ask.aligning_asks d.model) (parents_figure (aligning d.model) d.parent) most_numbers (own_number (is_some d.parent) j) (own_stays j k)
 
     pub still_known : Knows e known
     still_known = record {
@@ -89,14 +89,14 @@ module _ (d e : Draft) (known : List (Option Reach)) (knows : Knows d known) (pa
           let was = knows.right j r is in
           record {
             inside = let lt = was.inside in omega arith;
-            depth = same_depth (held d) (held e) (IsKnown known) stay j r.depth k was.depth;
+            depth = same_depth (content d) (content e) (IsKnown known) stay j r.depth k was.depth;
             short = was.short;
             aligned = was.aligned ∙ sym (same_align j k);
           };
       closed = λ j r is.
           let k : IsKnown known j = ap is_some is in
           subst (λ (b : Body). AllByRecursion (IsKnownAt e known) (by_value b)) (sym (bodies j (inside j k) k))
-          (all_map (StaysSame (held d) (held e) (IsKnown known)) (IsKnownAt e known) (λ n h. subst (λ (o : Option ℕ). MatchOption o (Unit {0}) (IsKnown known)) (sym h.same) h.kept) (by_value (own_body (held d) j)) (stay.closed j k));
+          (all_map (StaysSame (content d) (content e) (IsKnown known)) (IsKnownAt e known) (λ n h. subst (λ (o : Option ℕ). MatchOption o (Unit {0}) (IsKnown known)) (sym h.same) h.kept) (by_value (own_body (content d) j)) (stay.closed j k));
     }
 
 -- ---- what a sound draft names
@@ -134,8 +134,8 @@ index_stays a b n (Own i) le h =
 pub there_stays : (d : Draft) (b n : ℕ) → count_of d ≤ b → is_absent d n ≡ false → own_index (is_some d.parent) b n ≡ own_index (is_some d.parent) (count_of d) n
 there_stays d b n le h = index_stays (count_of d) b n (place (is_some d.parent) n) le (there_not_missing d n h)
 
-pub sound_names : (d : Draft) → IsSound d → (j : ℕ) → j < count_of d → AllByRecursion (λ n. is_absent d n ≡ false) (by_value (own_body (held d) j))
-sound_names d ok j lt = named_by_value (is_absent d) (own_body (held d) j) (all_got (NamesThere d) (all_of d).terms j (slice_index_or (held d).terms j nothing) ok.all.named (slice_get-get_or (held d).terms j nothing lt))
+pub sound_names : (d : Draft) → IsSound d → (j : ℕ) → j < count_of d → AllByRecursion (λ n. is_absent d n ≡ false) (by_value (own_body (content d) j))
+sound_names d ok j lt = named_by_value (is_absent d) (own_body (content d) j) (all_got (NamesThere d) (all_of d).terms j (slice_index_or (content d).terms j nothing) ok.all.named (slice_get-get_or (content d).terms j nothing lt))
 
 -- ---- what is seen in code
 
@@ -156,7 +156,7 @@ module _ (parname parlabel : List ℕ) (parent : Option Dictionary) (model : Dat
       still_known before e known knows refl refl more
       (λ j lt k.
       ap (λ (ts : List Term). (get_or ts j nothing).body) b ∙ ap (λ (y : Term). y.body) (get_or_append_left terms (x ∷ []) nothing j (omega (arith, ca, lt))) ∙ sym (ap (λ (ts : List Term). (get_or ts j nothing).body) a))
-      (λ j lt k. all_map (λ n. is_absent before n ≡ false) _ (λ n h. there_stays before (count_of e) n more h) (by_value (own_body (held before) j)) (sound_names before ok j lt))
+      (λ j lt k. all_map (λ n. is_absent before n ≡ false) _ (λ n h. there_stays before (count_of e) n more h) (by_value (own_body (content before) j)) (sound_names before ok j lt))
 
   -- another type at a place of which nothing is known
   pub other_known : (s : ℕ) (y : Term) → slice_index_or known s None ≡ None → Knows before known → Knows (seen parname parlabel parent model u v (set terms s y) labels) known
@@ -169,7 +169,7 @@ module _ (parname parlabel : List ℕ) (parent : Option Dictionary) (model : Dat
       (λ j lt k.
       let other : j ≢ s = λ is. let some = rw is at k in let no : is_some (slice_index_or known s None) ≡ false = ap is_some none in absurd (apart (sym some ∙ no)) in
       ap (λ (ts : List Term). (get_or ts j nothing).body) b ∙ ap (λ (z : Term). z.body) (get_or-set_other terms s j y nothing other) ∙ sym (ap (λ (ts : List Term). (get_or ts j nothing).body) a))
-      (λ j lt k. all_of_same (λ n. own_index (is_some parent) (count_of e) n ≡ own_index (is_some parent) (count_of before) n) (λ n. ap (λ (c : ℕ). own_index (is_some parent) c n) same) (by_value (own_body (held before) j)))
+      (λ j lt k. all_of_same (λ n. own_index (is_some parent) (count_of e) n ≡ own_index (is_some parent) (count_of before) n) (λ n. ap (λ (c : ℕ). own_index (is_some parent) c n) same) (by_value (own_body (content before) j)))
 
 -- other labels, or another border between what is updated and what is pending
 pub terms_known : (parname parlabel : List ℕ) (parent : Option Dictionary) (model : DataModel) (known : List (Option Reach)) (u v x y : ℕ) (terms : List Term) (labels others : List Label) → Knows (seen parname parlabel parent model u v terms labels) known → Knows (seen parname parlabel parent model x y terms others) known
@@ -180,7 +180,7 @@ terms_known parname parlabel parent model known u v x y terms labels others know
     let same : count_of e ≡ count_of d = ap length all in
     still_known d e known knows refl refl (omega (arith, same))
     (λ j lt k. ap (λ (ts : List Term). (get_or ts j nothing).body) all)
-    (λ j lt k. all_of_same (λ n. own_index (is_some parent) (count_of e) n ≡ own_index (is_some parent) (count_of d) n) (λ n. ap (λ (c : ℕ). own_index (is_some parent) c n) same) (by_value (own_body (held d) j)))
+    (λ j lt k. all_of_same (λ n. own_index (is_some parent) (count_of e) n ≡ own_index (is_some parent) (count_of d) n) (λ n. ap (λ (c : ℕ). own_index (is_some parent) c n) same) (by_value (own_body (content d) j)))
 
 -- ---- tables
 
@@ -188,7 +188,7 @@ terms_known parname parlabel parent model known u v x y terms labels others know
 pub same_known : (d : Draft) (a b : List (Option Reach)) → ((j : ℕ) → slice_index_or b j None ≡ slice_index_or a j None) → Knows d a → Knows d b
 same_known d a b same knows = record {
   right = λ j r is. knows.right j r (sym (same j) ∙ is);
-  closed = λ j r is. all_map (IsKnownAt d a) (IsKnownAt d b) (λ n h. at n (own_index (is_some d.parent) (count_of d) n) h) (by_value (own_body (held d) j)) (knows.closed j r (sym (same j) ∙ is));
+  closed = λ j r is. all_map (IsKnownAt d a) (IsKnownAt d b) (λ n h. at n (own_index (is_some d.parent) (count_of d) n) h) (by_value (own_body (content d) j)) (knows.closed j r (sym (same j) ∙ is));
 }
   where
     at : (n : ℕ) (o : Option ℕ) → MatchOption o (Unit {0}) (IsKnown a) → MatchOption o (Unit {0}) (IsKnown b)

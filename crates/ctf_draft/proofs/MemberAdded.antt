@@ -1,6 +1,6 @@
 -- A member is added as it is planned.
 use Rattle.std.proofs.Common.{◌≡◌, ℕ, zero, suc, Bool, true, false, cond, List, [], ◌∷◌, take, drop, Option, Some, None, Result, Ok, Err, refl, ap, ◌∙◌, ◌⊎◌, inl, inr}
-use Rattle.ctf_model.specs.drafts.Adders.{Added, add_member, against_member, against_place, body_at, is_deep, place_member, put_member, replaced, size_with, with_member}
+use Rattle.ctf_model.specs.drafts.Adders.{Added, add_member, against_member, against_place, body_at, is_deep, place_member, put_member, replace_body, size_with, with_member}
 use Rattle.ctf_model.specs.drafts.Drafts.{Draft, space_of}
 use Rattle.ctf_model.specs.rules.Judgements.{◌then◌, Row, first_met, unless}
 use Rattle.ctf_model.specs.drafts.Placement.{bits_filled, member_place}
@@ -33,7 +33,7 @@ first_back (suc k) (row ∷ rows) h = at row.met h (first_back k rows)
 
 module _ (d : Draft) (n : ℕ) (name : List ℕ) (tnum : ℕ) (offset : Option ℕ) where
   abbrev put : Plan → Added
-  put p = record { draft = replaced d n (with_member (record { name = name; tnum = tnum; offset = p.offset }) p.size (body_at d n)); answer = p.offset }
+  put p = record { draft = replace_body d n (with_member (record { name = name; tnum = tnum; offset = p.offset }) p.size (body_at d n)); answer = p.offset }
 
   abbrev finish : Result Plan Fault → Result Added Fault
   finish (Err f) = Err f

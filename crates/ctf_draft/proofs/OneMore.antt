@@ -7,7 +7,7 @@ use Rattle.std.proofs.lemmas.Grind.{get_or-set_at}
 use Rattle.ctf_chains.proofs.Depths.{IsWithin-more}
 use Rattle.ctf_chains.proofs.Lists.{same_or_not}
 use Rattle.ctf_model.specs.drafts.Adders.{with_body, with_member}
-use Rattle.ctf_model.specs.drafts.Drafts.{Draft, count_of, held, space_of}
+use Rattle.ctf_model.specs.drafts.Drafts.{Draft, count_of, content, space_of}
 use Rattle.ctf_model.specs.figures.FigureLaws.{nothing, own_body, value_edges}
 use Rattle.ctf_model.specs.figures.Figures.{align, align_body, aligning, comes_to, greater, greatest, most_numbers, parents_figure}
 use Rattle.ctf_model.specs.format.Dictionary.{Dictionary, Label}
@@ -120,19 +120,19 @@ module _ (x : Dictionary) where
 -- ---- two drafts, of which the second has one member more in type i
 
 module _ (d e : Draft) (known : List (Option Reach)) (i : ℕ) (m : Member) (size : ℕ) (parent : e.parent ≡ d.parent) (model : e.model ≡ d.model) (count : count_of e ≡ count_of d)
-    (others : (j : ℕ) → j ≢ i → own_body (held e) j ≡ own_body (held d) j) (here : own_body (held e) i ≡ with_member m size (own_body (held d) i))
+    (others : (j : ℕ) → j ≢ i → own_body (content e) j ≡ own_body (content d) j) (here : own_body (content e) i ≡ with_member m size (own_body (content d) i))
     (knows : Knows d known) (stays : Stays d known i m.tnum) where
   abbrev before : List (List ℕ)
-  before = value_edges (held d)
+  before = value_edges (content d)
 
   abbrev after : List (List ℕ)
-  after = value_edges (held e)
+  after = value_edges (content e)
 
   own_same : (n : ℕ) → own_index (is_some e.parent) (count_of e) n ≡ own_index (is_some d.parent) (count_of d) n
   own_same n = ap (λ (q : Option Dictionary). own_index (is_some q) (count_of e) n) parent ∙ ap (λ (c : ℕ). own_index (is_some d.parent) c n) count
 
-  one_more : (j : ℕ) → j ≡ i → own_body (held e) j ≡ with_member m size (own_body (held d) j)
-  one_more j same = ap (own_body (held e)) same ∙ here ∙ ap (λ (k : ℕ). with_member m size (own_body (held d) k)) (sym same)
+  one_more : (j : ℕ) → j ≡ i → own_body (content e) j ≡ with_member m size (own_body (content d) j)
+  one_more j same = ap (own_body (content e)) same ∙ here ∙ ap (λ (k : ℕ). with_member m size (own_body (content d) k)) (sym same)
 
   here_known : IsKnown known i
   here_known = ap is_some stays.is
@@ -144,23 +144,23 @@ module _ (d e : Draft) (known : List (Option Reach)) (i : ℕ) (m : Member) (siz
   found None h = absurd cc
   found (Some r) h = (r, refl)
 
-  closed : (j : ℕ) → IsKnown known j → AllByRecursion (IsKnownAt d known) (by_value (own_body (held d) j))
+  closed : (j : ℕ) → IsKnown known j → AllByRecursion (IsKnownAt d known) (by_value (own_body (content d) j))
   closed j k = let it = found (slice_index_or known j None) k in knows.closed j it.0 it.1
 
   -- what holds of each that a type leads to, in the second draft: of the type with one more
-  each_here : (P : ℕ → Type 0) (j : ℕ) → j ≡ i → P m.tnum → AllByRecursion P (by_value (own_body (held d) j)) → AllByRecursion P (by_value (own_body (held e) j))
-  each_here P j same new h = subst (λ (b : Body). AllByRecursion P (by_value b)) (sym (one_more j same)) (with_member_all P m size (own_body (held d) j) h new)
+  each_here : (P : ℕ → Type 0) (j : ℕ) → j ≡ i → P m.tnum → AllByRecursion P (by_value (own_body (content d) j)) → AllByRecursion P (by_value (own_body (content e) j))
+  each_here P j same new h = subst (λ (b : Body). AllByRecursion P (by_value b)) (sym (one_more j same)) (with_member_all P m size (own_body (content d) j) h new)
 
   -- and of another one
-  each_other : (P : ℕ → Type 0) (j : ℕ) → j ≢ i → AllByRecursion P (by_value (own_body (held d) j)) → AllByRecursion P (by_value (own_body (held e) j))
+  each_other : (P : ℕ → Type 0) (j : ℕ) → j ≢ i → AllByRecursion P (by_value (own_body (content d) j)) → AllByRecursion P (by_value (own_body (content e) j))
   each_other P j other h = subst (λ (b : Body). AllByRecursion P (by_value b)) (sym (others j other)) h
 
   -- and in the first
-  each_before : (P : ℕ → Type 0) (j : ℕ) → AllByRecursion P (by_value (own_body (held e) j)) → AllByRecursion P (by_value (own_body (held d) j))
+  each_before : (P : ℕ → Type 0) (j : ℕ) → AllByRecursion P (by_value (own_body (content e) j)) → AllByRecursion P (by_value (own_body (content d) j))
   each_before P j h = at (same_or_not j i)
     where
-      at : (j ≡ i) ⊎ (j ≢ i) → AllByRecursion P (by_value (own_body (held d) j))
-      at (inl same) = front_all P m size (own_body (held d) j) (subst (λ (b : Body). AllByRecursion P (by_value b)) (one_more j same) h)
+      at : (j ≡ i) ⊎ (j ≢ i) → AllByRecursion P (by_value (own_body (content d) j))
+      at (inl same) = front_all P m size (own_body (content d) j) (subst (λ (b : Body). AllByRecursion P (by_value b)) (one_more j same) h)
       at (inr other) = subst (λ (b : Body). AllByRecursion P (by_value b)) (others j other) h
 
   -- ---- chains
@@ -171,14 +171,14 @@ module _ (d e : Draft) (known : List (Option Reach)) (i : ℕ) (m : Member) (siz
   abbrev DidEnd : ℕ → Type 0
   DidEnd k = (j : ℕ) → IsKnown known j → Ends after k j → Ends before k j
 
-  still_at : (k n : ℕ) → StillEnds k → IsKnownAt d known n → EndsAt (held d) k n → EndsAt (held e) k n
+  still_at : (k n : ℕ) → StillEnds k → IsKnownAt d known n → EndsAt (content d) k n → EndsAt (content e) k n
   still_at k n step is ends = subst (λ (o : Option ℕ). MatchOption o (Unit {0}) (Ends after k)) (sym (own_same n)) (at (own_index (is_some d.parent) (count_of d) n) is ends)
     where
       at : (o : Option ℕ) → MatchOption o (Unit {0}) (IsKnown known) → MatchOption o (Unit {0}) (Ends before k) → MatchOption o (Unit {0}) (Ends after k)
       at None x y = tt
       at (Some j) x y = step j x y
 
-  did_at : (k n : ℕ) → DidEnd k → IsKnownAt d known n → EndsAt (held e) k n → EndsAt (held d) k n
+  did_at : (k n : ℕ) → DidEnd k → IsKnownAt d known n → EndsAt (content e) k n → EndsAt (content d) k n
   did_at k n step is ends = at (own_index (is_some d.parent) (count_of d) n) is (subst (λ (o : Option ℕ). MatchOption o (Unit {0}) (Ends after k)) (own_same n) ends)
     where
       at : (o : Option ℕ) → MatchOption o (Unit {0}) (IsKnown known) → MatchOption o (Unit {0}) (Ends after k) → MatchOption o (Unit {0}) (Ends before k)
@@ -186,7 +186,7 @@ module _ (d e : Draft) (known : List (Option Reach)) (i : ℕ) (m : Member) (siz
       at (Some j) x y = step j x y
 
   -- fewer steps lead from the new member's type
-  below_ends : (k : ℕ) → stays.reach.depth ≤ k → EndsAt (held d) k m.tnum
+  below_ends : (k : ℕ) → stays.reach.depth ≤ k → EndsAt (content d) k m.tnum
   below_ends k le = match_of (IsBelow known stays.reach.depth) (Ends before k) (λ j b. at k le j b) (own_index (is_some d.parent) (count_of d) m.tnum) stays.below
     where
       at : (k : ℕ) → stays.reach.depth ≤ k → (j : ℕ) → IsBelow known stays.reach.depth j → Ends before k j
@@ -194,20 +194,20 @@ module _ (d e : Draft) (known : List (Option Reach)) (i : ℕ) (m : Member) (siz
       at (suc k) le j b = let less = b.less in IsWithin-more before b.reach.depth k j (omega (arith, le, less)) (knows.right j b.reach b.is).depth.within
 
   -- the same where the type that has one member more is within so many steps
-  below_within : (k : ℕ) → IsWithin before k i → EndsAt (held d) k m.tnum
+  below_within : (k : ℕ) → IsWithin before k i → EndsAt (content d) k m.tnum
   below_within k w = below_ends k ((knows.right i stays.reach stays.is).depth.least k w)
 
   still_case : (k : ℕ) → StillEnds k → (j : ℕ) → IsKnown known j → IsWithin before k j → IsWithin after k j
   still_case k step j is w = at (same_or_not j i)
     where
-      each : AllByRecursion (EndsAt (held e) k) (by_value (own_body (held d) j))
-      each = both_of (IsKnownAt d known) (EndsAt (held d) k) (EndsAt (held e) k) (λ n x y. still_at k n step x y) (by_value (own_body (held d) j)) (closed j is) (asked_end (held d) k j w)
+      each : AllByRecursion (EndsAt (content e) k) (by_value (own_body (content d) j))
+      each = both_of (IsKnownAt d known) (EndsAt (content d) k) (EndsAt (content e) k) (λ n x y. still_at k n step x y) (by_value (own_body (content d) j)) (closed j is) (asked_end (content d) k j w)
 
       at : (j ≡ i) ⊎ (j ≢ i) → IsWithin after k j
       at (inl same) =
           let within : IsWithin before k i = subst (IsWithin before k) same w in
-          end_within (held e) k j (each_here (EndsAt (held e) k) j same (still_at k m.tnum step below_known (below_within k within)) each)
-      at (inr other) = end_within (held e) k j (each_other (EndsAt (held e) k) j other each)
+          end_within (content e) k j (each_here (EndsAt (content e) k) j same (still_at k m.tnum step below_known (below_within k within)) each)
+      at (inr other) = end_within (content e) k j (each_other (EndsAt (content e) k) j other each)
 
   still_within : (k j : ℕ) → IsKnown known j → IsWithin before k j → IsWithin after k j
   still_within zero j is w = still_case zero (λ j x y. y) j is w
@@ -215,8 +215,8 @@ module _ (d e : Draft) (known : List (Option Reach)) (i : ℕ) (m : Member) (siz
 
   did_case : (k : ℕ) → DidEnd k → (j : ℕ) → IsKnown known j → IsWithin after k j → IsWithin before k j
   did_case k step j is w =
-      end_within (held d) k j
-      (both_of (IsKnownAt d known) (EndsAt (held e) k) (EndsAt (held d) k) (λ n x y. did_at k n step x y) (by_value (own_body (held d) j)) (closed j is) (each_before (EndsAt (held e) k) j (asked_end (held e) k j w)))
+      end_within (content d) k j
+      (both_of (IsKnownAt d known) (EndsAt (content e) k) (EndsAt (content d) k) (λ n x y. did_at k n step x y) (by_value (own_body (content d) j)) (closed j is) (each_before (EndsAt (content e) k) j (asked_end (content e) k j w)))
 
   was_within : (k j : ℕ) → IsKnown known j → IsWithin after k j → IsWithin before k j
   was_within zero j is w = did_case zero (λ j x y. y) j is w
@@ -236,9 +236,9 @@ module _ (d e : Draft) (known : List (Option Reach)) (i : ℕ) (m : Member) (siz
   -- of a number that names no own type
   new_elsewhere : (n : ℕ) → own_index (is_some d.parent) (count_of d) n ≡ None → new n ≡ old n
   new_elsewhere n none =
-      ap (λ (k : DataModel). comes_to (aligning k) (parents_figure (aligning k) e.parent) (held e) most_numbers n) model
-      ∙ ap (λ (q : Option Dictionary). comes_to (aligning d.model) (parents_figure (aligning d.model) q) (held e) most_numbers n) parent
-      ∙ same_figure (held d) (held e) (λ j. ⊥) (record { child = ap is_some parent; inside = λ j k. absurd k; body = λ j k. absurd k; closed = λ j k. absurd k })
+      ap (λ (k : DataModel). comes_to (aligning k) (parents_figure (aligning k) e.parent) (content e) most_numbers n) model
+      ∙ ap (λ (q : Option Dictionary). comes_to (aligning d.model) (parents_figure (aligning d.model) q) (content e) most_numbers n) parent
+      ∙ same_figure (content d) (content e) (λ j. ⊥) (record { child = ap is_some parent; inside = λ j k. absurd k; body = λ j k. absurd k; closed = λ j k. absurd k })
       (aligning d.model) (figures_ask.aligning_asks d.model) (parents_figure (aligning d.model) d.parent) most_numbers n
       (record { same = own_same n; kept = subst (λ (o : Option ℕ). MatchOption o (Unit {0}) (λ j. ⊥)) (sym none) tt })
 
@@ -248,7 +248,7 @@ module _ (d e : Draft) (known : List (Option Reach)) (i : ℕ) (m : Member) (siz
   abbrev SameAlign : ℕ → Type 0
   SameAlign k = (j : ℕ) → IsKnown known j → Ends before k j → new (number j) ≡ old (number j)
 
-  number_same : (k n : ℕ) → SameAlign k → IsKnownAt d known n → EndsAt (held d) k n → new n ≡ old n
+  number_same : (k n : ℕ) → SameAlign k → IsKnownAt d known n → EndsAt (content d) k n → new n ≡ old n
   number_same k n step is ends = at (own_index (is_some d.parent) (count_of d) n) refl is ends
     where
       at : (o : Option ℕ) → own_index (is_some d.parent) (count_of d) n ≡ o → MatchOption o (Unit {0}) (IsKnown known) → MatchOption o (Unit {0}) (Ends before k) → new n ≡ old n
@@ -258,42 +258,42 @@ module _ (d e : Draft) (known : List (Option Reach)) (i : ℕ) (m : Member) (siz
   inside : (j : ℕ) → IsKnown known j → j < count_of d
   inside j is = let it = found (slice_index_or known j None) is in (knows.right j it.0 it.1).inside
 
-  old_rule : (k j : ℕ) → IsKnown known j → k ≤ longest_chain → IsWithin before k j → old (number j) ≡ align_body d.model old (own_body (held d) j)
+  old_rule : (k j : ℕ) → IsKnown known j → k ≤ longest_chain → IsWithin before k j → old (number j) ≡ align_body d.model old (own_body (content d) j)
   old_rule k j is short w = own_figure (aligning d.model) (figures_ask.aligning_asks d.model) (space_of d) k j short (inside j is) w
 
-  new_rule : (k j : ℕ) → IsKnown known j → k ≤ longest_chain → IsWithin after k j → new (own_number (is_some e.parent) j) ≡ align_body e.model new (own_body (held e) j)
+  new_rule : (k j : ℕ) → IsKnown known j → k ≤ longest_chain → IsWithin after k j → new (own_number (is_some e.parent) j) ≡ align_body e.model new (own_body (content e) j)
   new_rule k j is short w = let lt = inside j is in own_figure (aligning e.model) (figures_ask.aligning_asks e.model) (space_of e) k j short (omega (arith, lt, count)) w
 
   -- what the new member's alignment does to that of its type
-  stays_aligned : (k : ℕ) → k ≤ longest_chain → IsWithin before k i → (counts_more (own_body (held d) i) ≡ false) ⊎ (greater (align_body d.model old (own_body (held d) i)) (old m.tnum) ≡ align_body d.model old (own_body (held d) i))
+  stays_aligned : (k : ℕ) → k ≤ longest_chain → IsWithin before k i → (counts_more (own_body (content d) i) ≡ false) ⊎ (greater (align_body d.model old (own_body (content d) i)) (old m.tnum) ≡ align_body d.model old (own_body (content d) i))
   stays_aligned k short w =
-      let is : stays.reach.align ≡ align_body d.model old (own_body (held d) i) = (knows.right i stays.reach stays.is).aligned ∙ old_rule k i here_known short w in
-      subst (λ (r : Result ℕ Fault). (counts_more (own_body (held d) i) ≡ false) ⊎ (greater r (old m.tnum) ≡ r)) is stays.aligned
+      let is : stays.reach.align ≡ align_body d.model old (own_body (content d) i) = (knows.right i stays.reach stays.is).aligned ∙ old_rule k i here_known short w in
+      subst (λ (r : Result ℕ Fault). (counts_more (own_body (content d) i) ≡ false) ⊎ (greater r (old m.tnum) ≡ r)) is stays.aligned
 
   align_case : (k : ℕ) → SameAlign k → (j : ℕ) → IsKnown known j → k ≤ longest_chain → IsWithin before k j → new (number j) ≡ old (number j)
   align_case k step j is short w =
       ap (λ (q : Option Dictionary). new (own_number (is_some q) j)) (sym parent)
       ∙ new_rule k j is short (still_within k j is w)
-      ∙ ap (λ (x : DataModel). align_body x new (own_body (held e) j)) model
-      ∙ (figures_ask.aligning_asks d.model).same new old (number j) (own_body (held e) j) (all (same_or_not j i))
+      ∙ ap (λ (x : DataModel). align_body x new (own_body (content e) j)) model
+      ∙ (figures_ask.aligning_asks d.model).same new old (number j) (own_body (content e) j) (all (same_or_not j i))
       ∙ last (same_or_not j i)
       ∙ sym (old_rule k j is short w)
     where
-      each : AllByRecursion (λ n. new n ≡ old n) (by_value (own_body (held d) j))
-      each = both_of (IsKnownAt d known) (EndsAt (held d) k) (λ n. new n ≡ old n) (λ n x y. number_same k n step x y) (by_value (own_body (held d) j)) (closed j is) (asked_end (held d) k j w)
+      each : AllByRecursion (λ n. new n ≡ old n) (by_value (own_body (content d) j))
+      each = both_of (IsKnownAt d known) (EndsAt (content d) k) (λ n. new n ≡ old n) (λ n x y. number_same k n step x y) (by_value (own_body (content d) j)) (closed j is) (asked_end (content d) k j w)
 
       within : j ≡ i → IsWithin before k i
       within same = subst (IsWithin before k) same w
 
-      all : (j ≡ i) ⊎ (j ≢ i) → AllByRecursion (λ n. new n ≡ old n) (by_value (own_body (held e) j))
+      all : (j ≡ i) ⊎ (j ≢ i) → AllByRecursion (λ n. new n ≡ old n) (by_value (own_body (content e) j))
       all (inl same) = each_here (λ n. new n ≡ old n) j same (number_same k m.tnum step below_known (below_within k (within same))) each
       all (inr other) = each_other (λ n. new n ≡ old n) j other each
 
-      last : (j ≡ i) ⊎ (j ≢ i) → align_body d.model old (own_body (held e) j) ≡ align_body d.model old (own_body (held d) j)
+      last : (j ≡ i) ⊎ (j ≢ i) → align_body d.model old (own_body (content e) j) ≡ align_body d.model old (own_body (content d) j)
       last (inl same) =
           ap (align_body d.model old) (one_more j same)
-          ∙ same_aligned d.model old m size (own_body (held d) j)
-          (subst (λ (x : ℕ). (counts_more (own_body (held d) x) ≡ false) ⊎ (greater (align_body d.model old (own_body (held d) x)) (old m.tnum) ≡ align_body d.model old (own_body (held d) x))) (sym same) (stays_aligned k short (within same)))
+          ∙ same_aligned d.model old m size (own_body (content d) j)
+          (subst (λ (x : ℕ). (counts_more (own_body (content d) x) ≡ false) ⊎ (greater (align_body d.model old (own_body (content d) x)) (old m.tnum) ≡ align_body d.model old (own_body (content d) x))) (sym same) (stays_aligned k short (within same)))
       last (inr other) = ap (align_body d.model old) (others j other)
 
   align_same : (k j : ℕ) → IsKnown known j → k ≤ longest_chain → IsWithin before k j → new (number j) ≡ old (number j)
@@ -317,9 +317,9 @@ module _ (d e : Draft) (known : List (Option Reach)) (i : ℕ) (m : Member) (siz
             aligned = was.aligned ∙ sym (align_same r.depth j k was.short was.depth.within) ∙ ap (λ (q : Option Dictionary). new (own_number (is_some q) j)) (sym parent);
           }
 
-      all : (j : ℕ) → AllByRecursion (IsKnownAt d known) (by_value (own_body (held d) j)) → (j ≡ i) ⊎ (j ≢ i) → AllByRecursion (IsKnownAt e known) (by_value (own_body (held e) j))
-      all j h (inl same) = each_here (IsKnownAt e known) j same (known_at m.tnum below_known) (all_map (IsKnownAt d known) (IsKnownAt e known) known_at (by_value (own_body (held d) j)) h)
-      all j h (inr other) = each_other (IsKnownAt e known) j other (all_map (IsKnownAt d known) (IsKnownAt e known) known_at (by_value (own_body (held d) j)) h)
+      all : (j : ℕ) → AllByRecursion (IsKnownAt d known) (by_value (own_body (content d) j)) → (j ≡ i) ⊎ (j ≢ i) → AllByRecursion (IsKnownAt e known) (by_value (own_body (content e) j))
+      all j h (inl same) = each_here (IsKnownAt e known) j same (known_at m.tnum below_known) (all_map (IsKnownAt d known) (IsKnownAt e known) known_at (by_value (own_body (content d) j)) h)
+      all j h (inr other) = each_other (IsKnownAt e known) j other (all_map (IsKnownAt d known) (IsKnownAt e known) known_at (by_value (own_body (content d) j)) h)
 
 -- ---- what is seen in code
 
@@ -336,10 +336,10 @@ module _ (parname parlabel : List ℕ) (parent : Option Dictionary) (model : Dat
   abbrev made : List Term → Draft
   made ts = seen parname parlabel parent model u v ts labels
 
-  all : (ts : List Term) → (held (made ts)).terms ≡ ts
+  all : (ts : List Term) → (content (made ts)).terms ≡ ts
   all ts = all_terms parname parlabel parent model u v ts labels
 
-  more_known : (s : ℕ) (y : Term) (m : Member) (size : ℕ) → s < length terms → y.body ≡ with_member m size (own_body (held (made terms)) s) → Stays (made terms) known s m.tnum → Knows (made terms) known → Knows (made (set terms s y)) known
+  more_known : (s : ℕ) (y : Term) (m : Member) (size : ℕ) → s < length terms → y.body ≡ with_member m size (own_body (content (made terms)) s) → Stays (made terms) known s m.tnum → Knows (made terms) known → Knows (made (set terms s y)) known
   more_known s y m size lt is stays knows =
       still_knows (made terms) (made (set terms s y)) known s m size refl refl
       (ap length (all (set terms s y)) ∙ length-set terms s y ∙ sym (ap length (all terms)))
@@ -350,7 +350,7 @@ module _ (parname parlabel : List ℕ) (parent : Option Dictionary) (model : Dat
   -- one member more, or memory for it was refused
   pub pushed_known : {A E : Type 0} (r : Result A E) (s : ℕ) (x y : Term) (m : Member) (size : ℕ) → s < length terms → get_or terms s nothing ≡ x → OnOk r (y ≡ with_body (with_member m size x.body) x) → OnErr r (y ≡ x) → Stays (made terms) known s m.tnum → Knows (made terms) known → Knows (made (set terms s y)) known
   pushed_known (Ok a) s x y m size lt is done left stays knows =
-      let was : own_body (held (made terms)) s ≡ x.body = ap (λ (ts : List Term). (get_or ts s nothing).body) (all terms) ∙ ap (λ (z : Term). z.body) is in
+      let was : own_body (content (made terms)) s ≡ x.body = ap (λ (ts : List Term). (get_or ts s nothing).body) (all terms) ∙ ap (λ (z : Term). z.body) is in
       more_known s y m size lt (ap (λ (z : Term). z.body) done ∙ ap (with_member m size) (sym was)) stays knows
   pushed_known (Err f) s x y m size lt is done left stays knows =
       subst (λ (ts : List Term). Knows (made ts) known) (sym (ap (set terms s) left ∙ set_same terms s x lt is)) knows

@@ -5,10 +5,10 @@ use Rattle.std.proofs.lemmas.Bool.{ltb-true}
 use Rattle.std.proofs.lemmas.List.{length-map, length-take, map-set}
 use Rattle.std.proofs.Math.Seq.{map-set_same}
 use Rattle.std.proofs.lemmas.Option.{slice_get-get_or, slice_get-map}
-use Rattle.ctf_model.specs.drafts.Adders.{body_at, found_body, replaced, replaced_at, with_body}
+use Rattle.ctf_model.specs.drafts.Adders.{body_at, found_body, replace_body, replaced_at, with_body}
 use Rattle.ctf_model.specs.rules.Chains.{own_index}
 use Rattle.ctf_model.specs.format.Dictionary.{Dictionary, Label}
-use Rattle.ctf_model.specs.drafts.Drafts.{Draft, count_of, held, pending_place, space_of}
+use Rattle.ctf_model.specs.drafts.Drafts.{Draft, count_of, content, pending_place, space_of}
 use Rattle.ctf_model.specs.spaces.Space.{space_type}
 use Rattle.ctf_model.specs.format.Term.{Body, Term}
 use Rattle.ctf_model.specs.spaces.TypeNumbers.{or_no_type}
@@ -23,7 +23,7 @@ use Rattle.ctf_draft.specs.declared.types.DraftType.{DraftType}
 use Rattle.ctf_draft.proofs.Views.{all_terms, one_other, seen}
 
 -- the type of an own number
-pub own_type : (d : Draft) (n i : ℕ) → own_index (is_some d.parent) (count_of d) n ≡ Some i → space_type (space_of d) n ≡ or_no_type (slice_get (held d).terms i)
+pub own_type : (d : Draft) (n i : ℕ) → own_index (is_some d.parent) (count_of d) n ≡ Some i → space_type (space_of d) n ≡ or_no_type (slice_get (content d).terms i)
 own_type d n i own = let h = own_inside (is_some d.parent) (count_of d) n i own in rw h.0 refl
 
 -- where a pending number stands among the pending types
@@ -43,7 +43,7 @@ module _ (parname parlabel : List ℕ) (parent : Option Dictionary) (model : Dat
   body_found = sym (ap found_body found)
 
   -- in place of it stands one with another body
-  pub written_over : (body : Body) → replaced (seen parname parlabel parent model u v terms labels) n body ≡ seen parname parlabel parent model u v (set terms i (with_body body x)) labels
+  pub written_over : (body : Body) → replace_body (seen parname parlabel parent model u v terms labels) n body ≡ seen parname parlabel parent model u v (set terms i (with_body body x)) labels
   written_over body =
       let count : length (take u terms) ≡ u = simp length-take (omega arith) in
       let behind = at.behind in
@@ -78,13 +78,13 @@ module _ (parname parlabel : List ℕ) (parent : Option Dictionary) (model : Dat
   pub body_here : (type_of t).body ≡ body_at d n
   body_here = body_found parname parlabel parent model u v (map type_of items) labels n i (type_of t) at_seen (taken_at items i t inside is) few ∙ ap (λ (e : Draft). body_at e n) view
 
-  pub put_here : (change : Body → Body) (new : DraftType) → type_of new ≡ with_body (change (type_of t).body) (type_of t) → seen parname parlabel parent model u v (map type_of (set items i new)) labels ≡ replaced d n (change (body_at d n))
+  pub put_here : (change : Body → Body) (new : DraftType) → type_of new ≡ with_body (change (type_of t).body) (type_of t) → seen parname parlabel parent model u v (map type_of (set items i new)) labels ≡ replace_body d n (change (body_at d n))
   put_here change new h =
       let all : map type_of (set items i new) ≡ set (map type_of items) i (with_body (change (type_of t).body) (type_of t)) = map-set type_of items i new ∙ ap (set (map type_of items) i) h in
       ap (λ (ts : List Term). seen parname parlabel parent model u v ts labels) all
       ∙ sym (written_over parname parlabel parent model u v (map type_of items) labels n i (type_of t) at_seen (taken_at items i t inside is) few (change (type_of t).body))
-      ∙ ap (λ (e : Draft). replaced e n (change (type_of t).body)) view
-      ∙ ap (λ (b : Body). replaced d n (change b)) body_here
+      ∙ ap (λ (e : Draft). replace_body e n (change (type_of t).body)) view
+      ∙ ap (λ (b : Body). replace_body d n (change b)) body_here
 
   pub left_here : (new : DraftType) → type_of new ≡ type_of t → seen parname parlabel parent model u v (map type_of (set items i new)) labels ≡ seen parname parlabel parent model u v (map type_of items) labels
   left_here new same = ap (λ (ts : List Term). seen parname parlabel parent model u v ts labels) (map-set_same type_of items i new t (same ∙ ap type_of is))
@@ -95,7 +95,7 @@ seen_type parname parlabel parent model u v items labels n i d view at =
     ap (λ (e : Draft). space_type (space_of e) n) (sym view) ∙ here (seen parname parlabel parent model u v (map type_of items) labels) at
     ∙ ap (λ (ts : List Term). or_no_type (slice_get ts i)) (all_terms parname parlabel parent model u v (map type_of items) labels)
   where
-    here : (e : Draft) → place (is_some e.parent) n ≡ Own i → space_type (space_of e) n ≡ or_no_type (slice_get (held e).terms i)
+    here : (e : Draft) → place (is_some e.parent) n ≡ Own i → space_type (space_of e) n ≡ or_no_type (slice_get (content e).terms i)
     here e own = rw own refl
 
 -- none stands behind the last

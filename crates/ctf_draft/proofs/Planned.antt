@@ -5,7 +5,7 @@ use Rattle.std.specs.List.{AllByRecursion, list_all}
 use Rattle.ctf_chains.proofs.Depths.{IsWithin-more}
 use Rattle.ctf_model.specs.drafts.Adders.{is_deep, is_deep_from}
 use Rattle.ctf_model.specs.rules.Chains.{IsWithin, longest_chain, own_index, targets, within}
-use Rattle.ctf_model.specs.drafts.Drafts.{Draft, count_of, held, space_of}
+use Rattle.ctf_model.specs.drafts.Drafts.{Draft, count_of, content, space_of}
 use Rattle.ctf_model.specs.figures.FigureLaws.{value_edges}
 use Rattle.ctf_model.specs.figures.Figures.{align, aligning, comes_to, parents_figure}
 use Rattle.ctf_model.proofs.Settled.{most_is}
@@ -34,14 +34,14 @@ true_within es (suc k) i h = from_all (within es k) (IsWithin es k) (true_within
 
 pub shallow : (d : Draft) (n i : ℕ) (r : Reach) → own_index (is_some d.parent) (count_of d) n ≡ Some i → IsFound d i longest_chain r → (is_deep d n ≡ false) × (r.align ≡ align (space_of d) n)
 shallow d n i r own h =
-    let short = true_within (value_edges (held d)) longest_chain i (IsWithin-more (value_edges (held d)) r.depth longest_chain i h.affordable h.reach.depth.within) in
-    (ap (is_deep_from (held d)) own ∙ ap not short, named_is d n i r own h.reach)
+    let short = true_within (value_edges (content d)) longest_chain i (IsWithin-more (value_edges (content d)) r.depth longest_chain i h.affordable h.reach.depth.within) in
+    (ap (is_deep_from (content d)) own ∙ ap not short, named_is d n i r own h.reach)
 
-pub deep : (d : Draft) (n i : ℕ) → own_index (is_some d.parent) (count_of d) n ≡ Some i → ¬ IsWithin (value_edges (held d)) longest_chain i → is_deep d n ≡ true
-deep d n i own h = ap (is_deep_from (held d)) own ∙ at (within (value_edges (held d)) longest_chain i) refl
+pub deep : (d : Draft) (n i : ℕ) → own_index (is_some d.parent) (count_of d) n ≡ Some i → ¬ IsWithin (value_edges (content d)) longest_chain i → is_deep d n ≡ true
+deep d n i own h = ap (is_deep_from (content d)) own ∙ at (within (value_edges (content d)) longest_chain i) refl
   where
-    at : (b : Bool) → within (value_edges (held d)) longest_chain i ≡ b → not b ≡ true
-    at true e = absurd (h (within_true (value_edges (held d)) longest_chain i e))
+    at : (b : Bool) → within (value_edges (content d)) longest_chain i ≡ b → not b ≡ true
+    at true e = absurd (h (within_true (value_edges (content d)) longest_chain i e))
     at false e = refl
 
 -- ---- plans
@@ -67,9 +67,9 @@ plan_err d n tnum offset (Err f) h e = inr (plan_of_shallow d n tnum offset h �
 -- a type whose bound is known is not deep
 pub bounded_shallow : (d : Draft) (x : Depths) → IsBounded d x → (n i : ℕ) → own_index (is_some d.parent) (count_of d) n ≡ Some i → bound x.bounds.items i ≤ 512 → is_deep d n ≡ false
 bounded_shallow d x ok n i own low =
-    let short = true_within (value_edges (held d)) longest_chain i (within_bound d x ok longest_chain i low (omega arith)) in
-    ap (is_deep_from (held d)) own ∙ ap not short
+    let short = true_within (value_edges (content d)) longest_chain i (within_bound d x ok longest_chain i low (omega arith)) in
+    ap (is_deep_from (content d)) own ∙ ap not short
 
-pub found_shallow : (d : Draft) (n : ℕ) (found : Option (Result ℕ Fault)) → is_deep d n ≡ false → MatchOption found (Unit {0}) (λ a. a ≡ comes_to (aligning d.model) (parents_figure (aligning d.model) d.parent) (held d) 514 n) → MatchOption found (Unit {0}) (λ a. (is_deep d n ≡ false) × (a ≡ align (space_of d) n))
+pub found_shallow : (d : Draft) (n : ℕ) (found : Option (Result ℕ Fault)) → is_deep d n ≡ false → MatchOption found (Unit {0}) (λ a. a ≡ comes_to (aligning d.model) (parents_figure (aligning d.model) d.parent) (content d) 514 n) → MatchOption found (Unit {0}) (λ a. (is_deep d n ≡ false) × (a ≡ align (space_of d) n))
 found_shallow d n None short h = tt
-found_shallow d n (Some a) short h = (short, h ∙ ap (λ (k : ℕ). comes_to (aligning d.model) (parents_figure (aligning d.model) d.parent) (held d) k n) (sym most_is))
+found_shallow d n (Some a) short h = (short, h ∙ ap (λ (k : ℕ). comes_to (aligning d.model) (parents_figure (aligning d.model) d.parent) (content d) k n) (sym most_is))

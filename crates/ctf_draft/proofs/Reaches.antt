@@ -15,7 +15,7 @@ use Rattle.ctf_layout.specs.Bases.{greatest_of}
 use Rattle.ctf_layout.proofs.HangsOn.{greatest_step}
 use Rattle.ctf_model.specs.rules.Chains.{IsWithin, by_value, edges, longest_chain, own_index}
 use Rattle.ctf_model.specs.format.Dictionary.{Dictionary}
-use Rattle.ctf_model.specs.drafts.Drafts.{Draft, count_of, held, space_of}
+use Rattle.ctf_model.specs.drafts.Drafts.{Draft, count_of, content, space_of}
 use Rattle.ctf_model.specs.figures.FigureLaws.{nothing, own_body, value_edges}
 use Rattle.ctf_model.specs.figures.Figures.{align, align_body, aligning, comes_to, first_of, greater, greatest, parents_figure}
 use Rattle.ctf_model.specs.format.Term.{Body, Member, Term}
@@ -154,28 +154,28 @@ one_read f base ts k n a b lt is one = at (ltb k n) refl
 -- ---- what is found
 
 -- of a number that names no own type
-pub elsewhere_is : (d : Draft) (n : ℕ) (r : Result ℕ Fault) → ((k : ℕ) → r ≡ comes_to (aligning d.model) (parents_figure (aligning d.model) d.parent) (held d) (suc k) n) → r ≡ align (space_of d) n
-elsewhere_is d n r h = h 513 ∙ ap (λ (k : ℕ). comes_to (aligning d.model) (parents_figure (aligning d.model) d.parent) (held d) k n) (sym most_is)
+pub elsewhere_is : (d : Draft) (n : ℕ) (r : Result ℕ Fault) → ((k : ℕ) → r ≡ comes_to (aligning d.model) (parents_figure (aligning d.model) d.parent) (content d) (suc k) n) → r ≡ align (space_of d) n
+elsewhere_is d n r h = h 513 ∙ ap (λ (k : ℕ). comes_to (aligning d.model) (parents_figure (aligning d.model) d.parent) (content d) k n) (sym most_is)
 
 -- of one that names an own type
 pub named_is : (d : Draft) (n j : ℕ) (r : Reach) → own_index (is_some d.parent) (count_of d) n ≡ Some j → IsReach d j r → r.align ≡ align (space_of d) n
 named_is d n j r own h = let at = own_inside (is_some d.parent) (count_of d) n j own in h.aligned ∙ ap (align (space_of d)) (sym at.2)
 
 -- of a type, once all that it leads to are read
-pub reach_is : (d : Draft) (i k depth : ℕ) (a : Result ℕ Fault) (r : Reach) → i < count_of d → depth ≤ longest_chain → length (by_value (own_body (held d) i)) ≤ k
-    → IsLongest (steps_between (value_places (held d))) (led_to (take k (places_at (value_places (held d)) i))) depth
-    → a ≡ greater (own_align d.model (own_body (held d) i)) (greatest_of (align (space_of d)) (take (min k (aligned_by (own_body (held d) i))) (by_value (own_body (held d) i))))
+pub reach_is : (d : Draft) (i k depth : ℕ) (a : Result ℕ Fault) (r : Reach) → i < count_of d → depth ≤ longest_chain → length (by_value (own_body (content d) i)) ≤ k
+    → IsLongest (steps_between (value_places (content d))) (led_to (take k (places_at (value_places (content d)) i))) depth
+    → a ≡ greater (own_align d.model (own_body (content d) i)) (greatest_of (align (space_of d)) (take (min k (aligned_by (own_body (content d) i))) (by_value (own_body (content d) i))))
     → r.depth ≡ depth → r.align ≡ a → IsReach d i r
 reach_is d i k depth a r lt short whole longest aligned same_depth same_align =
-    let count = place_count (held d) i in
-    let deep : IsDepth (value_edges (held d)) i depth = subst (λ (es : List (List ℕ)). IsDepth es i depth) (edges_are (held d)) (is_depth (value_places (held d)) i k depth (omega (arith, count)) longest) in
-    let body = own_body (held d) i in
+    let count = place_count (content d) i in
+    let deep : IsDepth (value_edges (content d)) i depth = subst (λ (es : List (List ℕ)). IsDepth es i depth) (edges_are (content d)) (is_depth (value_places (content d)) i k depth (omega (arith, count)) longest) in
+    let body = own_body (content d) i in
     let all = few body in
     let every : min k (aligned_by body) ≡ aligned_by body = omega arith in
     let rule = own_figure (aligning d.model) (figures_ask.aligning_asks d.model) (space_of d) depth i short lt deep.within in
     record {
       inside = lt;
-      depth = subst (IsDepth (value_edges (held d)) i) (sym same_depth) deep;
+      depth = subst (IsDepth (value_edges (content d)) i) (sym same_depth) deep;
       short = omega (arith, short, same_depth);
       aligned = same_align ∙ aligned ∙ ap (λ (m : ℕ). greater (own_align d.model body) (greatest_of (align (space_of d)) (take m (by_value body)))) every ∙ sym (align_is d.model (align (space_of d)) body) ∙ sym rule;
     }
@@ -207,13 +207,13 @@ below_more d known ns k n lt is here h =
     let one : IsKnownAt d known (slice_index ns k) = subst (IsKnownAt d known) is here in
     subst (AllByRecursion (IsKnownAt d known)) (sym (take_more ns k 0 lt)) (all_joined (IsKnownAt d known) (take k ns) (slice_index ns k ∷ []) h (one, tt))
 
-pub one_kept : (d : Draft) (known : List (Option Reach)) (i : ℕ) (r : Reach) → i < length known → Knows d known → IsReach d i r → AllByRecursion (IsKnownAt d known) (by_value (own_body (held d) i)) → Knows d (slice_set known i (Some r))
+pub one_kept : (d : Draft) (known : List (Option Reach)) (i : ℕ) (r : Reach) → i < length known → Knows d known → IsReach d i r → AllByRecursion (IsKnownAt d known) (by_value (own_body (content d) i)) → Knows d (slice_set known i (Some r))
 one_kept d known i r lt knows is below = record {
   right = λ j q e. at j q (same_or_not j i) e;
-  closed = λ j q e. below_grows d known (slice_set known i (Some r)) (known_grows known i r lt) (by_value (own_body (held d) j)) (under j q (same_or_not j i) e);
+  closed = λ j q e. below_grows d known (slice_set known i (Some r)) (known_grows known i r lt) (by_value (own_body (content d) j)) (under j q (same_or_not j i) e);
 }
   where
-    under : (j : ℕ) (q : Reach) → (j ≡ i) ⊎ (j ≢ i) → get_or (set known i (Some r)) j None ≡ Some q → AllByRecursion (IsKnownAt d known) (by_value (own_body (held d) j))
+    under : (j : ℕ) (q : Reach) → (j ≡ i) ⊎ (j ≢ i) → get_or (set known i (Some r)) j None ≡ Some q → AllByRecursion (IsKnownAt d known) (by_value (own_body (content d) j))
     under j q (inl same) e = rw same below
     under j q (inr other) e = knows.closed j q (sym (get_or-set_other known i j (Some r) None other) ∙ e)
 
@@ -238,65 +238,65 @@ known_answers d i budget r (Some s) is h = record { reach = subst (IsReach d i) 
 
 -- ---- one of the types that a type leads to
 
-module _ (d : Draft) (i : ℕ) (body : Body) (got : option_map (λ x. x.body) (slice_get (held d).terms i) ≡ Some body) where
-  same_body : own_body (held d) i ≡ body
-  same_body = body_is (held d) i body got
+module _ (d : Draft) (i : ℕ) (body : Body) (got : option_map (λ x. x.body) (slice_get (content d).terms i) ≡ Some body) where
+  same_body : own_body (content d) i ≡ body
+  same_body = body_is (content d) i body got
 
-  pub base_is : (model : DataModel) (r : Result ℕ Fault) → model ≡ d.model → r ≡ own_align model body → r ≡ own_align d.model (own_body (held d) i)
+  pub base_is : (model : DataModel) (r : Result ℕ Fault) → model ≡ d.model → r ≡ own_align model body → r ≡ own_align d.model (own_body (content d) i)
   base_is model r same h = h ∙ ap (λ (m : DataModel). own_align m body) same ∙ ap (own_align d.model) (sym same_body)
 
-  pub read_count : (n : ℕ) → n ≡ length (by_value body) → n ≡ length (by_value (own_body (held d) i))
+  pub read_count : (n : ℕ) → n ≡ length (by_value body) → n ≡ length (by_value (own_body (content d) i))
   read_count n h = h ∙ ap (λ (b : Body). length (by_value b)) (sym same_body)
 
   module _ (k n : ℕ) (lt : k < length (by_value body)) (is : n ≡ slice_index (by_value body) k) (o : Option ℕ) (own : o ≡ own_index (is_some d.parent) (count_of d) n) where
-    inside_own : k < length (by_value (own_body (held d) i))
+    inside_own : k < length (by_value (own_body (content d) i))
     inside_own = let e = ap (λ (b : Body). length (by_value b)) same_body in omega (arith, e)
 
-    inside : k < length (places_at (value_places (held d)) i)
-    inside = let e = place_count (held d) i in let l = inside_own in omega (arith, e, l)
+    inside : k < length (places_at (value_places (content d)) i)
+    inside = let e = place_count (content d) i in let l = inside_own in omega (arith, e, l)
 
-    named : n ≡ slice_index (by_value (own_body (held d) i)) k
+    named : n ≡ slice_index (by_value (own_body (content d) i)) k
     named = is ∙ ap (λ (b : Body). slice_index (by_value b) k) (sym same_body)
 
-    led : slice_index_or (places_at (value_places (held d)) i) k None ≡ o
-    led = place_is (held d) i k n inside_own named ∙ sym own
+    led : slice_index_or (places_at (value_places (content d)) i) k None ≡ o
+    led = place_is (content d) i k n inside_own named ∙ sym own
 
-    pub too_deep : (budget j : ℕ) → o ≡ Some j → (1 ≤ budget → IsWithin (value_edges (held d)) (budget - 1) j → ⊥) → IsWithin (value_edges (held d)) budget i → ⊥
+    pub too_deep : (budget j : ℕ) → o ≡ Some j → (1 ≤ budget → IsWithin (value_edges (content d)) (budget - 1) j → ⊥) → IsWithin (value_edges (content d)) budget i → ⊥
     too_deep budget j to deep w =
-        deep_target (value_places (held d)) budget i k j inside (led ∙ to)
-        (λ le v. deep le (subst (λ (es : List (List ℕ)). IsWithin es (budget - 1) j) (edges_are (held d)) v))
-        (subst (λ (es : List (List ℕ)). IsWithin es budget i) (sym (edges_are (held d))) w)
+        deep_target (value_places (content d)) budget i k j inside (led ∙ to)
+        (λ le v. deep le (subst (λ (es : List (List ℕ)). IsWithin es (budget - 1) j) (edges_are (content d)) v))
+        (subst (λ (es : List (List ℕ)). IsWithin es budget i) (sym (edges_are (content d))) w)
 
     -- something is known of it then
-    pub below_named : (j : ℕ) (known : List (Option Reach)) → o ≡ Some j → IsKnown known j → AllByRecursion (IsKnownAt d known) (take k (by_value (own_body (held d) i))) → AllByRecursion (IsKnownAt d known) (take (k + 1) (by_value (own_body (held d) i)))
+    pub below_named : (j : ℕ) (known : List (Option Reach)) → o ≡ Some j → IsKnown known j → AllByRecursion (IsKnownAt d known) (take k (by_value (own_body (content d) i))) → AllByRecursion (IsKnownAt d known) (take (k + 1) (by_value (own_body (content d) i)))
     below_named j known to known_j h =
         let here : own_index (is_some d.parent) (count_of d) n ≡ Some j = sym own ∙ to in
-        below_more d known (by_value (own_body (held d) i)) k n inside_own named (subst (λ (q : Option ℕ). MatchOption q (Unit {0}) (IsKnown known)) (sym here) known_j) h
+        below_more d known (by_value (own_body (content d) i)) k n inside_own named (subst (λ (q : Option ℕ). MatchOption q (Unit {0}) (IsKnown known)) (sym here) known_j) h
 
-    pub below_unnamed : (known : List (Option Reach)) → o ≡ None → AllByRecursion (IsKnownAt d known) (take k (by_value (own_body (held d) i))) → AllByRecursion (IsKnownAt d known) (take (k + 1) (by_value (own_body (held d) i)))
+    pub below_unnamed : (known : List (Option Reach)) → o ≡ None → AllByRecursion (IsKnownAt d known) (take k (by_value (own_body (content d) i))) → AllByRecursion (IsKnownAt d known) (take (k + 1) (by_value (own_body (content d) i)))
     below_unnamed known to h =
         let here : own_index (is_some d.parent) (count_of d) n ≡ None = sym own ∙ to in
-        below_more d known (by_value (own_body (held d) i)) k n inside_own named (subst (λ (q : Option ℕ). MatchOption q (Unit {0}) (IsKnown known)) (sym here) tt) h
+        below_more d known (by_value (own_body (content d) i)) k n inside_own named (subst (λ (q : Option ℕ). MatchOption q (Unit {0}) (IsKnown known)) (sym here) tt) h
 
-    pub longer_by : (l m j : ℕ) (r : Reach) → o ≡ Some j → IsReach d j r → m ≡ max l (r.depth + 1) → IsLongest (steps_between (value_places (held d))) (led_to (take k (places_at (value_places (held d)) i))) l → IsLongest (steps_between (value_places (held d))) (led_to (take (k + 1) (places_at (value_places (held d)) i))) m
+    pub longer_by : (l m j : ℕ) (r : Reach) → o ≡ Some j → IsReach d j r → m ≡ max l (r.depth + 1) → IsLongest (steps_between (value_places (content d))) (led_to (take k (places_at (value_places (content d)) i))) l → IsLongest (steps_between (value_places (content d))) (led_to (take (k + 1) (places_at (value_places (content d)) i))) m
     longer_by l m j r to h e longest =
-        let es = steps_between (value_places (held d)) in
-        let deep : IsDepth es j r.depth = subst (λ (es : List (List ℕ)). IsDepth es j r.depth) (sym (edges_are (held d))) h.depth in
+        let es = steps_between (value_places (content d)) in
+        let deep : IsDepth es j r.depth = subst (λ (es : List (List ℕ)). IsDepth es j r.depth) (sym (edges_are (content d))) h.depth in
         let one : (m ≡ l) ⊎ (m ≡ r.depth + 1) = either l (r.depth + 1) m e in
         let a : l ≤ m = omega arith in
         let b : r.depth + 1 ≤ m = omega arith in
-        rw (led_more (places_at (value_places (held d)) i) k j inside (led ∙ to)) (one_more es (led_to (take k (places_at (value_places (held d)) i))) j r.depth l m longest deep a b one)
+        rw (led_more (places_at (value_places (content d)) i) k j inside (led ∙ to)) (one_more es (led_to (take k (places_at (value_places (content d)) i))) j r.depth l m longest deep a b one)
 
-    pub longer_none : (l m : ℕ) → o ≡ None → m ≡ max l 0 → IsLongest (steps_between (value_places (held d))) (led_to (take k (places_at (value_places (held d)) i))) l → IsLongest (steps_between (value_places (held d))) (led_to (take (k + 1) (places_at (value_places (held d)) i))) m
+    pub longer_none : (l m : ℕ) → o ≡ None → m ≡ max l 0 → IsLongest (steps_between (value_places (content d))) (led_to (take k (places_at (value_places (content d)) i))) l → IsLongest (steps_between (value_places (content d))) (led_to (take (k + 1) (places_at (value_places (content d)) i))) m
     longer_none l m to e longest =
         let same : l ≡ m = omega arith in
-        rw (led_same (places_at (value_places (held d)) i) k inside (led ∙ to)) (subst (IsLongest (steps_between (value_places (held d))) (led_to (take k (places_at (value_places (held d)) i)))) same longest)
+        rw (led_same (places_at (value_places (content d)) i) k inside (led ∙ to)) (subst (IsLongest (steps_between (value_places (content d))) (led_to (take k (places_at (value_places (content d)) i)))) same longest)
 
     pub aligned_more : (a b r : Result ℕ Fault) (counting : ℕ) → counting ≡ aligned_by body
-        → a ≡ greater (own_align d.model (own_body (held d) i)) (greatest_of (align (space_of d)) (take (min k (aligned_by (own_body (held d) i))) (by_value (own_body (held d) i))))
+        → a ≡ greater (own_align d.model (own_body (content d) i)) (greatest_of (align (space_of d)) (take (min k (aligned_by (own_body (content d) i))) (by_value (own_body (content d) i))))
         → b ≡ align (space_of d) n → r ≡ cond (ltb k counting) (greater a b) a
-        → r ≡ greater (own_align d.model (own_body (held d) i)) (greatest_of (align (space_of d)) (take (min (k + 1) (aligned_by (own_body (held d) i))) (by_value (own_body (held d) i))))
+        → r ≡ greater (own_align d.model (own_body (content d) i)) (greatest_of (align (space_of d)) (take (min (k + 1) (aligned_by (own_body (content d) i))) (by_value (own_body (content d) i))))
     aligned_more a b r counting count before this e =
         let c = count ∙ ap aligned_by (sym same_body) in
         e ∙ ap (λ (m : ℕ). cond (ltb k m) (greater a b) a) c
-        ∙ one_read (align (space_of d)) (own_align d.model (own_body (held d) i)) (by_value (own_body (held d) i)) k (aligned_by (own_body (held d) i)) a b inside_own before (this ∙ ap (align (space_of d)) named)
+        ∙ one_read (align (space_of d)) (own_align d.model (own_body (content d) i)) (by_value (own_body (content d) i)) k (aligned_by (own_body (content d) i)) a b inside_own before (this ∙ ap (align (space_of d)) named)

@@ -2,7 +2,7 @@
 use Rattle.std.proofs.Common.{◌≡◌, ℕ, false, List, length, Option, Some, None, Result, Ok, Err, is_some, option_map, refl, sym, subst}
 use Rattle.std.specs.Prelude.{not, ◌==◌, OnErr, OnOk, FitsSigned}
 use Rattle.std.specs.Int.{w32}
-use Rattle.ctf_model.specs.drafts.Adders.{add_enumerator, against_enumerator, body_at, replaced, with_enumerator, with_member}
+use Rattle.ctf_model.specs.drafts.Adders.{add_enumerator, against_enumerator, body_at, replace_body, with_enumerator, with_member}
 use Rattle.ctf_model.specs.format.Dictionary.{said_by}
 use Rattle.ctf_model.specs.drafts.DraftLaws.{IsSound}
 use Rattle.ctf_model.specs.drafts.Drafts.{Draft, above, empty_draft, has_zero, is_childs, is_of_other, new_draft}
@@ -32,10 +32,10 @@ same_above kept None = refl
 same_above kept (Some p) = refl
 
 -- a member that is added as it is planned
-pub planned_sound : (d : Draft) (n : ℕ) (name : List ℕ) (tnum : ℕ) (offset : Option ℕ) (p : Plan) → IsSound d → against_name d n name tnum ≡ None → planned d n tnum offset ≡ Ok p → IsSound (replaced d n (with_member (record { name = name; tnum = tnum; offset = p.offset }) p.size (body_at d n)))
+pub planned_sound : (d : Draft) (n : ℕ) (name : List ℕ) (tnum : ℕ) (offset : Option ℕ) (p : Plan) → IsSound d → against_name d n name tnum ≡ None → planned d n tnum offset ≡ Ok p → IsSound (replace_body d n (with_member (record { name = name; tnum = tnum; offset = p.offset }) p.size (body_at d n)))
 planned_sound d n name tnum offset p ok none h =
-    member_sound d n name tnum offset (record { draft = replaced d n (with_member (record { name = name; tnum = tnum; offset = p.offset }) p.size (body_at d n)); answer = p.offset }) ok (member_accepted d n name tnum offset p none h)
+    member_sound d n name tnum offset (record { draft = replace_body d n (with_member (record { name = name; tnum = tnum; offset = p.offset }) p.size (body_at d n)); answer = p.offset }) ok (member_accepted d n name tnum offset p none h)
 
-pub enumerated_sound : (d : Draft) (n : ℕ) (e : Enumerator) → IsSound d → FitsSigned w32 e.value → first_met (against_enumerator d n e.name) ≡ None → IsSound (replaced d n (with_enumerator e (body_at d n)))
+pub enumerated_sound : (d : Draft) (n : ℕ) (e : Enumerator) → IsSound d → FitsSigned w32 e.value → first_met (against_enumerator d n e.name) ≡ None → IsSound (replace_body d n (with_enumerator e (body_at d n)))
 unfolding add_enumerator
-enumerated_sound d n e ok low none = enumerator_sound d n e (replaced d n (with_enumerator e (body_at d n))) ok low (rw none refl)
+enumerated_sound d n e ok low none = enumerator_sound d n e (replace_body d n (with_enumerator e (body_at d n))) ok low (rw none refl)

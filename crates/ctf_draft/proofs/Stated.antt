@@ -7,9 +7,9 @@ use Rattle.std.proofs.lemmas.List.{length-append, length-set, map-append}
 use Rattle.ctf_model.proofs.Alls.{all_got, all_joined, all_set, all_split, none_joined, none_weaker, or_parts}
 use Rattle.ctf_model.proofs.Anywhere.{all_map}
 use Rattle.ctf_model.proofs.DraftNumbers.{IsOpen, opened, still_there}
-use Rattle.ctf_model.specs.drafts.Adders.{against_member, body_at, found_body, is_deep, most_items, most_types, present_members, replaced, with_body, with_member, with_pending}
+use Rattle.ctf_model.specs.drafts.Adders.{against_member, body_at, found_body, is_deep, most_items, most_types, present_members, replace_body, with_body, with_member, with_pending}
 use Rattle.ctf_model.specs.drafts.DraftLaws.{IsSound, NamesThere}
-use Rattle.ctf_model.specs.drafts.Drafts.{Draft, all_of, count_of, has_zero, held, is_absent}
+use Rattle.ctf_model.specs.drafts.Drafts.{Draft, all_of, count_of, has_zero, content, is_absent}
 use Rattle.ctf_model.specs.drafts.Fitting.{Fits, FitsBody, FitsMember, FitsMembers, IsName}
 use Rattle.ctf_model.specs.drafts.Placement.{is_too_far}
 use Rattle.ctf_model.specs.rules.Judgements.{Row, first_met, unless}
@@ -75,11 +75,11 @@ none_of (term.restrict _) size h le = refl
 
 -- the body of a pending type fits
 fits_at : (d : Draft) (n i : ℕ) → IsSound d → StandsPending d n i → FitsBody (body_at d n)
-fits_at d n i ok at = go (slice_get (held d).terms i) refl
+fits_at d n i ok at = go (slice_get (content d).terms i) refl
   where
-    go : (o : Option Term) → slice_get (held d).terms i ≡ o → FitsBody (body_at d n)
+    go : (o : Option Term) → slice_get (content d).terms i ≡ o → FitsBody (body_at d n)
     go None e = subst FitsBody (sym (ap found_body (own_type d n i at.own ∙ ap or_no_type e))) tt
-    go (Some x) e = subst FitsBody (sym (ap found_body (own_type d n i at.own ∙ ap or_no_type e))) ((all_got Fits (held d).terms i x ok.all.terms e).body)
+    go (Some x) e = subst FitsBody (sym (ap found_body (own_type d n i at.own ∙ ap or_no_type e))) ((all_got Fits (content d).terms i x ok.all.terms e).body)
 
 pub none_left : (d : Draft) (n i size : ℕ) → IsSound d → StandsPending d n i → unwrap_or (size_of (body_at d n)) 0 ≤ size → list_any (begins_behind size) (present_members d n) ≡ false
 none_left d n i size ok at le = none_of (body_at d n) size (fits_at d n i ok at) le
@@ -105,7 +105,7 @@ module _ (d : Draft) (n : ℕ) (m : Member) (size : ℕ) where
   rows = against_member d n m.name m.tnum ++ against_stated d n m size
 
   abbrev put : Draft
-  put = replaced d n (with_member m size (body_at d n))
+  put = replace_body d n (with_member m size (body_at d n))
 
   abbrev answer : Option Fault → Result Draft Fault
   answer o = unless o (Ok put)
@@ -159,7 +159,7 @@ renewed d ts ok same fits named =
     let count = ok.all.count in
     let le : count_of d ≤ length (d.updated.terms ++ ts) = omega (arith, old, now, same) in
     let few : length (d.updated.terms ++ ts) ≤ most_types = omega (arith, old, now, same, count) in
-    let there = λ (n : ℕ) (h : is_absent d n ≡ false). still_there d.parent (held d) (held (with_pending d ts)) n (place (is_some d.parent) n) le h in
+    let there = λ (n : ℕ) (h : is_absent d n ≡ false). still_there d.parent (content d) (content (with_pending d ts)) n (place (is_some d.parent) n) le h in
     let weaker = λ (x : Term) (h : NamesThere d x). none_weaker (is_absent d) (is_absent (with_pending d ts)) there (references x.body) h in
     let before = all_split (NamesThere d) d.updated.terms d.pending.terms ok.all.named in
     let first = all_split Fits d.updated.terms d.pending.terms ok.all.terms in
@@ -178,7 +178,7 @@ renewed d ts ok same fits named =
       updated = ok.updated;
     }
 
-other_sound : (d : Draft) (n : ℕ) (x : Term) (i : ℕ) (body : Body) → IsSound d → IsOpen d n x i → FitsBody body → list_any (is_absent d) (references body) ≡ false → IsSound (replaced d n body)
+other_sound : (d : Draft) (n : ℕ) (x : Term) (i : ℕ) (body : Body) → IsSound d → IsOpen d n x i → FitsBody body → list_any (is_absent d) (references body) ≡ false → IsSound (replace_body d n body)
 other_sound d n x i body ok known fits named =
     let own = all_got Fits (all_of d).terms known.at x ok.all.terms known.stands in
     let rest = all_split Fits d.updated.terms d.pending.terms ok.all.terms in
@@ -237,7 +237,7 @@ names_with p (term.volatile _) m size h own = h
 names_with p (term.const _) m size h own = h
 names_with p (term.restrict _) m size h own = h
 
-pub stated_sound : (d : Draft) (n : ℕ) (m : Member) (size : ℕ) → IsSound d → against_name d n m.name m.tnum ≡ None → m.offset < 2 ^ 64 → size < 2 ^ 64 → list_any (begins_behind size) (present_members d n) ≡ false → begins_behind size m ≡ false → IsSound (replaced d n (with_member m size (body_at d n)))
+pub stated_sound : (d : Draft) (n : ℕ) (m : Member) (size : ℕ) → IsSound d → against_name d n m.name m.tnum ≡ None → m.offset < 2 ^ 64 → size < 2 ^ 64 → list_any (begins_behind size) (present_members d n) ≡ false → begins_behind size m ≡ false → IsSound (replace_body d n (with_member m size (body_at d n)))
 stated_sound d n m size ok none low small inside own =
     let judged = none_met (take 7 (against_member d n m.name m.tnum)) none in
     let known = opened d n judged.1.0 judged.1.1.0 in

@@ -6,7 +6,7 @@ use Rattle.std.specs.List.{list_any}
 use Rattle.std.specs.Str.{bytes_eq}
 use Rattle.ctf_model.specs.drafts.Adders.{Added, add_label, add_type, against_label, against_type, with_label, with_pending, with_type}
 use Rattle.ctf_model.specs.format.Dictionary.{Dictionary, Label}
-use Rattle.ctf_model.specs.drafts.Drafts.{Draft, all_of, discarded, has_zero, held, next_number, pending_count, settled}
+use Rattle.ctf_model.specs.drafts.Drafts.{Draft, all_of, rollback, has_zero, content, next_number, pending_count, commit}
 use Rattle.ctf_model.specs.rules.Judgements.{first_met}
 use Rattle.ctf_model.specs.drafts.NewTypes.{NewType, new_term}
 use Rattle.ctf_model.specs.format.Term.{Term}
@@ -36,7 +36,7 @@ module _ (parname parlabel : List ℕ) (parent : Option Dictionary) (model : Dat
   pub all_labels : (terms : List Term) (labels : List Label) → (all_of (seen terms labels)).labels ≡ labels
   all_labels terms labels = take-append-drop v labels
 
-  pub dropped : (terms : List Term) (labels : List Label) → seen (take u terms) (take v labels) ≡ discarded (seen terms labels)
+  pub dropped : (terms : List Term) (labels : List Label) → seen (take u terms) (take v labels) ≡ rollback (seen terms labels)
   dropped terms labels = rw (taken_again u terms, taken_again v labels, none_behind u terms, none_behind v labels) refl
 
   pub counted : (terms : List Term) (labels : List Label) → (length terms - u) + (length labels - v) ≡ pending_count (seen terms labels)
@@ -52,7 +52,7 @@ module _ (parname parlabel : List ℕ) (parent : Option Dictionary) (model : Dat
   one_other terms labels place x = rw (take-set-le u terms (u + place) x (omega arith), drop-set-add u terms place x) refl
 
 -- all of it is updated
-pub settled_is : (parname parlabel : List ℕ) (parent : Option Dictionary) (model : DataModel) (u v : ℕ) (terms : List Term) (labels : List Label) → seen parname parlabel parent model (length terms) (length labels) terms labels ≡ settled (seen parname parlabel parent model u v terms labels)
+pub settled_is : (parname parlabel : List ℕ) (parent : Option Dictionary) (model : DataModel) (u v : ℕ) (terms : List Term) (labels : List Label) → seen parname parlabel parent model (length terms) (length labels) terms labels ≡ commit (seen parname parlabel parent model u v terms labels)
 settled_is parname parlabel parent model u v terms labels =
     rw (take_all (length terms) terms (omega arith), take_all (length labels) labels (omega arith), drop-length terms, drop-length labels, take-append-drop u terms, take-append-drop v labels) refl
 
@@ -67,7 +67,7 @@ unfolding add_label
 label_accepted d l none = rw none refl
 
 -- a name that is free
-pub label_free : (name : List ℕ) (d : Draft) (labels : List Label) → (held d).labels ≡ labels → has_zero name ≡ false → list_any (bytes_eq name) (map (λ l. l.name) labels) ≡ false → first_met (against_label d name) ≡ None
+pub label_free : (name : List ℕ) (d : Draft) (labels : List Label) → (content d).labels ≡ labels → has_zero name ≡ false → list_any (bytes_eq name) (map (λ l. l.name) labels) ≡ false → first_met (against_label d name) ≡ None
 label_free name d labels all zeros none = rw (zeros, all, none) refl
 
 -- what is answered, by what is seen before and after

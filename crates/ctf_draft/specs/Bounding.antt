@@ -3,7 +3,7 @@ use Rattle.std.specs.Prelude.{◌≡◌, ◌+◌, ◌<◌, ◌≤◌, ◌⊎◌,
 use Rattle.std.specs.List.{AllByRecursion, list_any}
 use Rattle.std.specs.declared.alloc.Global.{Global}
 use Rattle.ctf_model.specs.rules.Chains.{by_value, own_index}
-use Rattle.ctf_model.specs.drafts.Drafts.{Draft, count_of, held}
+use Rattle.ctf_model.specs.drafts.Drafts.{Draft, count_of, content}
 use Rattle.ctf_model.specs.figures.FigureLaws.{own_body}
 use Rattle.ctf_draft.specs.declared.depths.Depths.{Depths}
 
@@ -37,16 +37,18 @@ IsNotedAt d above i n =
 
 -- each bound is enough, and who holds a pending type is above it
 pub record IsBounded (d : Draft) (x : Depths) : Type 0 where
-  pub over : (i : ℕ) → AllByRecursion (IsOverAt d x.bounds.items i) (by_value (own_body (held d) i))
+  pub over : (i : ℕ)
+      → AllByRecursion (IsOverAt d x.bounds.items i) (by_value (own_body (content d) i))
   pub noted : (i : ℕ)
-      → AllByRecursion (IsNotedAt d (above_of x.above.items) i) (by_value (own_body (held d) i))
+      → AllByRecursion (IsNotedAt d (above_of x.above.items) i) (by_value (own_body (content d) i))
 
 -- bounds that are as great as before: where one is greater, those above are enough
 pub record IsLifted (first : ℕ) (above : List (List ℕ)) (old new : List ℕ) : Type 0 where
   pub more : (j : ℕ) → bound old j ≤ bound new j
   pub settled : (j : ℕ) → j < first → bound new j ≡ bound old j
   pub enough : (j : ℕ)
-      → AllByRecursion (λ p. IsOver new p j ⊎ (bound new j ≡ bound old j)) (slice_index_or above j [])
+      → AllByRecursion (λ p. IsOver new p j ⊎ (bound new j ≡ bound old j))
+      (slice_index_or above j [])
 
 -- the bound that is enough for one that holds a type, or none
 abbrev pub over_held : List ℕ → Option ℕ → ℕ

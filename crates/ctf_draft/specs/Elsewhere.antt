@@ -1,7 +1,7 @@
 -- Numbers that name no own type of a draft. The words are ours.
 use Rattle.std.specs.Prelude.{◌≡◌, ℕ, suc, true, Some, Err}
 use Rattle.ctf_model.specs.format.Dictionary.{said_by}
-use Rattle.ctf_model.specs.drafts.Drafts.{Draft, held}
+use Rattle.ctf_model.specs.drafts.Drafts.{Draft, content}
 use Rattle.ctf_model.specs.figures.Figures.{Figure, comes_to, parents_figure}
 use Rattle.ctf_model.specs.spaces.TypeNumbers.{no_type}
 use Rattle.ctf_model.specs.spaces.TypePlaces.{place}
@@ -12,7 +12,7 @@ use Rattle.ctf_draft.specs.declared.parents.Parent.{Parent}
 -- it names no type
 pub record NamesNone (d : Draft) (n : ℕ) : Type 0 where
   pub refused : (figure : Figure) (k : ℕ)
-      → comes_to figure (parents_figure figure d.parent) (held d) (suc k) n ≡ Err no_type
+      → comes_to figure (parents_figure figure d.parent) (content d) (suc k) n ≡ Err no_type
 
 -- it names one of the parent, if that has so many
 pub record NamesParents (d : Draft) (n : ℕ) (p : Parent) : Type 0 where

@@ -5,7 +5,7 @@ use Rattle.ctf_chains.specs.Places.{Places}
 use Rattle.ctf_chains.specs.Search.{IsDepth}
 use Rattle.ctf_model.specs.rules.Chains.{IsWithin, by_value, longest_chain, own_index}
 use Rattle.ctf_model.specs.format.Dictionary.{Dictionary}
-use Rattle.ctf_model.specs.drafts.Drafts.{Draft, count_of, held, space_of}
+use Rattle.ctf_model.specs.drafts.Drafts.{Draft, count_of, content, space_of}
 use Rattle.ctf_model.specs.figures.FigureLaws.{own_body, value_edges}
 use Rattle.ctf_model.specs.figures.Figures.{align, greater}
 use Rattle.ctf_model.specs.format.Term.{Body}
@@ -16,7 +16,7 @@ use Rattle.ctf_draft.specs.declared.reach.Reach.{Reach}
 -- of an own type, from 0: how long the longest chain from it is, and its alignment
 pub record IsReach (d : Draft) (i : ℕ) (r : Reach) : Type 0 where
   pub inside : i < count_of d
-  pub depth : IsDepth (value_edges (held d)) i r.depth
+  pub depth : IsDepth (value_edges (content d)) i r.depth
   pub short : r.depth ≤ longest_chain
   pub aligned : r.align ≡ align (space_of d) (own_number (is_some d.parent) i)
 
@@ -33,7 +33,7 @@ IsKnownAt d known n =
 pub record Knows (d : Draft) (known : List (Option Reach)) : Type 0 where
   pub right : (j : ℕ) (r : Reach) → slice_index_or known j None ≡ Some r → IsReach d j r
   pub closed : (j : ℕ) (r : Reach) → slice_index_or known j None ≡ Some r
-      → AllByRecursion (IsKnownAt d known) (by_value (own_body (held d) j))
+      → AllByRecursion (IsKnownAt d known) (by_value (own_body (content d) j))
 
 -- whether one member more may change the alignment of a type: of a struct's the first alone counts
 abbrev pub counts_more : Body → Bool
@@ -57,7 +57,7 @@ pub record Stays (d : Draft) (known : List (Option Reach)) (i n : ℕ) : Type 0 
   pub reach : Reach
   pub is : slice_index_or known i None ≡ Some reach
   pub below : IsBelowAt d known reach.depth n
-  pub aligned : (counts_more (own_body (held d) i) ≡ false)
+  pub aligned : (counts_more (own_body (content d) i) ≡ false)
       ⊎ (greater reach.align (align (space_of d) n) ≡ reach.align)
 
 -- what was found within a budget of steps
@@ -68,7 +68,7 @@ pub record IsFound (d : Draft) (i budget : ℕ) (r : Reach) : Type 0 where
 -- none, where more steps lead from the type
 abbrev pub Answers : Draft → ℕ → ℕ → Option Reach → Type 0
 Answers d i budget found =
-    MatchOption found (¬ IsWithin (value_edges (held d)) budget i) (IsFound d i budget)
+    MatchOption found (¬ IsWithin (value_edges (content d)) budget i) (IsFound d i budget)
 
 -- the own types that each own type leads to, as often as it names them
 abbrev pub value_places : Dictionary → Places

@@ -11,18 +11,18 @@ use Rattle.ctf_draft.specs.declared.sizing.Sizing.{Sizing}
 use Rattle.ctf_draft.specs.declared.sizing.Sizing.TheVariants.{Itself, One, Row}
 
 -- a size, where other types have those that f says
-abbrev pub sized : (ℕ → Result ℕ Fault) → Sizing → Result ℕ Fault
-sized f (Itself size) = size
-sized f (One t) = f t.0
-sized f (Row count t) = times count (f t.0)
+abbrev pub size_from : (ℕ → Result ℕ Fault) → Sizing → Result ℕ Fault
+size_from f (Itself size) = size
+size_from f (One t) = f t.0
+size_from f (Row count t) = times count (f t.0)
 
 -- the type that a typedef or a qualifier stands for
-abbrev pub renamed : Body → Option ℕ
-renamed (term.typedef t) = Some t
-renamed (term.volatile t) = Some t
-renamed (term.const t) = Some t
-renamed (term.restrict t) = Some t
-renamed _ = None
+abbrev pub alias_target : Body → Option ℕ
+alias_target (term.typedef t) = Some t
+alias_target (term.volatile t) = Some t
+alias_target (term.const t) = Some t
+alias_target (term.restrict t) = Some t
+alias_target _ = None
 
 -- the width of an integer or a float
 abbrev pub width : Body → Option ℕ
@@ -52,6 +52,6 @@ width_found (Err f) = Err f
 width_found (Ok x) = Ok (width x.body)
 
 -- how many bits a value of a size fills: all of them, where no width is said
-abbrev pub filled : ℕ → Option ℕ → ℕ
-filled size None = 8 * size
-filled size (Some bits) = bits
+abbrev pub filled_bits : ℕ → Option ℕ → ℕ
+filled_bits size None = 8 * size
+filled_bits size (Some bits) = bits

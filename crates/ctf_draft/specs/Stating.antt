@@ -3,7 +3,7 @@
 -- The words are ours; the order of refusals is that of a member whose size is computed.
 use Rattle.std.specs.Prelude.{ℕ, ◌*◌, nat_lt, Bool, List, [], ◌∷◌, ◌++◌, Result, Ok}
 use Rattle.std.specs.List.{list_any}
-use Rattle.ctf_model.specs.drafts.Adders.{against_member, against_place, body_at, present_members, replaced, with_member}
+use Rattle.ctf_model.specs.drafts.Adders.{against_member, against_place, body_at, present_members, replace_body, with_member}
 use Rattle.ctf_model.specs.drafts.Drafts.{Draft}
 use Rattle.ctf_model.specs.rules.Judgements.{Row, first_met, unless}
 use Rattle.ctf_model.specs.format.Term.{Member}
@@ -29,4 +29,4 @@ against_stated d n m size =
 unfoldable pub add_member_at : Draft → ℕ → Member → ℕ → Result Draft Fault
 add_member_at d n m size =
     unless (first_met (against_member d n m.name m.tnum ++ against_stated d n m size))
-    (Ok (replaced d n (with_member m size (body_at d n))))
+    (Ok (replace_body d n (with_member m size (body_at d n))))

@@ -8,8 +8,8 @@ is_named [] = false
 is_named (byte ∷ rest) = true
 
 -- without those of members or enumerators that have none
-abbrev pub given : List (List ℕ) → List (List ℕ)
-given names = filter is_named names
+abbrev pub names_given : List (List ℕ) → List (List ℕ)
+names_given names = filter is_named names
 
 abbrev pub names_in : Body → List (List ℕ)
 names_in (owned.Aggregate kind size members) = map (λ m. m.name) members.items

@@ -8,9 +8,9 @@ use std::alloc::{AllocError, Global};
 /// A depth that says nothing: more than the longest chain of steps.
 pub(crate) const UNKNOWN: u16 = 513;
 
-/// How many types a rise goes up through at most, one after the other, each with 150 bytes of stack.
-/// Where no type contains itself, that is no more than the greatest bound; around a circle it may be
-/// more.
+/// How many types a rise goes up through at most, one after the other, each with 150 bytes of
+/// stack. Where no type contains itself, that is no more than the greatest bound; around a circle
+/// it may be more.
 const MOST_RISES: u16 = 1026;
 
 /// How many holders of types a rise looks at before it says of all further ones that nothing is
@@ -36,7 +36,7 @@ fn over(bound: u16) -> u16
 /// The bound that a type gets which needs one at least so great: that one, as long as so many may
 /// be looked at.
 #[inline(always)]
-fn raised(least: u16, looks: usize) -> u16
+fn raised_bound(least: u16, looks: usize) -> u16
     ensures { least ≤ result }
 {
     if looks == 0 {
@@ -99,7 +99,7 @@ fn lift(
     if rises == 0 {
         return false;
     }
-    let value = raised(least, *looks);
+    let value = raised_bound(least, *looks);
     bounds[i] = value;
     if i >= above.len() {
         return true;

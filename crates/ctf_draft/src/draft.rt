@@ -5,7 +5,7 @@ ghost use Rattle.ctf_draft.specs.ParentView.{FitsParent, parent_in};
 ghost use Rattle.ctf_draft.specs.TypeView.{type_of};
 ghost use Rattle.ctf_model.specs.format.Dictionary.{Denotes, said_by};
 ghost use Rattle.ctf_model.specs.drafts.DraftLaws.{IsSound};
-ghost use Rattle.ctf_model.specs.drafts.Drafts.{above, all_of, discarded, held, is_childs as is_childs_parent, is_of_other as is_of_other_model, new_draft, pending_count, settled};
+ghost use Rattle.ctf_model.specs.drafts.Drafts.{above, all_of, rollback, content, is_childs as is_childs_parent, is_of_other as is_of_other_model, new_draft, pending_count, commit};
 ghost use Rattle.ctf_model.specs.spaces.Kept.{modelled_by};
 ghost use Rattle.ctf_model.specs.rules.Refusals.{out_of_memory};
 
@@ -104,7 +104,7 @@ impl Draft {
         if is_of_other(model, &parent) {
             return Err(placeless(Fault::MODEL_DIFFERS));
         }
-        let parent = kept(alloc, parent, model)?;
+        let parent = shared_parent(alloc, parent, model)?;
         Ok(Draft {
             alloc,
             parname,
@@ -130,7 +130,7 @@ impl Draft {
 
     /// Drops what was added since the last update.
     pub fn discard(&mut self)
-        ensures draft { self.new.draft ≡ discarded self.old.draft }
+        ensures draft { self.new.draft ≡ rollback self.old.draft }
         ensures dictionary { self.new.dictionary ≡ self.old.dictionary }
     {
         self.marks.forget();
@@ -141,9 +141,9 @@ impl Draft {
 
     /// Makes all that was added part of the dictionary, which is the given one from now on.
     pub fn settle(&mut self, dictionary: Rc<Judged<'static>>)
-        requires denotes { Denotes dictionary.value.kept.lists (held self.old.draft) }
+        requires denotes { Denotes dictionary.value.kept.lists (content self.old.draft) }
         requires model { dictionary.value.kept.model ≡ self.old.draft.model }
-        ensures draft { self.new.draft ≡ settled self.old.draft }
+        ensures draft { self.new.draft ≡ commit self.old.draft }
         ensures dictionary { self.new.dictionary ≡ Some dictionary.entry.value.kept }
     {
         self.updated = self.types.len();
@@ -224,7 +224,7 @@ fn is_of_other(model: DataModel, parent: &Option<Rc<Judged<'static>>>) -> bool
 }
 
 /// A parent as a draft keeps it.
-fn kept(
+fn shared_parent(
     alloc: Global,
     parent: Option<Rc<Judged<'static>>>,
     model: DataModel,

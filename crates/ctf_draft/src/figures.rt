@@ -4,12 +4,12 @@ ghost use Rattle.std.specs.Result.{result_map_both};
 ghost use Rattle.ctf_draft.specs.Elsewhere.{NamesNone, NamesParents};
 ghost use Rattle.ctf_draft.specs.TypeView.{body_of};
 ghost use Rattle.ctf_model.specs.rules.Chains.{own_index as own_index_of};
-ghost use Rattle.ctf_model.specs.drafts.Drafts.{count_of, held, space_of};
-ghost use Rattle.ctf_model.specs.figures.Figures.{comes_to, parents_figure, resolving, sizing, size as size_in, resolved};
+ghost use Rattle.ctf_model.specs.drafts.Drafts.{count_of, content, space_of};
+ghost use Rattle.ctf_model.specs.figures.Figures.{comes_to, parents_figure, resolving, sizing, size as size_in, resolved_type};
 
 use crate::draft::Draft;
 use crate::parents::Parent;
-use crate::sizing::{Sizing, repeated};
+use crate::sizing::{Sizing, repeated_size};
 use crate::types::Body;
 use ctf_layout::resolve;
 use ctf_model::{Fault, Place, TypeNum, placeless};
@@ -36,7 +36,7 @@ impl Draft {
     #[inline(always)]
     pub(crate) fn own_body(&self, i: usize) -> &Body
         requires { i < count_of self.now.draft }
-        ensures { option_map (λ x. x.body) (slice_get (held self.now.draft).terms i)
+        ensures { option_map (λ x. x.body) (slice_get (content self.now.draft).terms i)
             ≡ Some (body_of result.now) }
     {
         &self.types[i].body
@@ -90,7 +90,7 @@ impl Draft {
                 Sizing::Itself(size) => return size,
                 Sizing::One(t) => at = t,
                 Sizing::Row(count, t) => {
-                    return repeated(count, self.size_within(t, most - step - 1));
+                    return repeated_size(count, self.size_within(t, most - step - 1));
                 }
             }
         }
@@ -120,9 +120,9 @@ impl Draft {
     }
 
     /// The type that a type stands for, typedefs and qualifiers followed.
-    pub(crate) fn resolved(&self, n: TypeNum) -> Result<TypeNum, Fault>
+    pub(crate) fn resolve_type(&self, n: TypeNum) -> Result<TypeNum, Fault>
         ensures { result_map_both (λ t. t.0) (λ f. f) result
-            ≡ resolved (space_of self.now.draft) n.0 }
+            ≡ resolved_type (space_of self.now.draft) n.0 }
     {
         let mut at = n;
         for _step in 0..MOST_NUMBERS {
@@ -132,7 +132,7 @@ impl Draft {
             let Some(i) = self.own_index(at) else {
                 return self.resolve_elsewhere(at);
             };
-            match self.own_body(i).renamed() {
+            match self.own_body(i).alias_target() {
                 Some(t) => at = t,
                 None => return Ok(at),
             }

@@ -3,7 +3,7 @@ ghost use Rattle.std.specs.Prelude.{◌≡◌, ◌⊎◌, MatchOption, None, Som
 ghost use Rattle.ctf_draft.specs.Pending.{StandsPending};
 ghost use Rattle.ctf_draft.specs.Planning.{against_name};
 ghost use Rattle.ctf_draft.specs.TypeView.{body_of, enumerator_of, member_of};
-ghost use Rattle.ctf_model.specs.drafts.Adders.{add_enumerator, add_member, against_enumerator as against_enumerator_in, body_at, is_taken, present_enumerators, present_members, replaced, with_enumerator, with_member};
+ghost use Rattle.ctf_model.specs.drafts.Adders.{add_enumerator, add_member, against_enumerator as against_enumerator_in, body_at, is_taken, present_enumerators, present_members, replace_body, with_enumerator, with_member};
 ghost use Rattle.ctf_model.specs.drafts.DraftLaws.{IsSound};
 ghost use Rattle.ctf_model.specs.drafts.Drafts.{is_settled};
 ghost use Rattle.ctf_model.specs.rules.Judgements.{first_met};
@@ -131,9 +131,9 @@ impl Draft {
         requires pending { StandsPending self.old.draft n.0 i }
         requires fresh { is_taken member.name
             (map (λ m. m.name) (present_members self.old.draft n.0)) ≡ false }
-        requires sound { IsSound self.old.draft → IsSound (replaced self.old.draft n.0
+        requires sound { IsSound self.old.draft → IsSound (replace_body self.old.draft n.0
             (with_member (member_of member) size (body_at self.old.draft n.0))) }
-        ensures ok { OnOk result (self.new.draft ≡ replaced self.old.draft n.0
+        ensures ok { OnOk result (self.new.draft ≡ replace_body self.old.draft n.0
             (with_member (member_of member) size (body_at self.old.draft n.0))) }
         ensures err { IfErr result (λ f. f ≡ out_of_memory) }
         ensures as_before { OnErr result (self.new ≡ self.old) }
@@ -175,9 +175,9 @@ impl Draft {
         requires pending { StandsPending self.old.draft n.0 i }
         requires fresh { is_taken enumerator.name
             (map (λ e. e.name) (present_enumerators self.old.draft n.0)) ≡ false }
-        requires sound { IsSound self.old.draft → IsSound (replaced self.old.draft n.0
+        requires sound { IsSound self.old.draft → IsSound (replace_body self.old.draft n.0
             (with_enumerator (enumerator_of enumerator) (body_at self.old.draft n.0))) }
-        ensures ok { OnOk result (self.new.draft ≡ replaced self.old.draft n.0
+        ensures ok { OnOk result (self.new.draft ≡ replace_body self.old.draft n.0
             (with_enumerator (enumerator_of enumerator) (body_at self.old.draft n.0))) }
         ensures err { IfErr result (λ f. f ≡ out_of_memory) }
         ensures as_before { OnErr result (self.new ≡ self.old) }

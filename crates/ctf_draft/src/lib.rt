@@ -21,7 +21,7 @@ mod reaching;
 mod sizing;
 mod stating;
 mod staying;
-mod taken;
+mod taken_names;
 mod types;
 mod widths;
 

@@ -94,11 +94,11 @@ impl Marks {
     fn has(&self, i: usize) -> bool
         ensures { result ≡ is_some (slice_index_or self.now i None) }
     {
-        self.known(i).is_some()
+        self.reach_of(i).is_some()
     }
 
     /// What is known of a type, of which there may be no mark.
-    pub(crate) fn known(&self, i: usize) -> Option<Reach>
+    pub(crate) fn reach_of(&self, i: usize) -> Option<Reach>
         ensures { slice_index_or self.now i None ≡ result }
     {
         if i < self.marks.len() {

@@ -6,15 +6,15 @@ ghost use Rattle.ctf_draft.specs.TypeView.{body_of, type_of};
 ghost use Rattle.ctf_model.specs.drafts.Fitting.{FitsNew};
 ghost use Rattle.ctf_model.specs.drafts.NewTypes.{new_body, new_term};
 
-use crate::taken::Taken;
+use crate::taken_names::Taken;
 use crate::types::{AggregateKind, Body, DraftType, ReferenceKind, ScalarKind};
 use ctf_model::{Bytes, TypeNum};
 use ctf_records::Tag;
 use ctf_views::{ArrayInfo, Encoding};
 use std::alloc::{AllocError, Global};
 
-/// What a new type is, by its kind. Sizes are in bytes. Arguments are lent: they are copied once the
-/// type is accepted.
+/// What a new type is, by its kind. Sizes are in bytes. Arguments are lent: they are copied once
+/// the type is accepted.
 #[derive(Clone, Copy, Drop)]
 pub enum NewBody<'a> {
     Unknown,
@@ -59,7 +59,7 @@ fn body_from(alloc: Global, new: NewBody<'_>) -> Result<Body, AllocError>
 }
 
 /// The type that a new type makes.
-pub(crate) fn made(alloc: Global, new: NewType<'_>) -> Result<DraftType, AllocError>
+pub(crate) fn draft_type(alloc: Global, new: NewType<'_>) -> Result<DraftType, AllocError>
     ensures made { IfOk result (λ t. type_of t ≡ new_term (new_of new.entry)) }
     ensures fits { FitsNew (new_body_of new.entry.body) }
 {

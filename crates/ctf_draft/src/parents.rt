@@ -2,7 +2,7 @@
 ghost use Rattle.std.specs.Prelude.{◌≡◌, IfOk};
 ghost use Rattle.ctf_draft.specs.ParentView.{FitsParent};
 ghost use Rattle.ctf_model.specs.format.Dictionary.{said_by};
-ghost use Rattle.ctf_space.specs.SpaceView.{alone};
+ghost use Rattle.ctf_space.specs.SpaceView.{space_alone};
 
 use ctf_check::Judged;
 use ctf_layout::Layout;

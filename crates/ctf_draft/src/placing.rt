@@ -8,7 +8,7 @@ ghost use Rattle.ctf_model.specs.drafts.Adders.{body_at, is_deep};
 ghost use Rattle.ctf_model.specs.drafts.Drafts.{count_of, space_of};
 ghost use Rattle.ctf_model.specs.rules.Chains.{own_index as own_index_of};
 ghost use Rattle.ctf_model.specs.figures.Figures.{align as align_in};
-ghost use Rattle.ctf_model.specs.drafts.Placement.{aligned_from as aligned_from_in, bytes_holding as bytes_holding_in, grown as grown_in, member_place as member_place_in, own_place as own_place_in};
+ghost use Rattle.ctf_model.specs.drafts.Placement.{aligned_from as aligned_from_in, bytes_holding as bytes_holding_in, grown_size as grown_in, member_place as member_place_in, own_place as own_place_in};
 ghost use Rattle.ctf_model.specs.rules.Refusals.{out_of_memory};
 ghost use Rattle.ctf_model.specs.format.Shown.{size_of};
 
@@ -38,7 +38,7 @@ fn aligned_from(bit: u128, align: u64) -> u128
 }
 
 /// A size that is large enough for bits from a place on too.
-fn grown(size: u64, offset: u128, bits: u128) -> u128
+fn grown_size(size: u64, offset: u128, bits: u128) -> u128
     requires offset { offset < 2 ^ 71 }
     requires bits { bits < 2 ^ 70 }
     ensures { result ≡ grown_in size offset bits }
@@ -47,7 +47,7 @@ fn grown(size: u64, offset: u128, bits: u128) -> u128
 }
 
 /// A place and a size, if 64 bits hold them.
-fn held(offset: u128, size: u128) -> Result<Plan, Fault>
+fn checked_plan(offset: u128, size: u128) -> Result<Plan, Fault>
     ensures { result ≡ planned_with offset size }
 {
     match (u64::try_from(offset), u64::try_from(size)) {
@@ -202,7 +202,7 @@ impl Draft {
         let bits = self.bits_filled(tnum)?;
         let place = place?;
         let said = self.pending_body(n, i).said_size();
-        held(place, grown(said, place, bits))
+        checked_plan(place, grown_size(said, place, bits))
     }
 
     /// The same, with what is known of types in a table. Alignments are asked where a place hangs

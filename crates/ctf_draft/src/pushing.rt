@@ -8,7 +8,7 @@ ghost use Rattle.ctf_model.specs.drafts.NewTypes.{new_term};
 ghost use Rattle.ctf_model.specs.rules.Refusals.{out_of_memory};
 ghost use Rattle.ctf_model.specs.format.Shown.{enumerators_in, members_in, shown};
 
-use crate::new_types::{NewType, made};
+use crate::new_types::{NewType, draft_type};
 use crate::types::{Body, DraftType, Enumerator, Member};
 use ctf_model::Fault;
 use std::alloc::{AllocError, Global};
@@ -39,7 +39,7 @@ pub(crate) fn push_type(
     ensures same_len { OnErr result (vec_len types.new ≡ vec_len types.old) }
     ensures fits { FitsNew (new_body_of new.entry.body) }
 {
-    types.push(made(alloc, new)?)?;
+    types.push(draft_type(alloc, new)?)?;
     Ok(())
 }
 

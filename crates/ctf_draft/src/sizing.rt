@@ -1,6 +1,6 @@
 //! What sizes and alignments hang on.
 ghost use Rattle.std.specs.Prelude.{◌≡◌, ◌<◌, ℕ, MatchOption, Result, length, map, option_map, slice_index};
-ghost use Rattle.ctf_draft.specs.Sizing.{aligned_by, own_align, renamed, sized, width};
+ghost use Rattle.ctf_draft.specs.Sizing.{aligned_by, own_align, alias_target, size_from, width};
 ghost use Rattle.ctf_draft.specs.TypeView.{body_of, member_of};
 ghost use Rattle.ctf_model.specs.rules.Chains.{by_value};
 ghost use Rattle.ctf_model.specs.figures.Figures.{align_body, first_of as first_in, greater as greater_of, size_body, times};
@@ -31,7 +31,7 @@ fn pointer_size(model: DataModel) -> u64
 }
 
 /// So many of a size.
-pub(crate) fn repeated(count: u32, size: Result<u64, Fault>) -> Result<u64, Fault>
+pub(crate) fn repeated_size(count: u32, size: Result<u64, Fault>) -> Result<u64, Fault>
     ensures { result ≡ times count size }
 {
     let size = size?;
@@ -54,7 +54,7 @@ pub(crate) fn greater(a: Result<u64, Fault>, b: Result<u64, Fault>) -> Result<u6
 /// What the alignment of a struct hangs on: the type of its first member, if it has one.
 fn first_of(members: &Vec<Member>) -> Sizing
     ensures { (f : ℕ → Result ℕ Fault) → first_in f (map member_of members.now.items)
-        ≡ sized f result }
+        ≡ size_from f result }
 {
     match members.as_slice() {
         [] => Sizing::Itself(Ok(0)),
@@ -66,7 +66,7 @@ impl Body {
     /// What its size hangs on.
     pub(crate) fn sizing(&self, model: DataModel) -> Sizing
         ensures { (f : ℕ → Result ℕ Fault) → size_body model f (body_of self.now)
-            ≡ sized f result }
+            ≡ size_from f result }
     {
         match self {
             Body::Scalar(_, size, _) => Sizing::Itself(Ok(*size)),
@@ -85,7 +85,7 @@ impl Body {
     /// What its alignment hangs on, unless that is more than one type.
     pub(crate) fn aligning(&self, model: DataModel) -> Option<Sizing>
         ensures { MatchOption result (Unit {0}) (λ s. (f : ℕ → Result ℕ Fault)
-            → align_body model f (body_of self.now) ≡ sized f s) }
+            → align_body model f (body_of self.now) ≡ size_from f s) }
     {
         match self {
             Body::Reference(ReferenceKind::Pointer, _) => {
@@ -100,8 +100,8 @@ impl Body {
     }
 
     /// The type that a typedef or a qualifier stands for.
-    pub(crate) fn renamed(&self) -> Option<TypeNum>
-        ensures { option_map (λ t. t.0) result ≡ renamed (body_of self.now) }
+    pub(crate) fn alias_target(&self) -> Option<TypeNum>
+        ensures { option_map (λ t. t.0) result ≡ alias_target (body_of self.now) }
     {
         match self {
             Body::Reference(ReferenceKind::Pointer, _) => None,

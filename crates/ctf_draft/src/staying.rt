@@ -44,7 +44,7 @@ impl Draft {
         let Some(j) = self.own_index(n) else {
             return Some(self.align_elsewhere(n));
         };
-        let known = marks.known(j)?;
+        let known = marks.reach_of(j)?;
         if known.depth < depth {
             Some(known.align)
         } else {
@@ -58,7 +58,7 @@ impl Draft {
         requires knows { Knows self.now.draft marks.now }
         ensures { result ≡ true → Stays self.now.draft marks.now i n.0 }
     {
-        let Some(known) = marks.known(i) else {
+        let Some(known) = marks.reach_of(i) else {
             return false;
         };
         let Some(align) = self.align_below(marks, n, known.depth) else {

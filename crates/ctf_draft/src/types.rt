@@ -1,8 +1,8 @@
 //! Types of a draft, which own their names and their lists.
 ghost use Rattle.std.specs.Prelude.{◌≡◌};
-ghost use Rattle.ctf_draft.specs.TakenView.{given, names_in};
+ghost use Rattle.ctf_draft.specs.TakenView.{names_given, names_in};
 
-use crate::taken::Taken;
+use crate::taken_names::Taken;
 use ctf_model::{Bytes, TypeNum};
 use ctf_records::Tag;
 use ctf_views::{ArrayInfo, Encoding};
@@ -74,5 +74,5 @@ pub struct DraftType {
     pub body: Body,
     /// The names that its members or enumerators have.
     pub(crate) taken: Taken,
-    ghost kept: { taken ≡ given (names_in body) },
+    ghost kept: { taken ≡ names_given (names_in body) },
 }

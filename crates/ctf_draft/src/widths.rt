@@ -1,8 +1,8 @@
 //! How many bits a value of a type fills.
 ghost use Rattle.std.specs.Prelude.{◌≡◌, ◌<◌, ◌^◌, IfOk, Some, option_map, slice_get};
 ghost use Rattle.ctf_check.specs.CheckedView.{dictionary_of};
-ghost use Rattle.ctf_check.specs.TypedView.{spelled};
-ghost use Rattle.ctf_draft.specs.Sizing.{filled as filled_of, width, width_found};
+ghost use Rattle.ctf_check.specs.TypedView.{term_in};
+ghost use Rattle.ctf_draft.specs.Sizing.{filled_bits as filled_of, width, width_found};
 ghost use Rattle.ctf_model.specs.drafts.Drafts.{space_of};
 ghost use Rattle.ctf_model.specs.drafts.Placement.{bits_filled as bits_filled_in};
 ghost use Rattle.ctf_model.specs.spaces.Space.{space_type};
@@ -15,7 +15,7 @@ use ctf_views::Variant;
 
 /// The width of an integer or a float of a dictionary, in bits.
 fn lent_width(x: &Typed<'_>) -> Option<u16>
-    ensures { option_map (λ y. width y.body) (spelled x.now) ≡ Some result }
+    ensures { option_map (λ y. width y.body) (term_in x.now) ≡ Some result }
 {
     match x.variant() {
         Variant::Encoding(parts) => Some(parts.bits),
@@ -28,14 +28,14 @@ fn parents_width(parent: Checked<'_>, i: usize) -> Result<Option<u16>, Fault>
     requires { i < 65536 }
     ensures { result ≡ width_found (or_no_type (slice_get (dictionary_of parent.entry).terms i)) }
 {
-    match parent.typed(i + 1) {
+    match parent.type_at(i + 1) {
         Some(x) => Ok(lent_width(&x)),
         None => Err(placeless(Fault::NO_TYPE)),
     }
 }
 
 /// How many bits a value of a size fills: the width of an integer or a float, else all bits.
-fn filled(size: u64, width: Option<u16>) -> u128
+fn filled_bits(size: u64, width: Option<u16>) -> u128
     ensures bits { result ≡ filled_of size width }
     ensures small { result < 2 ^ 67 }
 {
@@ -72,8 +72,8 @@ impl Draft {
         ensures small { IfOk result (λ bits. bits < 2 ^ 67) }
     {
         let size = self.size(n)?;
-        let at = self.resolved(n)?;
+        let at = self.resolve_type(n)?;
         let width = self.width_at(at)?;
-        Ok(filled(size, width))
+        Ok(filled_bits(size, width))
     }
 }

@@ -18,7 +18,7 @@ use std::alloc::Global;
 use std::io::Write;
 
 /// The number of an own type, which is here counted from 0.
-fn numbered(child: bool, place: usize) -> TypeNum
+fn number_of(child: bool, place: usize) -> TypeNum
     requires { place < 32767 }
     ensures { result.0 ≡ own_number child place }
 {
@@ -47,7 +47,7 @@ fn all_type_lines<W: Write>(
 {
     let dictionary = space.dictionary();
     for place in 0..dictionary.count() {
-        let number = numbered(dictionary.child(), place);
+        let number = number_of(dictionary.child(), place);
         type_lines(alloc, space, names, layout, number, line, out)?;
     }
     Ok(())

@@ -30,9 +30,9 @@ fn put_parent(line: &mut Line, dictionary: &Checked<'_>) -> Result<(), AllocErro
     ensures { OnOk result (line.new ≡ line.old ++ parent_text (dictionary_of dictionary.now)) }
 {
     line.text(" parname=")?;
-    line.quoted(dictionary.parname())?;
+    line.push_quoted(dictionary.parname())?;
     line.text(" parlabel=")?;
-    line.quoted(dictionary.parlabel())
+    line.push_quoted(dictionary.parlabel())
 }
 
 pub fn head_line<W: Write>(
@@ -62,7 +62,7 @@ fn label_line<W: Write>(label: Label<'_>, line: &mut Line, out: &mut W) -> Resul
         → Keeps (W.contents out.old) (W.contents out.new)) }
 {
     line.text("label ")?;
-    line.quoted(label.name)?;
+    line.push_quoted(label.name)?;
     line.word(" ", u64::from(label.last))?;
     line.end(out)
 }
@@ -126,7 +126,7 @@ fn put_symbol(line: &mut Line, class: &str, number: u32, name: &[u8]) -> Result<
 {
     line.word(class, u64::from(number))?;
     line.text(" ")?;
-    line.quoted(name)
+    line.push_quoted(name)
 }
 
 fn object_line<W: Write>(

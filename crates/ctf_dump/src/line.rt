@@ -2,7 +2,7 @@
 
 ghost use Rattle.std.specs.Prelude.{◌≡◌, ◌<◌, ◌++◌, [], codes, decimal, IfErr, OnOk};
 ghost use Rattle.std.specs.Io.KnownBytes.{Appends, Keeps};
-ghost use Rattle.ctf_model.specs.dumps.Dump.{escaped, in_quotes};
+ghost use Rattle.ctf_model.specs.dumps.Dump.{escape, in_quotes};
 ghost use Rattle.ctf_model.specs.dumps.Texts.{signed_decimal};
 ghost use Rattle.ctf_model.specs.dumps.Texts.{hex_digit as digit_of, is_plain as plain};
 
@@ -84,7 +84,7 @@ impl Line {
             .extend_from_slice(Buffer::new().format(number).as_bytes())
     }
 
-    pub fn signed(&mut self, value: i32) -> Result<(), AllocError>
+    pub fn push_signed(&mut self, value: i32) -> Result<(), AllocError>
         ensures { OnOk result (self.new ≡ self.old ++ signed_decimal value) }
     {
         self.bytes
@@ -101,7 +101,7 @@ impl Line {
 
     /// A byte of a name.
     fn byte(&mut self, byte: u8) -> Result<(), AllocError>
-        ensures { OnOk result (self.new ≡ self.old ++ escaped byte) }
+        ensures { OnOk result (self.new ≡ self.old ++ escape byte) }
     {
         if is_plain(byte) {
             self.bytes.extend_from_slice(&[byte])
@@ -112,7 +112,7 @@ impl Line {
     }
 
     /// A name between quotes.
-    pub fn quoted(&mut self, name: &[u8]) -> Result<(), AllocError>
+    pub fn push_quoted(&mut self, name: &[u8]) -> Result<(), AllocError>
         ensures { OnOk result (self.new ≡ self.old ++ in_quotes name.now) }
     {
         self.text("\"")?;

@@ -22,7 +22,7 @@ use std::alloc::Global;
 use std::io::Write;
 
 /// The end that a fault of a file is.
-fn refused(file: &str, fault: Fault) -> DumpEnd<'_>
+fn end_of_refusal(file: &str, fault: Fault) -> DumpEnd<'_>
     ensures memory { fault ≡ out_of_memory → result ≡ DumpEnd.Memory }
     ensures other { (result ≡ DumpEnd.Memory) ⊎ (result ≡ DumpEnd.Refused file.entry fault) }
 {
@@ -44,7 +44,7 @@ fn bytes<'l>(file: &'l Option<InputFile<'_>>) -> Option<&'l [u8]>
 }
 
 /// Judges lists, of which the CTF section is a file's.
-fn judged<'l, 'a>(
+fn judge_file<'l, 'a>(
     alloc: Global,
     file: &InputFile<'a>,
     lists: LentLists<'l>,
@@ -56,9 +56,9 @@ fn judged<'l, 'a>(
     ensures exact_err { IfErr result (λ e. RefusedBy
         (in_file file.now (first_fault (lists_in lists.entry))) e) }
 {
-    match Judged::lent(alloc, lists, model) {
+    match Judged::judge(alloc, lists, model) {
         Ok(judged) => Ok(judged),
-        Err(fault) => Err(refused(file.name, fault)),
+        Err(fault) => Err(end_of_refusal(file.name, fault)),
     }
 }
 
@@ -74,7 +74,7 @@ fn own_judged<'l, 'a>(alloc: Global, inputs: &'l Inputs<'a>) -> Result<Judged<'l
         sym: bytes(&inputs.sym),
         strs: bytes(&inputs.str),
     };
-    judged(alloc, &inputs.ctf, lists, inputs.model)
+    judge_file(alloc, &inputs.ctf, lists, inputs.model)
 }
 
 /// Judges a parent, which has no symbols, where its file has it.
@@ -94,7 +94,7 @@ fn parent_judged<'l, 'a>(
         sym: None,
         strs: None,
     };
-    judged(alloc, file, lists, model)
+    judge_file(alloc, file, lists, model)
 }
 
 /// Dumps a space, and passes on what was written.

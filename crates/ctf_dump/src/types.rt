@@ -15,7 +15,7 @@ ghost use Rattle.ctf_records.specs.RecordView.{tag_of};
 ghost use Rattle.ctf_space.specs.SpaceView.{space_of};
 ghost use Rattle.ctf_views.specs.ItemsView.{enumerator as enumerator_shown, member as member_shown};
 ghost use Rattle.ctf_views.specs.PartsView.{array_info, encoding_info};
-ghost use Rattle.ctf_views.specs.VariantView.{seen};
+ghost use Rattle.ctf_views.specs.VariantView.{shown_of};
 
 use crate::heads::put_signature;
 use crate::line::{DumpFault, Line};
@@ -122,7 +122,7 @@ fn put_spelled(
 {
     let mut name = Vec::new(alloc);
     match names.spell(number, &mut name) {
-        Ok(()) => line.quoted(&name),
+        Ok(()) => line.push_quoted(&name),
         Err(fault) if fault.code == Fault::MEMORY => Err(AllocError),
         Err(fault) => line.text(fault_name(fault.code)),
     }
@@ -151,7 +151,7 @@ fn put_facts(line: &mut Line, number: TypeNum, x: Facts<'_>) -> Result<(), Alloc
     line.text(" ")?;
     line.text(kind_name(x.shape.kind))?;
     line.text(" ")?;
-    line.quoted(x.name)?;
+    line.push_quoted(x.name)?;
     line.text(root_word(x.root))?;
     put_detail(line, x.shape)
 }
@@ -185,7 +185,7 @@ fn member_line<W: Write>(member: Member<'_>, line: &mut Line, out: &mut W) -> Re
         → Keeps (W.contents out.old) (W.contents out.new)) }
 {
     line.text("  member ")?;
-    line.quoted(member.name)?;
+    line.push_quoted(member.name)?;
     line.word(" offset=", member.offset)?;
     line.word(" type=", u64::from(member.tnum.0))?;
     line.end(out)
@@ -224,9 +224,9 @@ fn value_line<W: Write>(
         → Keeps (W.contents out.old) (W.contents out.new)) }
 {
     line.text("  value ")?;
-    line.quoted(enumerator.name)?;
+    line.push_quoted(enumerator.name)?;
     line.text(" ")?;
-    line.signed(enumerator.value)?;
+    line.push_signed(enumerator.value)?;
     line.end(out)
 }
 
@@ -258,11 +258,11 @@ fn list_of_lines<W: Write>(
 ) -> Result<(), DumpFault>
     requires { line.old ≡ [] }
     ensures written { OnOk result (Appends (W.contents out.old) (W.contents out.new)
-        (lines_behind (seen behind.entry))) }
+        (lines_behind (shown_of behind.entry))) }
     ensures empty { OnOk result (line.new ≡ []) }
     ensures begun { IfErr result (λ f. f ≡ DumpFault.Memory
         → HasBegun (W.contents out.old) (W.contents out.new)
-        (lines_behind (seen behind.entry))) }
+        (lines_behind (shown_of behind.entry))) }
 {
     match behind {
         Variant::Members(members) => member_lines(members, line, out),

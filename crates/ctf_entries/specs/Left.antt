@@ -3,7 +3,7 @@ use Rattle.std.specs.Prelude.{◌≡◌, ℕ, ◌+◌, List, ◌∷◌}
 use Rattle.ctf_model.specs.symbols.Entries.{Entry, entries_of}
 use Rattle.ctf_model.specs.symbols.Symbols.{Symbol, considered_from, symbols_of}
 use Rattle.ctf_entries.specs.NamesView.{strings_of}
-use Rattle.ctf_entries.specs.SymbolView.{numbered}
+use Rattle.ctf_entries.specs.SymbolView.{number_and_symbol}
 use Rattle.ctf_entries.specs.declared.considered.Found.{Found}
 use Rattle.ctf_entries.specs.declared.untold.Untold.{Untold}
 
@@ -19,5 +19,5 @@ entries_left r = entries_of (symbols_left r) r.objects.now r.functions.now
 abbrev pub IsFirst : Untold → Found → Type 0
 IsFirst r f =
     symbols_left r
-    ≡ numbered f.first
+    ≡ number_and_symbol f.first
     ∷ considered_from (f.first.number + 1) (symbols_of (strings_of r.names) f.behind.now)

@@ -20,5 +20,5 @@ abbrev pub numbered_symbol : ℕ → lent.Symbol → ℕ × Symbol
 numbered_symbol n x = (n, symbol x)
 
 -- a lent symbol with its number
-abbrev pub numbered : Numbered → ℕ × Symbol
-numbered x = numbered_symbol x.number x.symbol
+abbrev pub number_and_symbol : Numbered → ℕ × Symbol
+number_and_symbol x = numbered_symbol x.number x.symbol

@@ -1,9 +1,9 @@
 //! The symbols of a program that a dictionary tells something of.
 ghost use Rattle.std.specs.Prelude.{◌≡◌, ◌≤◌, ◌+◌, ◌^◌, length, drop, [], ◌∷◌, MatchOption, IfSome};
 ghost use Rattle.std.specs.Iterator.{YieldsFirstBy, item_count};
-ghost use Rattle.ctf_model.specs.symbols.Symbols.{considered, considered_from, symbols_of};
+ghost use Rattle.ctf_model.specs.symbols.Symbols.{with_types, considered_from, symbols_of};
 ghost use Rattle.ctf_entries.specs.NamesView.{strings_of};
-ghost use Rattle.ctf_entries.specs.SymbolView.{numbered};
+ghost use Rattle.ctf_entries.specs.SymbolView.{number_and_symbol};
 
 use crate::symbol::Symbol;
 use crate::symbol_strings::SymbolNames;
@@ -43,7 +43,7 @@ pub(crate) fn first_considered<'a>(
     ensures first { MatchOption result
         (considered_from number (symbols_of (strings_of names.entry) sym.now) ≡ [])
         (λ f. considered_from number (symbols_of (strings_of names.entry) sym.now)
-        ≡ numbered f.first ∷ considered_from (f.first.number + 1)
+        ≡ number_and_symbol f.first ∷ considered_from (f.first.number + 1)
         (symbols_of (strings_of names.entry) f.behind.now)) }
 {
     let mut rest = sym;
@@ -87,7 +87,7 @@ impl<'a> Model for Considered<'a> {
 impl<'a> Considered<'a> {
     /// The considered ones of all symbols of a table.
     pub fn new(sym: &'a [u8], names: SymbolNames<'a>) -> Considered<'a>
-        ensures { result ≡ considered (symbols_of (strings_of names.entry) sym.now) }
+        ensures { result ≡ with_types (symbols_of (strings_of names.entry) sym.now) }
     {
         Considered {
             sym,
@@ -100,7 +100,7 @@ impl<'a> Considered<'a> {
 impl<'a> Iterator for Considered<'a> {
     type Item = Numbered<'a>;
 
-    ghost next_gives = { YieldsFirstBy numbered (λ rest. rest) };
+    ghost next_gives = { YieldsFirstBy number_and_symbol (λ rest. rest) };
 
     ghost remaining = { item_count (λ rest. rest) };
 

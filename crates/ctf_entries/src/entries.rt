@@ -2,7 +2,7 @@
 ghost use Rattle.std.specs.Prelude.{◌≡◌, ◌≤◌, ◌+◌, ◌^◌, length, [], ◌∷◌, true, false, None, MatchOption, option_copied};
 ghost use Rattle.std.specs.Iterator.{YieldsFirstBy, item_count};
 ghost use Rattle.ctf_model.specs.symbols.Entries.{entries_of};
-ghost use Rattle.ctf_model.specs.symbols.Symbols.{considered, is_object, symbols_of};
+ghost use Rattle.ctf_model.specs.symbols.Symbols.{with_types, is_object, symbols_of};
 ghost use Rattle.ctf_entries.specs.EntriesView.{entry};
 ghost use Rattle.ctf_entries.specs.Left.{entries_left, IsFirst};
 ghost use Rattle.ctf_entries.specs.Sound.{bad_place};
@@ -128,9 +128,9 @@ impl<'a> Entries<'a> {
         functions: &'a [u8],
     ) -> Entries<'a>
         requires sound { bad_place
-            (considered (symbols_of (option_copied strs) sym.now)) functions.now ≡ None }
+            (with_types (symbols_of (option_copied strs) sym.now)) functions.now ≡ None }
         ensures { result ≡ entries_of
-            (considered (symbols_of (option_copied strs.entry) sym.now)) objects.now functions.now }
+            (with_types (symbols_of (option_copied strs.entry) sym.now)) objects.now functions.now }
     {
         let names = SymbolNames::new(strs);
         let untold = Untold {

@@ -4,12 +4,12 @@ use Rattle.json.specs.Token.{Token}
 use Rattle.json.specs.Json.{Items, Members, Parse, value, value_with}
 use Rattle.json.proofs.Grammar.{value_is}
 use Rattle.serde_json.specs.Data.{Num}
-use Rattle.ctf_json.specs.Kept.{IsKept, kept}
+use Rattle.ctf_json.specs.Kept.{IsKept, kept_data}
 use Rattle.ctf_json.specs.Memory.{IsLeft}
 use Rattle.ctf_json.specs.Passed.{begun}
 use Rattle.ctf_json.specs.PlainReader.{IsField, token_said}
 use Rattle.ctf_json.specs.Told.{told, told_number}
-use Rattle.ctf_json.specs.Values.{said}
+use Rattle.ctf_json.specs.Values.{data_of}
 use Rattle.ctf_json.specs.declared.values.Field.{Field}
 use Rattle.ctf_json.specs.declared.values.Field.TheVariants as field
 use Rattle.ctf_json.specs.declared.wanted.Wanted.{Wanted}
@@ -22,17 +22,17 @@ alone_with a o (field.Bool b) ts = refl
 alone_with a o (field.Number s) ts = refl
 alone_with a o (field.String s) ts = refl
 
-kept_number : (w : Wanted) (o : Option Num) → kept w (told_number o) ≡ told_number o
+kept_number : (w : Wanted) (o : Option Num) → kept_data w (told_number o) ≡ told_number o
 kept_number w None = refl
 kept_number w (Some n) = refl
 
-kept_field : (w : Wanted) (f : Field) → kept w (told (begun (token_said f))) ≡ said f
+kept_field : (w : Wanted) (f : Field) → kept_data w (told (begun (token_said f))) ≡ data_of f
 kept_field w field.Null = refl
 kept_field w (field.Bool b) = refl
 kept_field w (field.Number s) = kept_number w (number_of s.now)
 kept_field w (field.String s) = refl
 
-pub field_kept : (w : Wanted) (depth : ℕ) (f : Field) (old ts : List Token) → IsField old f ts → IsKept w (value depth old) (said f) ts
+pub field_kept : (w : Wanted) (depth : ℕ) (f : Field) (old ts : List Token) → IsField old f ts → IsKept w (value depth old) (data_of f) ts
 field_kept w depth f old ts is = (begun (token_said f), ap (value depth) is.0 ∙ value_is depth (token_said f ∷ ts) ∙ alone_with _ _ f ts, is.1, kept_field w f)
 
 pub field_left : (f : Field) (old ts : List Token) → IsField old f ts → IsLeft old ts

@@ -15,9 +15,9 @@ use Rattle.serde_json.specs.Data.{Num, Data}
 use Rattle.serde_json.specs.Find.{get}
 use Rattle.serde_json.specs.Read.{number_of, of_json, max_depth, read}
 use Rattle.ctf_json.specs.Keys.{place_in, wanted_at}
-use Rattle.ctf_json.specs.Kept.{AreKept, IsKept, IsReadAt, kept}
+use Rattle.ctf_json.specs.Kept.{AreKept, IsKept, IsReadAt, kept_data}
 use Rattle.ctf_json.specs.Told.{told, told_number, in_range, is_one_of}
-use Rattle.ctf_json.specs.Passed.{begun, passed, passed_value}
+use Rattle.ctf_json.specs.Passed.{begun, tokens_behind, passed_value}
 use Rattle.ctf_json.specs.Values.{keys}
 use Rattle.ctf_json.specs.declared.wanted.Wanted.{Wanted}
 use Rattle.ctf_json.proofs.Begun.{passed-plain, plain}
@@ -80,11 +80,11 @@ module _ (a : json.Parse json.Items) (o : json.Parse json.Members) where
   no_object-with token.Null ts rest j ne e = same_is is_object json.null j ts rest e
   no_object-with token.Bad ts rest j ne e = absurd (subst IsNone e tt)
 
-kept_number : (w : Wanted) (o : Option Num) → kept w (told_number o) ≡ told_number o
+kept_number : (w : Wanted) (o : Option Num) → kept_data w (told_number o) ≡ told_number o
 kept_number w None = refl
 kept_number w (Some n) = refl
 
-kept_plain : (w : Wanted) (j : json.Json) → is_array j ≡ false → kept w (told j) ≡ told (plain j)
+kept_plain : (w : Wanted) (j : json.Json) → is_array j ≡ false → kept_data w (told j) ≡ told (plain j)
 kept_plain w json.null e = refl
 kept_plain w (json.boolean b) e = refl
 kept_plain w (json.number s) e = kept_number w (number_of s)
@@ -113,20 +113,20 @@ pub nothing_kept : (depth : ℕ) (t : given.Token) (ts rest : List Token) (part 
 nothing_kept depth t ts rest part ne e =
     let p = passed-plain depth (token_of t) ts rest e in
     let no = no_object-with _ _ t ts rest p.0 ne (sym (value_is depth (token_of t ∷ ts)) ∙ p.1) in
-    (p.0, p.1, p.2, λ none q one. none q ∙ ap (option_map (kept (wanted_at q))) (ap (option_map told) (not_found q p.0 no) ∙ get-told q p.0))
+    (p.0, p.1, p.2, λ none q one. none q ∙ ap (option_map (kept_data (wanted_at q))) (ap (option_map told) (not_found q p.0 no) ∙ get-told q p.0))
 
 -- ---- the last of each key
 
 abbrev pub kept_of : List ℕ → (List ℕ → Option json.Json) → Option Data
-kept_of q g = option_map (kept (wanted_at q)) (option_map told (g q))
+kept_of q g = option_map (kept_data (wanted_at q)) (option_map told (g q))
 
 module _ (k q : List ℕ) (j : json.Json) (g : List ℕ → Option json.Json) where
-  last_by : (b : Bool) (d : Data) (x : Option Data) → bytes_eq k q ≡ b → kept (wanted_at k) (told j) ≡ d → x ≡ kept_of q g
-      → cond b (Some d) x ≡ option_map (kept (wanted_at q)) (option_map told (found.later_or (cond b (Some j) None) (g q)))
-  last_by true d x e is more = ap Some (sym is ∙ ap (λ l. kept (wanted_at l) (told j)) ((bytes_eq-Decides k q).0 e))
+  last_by : (b : Bool) (d : Data) (x : Option Data) → bytes_eq k q ≡ b → kept_data (wanted_at k) (told j) ≡ d → x ≡ kept_of q g
+      → cond b (Some d) x ≡ option_map (kept_data (wanted_at q)) (option_map told (found.later_or (cond b (Some j) None) (g q)))
+  last_by true d x e is more = ap Some (sym is ∙ ap (λ l. kept_data (wanted_at l) (told j)) ((bytes_eq-Decides k q).0 e))
   last_by false d x e is more = more
 
-  pub last_kept : (d : Data) (x : Option Data) → kept (wanted_at k) (told j) ≡ d → x ≡ kept_of q g → cond (bytes_eq k q) (Some d) x ≡ kept_of q (then_last k j g)
+  pub last_kept : (d : Data) (x : Option Data) → kept_data (wanted_at k) (told j) ≡ d → x ≡ kept_of q g → cond (bytes_eq k q) (Some d) x ≡ kept_of q (then_last k j g)
   last_kept d x is more = last_by (bytes_eq k q) d x refl is more
 
   other_by : (ks : List (List ℕ)) (b : Bool) → bytes_eq k q ≡ b → is_one_of k ks ≡ false → is_one_of q ks ≡ true → b ≡ false
@@ -135,7 +135,7 @@ module _ (k q : List ℕ) (j : json.Json) (g : List ℕ → Option json.Json) wh
 
   pub other_kept : (x : Option Data) → is_one_of k keys ≡ false → is_one_of q keys ≡ true → x ≡ kept_of q g → x ≡ kept_of q (then_last k j g)
   other_kept x not one more =
-      more ∙ ap (λ b. option_map (kept (wanted_at q)) (option_map told (found.later_or (cond b (Some j) None) (g q)))) (sym (other_by keys (bytes_eq k q) refl not one))
+      more ∙ ap (λ b. option_map (kept_data (wanted_at q)) (option_map told (found.later_or (cond b (Some j) None) (g q)))) (sym (other_by keys (bytes_eq k q) refl not one))
 
 abbrev IsSome : Option ℕ → Type 0
 IsSome None = ⊥
@@ -166,7 +166,7 @@ not_good : (b : Bool) (ts : List Token) → cond b (Some ts) None ≡ None → b
 not_good true ts e = absurd (subst IsNone (sym e) tt)
 not_good false ts e = refl
 
-refused_by : (o : Option (json.Json × List Token)) → passed in_range o ≡ None → option_and_then of_json (option_and_then (λ p. json.if_last p.0 p.1) o) ≡ None
+refused_by : (o : Option (json.Json × List Token)) → tokens_behind in_range o ≡ None → option_and_then of_json (option_and_then (λ p. json.if_last p.0 p.1) o) ≡ None
 refused_by None e = refl
 refused_by (Some p) e = last_refused p.0 p.1 (not_good (in_range p.0) p.1 e)
 

@@ -12,7 +12,7 @@ use Rattle.ctf_joined.specs.declared.joined.Joined.{Joined}
 use Rattle.ctf_json.specs.Keys.{place_in, wanted_at}
 use Rattle.ctf_json.specs.Told.{told_number}
 use Rattle.ctf_model.specs.declared.numbers.TypeNum.{TypeNum}
-use Rattle.ctf_json.specs.Values.{args_without, fits, keys, line_said, members_said, names_without, numbers_said, put_some, said, texts_said}
+use Rattle.ctf_json.specs.Values.{args_without, fits, keys, line_said, members_said, names_without, numbers_said, put_some, data_of, texts_said}
 use Rattle.ctf_json.specs.declared.values.Field.{Field}
 use Rattle.ctf_json.specs.declared.values.Field.TheVariants as field
 use Rattle.ctf_json.specs.declared.line.Line.{Line}
@@ -112,7 +112,7 @@ plain_here key args names ms e =
     let none = nothing_by (bytes_eq key names_key) (bytes_eq key args_key) e in
     line_at key args names ms ∙ ap (λ b. over b args (over (bytes_eq key names_key) names (get_member key ms))) none.1 ∙ ap (λ b. over b names (get_member key ms)) none.0
 
-no_array : (f : Field) → as_array (said f) ≡ None
+no_array : (f : Field) → as_array (data_of f) ≡ None
 no_array field.Null = refl
 no_array (field.Bool b) = refl
 no_array (field.Number s) = no_array_number (number_of s.now)
@@ -122,7 +122,7 @@ no_array (field.Number s) = no_array_number (number_of s.now)
     no_array_number (Some n) = refl
 no_array (field.String s) = refl
 
-no_list_by : (b : Bool) (v : Option Field) (more : Option Data) → option_and_then as_array more ≡ None → option_and_then as_array (if b then option_map said v else more) ≡ None
+no_list_by : (b : Bool) (v : Option Field) (more : Option Data) → option_and_then as_array more ≡ None → option_and_then as_array (if b then option_map data_of v else more) ≡ None
 no_list_by true None more none = refl
 no_list_by true (Some f) more none = no_array f
 no_list_by false v more none = none
@@ -245,10 +245,10 @@ numbers_kept key q fields names args v is =
 
 pub field_kept : (key q : List ℕ) (old new : Line) (i : ℕ) (f : Field) → place_in key keys ≡ Some i → i < length old.fields.all → new.fields.all ≡ set old.fields.all i (Some f)
     → new.names ≡ names_without (wanted_at key) old.names → new.args ≡ args_without (wanted_at key) old.args
-    → get q (line_said new) ≡ cond (bytes_eq key q) (Some (said f)) (get q (line_said old))
+    → get q (line_said new) ≡ cond (bytes_eq key q) (Some (data_of f)) (get q (line_said old))
 field_kept key q old new i f place h fields names args =
     line_parts q new ∙ ap (λ a. parts q (as_args a) (as_names new.names) (at_name q keys new.fields.all)) args ∙ ap (λ n. parts q (as_args (args_without (wanted_at key) old.args)) (as_names n) (at_name q keys new.fields.all)) names
     ∙ ap (λ x. parts q (as_args (args_without (wanted_at key) old.args)) (as_names (names_without (wanted_at key) old.names)) (at_name q keys x)) fields
     ∙ ap (parts q (as_args (args_without (wanted_at key) old.args)) (as_names (names_without (wanted_at key) old.names))) (set_place key q keys old.fields.all i f place h)
-    ∙ field_by key q old.args old.names (said f) (at_name q keys old.fields.all) (wanted_at key) (bytes_eq key q) refl refl
-    ∙ ap (cond (bytes_eq key q) (Some (said f))) (sym (line_parts q old))
+    ∙ field_by key q old.args old.names (data_of f) (at_name q keys old.fields.all) (wanted_at key) (bytes_eq key q) refl refl
+    ∙ ap (cond (bytes_eq key q) (Some (data_of f))) (sym (line_parts q old))

@@ -10,7 +10,7 @@ use Rattle.serde_json.specs.Data.{Num, Data, unsigned}
 use Rattle.serde_json.specs.Find.{as_str}
 use Rattle.ctf_model.specs.declared.numbers.TypeNum.{TypeNum}
 use Rattle.ctf_json.specs.Told.{told, told_items, in_range, items_in_range}
-use Rattle.ctf_json.specs.Passed.{begun, passed, passed_items, passed_value}
+use Rattle.ctf_json.specs.Passed.{begun, tokens_behind, passed_items, passed_value}
 use Rattle.ctf_json.specs.Values.{are, front, is_small, is_text, number_said, small}
 use Rattle.ctf_json.proofs.Begun.{IsPlainTest, passed-plain, single, test-plain}
 use Rattle.ctf_json.proofs.Fronts.{Fronts, mapped, no_front, one_more, unmoved}
@@ -107,7 +107,7 @@ module _ {A : Type 0} (test : Data → Bool) (plain_test : IsPlainTest test) (sa
   pub nothing_yet : (old : List Token) (xs : List A) → xs ≡ [] → SoFar old xs old
   nothing_yet old xs e = (length old, omega arith, (λ js. js), unmoved (items (value depth) (length old) old), subst (λ l. Fronts test says l (λ js. js)) (sym e) (no_front test says), omega arith)
 
-  refused : (old left : List Token) (xs : List A) → SoFar old xs left → ((n : ℕ) → length left ≤ n → passed items_in_range (items (value depth) n left) ≡ None) → passed_items depth old ≡ None
+  refused : (old left : List Token) (xs : List A) → SoFar old xs left → ((n : ℕ) → length left ≤ n → tokens_behind items_in_range (items (value depth) n left) ≡ None) → passed_items depth old ≡ None
   refused old left xs s none = refused_behind items_in_range s.2 s.4.good (items (value depth) (length old) old) (items (value depth) s.0 left) s.3 (none s.0 s.1)
 
   -- no item, or one that is refused
@@ -125,14 +125,14 @@ module _ {A : Type 0} (test : Data → Bool) (plain_test : IsPlainTest test) (sa
       let less = behind left j r n e h in
       items_more (value depth) n left r j less.1 going e ∙ ap (parse_map (item j)) (enough_items depth (n - 1) r (omega (arith, less.0)))
 
-  refused_rest : (o : Option (Items × List Token)) (j : Json) → passed items_in_range o ≡ None → passed items_in_range (parse_map (item j) o) ≡ None
+  refused_rest : (o : Option (Items × List Token)) (j : Json) → tokens_behind items_in_range o ≡ None → tokens_behind items_in_range (parse_map (item j) o) ≡ None
   refused_rest None j e = refl
   refused_rest (Some q) j e = refused_by (in_range j) (items_in_range q.0) q.1 e
 
   pub refused_later : (old left : List Token) (xs : List A) (t : Token) (ts r : List Token) → SoFar old xs left → after_end_array left ≡ None → left ≡ t ∷ ts → passed_value depth (t ∷ ts) ≡ Some r → passed_items depth r ≡ None → passed_items depth old ≡ None
   refused_later old left xs t ts r s going is first none =
       let j = passed-plain depth t ts r first in
-      refused old left xs s (λ n h. ap (passed items_in_range) (first_of left n j.0 r (ap (value depth) is ∙ j.1) h going) ∙ refused_rest (items (value depth) (length r) r) j.0 none)
+      refused old left xs s (λ n h. ap (tokens_behind items_in_range) (first_of left n j.0 r (ap (value depth) is ∙ j.1) h going) ∙ refused_rest (items (value depth) (length r) r) j.0 none)
 
   -- a list with an item that is none of these
   pub other : (old left : List Token) (xs : List A) (t : Token) (ts r rest : List Token) → SoFar old xs left → after_end_array left ≡ None → left ≡ t ∷ ts → passed_value depth (t ∷ ts) ≡ Some r → test (told (begun t)) ≡ false → passed_items depth r ≡ Some rest

@@ -13,19 +13,19 @@ use Rattle.ctf_json.specs.declared.wanted.Wanted.{Wanted}
 use Rattle.ctf_json.specs.declared.wanted.Wanted.TheVariants.{Texts, Numbers, Nothing}
 
 -- what is kept of a list, by what is wanted
-abbrev pub listed : Wanted → Items → Data
-listed Texts ds = cond (are is_text ds) (array ds) null
-listed Numbers ds = cond (are is_small ds) (array ds) null
-listed Nothing ds = null
+abbrev pub list_data : Wanted → Items → Data
+list_data Texts ds = cond (are is_text ds) (array ds) null
+list_data Numbers ds = cond (are is_small ds) (array ds) null
+list_data Nothing ds = null
 
 -- and of a value
-abbrev pub kept : Wanted → Data → Data
-kept w null = null
-kept w (boolean b) = boolean b
-kept w (number n) = number n
-kept w (string s) = string s
-kept w (array ds) = listed w ds
-kept w (object ms) = null
+abbrev pub kept_data : Wanted → Data → Data
+kept_data w null = null
+kept_data w (boolean b) = boolean b
+kept_data w (number n) = number n
+kept_data w (string s) = string s
+kept_data w (array ds) = list_data w ds
+kept_data w (object ms) = null
 
 -- ---- what was read from tokens, with what is behind it
 
@@ -33,12 +33,12 @@ kept w (object ms) = null
 abbrev pub IsListed : Wanted → Option (json.Items × List Token) → Data → List Token → Type 0
 IsListed w read d rest =
     (js : json.Items) × (read ≡ Some (js, rest)) × (items_in_range js ≡ true)
-    × (listed w (told_items js) ≡ d)
+    × (list_data w (told_items js) ≡ d)
 
 -- a value, of which this is kept
 abbrev pub IsKept : Wanted → Option (json.Json × List Token) → Data → List Token → Type 0
 IsKept w read d rest =
-    (j : json.Json) × (read ≡ Some (j, rest)) × (in_range j ≡ true) × (kept w (told j) ≡ d)
+    (j : json.Json) × (read ≡ Some (j, rest)) × (in_range j ≡ true) × (kept_data w (told j) ≡ d)
 
 -- a value at a key, of which this is kept there, and all else as it was
 abbrev pub IsKeptAt : List ℕ → Option (json.Json × List Token) → Data → Data → List Token → Type 0
@@ -51,7 +51,7 @@ abbrev pub AreKept : Type 0 → Option (json.Json × List Token) → Data → Li
 AreKept If read part rest =
     (j : json.Json) × (read ≡ Some (j, rest)) × (in_range j ≡ true)
     × (If → (key : List ℕ) → is_one_of key keys ≡ true
-    → get key part ≡ option_map (kept (wanted_at key)) (get key (told j)))
+    → get key part ≡ option_map (kept_data (wanted_at key)) (get key (told j)))
 
 -- ---- texts
 
@@ -60,4 +60,4 @@ pub record IsReadAt (text : List ℕ) (part : Data) : Type 0 where
   pub whole : Data
   pub is : read text ≡ Some whole
   pub same : (key : List ℕ) → is_one_of key keys ≡ true
-      → get key part ≡ option_map (kept (wanted_at key)) (get key whole)
+      → get key part ≡ option_map (kept_data (wanted_at key)) (get key whole)

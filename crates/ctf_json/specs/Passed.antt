@@ -5,17 +5,17 @@ use Rattle.json.specs.Json.{Json, null, boolean, number, string, items, members,
 use Rattle.ctf_json.specs.Told.{in_range, items_in_range, members_in_range}
 
 -- what is left behind what was read, where that is good
-abbrev pub passed : {A : Type 0} → (A → Bool) → Option (A × List Token) → Option (List Token)
-passed good read = option_and_then (λ p. cond (good p.0) (Some p.1) None) read
+abbrev pub tokens_behind : {A : Type 0} → (A → Bool) → Option (A × List Token) → Option (List Token)
+tokens_behind good read = option_and_then (λ p. cond (good p.0) (Some p.1) None) read
 
 abbrev pub passed_value : ℕ → List Token → Option (List Token)
-passed_value depth ts = passed in_range (value depth ts)
+passed_value depth ts = tokens_behind in_range (value depth ts)
 
 abbrev pub passed_items : ℕ → List Token → Option (List Token)
-passed_items depth ts = passed items_in_range (items (value depth) (length ts) ts)
+passed_items depth ts = tokens_behind items_in_range (items (value depth) (length ts) ts)
 
 abbrev pub passed_members : ℕ → List Token → Option (List Token)
-passed_members depth ts = passed members_in_range (members (value depth) (length ts) ts)
+passed_members depth ts = tokens_behind members_in_range (members (value depth) (length ts) ts)
 
 -- what is kept of a value that begins with this token, where nothing is kept of what nests
 abbrev pub begun : Token → Json

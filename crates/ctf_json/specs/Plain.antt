@@ -16,4 +16,5 @@ BeginsOrEnds text = is_blank (class (head text)) ≡ true → text ≡ []
 
 -- a text begins with this number, which has a value
 abbrev pub IsNumber : List ℕ → List ℕ → Type 0
-IsNumber text s = (class (head text) ≡ other) × (word text ≡ number s) × (is_some (number_of s) ≡ true)
+IsNumber text s =
+    (class (head text) ≡ other) × (word text ≡ number s) × (is_some (number_of s) ≡ true)

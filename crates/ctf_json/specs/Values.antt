@@ -61,21 +61,21 @@ is_small d = is_some (small d)
 
 -- ---- values
 
-abbrev pub said : Field → Data
-said field.Null = null
-said (field.Bool b) = boolean b
-said (field.Number s) = told_number (number_of s.now)
-said (field.String s) = string s.now
+abbrev pub data_of : Field → Data
+data_of field.Null = null
+data_of (field.Bool b) = boolean b
+data_of (field.Number s) = told_number (number_of s.now)
+data_of (field.String s) = string s.now
 
 -- of a value that was read
 abbrev pub read_said : Read → Data
-read_said (was.Field f) = said f
+read_said (was.Field f) = data_of f
 read_said (was.Texts joined) = array (texts_said (texts joined))
 read_said (was.Numbers numbers) = array (numbers_said numbers.items)
 
 -- of one that is looked up
 abbrev pub value_said : Value → Data
-value_said (is.Field f) = said f
+value_said (is.Field f) = data_of f
 value_said (is.Texts joined) = array (texts_said (texts joined.now))
 value_said (is.Numbers numbers) = array (numbers_said numbers.now)
 
@@ -110,7 +110,7 @@ put_some key (Some d) ms = put key d ms
 abbrev pub members_said : List (List ℕ) → List (Option Field) → Members
 members_said [] vs = no_members
 members_said (k ∷ ks) [] = no_members
-members_said (k ∷ ks) (v ∷ vs) = put_some k (option_map said v) (members_said ks vs)
+members_said (k ∷ ks) (v ∷ vs) = put_some k (option_map data_of v) (members_said ks vs)
 
 -- what a line says: an object of its fields and lists
 abbrev pub line_said : Line → Data

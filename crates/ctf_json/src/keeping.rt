@@ -3,9 +3,9 @@ ghost use Rattle.std.specs.Prelude.{◌≡◌, ◌<◌, ℕ, List, Some, None, t
 ghost use Rattle.std.specs.Str.{bytes_eq};
 ghost use Rattle.serde_json.specs.Find.{get as found_under};
 ghost use Rattle.ctf_json.specs.Keys.{place_in, wanted_at};
-ghost use Rattle.ctf_json.specs.Values.{IsNew, args_without, fits, keys, line_said, names_without, read_said, said};
+ghost use Rattle.ctf_json.specs.Values.{IsNew, args_without, fits, keys, line_said, names_without, read_said, data_of};
 
-use crate::keys::{COUNT, wanted};
+use crate::keys::{COUNT, wanted_list};
 use crate::line::{Fields, Line};
 use crate::values::{Field, Read};
 use crate::wanted::Wanted;
@@ -44,10 +44,10 @@ impl<'a> Line<'a> {
     pub(crate) fn keep_at(&mut self, key: &str, place: usize, field: Field<'a>)
         requires { place_in key.now keys ≡ Some place }
         ensures { (q : List ℕ) → found_under q (line_said self.new)
-            ≡ cond (bytes_eq key.now q) (Some (said field.entry))
+            ≡ cond (bytes_eq key.now q) (Some (data_of field.entry))
             (found_under q (line_said self.old)) }
     {
-        self.keep_field(place, field, wanted(key));
+        self.keep_field(place, field, wanted_list(key));
     }
 
     /// Keeps what is no list.

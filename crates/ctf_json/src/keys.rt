@@ -141,7 +141,7 @@ fn place_among(name: &str, keys: &[&str]) -> Option<usize>
 
 /// Which list is wanted at a key.
 #[inline(always)]
-pub(crate) fn wanted(key: &str) -> Wanted
+pub(crate) fn wanted_list(key: &str) -> Wanted
     ensures { result ≡ wanted_at key.now }
 {
     if is_key(key, "names") {

@@ -6,7 +6,7 @@ ghost use Rattle.serde_json.specs.Data.{object};
 ghost use Rattle.ctf_joined.specs.Joined.{texts};
 ghost use Rattle.ctf_json.specs.Values.{keys, line_said, members_said, numbers_said, texts_said, value_said};
 
-use crate::keys::{place_of, wanted};
+use crate::keys::{place_of, wanted_list};
 use crate::line::Line;
 use crate::numbers::{natural, number};
 use crate::values::{Field, Value};
@@ -20,22 +20,22 @@ use serde_json::Number;
 pub fn get<'v, 'a>(line: &'v Line<'a>, key: &str) -> Option<Value<'v, 'a>>
     ensures { option_map value_said result ≡ found_under key.now (line_said line.now) }
 {
-    match wanted(key) {
+    match wanted_list(key) {
         Wanted::Texts => match &line.names {
             Some(texts) => Some(Value::Texts(texts)),
-            None => plain(line, key),
+            None => plain_value(line, key),
         },
         Wanted::Numbers => match &line.args {
             Some(numbers) => Some(Value::Numbers(numbers.as_slice())),
-            None => plain(line, key),
+            None => plain_value(line, key),
         },
-        Wanted::Nothing => plain(line, key),
+        Wanted::Nothing => plain_value(line, key),
     }
 }
 
 /// What is no list at a key.
 #[inline(always)]
-fn plain<'v, 'a>(line: &'v Line<'a>, key: &str) -> Option<Value<'v, 'a>>
+fn plain_value<'v, 'a>(line: &'v Line<'a>, key: &str) -> Option<Value<'v, 'a>>
     ensures { option_map value_said result
         ≡ found_under key.now (object (members_said keys line.now.fields.all)) }
 {

@@ -58,16 +58,16 @@ fn digits_alone(bytes: &[u8]) -> Option<u64>
     Some(value)
 }
 
-fn unsigned(bytes: &[u8]) -> Option<Number>
+fn unsigned_number(bytes: &[u8]) -> Option<Number>
     ensures { option_map number_view result ≡ number_from false (scan bytes.now) }
 {
     match digits_alone(bytes) {
         Some(n) => Some(Number::from(n)),
-        None => scanned(&Numeral::scan(bytes)),
+        None => scan_numeral(&Numeral::scan(bytes)),
     }
 }
 
-fn scanned(numeral: &Numeral<'_>) -> Option<Number>
+fn scan_numeral(numeral: &Numeral<'_>) -> Option<Number>
     ensures { option_map number_view result ≡ number_from false numeral.now }
 {
     match numeral.to_u64() {
@@ -93,7 +93,7 @@ pub fn number(text: &str) -> Option<Number>
     if has_minus(bytes) {
         negative(&Numeral::scan(&bytes[1..]))
     } else {
-        unsigned(bytes)
+        unsigned_number(bytes)
     }
 }
 

@@ -8,10 +8,10 @@ ghost use Rattle.ctf_json.specs.Kept.{AreKept, IsKept, IsKeptAt, IsReadAt};
 ghost use Rattle.ctf_json.specs.Memory.{IsLeft, list_among, takes_memory};
 ghost use Rattle.ctf_json.specs.Passed.{begun, passed_members, passed_value};
 ghost use Rattle.ctf_json.specs.Told.{told};
-ghost use Rattle.ctf_json.specs.Values.{IsNew, fits, keys, line_said, read_said, said};
+ghost use Rattle.ctf_json.specs.Values.{IsNew, fits, keys, line_said, read_said, data_of};
 ghost use Rattle.ctf_json.specs.declared.reading.NotRead.TheVariants as why;
 
-use crate::keys::{place_of, wanted};
+use crate::keys::{place_of, wanted_list};
 use crate::line::Line;
 use crate::lists::list_at;
 use crate::passing::{pass, pass_from};
@@ -187,16 +187,16 @@ fn next_value<'a>(
         if depth == 0 {
             return Err(NotRead::NotJson);
         }
-        return Ok(list_at(alloc, reader, depth - 1, wanted(key))?);
+        return Ok(list_at(alloc, reader, depth - 1, wanted_list(key))?);
     }
     pass_from(token, reader, depth)?;
-    Ok(Read::Field(kept(token)))
+    Ok(Read::Field(field_of(token)))
 }
 
 /// What is kept of a value that begins with a token: nothing of an array or an object.
 #[inline]
-fn kept<'a>(token: Token<'a>) -> Field<'a>
-    ensures { said result ≡ told (begun (token_of token.entry)) }
+fn field_of<'a>(token: Token<'a>) -> Field<'a>
+    ensures { data_of result ≡ told (begun (token_of token.entry)) }
 {
     match token {
         Token::String(text) => Field::String(text),

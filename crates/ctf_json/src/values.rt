@@ -12,8 +12,8 @@ pub enum Field<'a> {
     String(&'a str),
 }
 
-/// What is kept of a value that was read. Of an array all texts or all numbers of types, which are of
-/// 16 bits, at the key where these are wanted; any other, and an object, is null.
+/// What is kept of a value that was read. Of an array all texts or all numbers of types, which are
+/// of 16 bits, at the key where these are wanted; any other, and an object, is null.
 #[derive(Drop)]
 pub enum Read<'a> {
     Field(Field<'a>),

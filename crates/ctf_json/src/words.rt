@@ -18,7 +18,7 @@ fn digits(text: &[u8], i: usize) -> Option<usize>
 }
 
 #[inline(always)]
-fn whole(text: &[u8], i: usize) -> Option<usize>
+fn whole_word(text: &[u8], i: usize) -> Option<usize>
     requires { i ≤ length text.now }
     ensures { EndsAt text.now i result (after_whole (drop i text.now)) }
 {
@@ -77,7 +77,7 @@ fn number_end(text: &[u8], from: usize) -> Option<usize>
     requires { from ≤ length text.now }
     ensures { EndsAt text.now from result (after_number (drop from text.now)) }
 {
-    let point = whole(text, minus_end(text, from))?;
+    let point = whole_word(text, minus_end(text, from))?;
     let power = fraction(text, point)?;
     exponent(text, power)
 }

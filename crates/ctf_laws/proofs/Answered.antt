@@ -8,11 +8,11 @@ use Rattle.ctf_model.proofs.SoundDrafts.{changes_sound, new_sound}
 use Rattle.ctf_model.proofs.WrittenDrafts.{draft_denoted}
 use Rattle.ctf_model.specs.drafts.DraftChanges.{after}
 use Rattle.ctf_model.specs.drafts.DraftLaws.{IsSound}
-use Rattle.ctf_model.specs.drafts.Drafts.{Draft, held}
+use Rattle.ctf_model.specs.drafts.Drafts.{Draft, content}
 use Rattle.ctf_model.specs.format.Dictionary.{Denotes, Dictionary, said_by}
 use Rattle.ctf_model.specs.format.Laws.{KeepsEveryRule}
 use Rattle.ctf_model.specs.format.Lists.{Lists}
-use Rattle.ctf_model.specs.opened.Steps.{counted, settled_as, updated_if}
+use Rattle.ctf_model.specs.opened.Steps.{with_count, settled_as, updated_if}
 use Rattle.ctf_model.specs.rules.Faults.{first_fault}
 use Rattle.ctf_model.specs.rules.Refusals.{placeless}
 use Rattle.ctf_model.specs.rules.Rules.{IsFirstFault}
@@ -126,15 +126,15 @@ opens_accept model state a e = opens_accept_by (has_room state) model state a re
 
 -- ---- what is written
 
-writes_denote : (say : ℕ → Answer) (slot : Slot) (d : Draft) (a : Answer) (r : Result (List ℕ) Fault) → IsSound d → written (held d) ≡ r → (slot_stepped say slot (counted (settled_as slot.parent d r))).said ≡ Ok a → Denotes (slot_stepped say slot (counted (settled_as slot.parent d r))).slot.kept.lists (held d)
+writes_denote : (say : ℕ → Answer) (slot : Slot) (d : Draft) (a : Answer) (r : Result (List ℕ) Fault) → IsSound d → written (content d) ≡ r → (slot_stepped say slot (with_count (settled_as slot.parent d r))).said ≡ Ok a → Denotes (slot_stepped say slot (with_count (settled_as slot.parent d r))).slot.kept.lists (content d)
 writes_denote say slot d a (Err f) sound wrote said = absurd cc
 writes_denote say slot d a (Ok bytes) sound wrote said = draft_denoted d bytes sound wrote
 
-update_denotes : (say : ℕ → Answer) (slot : Slot) (d : Draft) (a : Answer) (draft : Option Draft) → draft ≡ Some d → IsSound d → (slot_stepped say slot (updated_if slot.parent draft)).said ≡ Ok a → Denotes (slot_stepped say slot (updated_if slot.parent draft)).slot.kept.lists (held d)
+update_denotes : (say : ℕ → Answer) (slot : Slot) (d : Draft) (a : Answer) (draft : Option Draft) → draft ≡ Some d → IsSound d → (slot_stepped say slot (updated_if slot.parent draft)).said ≡ Ok a → Denotes (slot_stepped say slot (updated_if slot.parent draft)).slot.kept.lists (content d)
 update_denotes say slot d a None is sound said = absurd cc
 update_denotes say slot d a (Some e) is sound said =
     let same : d ≡ e = cc in
-    subst (λ (x : Draft). (slot_stepped say slot (updated_if slot.parent (Some x))).said ≡ Ok a → Denotes (slot_stepped say slot (updated_if slot.parent (Some x))).slot.kept.lists (held d)) same (writes_denote say slot d a (written (held d)) sound refl) said
+    subst (λ (x : Draft). (slot_stepped say slot (updated_if slot.parent (Some x))).said ≡ Ok a → Denotes (slot_stepped say slot (updated_if slot.parent (Some x))).slot.kept.lists (content d)) same (writes_denote say slot d a (written (content d)) sound refl) said
 
 pub updates_denote : UpdatesDenoteTheDraft
 unfolding slot_step

@@ -8,7 +8,7 @@ use Rattle.ctf_model.proofs.SoundDrafts.{life_sound, new_sound}
 use Rattle.ctf_model.proofs.WrittenDrafts.{draft_denoted, draft_imported}
 use Rattle.ctf_model.specs.drafts.Adders.{Added, add_enumerator, add_label, add_member, add_type, against_enumerator, against_label, against_member, against_place, against_type, body_at, place_member, put_member, replaced_at, size_with, with_enumerator, with_label, with_member, with_type}
 use Rattle.ctf_model.specs.drafts.DraftLaws.{IsSound}
-use Rattle.ctf_model.specs.drafts.Drafts.{Contents, Draft, above, all_of, discarded, empty_draft, followed_by, has_zero, held, is_childs, is_of_other, new_draft, no_contents, pending_place, settled, space_of}
+use Rattle.ctf_model.specs.drafts.Drafts.{Contents, Draft, above, all_of, rollback, empty_draft, followed_by, has_zero, content, is_childs, is_of_other, new_draft, no_contents, pending_place, commit, space_of}
 use Rattle.ctf_model.specs.drafts.NewTypes.{NewType, new_term}
 use Rattle.ctf_model.specs.drafts.Placement.{bits_filled, member_place}
 use Rattle.ctf_model.specs.format.Dictionary.{Label, said_by}
@@ -32,10 +32,10 @@ use Rattle.ctf_laws.specs.Good.{IsDraftOf, IsFaultless, IsGoodSlot, Serves}
 
 -- what is refused or done leaves all but what is pending
 abbrev pub Leaves : Draft → Result Added Fault → Type 0
-Leaves d r = (a : Added) → r ≡ Ok a → discarded a.draft ≡ discarded d
+Leaves d r = (a : Added) → r ≡ Ok a → rollback a.draft ≡ rollback d
 
 abbrev pub Leave : Draft → Result Draft Fault → Type 0
-Leave d r = (e : Draft) → r ≡ Ok e → discarded e ≡ discarded d
+Leave d r = (e : Draft) → r ≡ Ok e → rollback e ≡ rollback d
 
 unless_leaves : (o : Option Fault) (r : Result Added Fault) (d : Draft) → Leaves d r → Leaves d (unless o r)
 unless_leaves None r d h = h
@@ -49,17 +49,17 @@ then_leaves : (r : Result ℕ Fault) (next : ℕ → Result Added Fault) (d : Dr
 then_leaves (Err f) next d h = λ a e. absurd cc
 then_leaves (Ok n) next d h = h n
 
-done_leaves : (d e : Draft) (n : ℕ) → discarded e ≡ discarded d → Leaves d (Ok (record { draft = e; answer = n }))
+done_leaves : (d e : Draft) (n : ℕ) → rollback e ≡ rollback d → Leaves d (Ok (record { draft = e; answer = n }))
 done_leaves d e n h a i =
     let same : record { draft = e; answer = n } ≡ a = cc in
-    subst (λ (b : Added). discarded b.draft ≡ discarded d) same h
+    subst (λ (b : Added). rollback b.draft ≡ rollback d) same h
 
-done_leave : (d e : Draft) → discarded e ≡ discarded d → Leave d (Ok e)
+done_leave : (d e : Draft) → rollback e ≡ rollback d → Leave d (Ok e)
 done_leave d e h a i =
     let same : e ≡ a = cc in
-    subst (λ (b : Draft). discarded b ≡ discarded d) same h
+    subst (λ (b : Draft). rollback b ≡ rollback d) same h
 
-replaced_leaves : (d : Draft) (i : Option ℕ) (x : Result Term Fault) (body : Body) → discarded (replaced_at d i x body) ≡ discarded d
+replaced_leaves : (d : Draft) (i : Option ℕ) (x : Result Term Fault) (body : Body) → rollback (replaced_at d i x body) ≡ rollback d
 replaced_leaves d None x body = refl
 replaced_leaves d (Some i) (Err f) body = refl
 replaced_leaves d (Some i) (Ok x) body = refl
@@ -86,7 +86,7 @@ label_leaves d label = unless_leave (first_met (against_label d label.name)) _ d
 -- ---- a slot with another draft
 
 -- whose dictionary is as it was
-pub redrafted : (slot : Slot) (d e : Draft) → IsGoodSlot slot → slot.draft ≡ Some d → IsSound e → discarded e ≡ discarded d → IsGoodSlot (slot_with slot.number (with_draft (open_of slot) e))
+pub redrafted : (slot : Slot) (d e : Draft) → IsGoodSlot slot → slot.draft ≡ Some d → IsSound e → rollback e ≡ rollback d → IsGoodSlot (slot_with slot.number (with_draft (open_of slot) e))
 redrafted slot d e g is sound same =
     let old = g.draft d is in
     record {
@@ -98,7 +98,7 @@ redrafted slot d e g is sound same =
         alike = λ p j. old.alike p j ∙ sym (ap (λ (y : Draft). y.model) same);
         model = old.model ∙ sym (ap (λ (y : Draft). y.model) same);
         bytes = old.bytes;
-        wrote = ap (λ (y : Draft). written (held y)) same ∙ old.wrote;
+        wrote = ap (λ (y : Draft). written (content y)) same ∙ old.wrote;
         lists = old.lists;
       });
     }
@@ -109,7 +109,7 @@ redrafted slot d e g is sound same =
 none_behind : (all : Contents) → followed_by all no_contents ≡ all
 none_behind all = ap (λ (terms : List Term). record { terms = terms; labels = all.labels ++ no_contents.labels }) (append-nil all.terms) ∙ ap (λ (labels : List Label). record { terms = all.terms; labels = labels }) (append-nil all.labels)
 
-held_stays : (d : Draft) → held (settled d) ≡ held d
+held_stays : (d : Draft) → content (commit d) ≡ content d
 held_stays d = ap (λ (all : Contents). record {
   child = is_some d.parent;
   parname = d.parname;
@@ -126,10 +126,10 @@ settled_slot number parent d bytes = record {
   number = number;
   kept = record { lists = lists_of bytes; model = d.model };
   parent = parent;
-  draft = Some (settled d);
+  draft = Some (commit d);
 }
 
-serves : (d : Draft) (p : Kept) (bytes : List ℕ) → IsSound d → d.parent ≡ Some (kept_dictionary p) → p.model ≡ d.model → written (held d) ≡ Ok bytes → IsFaultless p → Serves (record { lists = lists_of bytes; model = d.model }) p
+serves : (d : Draft) (p : Kept) (bytes : List ℕ) → IsSound d → d.parent ≡ Some (kept_dictionary p) → p.model ≡ d.model → written (content d) ≡ Ok bytes → IsFaultless p → Serves (record { lists = lists_of bytes; model = d.model }) p
 serves d p bytes sound has alike wrote faultless =
     let denotes = draft_denoted d bytes sound wrote in
     let of_one = draft_imported d (kept_dictionary p) bytes (said_by (lists_of bytes)) sound has wrote (denotes_said (lists_of bytes) denotes.faultless) in
@@ -138,13 +138,13 @@ serves d p bytes sound has alike wrote faultless =
       under = subst (λ (m : DataModel). import_fault (record { child = record { dictionary = said_by (lists_of bytes); model = d.model }; parent = record { dictionary = kept_dictionary p; model = m } }) ≡ None) (sym alike) of_one;
     }
 
-pub settled_good : (number : ℕ) (parent : Option Kept) (d : Draft) (bytes : List ℕ) → IsSound d → d.parent ≡ option_map kept_dictionary parent → ForSome parent (λ p. p.model ≡ d.model) → ForSome parent IsFaultless → written (held d) ≡ Ok bytes → IsGoodSlot (settled_slot number parent d bytes)
+pub settled_good : (number : ℕ) (parent : Option Kept) (d : Draft) (bytes : List ℕ) → IsSound d → d.parent ≡ option_map kept_dictionary parent → ForSome parent (λ p. p.model ≡ d.model) → ForSome parent IsFaultless → written (content d) ≡ Ok bytes → IsGoodSlot (settled_slot number parent d bytes)
 settled_good number parent d bytes sound over alike faultless wrote =
     let denotes = draft_denoted d bytes sound wrote in
     record {
       faultless = denotes.faultless;
       parent = λ p i. serves d p bytes sound (over ∙ ap (option_map kept_dictionary) i) (alike p i) wrote (faultless p i);
-      draft = λ x i. let now : settled d ≡ x = cc in subst (IsDraftOf (settled_slot number parent d bytes)) now (record {
+      draft = λ x i. let now : commit d ≡ x = cc in subst (IsDraftOf (settled_slot number parent d bytes)) now (record {
         sound = (life_sound d sound).1;
         above = over;
         alike = alike;
@@ -189,7 +189,7 @@ there_as (Some p) = refl
 abbrev pub MakesGood : ℕ → Result Open Fault → Type 0
 MakesGood number r = (slot : Slot) → slot_made number r ≡ Ok slot → IsGoodSlot slot
 
-settles_good : (number : ℕ) (parent : Option Kept) (d : Draft) (r : Result (List ℕ) Fault) → (written (held d) ≡ r) → IsSound d → d.parent ≡ option_map kept_dictionary parent → ForSome parent (λ p. p.model ≡ d.model) → ForSome parent IsFaultless → MakesGood number (settled_as parent d r)
+settles_good : (number : ℕ) (parent : Option Kept) (d : Draft) (r : Result (List ℕ) Fault) → (written (content d) ≡ r) → IsSound d → d.parent ≡ option_map kept_dictionary parent → ForSome parent (λ p. p.model ≡ d.model) → ForSome parent IsFaultless → MakesGood number (settled_as parent d r)
 settles_good number parent d (Err f) wrote sound over alike faultless = λ slot e. absurd cc
 settles_good number parent d (Ok bytes) wrote sound over alike faultless = λ slot e.
     let same : settled_slot number parent d bytes ≡ slot = cc in
@@ -202,7 +202,7 @@ drafts_good number parent parname parlabel model (Ok d) is there faultless =
     let sound = new_sound (option_map modelled_by parent) parname parlabel model d (there_as parent ∙ there) is in
     let over : d.parent ≡ option_map kept_dictionary parent = ap (λ (e : Draft). e.parent) (sym made.1) ∙ above_is parent in
     let model_is : d.model ≡ model = ap (λ (e : Draft). e.model) (sym made.1) in
-    settles_good number parent d (written (held d)) refl sound over (λ p e. parent_alike parent model made.0 p e ∙ sym model_is) faultless
+    settles_good number parent d (written (content d)) refl sound over (λ p e. parent_alike parent model made.0 p e ∙ sym model_is) faultless
 
 pub created_good : (number : ℕ) (parent : Option Kept) (parname parlabel : List ℕ) (model : DataModel) → is_some parent ≡ not (eqb (length parname) 0) → ForSome parent IsFaultless → MakesGood number (created parent parname parlabel model)
 unfolding created

@@ -2,15 +2,15 @@
 use Rattle.std.proofs.Common.{◌≡◌, ◌+◌, ℕ, List, [], ◌∷◌, ◌++◌, Bool, true, false, Option, Some, None, Result, Ok, Err, refl, ap, ◌∙◌, length, is_some}
 use Rattle.std.specs.Prelude.{nat_lt, if◌then◌else◌}
 use Rattle.ctf_model.specs.drafts.Adders.{Added}
-use Rattle.ctf_model.specs.drafts.Drafts.{Draft, discarded, held, settled}
+use Rattle.ctf_model.specs.drafts.Drafts.{Draft, rollback, content, commit}
 use Rattle.ctf_model.specs.opened.Open.{Open, own_in, pending_in}
-use Rattle.ctf_model.specs.opened.Steps.{Stepped, counted, discarded_if, dropped, enlarged_as, enlarged_if, import_refusal, settled_as, updated, updated_if, with_draft}
+use Rattle.ctf_model.specs.opened.Steps.{Stepped, with_count, discarded_if, discard_step, enlarged_as, enlarged_if, import_refusal, settled_as, step_update, updated_if, with_draft}
 use Rattle.ctf_model.specs.rules.Faults.{first_fault}
 use Rattle.ctf_model.specs.spaces.Kept.{Kept}
 use Rattle.ctf_model.specs.writing.Written.{lists_of, written}
 use Rattle.ctf_model.specs.declared.faults.Fault.{Fault}
 use Rattle.ctf_protocol.specs.answers.Answers.{Answer}
-use Rattle.ctf_protocol.specs.sessions.Additions.{added}
+use Rattle.ctf_protocol.specs.sessions.Additions.{apply_addition}
 use Rattle.ctf_protocol.specs.sessions.Charges.{charge}
 use Rattle.ctf_protocol.specs.sessions.Creations.{Created}
 use Rattle.ctf_protocol.specs.sessions.DraftSteps.{created_slot, slot_step}
@@ -156,13 +156,13 @@ enlarged_at : (o : Open) (adds : Draft → Result Added Fault) (draft : Option D
 enlarged_at o adds None s e = absurd cc
 enlarged_at o adds (Some d) s e = enlarged_under o (adds d) s e
 
-added_under : (x : Addition) (o : Open) (s : Stepped) → added x o ≡ Ok s → s.served.parent ≡ o.parent
+added_under : (x : Addition) (o : Open) (s : Stepped) → apply_addition x o ≡ Ok s → s.served.parent ≡ o.parent
 added_under (add.Type name root kind) o s e = enlarged_at o _ o.draft s e
 added_under (add.Member t name tnum offset) o s e = enlarged_at o _ o.draft s e
 added_under (add.Enumerator t name value) o s e = enlarged_at o _ o.draft s e
 added_under (add.Label name last) o s e = enlarged_at o _ o.draft s e
 
-counted_under : (r : Result Open Fault) (parent : Option Kept) (s : Stepped) → ((o : Open) → r ≡ Ok o → o.parent ≡ parent) → counted r ≡ Ok s → s.served.parent ≡ parent
+counted_under : (r : Result Open Fault) (parent : Option Kept) (s : Stepped) → ((o : Open) → r ≡ Ok o → o.parent ≡ parent) → with_count r ≡ Ok s → s.served.parent ≡ parent
 counted_under (Ok o) parent s h e = ap (λ (x : Stepped). x.served.parent) (done_is (record { served = o; answer = length (own_in o).terms }) s e) ∙ h o refl
 counted_under (Err f) parent s h e = absurd cc
 
@@ -173,22 +173,22 @@ settled_done_is : (x o : Open) → settled_done x ≡ Ok o → o ≡ x
 settled_done_is x o e = cc
 
 settled_under : (parent : Option Kept) (d : Draft) (r : Result (List ℕ) Fault) (o : Open) → settled_as parent d r ≡ Ok o → o.parent ≡ parent
-settled_under parent d (Ok bytes) o e = ap (λ (x : Open). x.parent) (settled_done_is (record { own = record { lists = lists_of bytes; model = d.model }; parent = parent; draft = Some (settled d) }) o e)
+settled_under parent d (Ok bytes) o e = ap (λ (x : Open). x.parent) (settled_done_is (record { own = record { lists = lists_of bytes; model = d.model }; parent = parent; draft = Some (commit d) }) o e)
 settled_under parent d (Err f) o e = absurd cc
 
 updated_under : (parent : Option Kept) (draft : Option Draft) (s : Stepped) → updated_if parent draft ≡ Ok s → s.served.parent ≡ parent
 updated_under parent None s e = absurd cc
-updated_under parent (Some d) s e = counted_under (settled_as parent d (written (held d))) parent s (settled_under parent d (written (held d))) e
+updated_under parent (Some d) s e = counted_under (settled_as parent d (written (content d))) parent s (settled_under parent d (written (content d))) e
 
 dropped_under : (o : Open) (draft : Option Draft) (s : Stepped) → discarded_if o draft ≡ Ok s → s.served.parent ≡ o.parent
 dropped_under o None s e = absurd cc
-dropped_under o (Some d) s e = counted_under (Ok (with_draft o (discarded d))) o.parent s (λ x i. ap (λ (y : Open). y.parent) (settled_done_is (with_draft o (discarded d)) x i)) e
+dropped_under o (Some d) s e = counted_under (Ok (with_draft o (rollback d))) o.parent s (λ x i. ap (λ (y : Open). y.parent) (settled_done_is (with_draft o (rollback d)) x i)) e
 
 stands : (x : DraftStep) (slot : Slot) → Stands slot (slot_step x slot).slot
 unfolding slot_step
-stands (steps.Add addition) slot = stepped_by _ slot (added addition (open_of slot)) (added_under addition (open_of slot))
-stands steps.Update slot = stepped_by _ slot (updated (open_of slot)) (updated_under slot.parent slot.draft)
-stands steps.Discard slot = stepped_by _ slot (dropped (open_of slot)) (dropped_under (open_of slot) slot.draft)
+stands (steps.Add addition) slot = stepped_by _ slot (apply_addition addition (open_of slot)) (added_under addition (open_of slot))
+stands steps.Update slot = stepped_by _ slot (step_update (open_of slot)) (updated_under slot.parent slot.draft)
+stands steps.Discard slot = stepped_by _ slot (discard_step (open_of slot)) (dropped_under (open_of slot) slot.draft)
 
 becoming : (c : Change) (d : ℕ) (was : Slot) (outcome : SlotOutcome) (state : State) → slot_at d state.slots ≡ Some was → Stands was outcome.slot → Effect c state (slot_becomes d outcome state).state
 becoming c d was outcome state at h = record { slots = a_step d was outcome.slot at h.number h.parent refl refl; published = all_stay refl }

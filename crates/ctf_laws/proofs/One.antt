@@ -3,7 +3,7 @@ use Rattle.std.proofs.Common.{◌≡◌, inl, inr, ℕ, List, [], Bool, true, fa
 use Rattle.std.specs.Prelude.{nat_lt}
 use Rattle.std.specs.Option.{option_map}
 use Rattle.std.proofs.lemmas.Bool.{ltb-false, ltb-true}
-use Rattle.ctf_model.specs.drafts.Drafts.{Draft, discarded, held, new_draft}
+use Rattle.ctf_model.specs.drafts.Drafts.{Draft, rollback, content, new_draft}
 use Rattle.ctf_model.specs.format.Dictionary.{Dictionary}
 use Rattle.ctf_model.specs.format.Lists.{Lists}
 use Rattle.ctf_model.specs.rules.Rules.{IsBroken, IsFirstFault}
@@ -22,7 +22,7 @@ use Rattle.ctf_protocol.specs.sessions.Opened.{under}
 use Rattle.ctf_protocol.specs.sessions.Publications.{published_as, published_without}
 use Rattle.ctf_protocol.specs.sessions.Slots.{has_room, slot_at, slots_without}
 use Rattle.ctf_protocol.specs.sessions.State.{Slot, State, empty_stage, empty_state}
-use Rattle.ctf_protocol.specs.sessions.Steps.{longest_list, staged, with_staged}
+use Rattle.ctf_protocol.specs.sessions.Steps.{longest_list, list_in, with_staged}
 use Rattle.ctf_protocol.specs.declared.additions.Addition.{Addition}
 use Rattle.ctf_protocol.specs.declared.questions.Question.{Question}
 use Rattle.ctf_protocol.specs.declared.requests.Change.TheVariants as change
@@ -132,7 +132,7 @@ on_draft_one : (slot : Option Slot) (old : State) (R : Slot → Draft → Ending
 on_draft_one slot old R one = finds_one slot NO_SLOT old (λ s. Finds s.draft READ_ONLY old (R s)) (λ s. finds_one s.draft READ_ONLY old (R s) (one s))
 
 new_one : (parent : Option Kept) (old : State) (d : Draft) → One (WritesNew parent old d)
-new_one parent old d = gives_one (written (held d)) old (λ bytes. WritesDraft d bytes (under (codes "d") old.next) (with_slot_of (slot_written old.next parent d bytes) old) old) (λ bytes. writes_one d bytes (under (codes "d") old.next) (with_slot_of (slot_written old.next parent d bytes) old) old)
+new_one parent old d = gives_one (written (content d)) old (λ bytes. WritesDraft d bytes (under (codes "d") old.next) (with_slot_of (slot_written old.next parent d bytes) old) old) (λ bytes. writes_one d bytes (under (codes "d") old.next) (with_slot_of (slot_written old.next parent d bytes) old) old)
 
 over_one : (parent : Option Kept) (asked : Created) (old : State) → One (CreatesOver parent asked old)
 over_one parent asked old =
@@ -144,13 +144,13 @@ creates_one None asked old = over_one None asked old
 creates_one (Some p) asked old = finds_one (slot_at p old.slots) NO_SLOT old (λ slot. CreatesOver (Some slot.kept) asked old) (λ slot. over_one (Some slot.kept) asked old)
 
 updates_one : (i : ℕ) (old : State) (slot : Slot) (d : Draft) → One (Updates i old slot d)
-updates_one i old slot d = gives_one (written (held d)) old (λ bytes. WritesDraft d bytes (types_told (held d)) (with_slot_at i (slot_written slot.number slot.parent d bytes) old) old) (λ bytes. writes_one d bytes (types_told (held d)) (with_slot_at i (slot_written slot.number slot.parent d bytes) old) old)
+updates_one i old slot d = gives_one (written (content d)) old (λ bytes. WritesDraft d bytes (types_told (content d)) (with_slot_at i (slot_written slot.number slot.parent d bytes) old) old) (λ bytes. writes_one d bytes (types_told (content d)) (with_slot_at i (slot_written slot.number slot.parent d bytes) old) old)
 
 adds_one : (i : ℕ) (addition : Addition) (old : State) (slot : Slot) (d : Draft) → One (Adds i addition old slot d)
 adds_one i addition old slot d = gives_one (draft_with addition d) old (λ r. IsDrafted i slot d r.draft (addition_answered addition r.answer) old) (λ r. drafted_one i slot d r.draft (addition_answered addition r.answer) old)
 
 discards_one : (i : ℕ) (old : State) (slot : Slot) (d : Draft) → One (Discards i old slot d)
-discards_one i old slot d = drafted_one i slot d (discarded d) (types_told (held (discarded d))) old
+discards_one i old slot d = drafted_one i slot d (rollback d) (types_told (content (rollback d))) old
 
 stages_one : (list : ListName) (bytes : List ℕ) (old : State) → One (Stages list bytes old)
 stages_one list bytes old =
@@ -187,7 +187,7 @@ closes_one d old =
 
 right_one : (old : State) (request : Request) (found : Option Kept) → One (IsRight old request found)
 right_one old (Asks d question) found = finds_one (slot_at d old.slots) NO_SLOT old (λ slot. IsAnsweredOf slot question old) (λ slot. answered_one slot question old)
-right_one old (Changes (change.Part list piece)) found = stages_one list (staged list old.stage ++ piece) old
+right_one old (Changes (change.Part list piece)) found = stages_one list (list_in list old.stage ++ piece) old
 right_one old (Changes change.Check) found = judges_one old.stage old (λ answer left. (answer ≡ []) × (left ≡ old)) (λ x y s t g e. (g.0 ∙ sym e.0, g.1 ∙ sym e.1))
 right_one old (Changes (change.Open model)) found = opens_one model old
 right_one old (Changes change.Clear) found = grants_one [] (record old { stage = empty_stage })

@@ -8,11 +8,11 @@ use Rattle.ctf_model.proofs.SoundDrafts.{life_sound, new_sound}
 use Rattle.ctf_model.proofs.WrittenDrafts.{draft_denoted}
 use Rattle.ctf_model.specs.drafts.Adders.{Added, add_enumerator, add_label}
 use Rattle.ctf_model.specs.drafts.DraftLaws.{IsSound}
-use Rattle.ctf_model.specs.drafts.Drafts.{Draft, discarded, held, new_draft}
+use Rattle.ctf_model.specs.drafts.Drafts.{Draft, rollback, content, new_draft}
 use Rattle.ctf_model.specs.format.Dictionary.{Denotes, Dictionary, said_by}
 use Rattle.ctf_model.specs.format.Lists.{Lists}
 use Rattle.ctf_model.specs.opened.Open.{pending_in}
-use Rattle.ctf_model.specs.opened.Steps.{counted, created, discarded_if, enlarged_as, enlarged_if, import_refusal, settled_as, silent, updated_if, updated_over}
+use Rattle.ctf_model.specs.opened.Steps.{with_count, created, discarded_if, enlarged_as, enlarged_if, import_refusal, settled_as, silent, updated_if, updated_over}
 use Rattle.ctf_model.specs.rules.Faults.{first_fault}
 use Rattle.ctf_model.specs.rules.Refusals.{placeless}
 use Rattle.ctf_model.specs.spaces.Kept.{Kept, modelled_by}
@@ -21,7 +21,7 @@ use Rattle.ctf_model.specs.declared.data_model.DataModel.{DataModel}
 use Rattle.ctf_model.specs.declared.faults.Fault.{Fault}
 use Rattle.ctf_model.specs.declared.faults.TheConstants.Fault.{NAME_TAKEN, NOT_PUBLISHED, NOT_UPDATED, NO_SLOT, READ_ONLY, SLOTS_FULL, STAGE_FULL}
 use Rattle.ctf_protocol.specs.answers.Answers.{Answer}
-use Rattle.ctf_protocol.specs.sessions.Additions.{added, addition_answered}
+use Rattle.ctf_protocol.specs.sessions.Additions.{apply_addition, addition_answered}
 use Rattle.ctf_protocol.specs.sessions.Charges.{charge}
 use Rattle.ctf_protocol.specs.sessions.Creations.{Created}
 use Rattle.ctf_protocol.specs.sessions.DraftSteps.{created_slot, model_made, slot_step}
@@ -112,10 +112,10 @@ told_as (OfHeld about.Model) slot = refl
 told_as (OfHeld (about.Bytes from count)) slot = refl
 
 -- the lists of a draft's slot are those of its last update
-drafted : (slot : Slot) (d : Draft) → IsGoodSlot slot → IsDraftOf slot d → said_by slot.kept.lists ≡ held (discarded d)
+drafted : (slot : Slot) (d : Draft) → IsGoodSlot slot → IsDraftOf slot d → said_by slot.kept.lists ≡ content (rollback d)
 drafted slot d g is =
-    let wrote : Denotes (lists_of is.bytes) (held (discarded d)) = draft_denoted (discarded d) is.bytes (life_sound d is.sound).0 is.wrote in
-    one_dictionary slot.kept.lists (said_by slot.kept.lists) (held (discarded d)) (denotes_said slot.kept.lists g.faultless) (subst (λ (l : Lists). Denotes l (held (discarded d))) (sym is.lists) wrote)
+    let wrote : Denotes (lists_of is.bytes) (content (rollback d)) = draft_denoted (rollback d) is.bytes (life_sound d is.sound).0 is.wrote in
+    one_dictionary slot.kept.lists (said_by slot.kept.lists) (content (rollback d)) (denotes_said slot.kept.lists g.faultless) (subst (λ (l : Lists). Denotes l (content (rollback d))) (sym is.lists) wrote)
 
 tells : (question : Question) (o : Option Slot) (old : State) → ((slot : Slot) → o ≡ Some slot → IsGoodSlot slot) → Finds o NO_SLOT old (λ slot. IsAnsweredOf slot question old) (said_by_slot question o) old
 tells question None old good = (refl, refl)
@@ -175,18 +175,18 @@ there_as : (parent : Option Kept) → is_some (option_map modelled_by parent) �
 there_as None = refl
 there_as (Some p) = refl
 
-writes_new : (parent : Option Kept) (d : Draft) (r : Result (List ℕ) Fault) (state : State) → IsSound d → written (held d) ≡ r
+writes_new : (parent : Option Kept) (d : Draft) (r : Result (List ℕ) Fault) (state : State) → IsSound d → written (content d) ≡ r
     → Ends (Gives r state (λ bytes. WritesDraft d bytes (under (codes "d") state.next) (with_slot_of (slot_written state.next parent d bytes) state) state)) (making (slot_made state.next (settled_as parent d r)) state (λ slot. adds_draft slot state))
 writes_new parent d (Err f) state sound is = (refl, refl)
 writes_new parent d (Ok bytes) state sound is = record {
-  denoted = just_denoted (lists_of bytes) (held d) (draft_denoted d bytes sound is);
+  denoted = just_denoted (lists_of bytes) (content d) (draft_denoted d bytes sound is);
   granted = within _ _ state;
 }
 
 makes_new : (parent : Option Kept) (r : Result Draft Fault) (state : State) → ((d : Draft) → r ≡ Ok d → IsSound d)
-    → Ends (Gives r state (λ d. Gives (written (held d)) state (λ bytes. WritesDraft d bytes (under (codes "d") state.next) (with_slot_of (slot_written state.next parent d bytes) state) state))) (making (slot_made state.next (updated_over parent r)) state (λ slot. adds_draft slot state))
+    → Ends (Gives r state (λ d. Gives (written (content d)) state (λ bytes. WritesDraft d bytes (under (codes "d") state.next) (with_slot_of (slot_written state.next parent d bytes) state) state))) (making (slot_made state.next (updated_over parent r)) state (λ slot. adds_draft slot state))
 makes_new parent (Err f) state sound = (refl, refl)
-makes_new parent (Ok d) state sound = writes_new parent d (written (held d)) state (sound d refl) refl
+makes_new parent (Ok d) state sound = writes_new parent d (written (content d)) state (sound d refl) refl
 
 creating_over : (parent : Option Kept) (asked : Created) (state : State) → is_some parent ≡ not (eqb (length asked.parname) 0) → Ends (CreatesOver parent asked state) (creates_over parent asked state)
 unfolding created_slot created
@@ -215,14 +215,14 @@ same_slots d was (x ∷ rest) at = same_case d was x rest (same_slots d was rest
 refused_stays : (d : ℕ) (slot : Slot) (f : Fault) (state : State) → slot_at d state.slots ≡ Some slot → Ends (Refuses f state) (slot_becomes d (slot_refused f slot) state)
 refused_stays d slot f state at = (refl, ap (λ (slots : List Slot). record state { slots = slots }) (same_slots d slot state.slots at))
 
-wrote : (d : ℕ) (slot : Slot) (draft : Draft) (r : Result (List ℕ) Fault) (state : State) → IsSound draft → slot_at d state.slots ≡ Some slot → written (held draft) ≡ r
-    → let o = slot_stepped (under (codes "types")) slot (counted (settled_as slot.parent draft r)) in
-    Ends (Gives r state (λ bytes. WritesDraft draft bytes (types_told (held draft)) (with_slot_at d (slot_written slot.number slot.parent draft bytes) state) state)) (updates_within o.said (slot_becomes d o state) state)
+wrote : (d : ℕ) (slot : Slot) (draft : Draft) (r : Result (List ℕ) Fault) (state : State) → IsSound draft → slot_at d state.slots ≡ Some slot → written (content draft) ≡ r
+    → let o = slot_stepped (under (codes "types")) slot (with_count (settled_as slot.parent draft r)) in
+    Ends (Gives r state (λ bytes. WritesDraft draft bytes (types_told (content draft)) (with_slot_at d (slot_written slot.number slot.parent draft bytes) state) state)) (updates_within o.said (slot_becomes d o state) state)
 wrote d slot draft (Err f) state sound at is = refused_stays d slot f state at
 wrote d slot draft (Ok bytes) state sound at is =
-    let denoted : Denotes (lists_of bytes) (held draft) = draft_denoted draft bytes sound is in
-    let just = just_denoted (lists_of bytes) (held draft) denoted in
-    let dictionary : said_by (lists_of bytes) ≡ held draft = just.only (said_by (lists_of bytes)) (denotes_said (lists_of bytes) denoted.faultless) in
+    let denoted : Denotes (lists_of bytes) (content draft) = draft_denoted draft bytes sound is in
+    let just = just_denoted (lists_of bytes) (content draft) denoted in
+    let dictionary : said_by (lists_of bytes) ≡ content draft = just.only (said_by (lists_of bytes)) (denotes_said (lists_of bytes) denoted.faultless) in
     let would = with_slot_at d (slot_written slot.number slot.parent draft bytes) state in
     let o = within_quota (grants (types_told (said_by (lists_of bytes))) would) state in
     record {
@@ -234,13 +234,13 @@ updating : (d : ℕ) (slot : Slot) (draft : Option Draft) (state : State) → ((
     → let o = slot_stepped (under (codes "types")) slot (updated_if slot.parent draft) in
     Ends (Finds draft READ_ONLY state (Updates d state slot)) (updates_within o.said (slot_becomes d o state) state)
 updating d slot None state sound at = refused_stays d slot (placeless READ_ONLY) state at
-updating d slot (Some draft) state sound at = wrote d slot draft (written (held draft)) state (sound draft refl) at refl
+updating d slot (Some draft) state sound at = wrote d slot draft (written (content draft)) state (sound draft refl) at refl
 
 -- the lists of the slot denote what the draft held, when another that was updated so stands there
-still : (slot : Slot) (d now : Draft) → IsGoodSlot slot → IsDraftOf slot d → discarded now ≡ discarded d → DenotesJust slot.kept.lists (held (discarded now))
-still slot d now g is same = subst (λ (x : Draft). DenotesJust slot.kept.lists (held x)) (sym same) (subst (DenotesJust slot.kept.lists) (drafted slot d g is) (just_said slot.kept.lists g.faultless))
+still : (slot : Slot) (d now : Draft) → IsGoodSlot slot → IsDraftOf slot d → rollback now ≡ rollback d → DenotesJust slot.kept.lists (content (rollback now))
+still slot d now g is same = subst (λ (x : Draft). DenotesJust slot.kept.lists (content x)) (sym same) (subst (DenotesJust slot.kept.lists) (drafted slot d g is) (just_said slot.kept.lists g.faultless))
 
-enlarges : (d : ℕ) (slot : Slot) (draft : Draft) (say : ℕ → Answer) (r : Result Added Fault) (state : State) → IsGoodSlot slot → IsDraftOf slot draft → slot_at d state.slots ≡ Some slot → ((a : Added) → r ≡ Ok a → discarded a.draft ≡ discarded draft)
+enlarges : (d : ℕ) (slot : Slot) (draft : Draft) (say : ℕ → Answer) (r : Result Added Fault) (state : State) → IsGoodSlot slot → IsDraftOf slot draft → slot_at d state.slots ≡ Some slot → ((a : Added) → r ≡ Ok a → rollback a.draft ≡ rollback draft)
     → Ends (Gives r state (λ a. IsDrafted d slot draft a.draft (say a.answer) state)) (slot_becomes d (slot_stepped say slot (enlarged_as (open_of slot) r)) state)
 enlarges d slot draft say (Err f) state g is at leaves = refused_stays d slot f state at
 enlarges d slot draft say (Ok a) state g is at leaves = record {
@@ -248,7 +248,7 @@ enlarges d slot draft say (Ok a) state g is at leaves = record {
   granted = (refl, refl);
 }
 
-enlarging : (d : ℕ) (slot : Slot) (draft : Option Draft) (say : ℕ → Answer) (adds : Draft → Result Added Fault) (state : State) → IsGoodSlot slot → ((e : Draft) → draft ≡ Some e → IsDraftOf slot e) → slot_at d state.slots ≡ Some slot → ((e : Draft) (a : Added) → adds e ≡ Ok a → discarded a.draft ≡ discarded e)
+enlarging : (d : ℕ) (slot : Slot) (draft : Option Draft) (say : ℕ → Answer) (adds : Draft → Result Added Fault) (state : State) → IsGoodSlot slot → ((e : Draft) → draft ≡ Some e → IsDraftOf slot e) → slot_at d state.slots ≡ Some slot → ((e : Draft) (a : Added) → adds e ≡ Ok a → rollback a.draft ≡ rollback e)
     → Ends (Finds draft READ_ONLY state (λ e. Gives (adds e) state (λ a. IsDrafted d slot e a.draft (say a.answer) state))) (slot_becomes d (slot_stepped say slot (enlarged_if (open_of slot) adds draft)) state)
 enlarging d slot None say adds state g is at leaves = refused_stays d slot (placeless READ_ONLY) state at
 enlarging d slot (Some draft) say adds state g is at leaves = enlarges d slot draft say (adds draft) state g (is draft refl) at (leaves draft)
@@ -259,7 +259,7 @@ silent_is (Ok d) a e =
     ap (λ (b : Added). Ok b.draft) same
 silent_is (Err f) a e = absurd cc
 
-adding : (x : Addition) (d : ℕ) (slot : Slot) (state : State) → IsGoodSlot slot → slot_at d state.slots ≡ Some slot → Ends (Finds slot.draft READ_ONLY state (Adds d x state slot)) (slot_becomes d (slot_stepped (addition_answered x) slot (added x (open_of slot))) state)
+adding : (x : Addition) (d : ℕ) (slot : Slot) (state : State) → IsGoodSlot slot → slot_at d state.slots ≡ Some slot → Ends (Finds slot.draft READ_ONLY state (Adds d x state slot)) (slot_becomes d (slot_stepped (addition_answered x) slot (apply_addition x (open_of slot))) state)
 adding (add.Type name root kind) d slot state g at = enlarging d slot slot.draft _ _ state g g.draft at (λ e a is. type_leaves e _ a is)
 adding (add.Member t name tnum offset) d slot state g at = enlarging d slot slot.draft _ _ state g g.draft at (λ e a is. member_leaves e t.0 name tnum.0 offset a is)
 adding (add.Enumerator t name value) d slot state g at = enlarging d slot slot.draft _ _ state g g.draft at (λ e a is. enumerator_leaves e t.0 _ a.draft (silent_is (add_enumerator e t.0 _) a is))
@@ -269,7 +269,7 @@ dropping : (d : ℕ) (slot : Slot) (draft : Option Draft) (state : State) → Is
     → Ends (Finds draft READ_ONLY state (Discards d state slot)) (slot_becomes d (slot_stepped (under (codes "types")) slot (discarded_if (open_of slot) draft)) state)
 dropping d slot None state g is at = refused_stays d slot (placeless READ_ONLY) state at
 dropping d slot (Some draft) state g is at = record {
-  denoted = still slot draft (discarded draft) g (is draft refl) refl;
+  denoted = still slot draft (rollback draft) g (is draft refl) refl;
   granted = (ap (λ (x : Dictionary). Ok (types_told x)) (drafted slot draft g (is draft refl)), refl);
 }
 

@@ -5,9 +5,9 @@ use Rattle.std.specs.Option.{ForSome}
 use Rattle.ctf_model.proofs.Alls.{all_joined}
 use Rattle.ctf_model.proofs.SoundDrafts.{enumerator_sound, label_sound, life_sound, member_sound, type_sound}
 use Rattle.ctf_model.specs.drafts.Adders.{Added, add_enumerator, add_label}
-use Rattle.ctf_model.specs.drafts.Drafts.{Draft, discarded, held}
+use Rattle.ctf_model.specs.drafts.Drafts.{Draft, rollback, content}
 use Rattle.ctf_model.specs.opened.Open.{pending_in}
-use Rattle.ctf_model.specs.opened.Steps.{counted, discarded_if, enlarged_as, enlarged_if, import_refusal, settled_as, silent, updated_if}
+use Rattle.ctf_model.specs.opened.Steps.{with_count, discarded_if, enlarged_as, enlarged_if, import_refusal, settled_as, silent, updated_if}
 use Rattle.ctf_model.specs.rules.Faults.{first_fault}
 use Rattle.ctf_model.specs.rules.Refusals.{placeless}
 use Rattle.ctf_model.specs.spaces.Kept.{Kept, fault_over}
@@ -15,7 +15,7 @@ use Rattle.ctf_model.specs.writing.Written.{written}
 use Rattle.ctf_model.specs.declared.faults.Fault.{Fault}
 use Rattle.ctf_model.specs.declared.faults.TheConstants.Fault.{FIXED_PARENT}
 use Rattle.ctf_protocol.specs.answers.Answers.{Answer}
-use Rattle.ctf_protocol.specs.sessions.Additions.{added, addition_answered}
+use Rattle.ctf_protocol.specs.sessions.Additions.{apply_addition, addition_answered}
 use Rattle.ctf_protocol.specs.sessions.Charges.{charge}
 use Rattle.ctf_protocol.specs.sessions.Creations.{Created}
 use Rattle.ctf_protocol.specs.sessions.DraftSteps.{created_slot, model_made, slot_step}
@@ -148,13 +148,13 @@ silent_is (Ok d) a e =
     ap (λ (b : Added). Ok b.draft) same
 silent_is (Err f) a e = absurd cc
 
-adding : (slot : Slot) (x : Addition) → IsGoodSlot slot → FitsAddition x → LeavesSlot (slot_stepped (addition_answered x) slot (added x (open_of slot)))
+adding : (slot : Slot) (x : Addition) → IsGoodSlot slot → FitsAddition x → LeavesSlot (slot_stepped (addition_answered x) slot (apply_addition x (open_of slot)))
 adding slot (add.Type name root kind) g fits = enlarging _ slot _ slot.draft refl g (λ d a is e. redrafted slot d a.draft g is (type_sound d _ a (g.draft d is).sound fits e) (type_leaves d _ a e))
 adding slot (add.Member t name tnum offset) g fits = enlarging _ slot _ slot.draft refl g (λ d a is e. redrafted slot d a.draft g is (member_sound d t.0 name tnum.0 offset a (g.draft d is).sound e) (member_leaves d t.0 name tnum.0 offset a e))
 adding slot (add.Enumerator t name value) g fits = enlarging _ slot _ slot.draft refl g (λ d a is e. let done = silent_is (add_enumerator d t.0 _) a e in redrafted slot d a.draft g is (enumerator_sound d t.0 _ a.draft (g.draft d is).sound fits done) (enumerator_leaves d t.0 _ a.draft done))
 adding slot (add.Label name last) g fits = enlarging _ slot _ slot.draft refl g (λ d a is e. let done = silent_is (add_label d _) a e in redrafted slot d a.draft g is (label_sound d _ a.draft (g.draft d is).sound fits done) (label_leaves d _ a.draft done))
 
-writes : (say : ℕ → Answer) (slot : Slot) (d : Draft) (r : Result (List ℕ) Fault) → IsGoodSlot slot → slot.draft ≡ Some d → written (held d) ≡ r → LeavesSlot (slot_stepped say slot (counted (settled_as slot.parent d r)))
+writes : (say : ℕ → Answer) (slot : Slot) (d : Draft) (r : Result (List ℕ) Fault) → IsGoodSlot slot → slot.draft ≡ Some d → written (content d) ≡ r → LeavesSlot (slot_stepped say slot (with_count (settled_as slot.parent d r)))
 writes say slot d (Err f) g is wrote = g
 writes say slot d (Ok bytes) g is wrote =
     let old = g.draft d is in
@@ -162,11 +162,11 @@ writes say slot d (Ok bytes) g is wrote =
 
 updating : (slot : Slot) (draft : Option Draft) → slot.draft ≡ draft → IsGoodSlot slot → LeavesSlot (slot_stepped (under (codes "types")) slot (updated_if slot.parent draft))
 updating slot None is g = g
-updating slot (Some d) is g = writes _ slot d (written (held d)) g is refl
+updating slot (Some d) is g = writes _ slot d (written (content d)) g is refl
 
 dropping : (slot : Slot) (draft : Option Draft) → slot.draft ≡ draft → IsGoodSlot slot → LeavesSlot (slot_stepped (under (codes "types")) slot (discarded_if (open_of slot) draft))
 dropping slot None is g = g
-dropping slot (Some d) is g = redrafted slot d (discarded d) g is (life_sound d (g.draft d is).sound).0 refl
+dropping slot (Some d) is g = redrafted slot d (rollback d) g is (life_sound d (g.draft d is).sound).0 refl
 
 stepped : (x : DraftStep) (slot : Slot) → IsGoodSlot slot → FitsStep x → LeavesSlot (slot_step x slot)
 unfolding slot_step

@@ -4,7 +4,7 @@ use Rattle.std.specs.Int.{w32}
 use Rattle.std.specs.List.{AllByRecursion}
 use Rattle.std.specs.Option.{ForSome, option_map}
 use Rattle.ctf_model.specs.drafts.DraftLaws.{IsSound}
-use Rattle.ctf_model.specs.drafts.Drafts.{Draft, discarded, held}
+use Rattle.ctf_model.specs.drafts.Drafts.{Draft, rollback, content}
 use Rattle.ctf_model.specs.drafts.Fitting.{FitsNew}
 use Rattle.ctf_model.specs.rules.Faults.{first_fault}
 use Rattle.ctf_model.specs.spaces.Kept.{Kept, fault_over, kept_dictionary}
@@ -38,7 +38,7 @@ pub record IsDraftOf (slot : Slot) (d : Draft) : Type 0 where
   pub alike : ForSome slot.parent (λ p. p.model ≡ d.model)
   pub model : slot.kept.model ≡ d.model
   pub bytes : List ℕ
-  pub wrote : written (held (discarded d)) ≡ Ok bytes
+  pub wrote : written (content (rollback d)) ≡ Ok bytes
   pub lists : slot.kept.lists ≡ lists_of bytes
 
 pub record IsGoodSlot (slot : Slot) : Type 0 where

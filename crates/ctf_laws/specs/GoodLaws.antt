@@ -4,7 +4,7 @@ use Rattle.std.specs.List.{AllByRecursion}
 use Rattle.std.specs.Option.{ForSome}
 use Rattle.ctf_model.specs.drafts.DraftChanges.{DraftChange, after}
 use Rattle.ctf_model.specs.drafts.DraftLaws.{FitsChange as FitsDraftChange}
-use Rattle.ctf_model.specs.drafts.Drafts.{Draft, held, new_draft}
+use Rattle.ctf_model.specs.drafts.Drafts.{Draft, content, new_draft}
 use Rattle.ctf_model.specs.format.Dictionary.{Denotes, Dictionary}
 use Rattle.ctf_model.specs.format.Laws.{KeepsEveryRule}
 use Rattle.ctf_model.specs.rules.Refusals.{placeless}
@@ -133,7 +133,7 @@ abbrev pub UpdatesDenoteTheDraft : Type 0
 UpdatesDenoteTheDraft =
     (slot : Slot) (d : Draft) (a : Answer) → IsGoodSlot slot → slot.draft ≡ Some d
     → (slot_step Update slot).said ≡ Ok a
-    → Denotes (slot_step Update slot).slot.kept.lists (held d)
+    → Denotes (slot_step Update slot).slot.kept.lists (content d)
 
 -- whatever adders make of a new draft: its bytes denote the types, members, labels and names that
 -- were added and not discarded, in their order
@@ -142,5 +142,5 @@ BytesDenoteWhatWasAdded =
     (parent : Option Modelled) (parname parlabel : List ℕ) (model : DataModel) (d : Draft)
     (changes : List DraftChange) (bytes : List ℕ) → is_some parent ≡ not (length parname == 0)
     → new_draft parent parname parlabel model ≡ Ok d → AllByRecursion FitsDraftChange changes
-    → written (held (after d changes)) ≡ Ok bytes
-    → Denotes (lists_of bytes) (held (after d changes))
+    → written (content (after d changes)) ≡ Ok bytes
+    → Denotes (lists_of bytes) (content (after d changes))

@@ -2,7 +2,7 @@
 use Rattle.std.specs.Prelude.{◌≡◌, ℕ, ◌+◌, List, [], ◌∷◌, ◌++◌, length, is_some, nat_lt, Option, None, Some, Result, Ok, codes, if◌then◌else◌}
 use Rattle.std.specs.Option.{ForSome, option_map}
 use Rattle.ctf_model.specs.drafts.Adders.{Added, add_enumerator, add_label, add_member, add_type}
-use Rattle.ctf_model.specs.drafts.Drafts.{Draft, discarded, held, new_draft, settled}
+use Rattle.ctf_model.specs.drafts.Drafts.{Draft, rollback, content, new_draft, commit}
 use Rattle.ctf_model.specs.format.Dictionary.{Denotes, Dictionary}
 use Rattle.ctf_model.specs.format.Lists.{Lists}
 use Rattle.ctf_model.specs.opened.Open.{pending_in}
@@ -25,7 +25,7 @@ use Rattle.ctf_protocol.specs.sessions.DraftSteps.{model_made}
 use Rattle.ctf_protocol.specs.sessions.Publications.{published_as, published_without}
 use Rattle.ctf_protocol.specs.sessions.Slots.{has_room, slot_at, slots_with, slots_with_parent, slots_without}
 use Rattle.ctf_protocol.specs.sessions.State.{Slot, State, empty_stage, empty_state}
-use Rattle.ctf_protocol.specs.sessions.Steps.{longest_list, staged, with_staged}
+use Rattle.ctf_protocol.specs.sessions.Steps.{longest_list, list_in, with_staged}
 use Rattle.ctf_protocol.specs.declared.additions.Addition.{Addition}
 use Rattle.ctf_protocol.specs.declared.additions.Addition.TheVariants as add
 use Rattle.ctf_protocol.specs.declared.questions.HeldQuestion.TheVariants as about
@@ -69,7 +69,7 @@ pub record IsAnsweredOf (slot : Slot) (question : Question) (old : State)
   pub dictionary : Space
   pub denoted : HasJust slot dictionary
   pub told : said ≡ said_of question slot dictionary
-  pub held : ForSome slot.draft (λ d. dictionary.own ≡ held (discarded d))
+  pub held : ForSome slot.draft (λ d. dictionary.own ≡ content (rollback d))
   pub stays : new ≡ old
 
 -- ---- the stage: part, check, open
@@ -173,19 +173,19 @@ slot_written n parent d bytes = record {
   number = n;
   kept = record { lists = lists_of bytes; model = d.model };
   parent = parent;
-  draft = Some (settled d);
+  draft = Some (commit d);
 }
 
 -- the bytes of the slot denote all that the draft holds
 pub record WritesDraft (d : Draft) (bytes : List ℕ) (answer : Answer) (would old : State)
     (said : Result Answer Fault) (new : State) : Type 0 where
-  pub denoted : DenotesJust (lists_of bytes) (held d)
+  pub denoted : DenotesJust (lists_of bytes) (content d)
   pub granted : GrantsWithin old answer would said new
 
 -- a new draft is written at once, with nothing in it
 abbrev pub WritesNew : Option Kept → State → Draft → Ending
 WritesNew parent old d said new =
-    Gives (written (held d)) old (λ bytes.
+    Gives (written (content d)) old (λ bytes.
     WritesDraft d bytes (says (codes "d") (number old.next) ∷ [])
     (with_slot_of (slot_written old.next parent d bytes) old) old) said new
 
@@ -193,14 +193,16 @@ abbrev pub CreatesOver : Option Kept → Created → State → Ending
 CreatesOver parent asked old said new =
     Needs (has_room old) SLOTS_FULL old
     (Gives
-    (new_draft (option_map modelled_by parent) asked.parname asked.parlabel (model_made parent asked))
+    (new_draft (option_map modelled_by parent) asked.parname asked.parlabel
+    (model_made parent asked))
     old (WritesNew parent old)) said new
 
 -- over the dictionary of a slot as it stands, or over none
 abbrev pub Creates : Option ℕ → Created → State → Ending
 Creates None asked old said new = CreatesOver None asked old said new
 Creates (Some p) asked old said new =
-    Finds (slot_at p old.slots) NO_SLOT old (λ slot. CreatesOver (Some slot.kept) asked old) said new
+    Finds (slot_at p old.slots) NO_SLOT old (λ slot. CreatesOver (Some slot.kept) asked old)
+    said new
 
 -- a slot of a number with a draft, or a refusal
 abbrev pub OnDraft : Option Slot → State → (Slot → Draft → Ending) → Ending
@@ -218,8 +220,8 @@ types_told dictionary = says (codes "types") (number (length dictionary.terms)) 
 
 abbrev pub Updates : ℕ → State → Slot → Draft → Ending
 Updates n old slot d said new =
-    Gives (written (held d)) old (λ bytes.
-    WritesDraft d bytes (types_told (held d))
+    Gives (written (content d)) old (λ bytes.
+    WritesDraft d bytes (types_told (content d))
     (with_slot_at n (slot_written slot.number slot.parent d bytes) old) old) said new
 
 -- ---- add and discard
@@ -237,7 +239,7 @@ draft_with (add.Label name last) d = silent (add_label d (record { name = name; 
 -- last updated
 pub record IsDrafted (n : ℕ) (slot : Slot) (d now : Draft) (answer : Answer) (old : State)
     (said : Result Answer Fault) (new : State) : Type 0 where
-  pub denoted : DenotesJust slot.kept.lists (held (discarded now))
+  pub denoted : DenotesJust slot.kept.lists (content (rollback now))
   pub granted : Grants answer (with_slot_at n (record slot { draft = Some now }) old) said new
 
 abbrev pub Adds : ℕ → Addition → State → Slot → Draft → Ending
@@ -247,7 +249,7 @@ Adds n addition old slot d said new =
 
 abbrev pub Discards : ℕ → State → Slot → Draft → Ending
 Discards n old slot d said new =
-    IsDrafted n slot d (discarded d) (types_told (held (discarded d))) old said new
+    IsDrafted n slot d (rollback d) (types_told (content (rollback d))) old said new
 
 -- ---- every request
 
@@ -257,7 +259,7 @@ abbrev pub IsRight : State → Request → Option Kept → Ending
 IsRight old (Asks d question) found said new =
     Finds (slot_at d old.slots) NO_SLOT old (λ slot. IsAnsweredOf slot question old) said new
 IsRight old (Changes (change.Part list piece)) found said new =
-    Stages list (staged list old.stage ++ piece) old said new
+    Stages list (list_in list old.stage ++ piece) old said new
 IsRight old (Changes change.Check) found said new =
     Judges old.stage old (λ answer left. (answer ≡ []) × (left ≡ old)) said new
 IsRight old (Changes (change.Open model)) found said new = Opens model old said new

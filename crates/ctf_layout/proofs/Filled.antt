@@ -7,13 +7,13 @@ use Rattle.ctf_model.specs.format.Term.{Body, Term}
 use Rattle.ctf_model.specs.format.Term as term
 use Rattle.ctf_layout.specs.Bases.{members_read}
 use Rattle.ctf_layout.specs.Work.{member_count, types_and_members, types_work}
-use Rattle.ctf_layout.specs.Table.{Table, Knows, entry, owed, work_left}
+use Rattle.ctf_layout.specs.Table.{Table, Knows, entry, debt, work_left}
 
 -- an empty table knows nothing that is wrong
 pub knows_nothing : (s : Space) (table : Table) → ((j : ℕ) → entry table j ≡ None) → Knows s table
 knows_nothing s table h = record { right = λ j e is. let none : entry table j ≡ None = h j in absurd cc }
 
-all_known : (o : _) (x : Term) → IsSome o → owed x.body o ≡ 0
+all_known : (o : _) (x : Term) → IsSome o → debt x.body o ≡ 0
 all_known None x h = absurd cc
 all_known (Some e) x h = refl
 

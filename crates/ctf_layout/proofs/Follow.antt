@@ -3,7 +3,7 @@ use Rattle.std.proofs.Common.{◌≡◌, ℕ, zero, suc, ◌+◌, ◌-◌, ◌<�
 use Rattle.std.specs.Prelude.{slice_get, option_map}
 use Rattle.std.proofs.lemmas.Option.{same_Some}
 use Rattle.ctf_model.specs.format.Dictionary.{Dictionary}
-use Rattle.ctf_model.specs.figures.Figures.{at_place, comes_to, most_numbers, of_found, parents_figure, referred, referred_by, resolved, resolved_body, resolving}
+use Rattle.ctf_model.specs.figures.Figures.{at_place, comes_to, most_numbers, of_found, parents_figure, referred_type, referred_by, resolved_type, resolved_body, resolving}
 use Rattle.ctf_model.specs.format.Shown.{Shape, shape}
 use Rattle.ctf_model.specs.spaces.Space.{Space, space_type}
 use Rattle.ctf_model.specs.format.Term.{Body, Term}
@@ -15,7 +15,7 @@ use Rattle.ctf_model.specs.declared.numbers.Place.{Place}
 use Rattle.ctf_model.specs.declared.numbers.Place.TheVariants.{Nowhere, Own, Parents}
 use Rattle.ctf_model.proofs.OwnTypes.{not_zero}
 use Rattle.ctf_model.proofs.Settled.{most_is, of_parents}
-use Rattle.ctf_layout.specs.Following.{at_parents, followed, onward, renamed}
+use Rattle.ctf_layout.specs.Following.{at_parents, follow_own, onward, alias_target}
 
 abbrev stays : ℕ → Result ℕ Fault
 stays t = Ok t
@@ -25,7 +25,7 @@ abbrev pub left : Dictionary → ℕ → ℕ → Result ℕ Fault
 left d step n = comes_to resolving (λ t. Ok t) d (most_numbers - step) n
 
 -- all of it
-pub left_all : (d : Dictionary) (n : ℕ) → followed d n ≡ left d 0 n
+pub left_all : (d : Dictionary) (n : ℕ) → follow_own d n ≡ left d 0 n
 left_all d n = ap (λ (k : ℕ). comes_to resolving (λ t. Ok t) d k n) whole
   where
     whole : most_numbers ≡ most_numbers - 0
@@ -66,7 +66,7 @@ abbrev pub by_renamed : (ℕ → Result ℕ Fault) → ℕ → Option ℕ → Re
 by_renamed f n None = Ok n
 by_renamed f n (Some t) = f t
 
-pub renamed_says : (f : ℕ → Result ℕ Fault) (n : ℕ) (body : Body) → resolved_body f n body ≡ by_renamed f n (renamed (shape body))
+pub renamed_says : (f : ℕ → Result ℕ Fault) (n : ℕ) (body : Body) → resolved_body f n body ≡ by_renamed f n (alias_target (shape body))
 renamed_says f n (term.typedef t) = refl
 renamed_says f n (term.volatile t) = refl
 renamed_says f n (term.const t) = refl
@@ -83,9 +83,9 @@ renamed_says f n (term.forward t) = refl
 renamed_says f n term.unknown = refl
 
 -- a type that was found, by its shape
-pub found_shape : (f : ℕ → Result ℕ Fault) (n : ℕ) (o : Option Term) (x : Shape) → option_map (λ y. shape y.body) o ≡ Some x → of_found resolving f n (or_no_type o) ≡ by_renamed f n (renamed x)
+pub found_shape : (f : ℕ → Result ℕ Fault) (n : ℕ) (o : Option Term) (x : Shape) → option_map (λ y. shape y.body) o ≡ Some x → of_found resolving f n (or_no_type o) ≡ by_renamed f n (alias_target x)
 found_shape f n None x e = absurd cc
-found_shape f n (Some y) x e = renamed_says f n y.body ∙ ap (λ (z : Shape). by_renamed f n (renamed z)) (same_Some _ _ e)
+found_shape f n (Some y) x e = renamed_says f n y.body ∙ ap (λ (z : Shape). by_renamed f n (alias_target z)) (same_Some _ _ e)
 
 pub left_out : (d : Dictionary) (step n : ℕ) → step ≡ 514 → left d step n ≡ Err (record { code = 26; place = 0 })
 unfolding comes_to
@@ -133,12 +133,12 @@ onward_is parents d zero n = refl
 onward_is parents d (suc k) n = onward_case parents d k n (onward_is parents d k) (eqb n 0) refl
 
 -- what a number stands for is what following it leads to, and a parent's number on from there
-pub resolved_is : (s : Space) (n : ℕ) → resolved s n ≡ onward (parents_figure resolving s.parent) s.own (followed s.own n)
+pub resolved_is : (s : Space) (n : ℕ) → resolved_type s n ≡ onward (parents_figure resolving s.parent) s.own (follow_own s.own n)
 resolved_is s n = onward_is (parents_figure resolving s.parent) s.own most_numbers n
 
 -- where no parent was imported a parent's number comes to nothing
-pub resolved_alone : (s : Space) → s.parent ≡ None → (n : ℕ) → resolved s n ≡ onward (λ t. Err no_parent) s.own (followed s.own n)
-resolved_alone s none n = resolved_is s n ∙ ap (λ (p : Option Dictionary). onward (parents_figure resolving p) s.own (followed s.own n)) none
+pub resolved_alone : (s : Space) → s.parent ≡ None → (n : ℕ) → resolved_type s n ≡ onward (λ t. Err no_parent) s.own (follow_own s.own n)
+resolved_alone s none n = resolved_is s n ∙ ap (λ (p : Option Dictionary). onward (parents_figure resolving p) s.own (follow_own s.own n)) none
 
 pub onward_out : (parents : ℕ → Result ℕ Fault) (d : Dictionary) (n i : ℕ) → place d.child n ≡ Parents i → onward parents d (Ok n) ≡ parents n
 onward_out parents d n i at = rw at refl
@@ -153,6 +153,6 @@ onward_stays parents d n other = go (place d.child n) refl
 
 -- ---- what a type refers to
 
-pub referred_shape : (o : Option Term) (x : Shape) → option_map (λ y. shape y.body) o ≡ Some x → referred_by (or_no_type o) ≡ referred x
+pub referred_shape : (o : Option Term) (x : Shape) → option_map (λ y. shape y.body) o ≡ Some x → referred_by (or_no_type o) ≡ referred_type x
 referred_shape None x e = absurd cc
-referred_shape (Some y) x e = ap referred (same_Some _ _ e)
+referred_shape (Some y) x e = ap referred_type (same_Some _ _ e)

@@ -6,9 +6,9 @@ use Rattle.ctf_model.specs.rules.Chains.{IsWithin, by_value, longest_chain}
 use Rattle.ctf_model.specs.format.Term.{Term, Body, Member}
 use Rattle.ctf_model.specs.format.Term as term
 use Rattle.ctf_model.specs.declared.faults.Fault.{Fault}
-use Rattle.ctf_layout.specs.Bases.{basis, greatest_of, members_read, row_size, row_target}
+use Rattle.ctf_layout.specs.Bases.{IsByOne, basis, greatest_of, members_read, row_size, row_target}
 use Rattle.ctf_layout.specs.Extents.{IsExtent, amount, target}
-use Rattle.ctf_model.specs.figures.Figures.{size, align, resolved, sizing, aligning, resolving, size_body, align_body, resolved_body, greater, greatest, first_of}
+use Rattle.ctf_model.specs.figures.Figures.{size, align, resolved_type, sizing, aligning, resolving, size_body, align_body, resolved_body, greater, greatest, first_of}
 use Rattle.ctf_model.specs.figures.FigureLaws.{own_body, value_edges}
 use Rattle.ctf_model.specs.format.Shown.{shape}
 use Rattle.ctf_model.specs.spaces.TypePlaces.{own_number}
@@ -105,12 +105,12 @@ size_rule s k i at = own_figure (sizing s.model) (figures_ask.sizing_asks s.mode
 align_rule : (s : Space) (k i : ℕ) → IsOwnAt s k i → align s (own_number s.own.child i) ≡ align_body s.model (align s) (own_body s.own i)
 align_rule s k i at = own_figure (aligning s.model) (figures_ask.aligning_asks s.model) s k i at.short at.inside at.within
 
-resolve_rule : (s : Space) (k i : ℕ) → IsOwnAt s k i → resolved s (own_number s.own.child i) ≡ resolved_body (resolved s) (own_number s.own.child i) (own_body s.own i)
+resolve_rule : (s : Space) (k i : ℕ) → IsOwnAt s k i → resolved_type s (own_number s.own.child i) ≡ resolved_body (resolved_type s) (own_number s.own.child i) (own_body s.own i)
 resolve_rule s k i at = own_figure resolving figures_ask.resolving_asks s k i at.short at.inside at.within
 
 -- a type that stands for itself
-itself_resolves : (s : Space) (k i : ℕ) (itself : Target) → IsOwnAt s k i → ((f : ℕ → Result ℕ Fault) (n : ℕ) → resolved_body f n (own_body s.own i) ≡ Ok n) → target itself ≡ Ok (own_number s.own.child i) → target itself ≡ resolved s (own_number s.own.child i)
-itself_resolves s k i itself at stays is = is ∙ sym (resolve_rule s k i at ∙ stays (resolved s) (own_number s.own.child i))
+itself_resolves : (s : Space) (k i : ℕ) (itself : Target) → IsOwnAt s k i → ((f : ℕ → Result ℕ Fault) (n : ℕ) → resolved_body f n (own_body s.own i) ≡ Ok n) → target itself ≡ Ok (own_number s.own.child i) → target itself ≡ resolved_type s (own_number s.own.child i)
+itself_resolves s k i itself at stays is = is ∙ sym (resolve_rule s k i at ∙ stays (resolved_type s) (own_number s.own.child i))
 
 pub itself_extent : (s : Space) (k i : ℕ) (e : Extent) → IsOwnAt s k i → BasisSays s.model (own_body s.own i) (Itself e.size e.align) → target e.target ≡ Ok (own_number s.own.child i) → IsExtent s (own_number s.own.child i) e
 itself_extent s k i e at b itself = record {
@@ -119,17 +119,11 @@ itself_extent s k i e at b itself = record {
   resolves = itself_resolves s k i e.target at b.3 itself;
 }
 
--- an extent that is that of one type, as it is or for a row of elements
-pub record IsByOne (n : ℕ) (row : Option Row) (one e : Extent) : Type 0 where
-  pub size : amount e.size ≡ row_size row (amount one.size)
-  pub align : e.align ≡ one.align
-  pub target : target e.target ≡ row_target row (target one.target) n
-
 pub one_extent : (s : Space) (k i : ℕ) (t : TypeNum) (row : Option Row) (one e : Extent) → IsOwnAt s k i → BasisSays s.model (own_body s.own i) (One t row) → IsExtent s t.0 one → IsByOne (own_number s.own.child i) row one e → IsExtent s (own_number s.own.child i) e
 one_extent s k i t row one e at b h is = record {
   sized = is.size ∙ ap (row_size row) h.sized ∙ sym (size_rule s k i at ∙ b.2 (size s));
   aligned = ap amount is.align ∙ h.aligned ∙ sym (align_rule s k i at ∙ b.3 (align s));
-  resolves = is.target ∙ ap (λ r. row_target row r (own_number s.own.child i)) h.resolves ∙ sym (resolve_rule s k i at ∙ b.4 (resolved s) (own_number s.own.child i));
+  resolves = is.target ∙ ap (λ r. row_target row r (own_number s.own.child i)) h.resolves ∙ sym (resolve_rule s k i at ∙ b.4 (resolved_type s) (own_number s.own.child i));
 }
 
 pub members_extent : (s : Space) (k i n read : ℕ) (a : Amount) (itself : Target) → IsOwnAt s k i → BasisSays s.model (own_body s.own i) (Members n read) → amount a ≡ greatest_of (align s) (take read (by_value (own_body s.own i))) → target itself ≡ Ok (own_number s.own.child i) → IsExtent s (own_number s.own.child i) (record { size = Known n; align = a; target = itself })

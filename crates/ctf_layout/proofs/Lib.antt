@@ -9,3 +9,4 @@ pub mod Few
 pub mod FoundMembers
 pub mod PathSteps
 pub mod Answered
+pub mod Entries

@@ -12,9 +12,9 @@ use Rattle.ctf_model.specs.spaces.Space.{Space}
 use Rattle.ctf_model.specs.spaces.TypePlaces.{own_number, place}
 use Rattle.ctf_model.specs.declared.numbers.Place.TheVariants.{Own, Parents}
 use Rattle.ctf_model.proofs.OwnTypes.{own_place, own_positive, parents_place, place_of_own}
-use Rattle.ctf_layout.specs.Extents.{IsExtent, IsParentsExtent, refused}
+use Rattle.ctf_layout.specs.Extents.{IsExtent, IsParentsExtent, refusal_extent}
 use Rattle.ctf_layout.specs.Fitting.{Fits}
-use Rattle.ctf_layout.specs.Kept.{AreExtents, extent_at, extent_kept, or_no_type, table_kept}
+use Rattle.ctf_layout.specs.Kept.{AreExtents, extent_at, extent_kept, extent_said, or_no_type, table_kept}
 use Rattle.ctf_layout.specs.Over.{OverParent}
 use Rattle.ctf_layout.specs.Table.{Knows, Table, entry}
 use Rattle.ctf_layout.specs.declared.entry.Entry.{Entry}
@@ -22,6 +22,7 @@ use Rattle.ctf_layout.specs.declared.extents.Extent.{Extent}
 use Rattle.ctf_layout.specs.declared.extents.Refusal.TheVariants.{NoParent, NoType}
 use Rattle.ctf_layout.specs.declared.layout.Layout.{Layout}
 use Rattle.ctf_layout.proofs.Elsewhere.{extent_of_missing}
+use Rattle.ctf_layout.proofs.Entries.{known_is_said}
 
 -- ---- a table, kept
 
@@ -40,9 +41,11 @@ all_open x (suc n) zero none = none
 all_open x (suc n) (suc j) none = all_open x n j none
 
 -- what a full table says of a type
-said : (s : Space) (table : Table) (n i : ℕ) (o : Option Extent) → Knows s table → own_number s.own.child i ≡ n → entry table i ≡ o → IsSome o → IsExtent s n (unwrap_or o (refused NoType))
-said s table n i None knows at is some = let f : false ≡ true = some in absurd cc
-said s table n i (Some e) knows at is some = let P : ℕ → Type 0 = λ m. IsExtent s m e in subst P at (knows.right i e is)
+said : (s : Space) (table : Table) (n i : ℕ) (x : Entry) → Knows s table → own_number s.own.child i ≡ n → entry table i ≡ extent_kept x → IsSome (extent_kept x) → IsExtent s n (extent_said x)
+said s table n i x knows at is some =
+    let known : extent_kept x ≡ Some (extent_said x) = known_is_said x.sized (extent_said x) some in
+    let P : ℕ → Type 0 = λ m. IsExtent s m (extent_said x) in
+    subst P at (knows.right i (extent_said x) (is ∙ known))
 
 -- ---- looking up
 
@@ -62,10 +65,10 @@ own_extent s entries are n i at e is = rw is (go (slice_get_cases entries i).1)
     go (inl h) =
         let here = entry_said entries i h.0 h.2 in
         let inside : i < length s.own.terms = omega (arith, are.count, h.1) in
-        rw h.2 (said s (table_kept entries) n i (extent_kept h.0) are.whole.knows (sym (own_place s.own.child n i at)) here (rw here at (are.whole.each i inside)))
+        rw h.2 (said s (table_kept entries) n i h.0 are.whole.knows (sym (own_place s.own.child n i at)) here (rw here at (are.whole.each i inside)))
     go (inr h) =
         let past : length s.own.terms ≤ i = omega (arith, are.count, h.0) in
-        rw h.1 (extent_of_missing s n (refused NoType) (own_positive s.own.child n i at) (λ j other. let clash : Own i ≡ Parents j = sym at ∙ other in absurd cc) (not_own s.own.child (length s.own.terms) n i at past) refl)
+        rw h.1 (extent_of_missing s n (refusal_extent NoType) (own_positive s.own.child n i at) (λ j other. let clash : Own i ≡ Parents j = sym at ∙ other in absurd cc) (not_own s.own.child (length s.own.terms) n i at past) refl)
 
 -- ---- over a parent
 
@@ -85,10 +88,10 @@ in_parents_table s entries over n i at e is = go s.parent refl
         own_place_plain n i at = let number = parents_place s.own.child n i at in rw number (place_of_own false i)
 
 -- and by none where there is no parent
-pub in_no_table : (s : Space) → OverParent s None → (n : ℕ) (e : Extent) → e ≡ refused NoParent → IsParentsExtent s n e
+pub in_no_table : (s : Space) → OverParent s None → (n : ℕ) (e : Extent) → e ≡ refusal_extent NoParent → IsParentsExtent s n e
 in_no_table s over n e is = rw is (go s.parent refl)
   where
-    go : (parent : Option Dictionary) → s.parent ≡ parent → IsParentsExtent s n (refused NoParent)
+    go : (parent : Option Dictionary) → s.parent ≡ parent → IsParentsExtent s n (refusal_extent NoParent)
     go None none = rw none (record { sized = refl; aligned = refl; resolves = refl })
     go (Some p) some = let both = over.both in let clash : false ≡ true = rw some at both in absurd cc
 

@@ -6,13 +6,19 @@ use Rattle.std.proofs.lemmas.List.{get_or-set_other}
 use Rattle.std.proofs.lemmas.Bool.Decides.{eqb_tells}
 use Rattle.ctf_model.specs.rules.Chains.{IsWithin}
 use Rattle.ctf_model.specs.format.Term.{Term}
-use Rattle.ctf_layout.specs.Bases.{members_read}
-use Rattle.ctf_layout.specs.Extents.{IsExtent}
-use Rattle.ctf_layout.specs.Table.{Table, Knows, Keeps, LeadsOn, FillsBelow, FillsFrom, IsUnderway, IsVisited, entry, owed, work_left}
+use Rattle.ctf_layout.specs.Bases.{members_read, row_size}
+use Rattle.ctf_layout.specs.Extents.{IsExtent, amount, itself}
+use Rattle.ctf_layout.specs.Kept.{IsByKept, IsKept, extent_kept}
+use Rattle.ctf_layout.specs.Table.{Table, Knows, Keeps, LeadsOn, FillsBelow, FillsFrom, IsUnderway, IsFilled, entry, debt, work_left}
 use Rattle.ctf_model.specs.figures.FigureLaws.{nothing, own_body, value_edges}
 use Rattle.ctf_model.specs.spaces.TypePlaces.{own_number}
 use Rattle.ctf_model.specs.spaces.Space.{Space}
+use Rattle.ctf_layout.specs.declared.bases.Row.{Row}
+use Rattle.ctf_layout.specs.declared.entry.Entry.{Entry}
+use Rattle.ctf_layout.specs.declared.extents.Amount.{Amount}
 use Rattle.ctf_layout.specs.declared.extents.Extent.{Extent}
+use Rattle.ctf_model.specs.declared.numbers.TypeNum.{TypeNum}
+use Rattle.std.proofs.lemmas.Option.{same_Some}
 use Rattle.ctf_layout.proofs.Leading.{leads_leads, not_itself}
 
 same_or_not : (j i : ℕ) → (j ≡ i) ⊎ (j ≢ i)
@@ -22,26 +28,20 @@ none_is_not : {X : Type 0} (o : Option X) → o ≡ None → IsSome o → ⊥
 none_is_not None e h = let f : false ≡ true = h in cc
 none_is_not (Some x) e h = cc
 
--- what isn't there
-pub none_from : {X : Type 0} (o : Option X) → ((x : X) → o ≡ Some x → ⊥) → o ≡ None
-none_from None h = refl
-none_from (Some x) h = absurd (h x refl)
-
 -- ---- work
 
 work_set : (types : List Term) (table : Table) (i : ℕ) (e : Extent) → i < length types → i < length table → entry table i ≡ None → work_left types (set table i (Some e)) + (1 + members_read (get_or types i nothing).body) ≡ work_left types table
 unfolding work_left
 work_set [] table i e a b is = absurd (omega arith)
 work_set (x ∷ types) [] i e a b is = absurd (omega arith)
-work_set (x ∷ types) (o ∷ table) zero e a b is = let P : Option Extent → Type 0 = λ u. 0 + work_left types table + (1 + members_read x.body) ≡ owed x.body u + work_left types table in subst P (sym is) (omega arith)
+work_set (x ∷ types) (o ∷ table) zero e a b is = let P : Option Extent → Type 0 = λ u. 0 + work_left types table + (1 + members_read x.body) ≡ debt x.body u + work_left types table in subst P (sym is) (omega arith)
 work_set (x ∷ types) (o ∷ table) (suc i) e a b is = omega (arith, work_set types table i e (omega arith) (omega arith) is)
 
 -- ---- where a visit stands
 
 -- a type that is in the table
-pub visited_before : (s : Space) (i : ℕ) (table : Table) (from : ℕ) (e : Extent) → Knows s table → entry table i ≡ Some e → IsVisited s i table table from from e
-visited_before s i table from e knows is = record {
-  right = knows.right i e is;
+pub visited_before : (s : Space) (i : ℕ) (table : Table) (from : ℕ) → Knows s table → IsSome (entry table i) → IsFilled s i table table from from
+visited_before s i table from knows is = record {
   knows = knows;
   known = is;
   keeps = record { same = λ j f h. h };
@@ -70,8 +70,8 @@ fills_more es i j before mid after a step b m none some None is = at (b.from m i
 fills_more es i j before mid after a step b m none some (Some e) is = a.below m none (rw is refl)
 
 -- a type that it leads to was visited
-pub visited_one : (s : Space) (i j : ℕ) (before mid after : Table) (from mid_steps to : ℕ) (e : Extent) → IsUnderway s i before mid from mid_steps → LeadsOn (value_edges s.own) i j → IsVisited s j mid after mid_steps to e → IsUnderway s i before after from to
-visited_one s i j before mid after from mid_steps to e a step b = record {
+pub visited_one : (s : Space) (i j : ℕ) (before mid after : Table) (from mid_steps to : ℕ) → IsUnderway s i before mid from mid_steps → LeadsOn (value_edges s.own) i j → IsFilled s j mid after mid_steps to → IsUnderway s i before after from to
+visited_one s i j before mid after from mid_steps to a step b = record {
   knows = b.knows;
   keeps = record { same = λ k f h. b.keeps.same k f (a.keeps.same k f h) };
   fills = record { below = λ m none some. fills_more (value_edges s.own) i j before mid after a.fills step b.fills m none some (entry mid m) refl };
@@ -103,18 +103,36 @@ fills_set es i before now e a m none (inr other) some =
     let o : get_or (set now i (Some e)) m None ≡ get_or now m None = get_or-set_other now i m (Some e) None other in
     inr (a.below m none (rw o at some))
 
-pub visited : (s : Space) (k i : ℕ) (before now : Table) (from all to : ℕ) (e : Extent) → IsWithin (value_edges s.own) k i → i < length s.own.terms → i < length now → entry before i ≡ None → all ≡ from + (1 + members_read (own_body s.own i)) → IsExtent s (own_number s.own.child i) e → IsUnderway s i before now all to → IsVisited s i before (slice_set now i (Some e)) from to e
+pub visited : (s : Space) (k i : ℕ) (before now : Table) (from all to : ℕ) (e : Extent) → IsWithin (value_edges s.own) k i → i < length s.own.terms → i < length now → entry before i ≡ None → all ≡ from + (1 + members_read (own_body s.own i)) → IsExtent s (own_number s.own.child i) e → IsUnderway s i before now all to → IsFilled s i before (slice_set now i (Some e)) from to
 visited s k i before now from all to e w inside lt none cost right a =
     let here : entry now i ≡ None = still_none s k i before now w none a.fills (entry now i) refl in
     record {
-      right = right;
       knows = record { right = λ j f is. knows_set s i now e lt right a.knows j f (same_or_not j i) is };
-      known = get_or-set_at now i i (Some e) None refl lt;
+      known = let there : entry (slice_set now i (Some e)) i ≡ Some e = get_or-set_at now i i (Some e) None refl lt in rw there refl;
       keeps = record { same = λ j f is. keeps_set i before now e none a.keeps j f (same_or_not j i) is };
       fills = record { from = λ m unknown some. fills_set (value_edges s.own) i before now e a.fills m unknown (same_or_not m i) some };
       steps = let h = a.steps in let paid : work_left s.own.terms (set now i (Some e)) + (1 + members_read (own_body s.own i)) ≡ work_left s.own.terms now = work_set s.own.terms now i e inside lt here in omega arith;
     }
 
--- the extent of a number is that of the own type that it names
-pub at_number : (s : Space) (t j : ℕ) (e : Extent) → t ≡ own_number s.own.child j → IsExtent s (own_number s.own.child j) e → IsExtent s t e
-at_number s t j e is h = rw is h
+-- what is kept of a number is what is kept of the own type that it names
+pub kept_at_number : (s : Space) (t j : ℕ) (before after : Table) (from to : ℕ) (x : Entry) → t ≡ own_number s.own.child j → IsFilled s j before after from to → entry after j ≡ extent_kept x → IsKept s t x
+kept_at_number s t j before after from to x is h said = go (entry after j) refl h.known
+  where
+    go : (o : Option Extent) → entry after j ≡ o → IsSome o → IsKept s t x
+    go None at some = let f : false ≡ true = some in absurd cc
+    go (Some e) at some = record { extent = e; kept = sym said ∙ at; right = rw is (h.knows.right j e at) }
+
+-- so is an extent that was kept
+pub kept_new : (s : Space) (t : ℕ) (e : Extent) (x : Entry) → extent_kept x ≡ Some e → IsExtent s t e → IsKept s t x
+kept_new s t e x kept right = record { extent = e; kept = kept; right = right }
+
+-- what is kept of a type that is as another is
+pub kept_as_one : (n : ℕ) (row : Option Row) (x : Entry) (e : Extent) → row ≡ None → extent_kept x ≡ Some e → IsByKept n row e x
+kept_as_one n row x e is h = rw is (record { extent = e; kept = h; by = record { size = refl; align = refl; target = refl } })
+
+-- and of one that is a row of it
+pub kept_of_row : (number : TypeNum) (row : Row) (element x : Entry) (e f : Extent) (size : Amount) → extent_kept element ≡ Some e → amount size ≡ row_size (Some row) (amount e.size) → extent_kept x ≡ Some (itself size e.align number) → extent_kept element ≡ Some f → IsByKept number.0 (Some row) f x
+kept_of_row number row element x e f size here is kept there =
+    let same : e ≡ f = same_Some e f (sym here ∙ there) in
+    let P : Extent → Type 0 = λ g. IsByKept number.0 (Some row) g x in
+    subst P same (record { extent = itself size e.align number; kept = kept; by = record { size = is; align = refl; target = refl } })

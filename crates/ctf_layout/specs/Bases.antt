@@ -1,6 +1,6 @@
 -- What the size and the alignment of a type hang on, and which type it stands for. The words are
 -- ours.
-use Rattle.std.specs.Prelude.{ℕ, min, nat_lt, List, [], ◌∷◌, length, Option, Some, None, Result, Ok, unwrap_or, if◌then◌else◌}
+use Rattle.std.specs.Prelude.{◌≡◌, ℕ, min, nat_lt, List, [], ◌∷◌, length, Option, Some, None, Result, Ok, unwrap_or, if◌then◌else◌}
 use Rattle.ctf_model.specs.figures.Figures.{enum_size, greater, times}
 use Rattle.ctf_model.specs.format.Shown.{ArrayParts, Shape, array_in, list_length}
 use Rattle.ctf_model.specs.spaces.Space.{pointer_size}
@@ -13,6 +13,8 @@ use Rattle.ctf_model.specs.declared.kinds.Kind.TheVariants.{KUnknown, KInteger, 
 use Rattle.ctf_layout.specs.declared.bases.Basis.{Basis}
 use Rattle.ctf_layout.specs.declared.bases.Basis.TheVariants.{Itself, One, Members}
 use Rattle.ctf_layout.specs.declared.bases.Row.{Row}
+use Rattle.ctf_layout.specs.declared.extents.Extent.{Extent}
+use Rattle.ctf_layout.specs.Extents.{amount, target}
 use Rattle.ctf_layout.specs.declared.extents.Amount.TheVariants.{Known, Refused}
 use Rattle.ctf_layout.specs.declared.extents.Refusal.TheVariants.{Incomplete}
 
@@ -69,6 +71,12 @@ row_size (Some row) element = if nat_lt 0 row.size then Ok row.size else times r
 abbrev pub row_target : Option Row → Result ℕ Fault → ℕ → Result ℕ Fault
 row_target None one n = one
 row_target (Some row) one n = Ok n
+
+-- an extent that is that of one type, as it is or for a row of elements
+pub record IsByOne (n : ℕ) (row : Option Row) (one e : Extent) : Type 0 where
+  pub size : amount e.size ≡ row_size row (amount one.size)
+  pub align : e.align ≡ one.align
+  pub target : target e.target ≡ row_target row (target one.target) n
 
 -- the greatest that numbers come to, or the first fault
 abbrev pub greatest_of : (ℕ → Result ℕ Fault) → List ℕ → Result ℕ Fault

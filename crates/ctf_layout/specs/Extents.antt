@@ -1,6 +1,6 @@
 -- Sizes, alignments and the types that are stood for, as code has them.
 use Rattle.std.specs.Prelude.{◌≡◌, ℕ, Result, Ok, Err}
-use Rattle.ctf_model.specs.figures.Figures.{size, align, resolved, sizing, aligning, resolving, parents_figure}
+use Rattle.ctf_model.specs.figures.Figures.{size, align, resolved_type, sizing, aligning, resolving, parents_figure}
 use Rattle.ctf_model.specs.opened.Questions.{align_answered, resolved_answered, size_answered}
 use Rattle.ctf_model.specs.rules.Refusals.{placeless}
 use Rattle.ctf_model.specs.spaces.Space.{Space}
@@ -32,8 +32,8 @@ target (stands_for.Known t) = Ok t.0
 target (stands_for.Refused refusal) = Err (placeless (code_of refusal))
 
 -- neither a size nor an alignment, nor a type that is stood for
-abbrev pub refused : Refusal → Extent
-refused refusal = record {
+abbrev pub refusal_extent : Refusal → Extent
+refusal_extent refusal = record {
   size = Refused refusal;
   align = Refused refusal;
   target = stands_for.Refused refusal;
@@ -59,7 +59,7 @@ of_no_type = record {
 pub record IsExtent (s : Space) (n : ℕ) (e : Extent) : Type 0 where
   pub sized : amount e.size ≡ size s n
   pub aligned : amount e.align ≡ align s n
-  pub resolves : target e.target ≡ resolved s n
+  pub resolves : target e.target ≡ resolved_type s n
 
 -- the same of a parent's number
 pub record IsParentsExtent (s : Space) (n : ℕ) (e : Extent) : Type 0 where

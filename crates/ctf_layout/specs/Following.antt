@@ -18,12 +18,12 @@ renamed_by KRestrict t = t
 renamed_by _ t = None
 
 -- the type that a typedef or a qualifier stands for
-abbrev pub renamed : Shape → Option ℕ
-renamed x = renamed_by x.kind x.reference
+abbrev pub alias_target : Shape → Option ℕ
+alias_target x = renamed_by x.kind x.reference
 
 -- as far as the own types of a dictionary lead: a parent's number is left as it stands
-abbrev pub followed : Dictionary → ℕ → Result ℕ Fault
-followed d n = comes_to resolving (λ t. Ok t) d most_numbers n
+abbrev pub follow_own : Dictionary → ℕ → Result ℕ Fault
+follow_own d n = comes_to resolving (λ t. Ok t) d most_numbers n
 
 -- what a parent's number comes to in place of it
 abbrev pub at_parents : (ℕ → Result ℕ Fault) → ℕ → Place → Result ℕ Fault

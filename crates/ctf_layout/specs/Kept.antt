@@ -1,7 +1,8 @@
 -- Sizes, alignments and the types that are stood for, as they are kept. The words are ours.
-use Rattle.std.specs.Prelude.{◌≡◌, ℕ, List, length, map, Option, Some, None, slice_get, unwrap_or}
+use Rattle.std.specs.Prelude.{◌≡◌, ℕ, List, length, map, Option, Some, None, slice_get}
 use Rattle.ctf_model.specs.spaces.Space.{Space}
-use Rattle.ctf_layout.specs.Extents.{refused}
+use Rattle.ctf_layout.specs.Bases.{IsByOne}
+use Rattle.ctf_layout.specs.Extents.{IsExtent, refusal_extent}
 use Rattle.ctf_layout.specs.Table.{IsWhole, Table}
 use Rattle.ctf_layout.specs.declared.extents.Amount.{Amount}
 use Rattle.ctf_layout.specs.declared.extents.Amount.TheVariants.{Known, Refused}
@@ -10,48 +11,69 @@ use Rattle.ctf_layout.specs.declared.extents.Refusal.TheVariants.{Incomplete, To
 use Rattle.ctf_layout.specs.declared.extents.Target.{Target}
 use Rattle.ctf_layout.specs.declared.extents.Target.TheVariants as stands_for
 use Rattle.ctf_model.specs.declared.numbers.TypeNum.{TypeNum}
+use Rattle.ctf_layout.specs.declared.bases.Row.{Row}
 use Rattle.ctf_layout.specs.declared.entry.Entry.{Entry}
 use Rattle.ctf_layout.specs.declared.entry.Standing.{Standing}
 use Rattle.ctf_layout.specs.declared.entry.Standing.TheVariants as stands
 
--- a number or why there is none, where that is known
-abbrev pub amount_kept : Standing → ℕ → Option Amount
-amount_kept stands.Open n = None
-amount_kept stands.Known n = Some (Known n)
-amount_kept stands.Incomplete n = Some (Refused Incomplete)
-amount_kept stands.TooBig n = Some (Refused TooBig)
-amount_kept stands.NoType n = Some (Refused NoType)
-amount_kept stands.NoParent n = Some (Refused NoParent)
+-- a number or why there is none
+abbrev pub amount_kept : Standing → ℕ → Amount
+amount_kept stands.Open n = Refused NoType
+amount_kept stands.Known n = Known n
+amount_kept stands.Incomplete n = Refused Incomplete
+amount_kept stands.TooBig n = Refused TooBig
+amount_kept stands.NoType n = Refused NoType
+amount_kept stands.NoParent n = Refused NoParent
 
 -- the same of a type that is stood for
-abbrev pub target_kept : Standing → TypeNum → Option Target
-target_kept stands.Open t = None
-target_kept stands.Known t = Some (stands_for.Known t)
-target_kept stands.Incomplete t = Some (stands_for.Refused Incomplete)
-target_kept stands.TooBig t = Some (stands_for.Refused TooBig)
-target_kept stands.NoType t = Some (stands_for.Refused NoType)
-target_kept stands.NoParent t = Some (stands_for.Refused NoParent)
+abbrev pub target_kept : Standing → TypeNum → Target
+target_kept stands.Open t = stands_for.Refused NoType
+target_kept stands.Known t = stands_for.Known t
+target_kept stands.Incomplete t = stands_for.Refused Incomplete
+target_kept stands.TooBig t = stands_for.Refused TooBig
+target_kept stands.NoType t = stands_for.Refused NoType
+target_kept stands.NoParent t = stands_for.Refused NoParent
 
-abbrev pub all_kept : Option Amount → Option Amount → Option Target → Option Extent
-all_kept None align target = None
-all_kept (Some size) None target = None
-all_kept (Some size) (Some align) None = None
-all_kept (Some size) (Some align) (Some target) =
-    Some (record { size = size; align = align; target = target })
+-- none while the size is open, and then all is
+abbrev pub unless_open : Standing → Extent → Option Extent
+unless_open stands.Open x = None
+unless_open stands.Known x = Some x
+unless_open stands.Incomplete x = Some x
+unless_open stands.TooBig x = Some x
+unless_open stands.NoType x = Some x
+unless_open stands.NoParent x = Some x
+
+-- what an entry says: of an open one that there is no type
+abbrev pub extent_said : Entry → Extent
+extent_said e = record {
+  size = amount_kept e.sized e.size;
+  align = amount_kept e.aligned e.align;
+  target = target_kept e.resolved e.target;
+}
 
 -- an extent, where it is known
 abbrev pub extent_kept : Entry → Option Extent
-extent_kept e =
-    all_kept (amount_kept e.sized e.size) (amount_kept e.aligned e.align)
-    (target_kept e.resolved e.target)
+extent_kept e = unless_open e.sized (extent_said e)
+
+-- an entry in which the size, the alignment and the type stand that a number comes to
+pub record IsKept (s : Space) (n : ℕ) (x : Entry) : Type 0 where
+  pub extent : Extent
+  pub kept : extent_kept x ≡ Some extent
+  pub right : IsExtent s n extent
+
+-- an entry of an extent that is that of one type, as it is or for a row of elements
+pub record IsByKept (n : ℕ) (row : Option Row) (one : Extent) (x : Entry) : Type 0 where
+  pub extent : Extent
+  pub kept : extent_kept x ≡ Some extent
+  pub by : IsByOne n row one extent
 
 -- the table that entries are
 abbrev pub table_kept : List Entry → Table
 table_kept entries = map extent_kept entries
 
 abbrev pub or_no_type : Option Entry → Extent
-or_no_type None = refused NoType
-or_no_type (Some e) = unwrap_or (extent_kept e) (refused NoType)
+or_no_type None = refusal_extent NoType
+or_no_type (Some e) = extent_said e
 
 -- the extent of the own type with a number from 0
 abbrev pub extent_at : List Entry → ℕ → Extent

@@ -42,15 +42,15 @@ pub record FillsFrom (es : List (List ℕ)) (i : ℕ) (before after : Table) : T
 -- ---- what it costs: a step for each type that is begun, and one for each member that is read
 
 -- what a type still costs
-abbrev pub owed : Body → Option Extent → ℕ
-owed body None = 1 + members_read body
-owed body (Some e) = 0
+abbrev pub debt : Body → Option Extent → ℕ
+debt body None = 1 + members_read body
+debt body (Some e) = 0
 
 -- what all types still cost
 unfoldable pub work_left : List Term → Table → ℕ
 work_left [] table = 0
 work_left (x ∷ types) [] = 0
-work_left (x ∷ types) (e ∷ table) = owed x.body e + work_left types table
+work_left (x ∷ types) (e ∷ table) = debt x.body e + work_left types table
 
 -- ---- visits
 
@@ -62,11 +62,9 @@ pub record IsUnderway (s : Space) (i : ℕ) (before after : Table) (from to : �
   pub steps : to + work_left s.own.terms after ≡ from + work_left s.own.terms before
 
 -- after the visit of type i
-pub record IsVisited (s : Space) (i : ℕ) (before after : Table) (from to : ℕ)
-    (e : Extent) : Type 0 where
-  pub right : IsExtent s (own_number s.own.child i) e
+pub record IsFilled (s : Space) (i : ℕ) (before after : Table) (from to : ℕ) : Type 0 where
   pub knows : Knows s after
-  pub known : entry after i ≡ Some e
+  pub known : IsSome (entry after i)
   pub keeps : Keeps before after
   pub fills : FillsFrom (value_edges s.own) i before after
   pub steps : to + work_left s.own.terms after ≡ from + work_left s.own.terms before

@@ -35,8 +35,9 @@ abbrev pub over_pair : Dictionary
 over_pair = holding (nameless (term.typedef 3) ∷ nameless (term.pointer 32769) ∷ [])
 
 -- two unions, each of two members of the type in front of it, behind an integer
-abbrev pub doubled : Dictionary
-doubled = holding (nameless (term.integer (record { size = 4; encoding = 1; offset = 0; bits = 32 }))
+abbrev pub doubled_unions : Dictionary
+doubled_unions = holding
+    (nameless (term.integer (record { size = 4; encoding = 1; offset = 0; bits = 32 }))
     ∷ nameless (term.union 4 (at_front 1 ∷ at_front 1 ∷ []))
     ∷ nameless (term.union 4 (at_front 2 ∷ at_front 2 ∷ [])) ∷ [])
 
@@ -44,7 +45,7 @@ pub record WorkIsCounted : Type 0 where
   -- three types, and the first of the two members of the struct
   pub of_structs : space_work (record { own = pair; parent = None; model = Lp64 }) ≡ 4
   -- three types, and all four members of the unions
-  pub of_unions : space_work (record { own = doubled; parent = None; model = Lp64 }) ≡ 7
+  pub of_unions : space_work (record { own = doubled_unions; parent = None; model = Lp64 }) ≡ 7
   -- the parent's four steps, and two types
   pub over_parents : space_work (record { own = over_pair; parent = Some pair; model = Lp64 }) ≡ 6
   -- at most as many as there are types and members

@@ -19,7 +19,7 @@ pub fn greater(a: Amount, b: Amount) -> Amount
 }
 
 /// The size of so many elements of a size.
-fn repeated(count: u32, size: Amount) -> Amount
+fn repeated_amount(count: u32, size: Amount) -> Amount
     ensures { amount result ≡ times count (amount size) }
 {
     match size {
@@ -38,6 +38,6 @@ pub fn row_amount(row: Option<Row>, element: Amount) -> Amount
     match row {
         None => element,
         Some(row) if row.size > 0 => Amount::Known(row.size),
-        Some(row) => repeated(row.count, element),
+        Some(row) => repeated_amount(row.count, element),
     }
 }

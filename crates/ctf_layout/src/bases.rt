@@ -6,7 +6,7 @@ ghost use Rattle.ctf_model.specs.format.Shown.{array_in, shape, size_of};
 ghost use Rattle.ctf_model.specs.spaces.Space.{pointer_size as pointer_size_of};
 ghost use Rattle.ctf_model.specs.format.Spelling.{term_of};
 ghost use Rattle.ctf_records.specs.RecordView.{bytes_of};
-ghost use Rattle.ctf_views.specs.VariantView.{seen};
+ghost use Rattle.ctf_views.specs.VariantView.{shown_of};
 
 use crate::extents::{Amount, Refusal};
 use ctf_check::Checked;
@@ -62,7 +62,7 @@ fn function(model: DataModel) -> Basis
 }
 
 fn array(size: u64, behind: &Variant<'_>) -> Basis
-    ensures { result ≡ of_array size (array_in (seen behind.now)) }
+    ensures { result ≡ of_array size (array_in (shown_of behind.now)) }
 {
     match behind {
         Variant::Array(parts) => Basis::One(
@@ -95,6 +95,7 @@ fn said_size<'a>(dictionary: &Checked<'a>, term: &Record<'a>) -> u64
 }
 
 /// What those of a type of a dictionary hang on.
+#[inline(always)]
 pub fn basis_of<'a>(dictionary: &Checked<'a>, term: &Record<'a>, model: DataModel) -> Basis
     requires own { IsOwn dictionary.now term.now }
     ensures { option_map (λ x. basis_word model (shape x.body))

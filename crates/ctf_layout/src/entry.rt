@@ -1,6 +1,7 @@
 //! Extents as they are kept, each in 24 bytes.
 ghost use Rattle.std.specs.Prelude.{◌≡◌, None, Some};
-ghost use Rattle.ctf_layout.specs.Kept.{amount_kept, extent_kept, target_kept};
+ghost use Rattle.ctf_layout.specs.Kept.{amount_kept, extent_kept, extent_said as said_by, target_kept, unless_open};
+ghost use Rattle.ctf_layout.specs.declared.extents.Extent.{Extent as WholeExtent};
 
 use crate::extents::{Amount, Extent, Refusal, Target};
 use ctf_model::TypeNum;
@@ -35,7 +36,8 @@ const _: [(); 24] = [(); ENTRY_LEN];
 
 impl Standing {
     fn of(amount: Amount) -> (Standing, u64)
-        ensures { amount_kept result.0 result.1 ≡ Some amount }
+        ensures amount { amount_kept result.0 result.1 ≡ amount }
+        ensures found { (e : WholeExtent) → unless_open result.0 e ≡ Some e }
     {
         match amount {
             Amount::Known(number) => (Standing::Known, number),
@@ -47,7 +49,7 @@ impl Standing {
     }
 
     fn of_target(target: Target) -> (Standing, TypeNum)
-        ensures { target_kept result.0 result.1 ≡ Some target }
+        ensures { target_kept result.0 result.1 ≡ target }
     {
         match target {
             Target::Known(number) => (Standing::Known, number),
@@ -59,30 +61,45 @@ impl Standing {
     }
 
     #[inline(always)]
-    fn amount(self, number: u64) -> Option<Amount>
+    fn amount(self, number: u64) -> Amount
         ensures { result ≡ amount_kept self number }
     {
         match self {
-            Standing::Open => None,
-            Standing::Known => Some(Amount::Known(number)),
-            Standing::Incomplete => Some(Amount::Refused(Refusal::Incomplete)),
-            Standing::TooBig => Some(Amount::Refused(Refusal::TooBig)),
-            Standing::NoType => Some(Amount::Refused(Refusal::NoType)),
-            Standing::NoParent => Some(Amount::Refused(Refusal::NoParent)),
+            Standing::Open => Amount::Refused(Refusal::NoType),
+            Standing::Known => Amount::Known(number),
+            Standing::Incomplete => Amount::Refused(Refusal::Incomplete),
+            Standing::TooBig => Amount::Refused(Refusal::TooBig),
+            Standing::NoType => Amount::Refused(Refusal::NoType),
+            Standing::NoParent => Amount::Refused(Refusal::NoParent),
         }
     }
 
     #[inline(always)]
-    fn target(self, number: TypeNum) -> Option<Target>
+    fn target(self, number: TypeNum) -> Target
         ensures { result ≡ target_kept self number }
     {
         match self {
+            Standing::Open => Target::Refused(Refusal::NoType),
+            Standing::Known => Target::Known(number),
+            Standing::Incomplete => Target::Refused(Refusal::Incomplete),
+            Standing::TooBig => Target::Refused(Refusal::TooBig),
+            Standing::NoType => Target::Refused(Refusal::NoType),
+            Standing::NoParent => Target::Refused(Refusal::NoParent),
+        }
+    }
+
+    /// An extent, unless it is open.
+    #[inline(always)]
+    fn extent_unless_open(self, extent: Extent) -> Option<Extent>
+        ensures { result ≡ unless_open self extent }
+    {
+        match self {
             Standing::Open => None,
-            Standing::Known => Some(Target::Known(number)),
-            Standing::Incomplete => Some(Target::Refused(Refusal::Incomplete)),
-            Standing::TooBig => Some(Target::Refused(Refusal::TooBig)),
-            Standing::NoType => Some(Target::Refused(Refusal::NoType)),
-            Standing::NoParent => Some(Target::Refused(Refusal::NoParent)),
+            Standing::Known => Some(extent),
+            Standing::Incomplete => Some(extent),
+            Standing::TooBig => Some(extent),
+            Standing::NoType => Some(extent),
+            Standing::NoParent => Some(extent),
         }
     }
 }
@@ -102,6 +119,7 @@ impl Entry {
         }
     }
 
+    #[tactic(auto, using(crate::proofs::Entries::kept_whole))]
     pub fn new(extent: Extent) -> Entry
         ensures { extent_kept result ≡ Some extent }
     {
@@ -123,28 +141,41 @@ impl Entry {
     pub fn extent(self) -> Option<Extent>
         ensures { result ≡ extent_kept self }
     {
-        let size = self.sized.amount(self.size)?;
-        let align = self.aligned.amount(self.align)?;
-        let target = self.resolved.target(self.target)?;
-        Some(Extent {
-            size,
-            align,
-            target,
-        })
+        self.sized.extent_unless_open(self.extent_said())
+    }
+
+    /// What it says: of an open one that there is no type.
+    #[inline(always)]
+    pub fn extent_said(self) -> Extent
+        ensures { result ≡ said_by self }
+    {
+        Extent {
+            size: self.sized.amount(self.size),
+            align: self.aligned.amount(self.align),
+            target: self.resolved.target(self.target),
+        }
     }
 
     /// The same, in fewer steps where nothing is refused.
     #[inline(always)]
-    pub fn figures(self) -> Option<Extent>
-        ensures { result ≡ extent_kept self }
+    pub fn figures(self) -> Extent
+        ensures { result ≡ said_by self }
     {
         match (self.sized, self.aligned, self.resolved) {
-            (Standing::Known, Standing::Known, Standing::Known) => Some(Extent {
+            (Standing::Known, Standing::Known, Standing::Known) => Extent {
                 size: Amount::Known(self.size),
                 align: Amount::Known(self.align),
                 target: Target::Known(self.target),
-            }),
-            _ => self.extent(),
+            },
+            _ => self.extent_said(),
         }
+    }
+
+    /// The alignment that was found.
+    #[inline(always)]
+    pub fn alignment(self) -> Amount
+        ensures { (e : WholeExtent) → extent_kept self ≡ Some e → result ≡ e.align }
+    {
+        self.aligned.amount(self.align)
     }
 }

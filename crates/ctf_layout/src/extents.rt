@@ -1,7 +1,7 @@
 //! Sizes and alignments of types, and the types that they stand for, together.
 ghost use Rattle.std.specs.Prelude.{◌≡◌};
 ghost use Rattle.std.specs.Result.{result_map_both};
-ghost use Rattle.ctf_layout.specs.Extents.{amount as amount_of, code_of, of_no_type as no_type_extent, refused as refused_extent, target as target_of};
+ghost use Rattle.ctf_layout.specs.Extents.{amount as amount_of, code_of, of_no_type as no_type_extent, refusal_extent as refused_extent, target as target_of};
 
 use ctf_model::{Fault, TypeNum, placeless};
 

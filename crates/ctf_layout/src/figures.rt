@@ -2,9 +2,9 @@
 ghost use Rattle.std.specs.Prelude.{◌≡◌, Ok, option_map};
 ghost use Rattle.std.specs.Result.{result_map_both};
 ghost use Rattle.ctf_check.specs.FactsView.{shape_view};
-ghost use Rattle.ctf_layout.specs.Following.{followed, onward as onward_of, renamed as renamed_of};
-ghost use Rattle.ctf_model.specs.figures.Figures.{parents_figure, reference as reference_of, referred as referred_of, resolved, resolving};
-ghost use Rattle.ctf_space.specs.SpaceView.{alone, space_of};
+ghost use Rattle.ctf_layout.specs.Following.{follow_own, onward as onward_of, alias_target as renamed_of};
+ghost use Rattle.ctf_model.specs.figures.Figures.{parents_figure, reference as reference_of, referred_type as referred_of, resolved_type, resolving};
+ghost use Rattle.ctf_space.specs.SpaceView.{space_alone, space_of};
 
 use ctf_check::Shape;
 use ctf_model::{Fault, Kind, Place, TypeNum, placeless};
@@ -17,7 +17,7 @@ use ctf_views::Variant;
 const MOST_NUMBERS: u16 = 514;
 
 /// The type that a typedef or a qualifier stands for.
-fn renamed(x: &Shape<'_>) -> Option<TypeNum>
+fn alias_target(x: &Shape<'_>) -> Option<TypeNum>
     ensures { option_map (λ t. t.0) result ≡ renamed_of (shape_view x.now) }
 {
     match x.kind {
@@ -30,7 +30,7 @@ fn renamed(x: &Shape<'_>) -> Option<TypeNum>
 /// A parent's number is left as it stands.
 fn follow(space: &Space<'_>, number: TypeNum) -> Result<TypeNum, Fault>
     ensures { result_map_both (λ t. t.0) (λ f. f) result
-        ≡ followed (space_of space.now).own number.0 }
+        ≡ follow_own (space_of space.now).own number.0 }
 {
     let mut at = number;
     for _step in 0..MOST_NUMBERS {
@@ -41,7 +41,7 @@ fn follow(space: &Space<'_>, number: TypeNum) -> Result<TypeNum, Fault>
             return Ok(at);
         }
         let found = space.term(at)?;
-        match renamed(&found.shape()) {
+        match alias_target(&found.shape()) {
             Some(next) => at = next,
             None => return Ok(at),
         }
@@ -52,7 +52,7 @@ fn follow(space: &Space<'_>, number: TypeNum) -> Result<TypeNum, Fault>
 /// The same in the parent of a space, where a parent's number names nothing further.
 fn follow_parents(parent: &Space<'_>, number: TypeNum) -> Result<TypeNum, Fault>
     ensures { let d = (space_of parent.now).own in result_map_both (λ t. t.0) (λ f. f) result
-        ≡ resolved (alone d (space_of parent.now).model) number.0 }
+        ≡ resolved_type (space_alone d (space_of parent.now).model) number.0 }
 {
     let at = follow(parent, number)?;
     match at.place(parent.child()) {
@@ -78,7 +78,7 @@ fn onward(space: &Space<'_>, at: TypeNum) -> Result<TypeNum, Fault>
 /// The type that a type stands for, typedefs and qualifiers followed; 0 where that is no type.
 pub fn resolve(space: &Space<'_>, number: TypeNum) -> Result<TypeNum, Fault>
     ensures { result_map_both (λ t. t.0) (λ f. f) result
-        ≡ resolved (space_of space.now) number.0 }
+        ≡ resolved_type (space_of space.now) number.0 }
 {
     let at = follow(space, number)?;
     onward(space, at)

@@ -1,10 +1,10 @@
 //! The table of sizes, alignments and types that are stood for, filled: the extent of each own type
 //! is found once.
-ghost use Rattle.std.specs.Prelude.{◌≡◌, ℕ, ◌+◌, ◌<◌, ◌≤◌, Some, None, length, slice_set};
-ghost use Rattle.ctf_layout.specs.Bases.{row_size, row_target};
-ghost use Rattle.ctf_layout.specs.Extents.{IsExtent, amount, itself, target};
-ghost use Rattle.ctf_layout.specs.Kept.{table_kept};
-ghost use Rattle.ctf_layout.specs.Table.{IsVisited, IsWhole, Knows, entry};
+ghost use Rattle.std.specs.Prelude.{◌≡◌, ℕ, ◌+◌, ◌<◌, ◌≤◌, Some, None, IsSome, MatchOption, length, slice_set};
+ghost use Rattle.ctf_layout.specs.Extents.{IsExtent, itself};
+ghost use Rattle.ctf_layout.specs.Kept.{IsByKept, IsKept, extent_kept, table_kept};
+ghost use Rattle.ctf_layout.specs.Table.{IsFilled, IsWhole, Knows, entry};
+ghost use Rattle.ctf_layout.specs.declared.extents.Extent.{Extent as WholeExtent};
 ghost use Rattle.ctf_layout.specs.Work.{types_work};
 ghost use Rattle.ctf_model.specs.rules.Chains.{IsWithin, longest_chain, own_index as own_index_of};
 ghost use Rattle.ctf_model.specs.figures.FigureLaws.{HasBoundedValues, value_edges};
@@ -44,22 +44,36 @@ fn elsewhere<L: Ledger, T: Types<L>>(types: &T, number: TypeNum) -> Extent
     }
 }
 
-/// The extent of a type, where the table has it.
-fn found(table: &[Entry], i: usize) -> Option<Extent>
+/// What the table has of a type.
+#[inline(always)]
+fn entry_at(table: &[Entry], i: usize) -> Entry
     requires { i < length table.now }
-    ensures { entry (table_kept table.now) i ≡ result }
+    ensures { entry (table_kept table.now) i ≡ extent_kept result }
 {
-    table[i].extent()
+    table[i]
 }
 
-/// Keeps the extent of a type in the table.
-fn keep(table: &mut [Entry], i: usize, extent: Extent) -> Extent
-    requires { i < length table.old }
-    ensures kept { table_kept table.new ≡ slice_set (table_kept table.old) i (Some extent) }
-    ensures same { result ≡ extent }
+/// What the table has of a type, where it was found.
+#[inline(always)]
+fn known_entry(table: &[Entry], i: usize) -> Option<Entry>
+    requires { i < length table.now }
+    ensures { MatchOption result (entry (table_kept table.now) i ≡ None)
+        (λ x. (entry (table_kept table.now) i ≡ extent_kept x) × IsSome (extent_kept x)) }
 {
-    table[i] = Entry::new(extent);
-    extent
+    let entry = entry_at(table, i);
+    match entry.extent() {
+        Some(_) => Some(entry),
+        None => None,
+    }
+}
+
+/// Keeps what was found of a type in the table.
+#[inline(always)]
+fn keep(table: &mut [Entry], i: usize, found: Entry)
+    requires { i < length table.old }
+    ensures { table_kept table.new ≡ slice_set (table_kept table.old) i (extent_kept found) }
+{
+    table[i] = found;
 }
 
 /// The extent of the type with a number that stands for itself.
@@ -73,24 +87,47 @@ fn of_itself(size: Amount, align: Amount, number: TypeNum) -> Extent
     }
 }
 
-/// The extent of the type with a number that hangs on one, as it is or for a row of elements.
-fn by_one(row: Option<Row>, one: Extent, number: TypeNum) -> Extent
-    ensures size { amount result.size ≡ row_size row (amount one.size) }
-    ensures align { result.align ≡ one.align }
-    ensures target { target result.target ≡ row_target row (target one.target) number.0 }
+/// What is kept of a type with a number that stands for itself.
+#[inline(always)]
+fn kept_itself(size: Amount, align: Amount, number: TypeNum) -> Entry
+    ensures { extent_kept result ≡ Some (itself size align number) }
 {
-    Extent {
-        size: row_amount(row, one.size),
-        align: one.align,
-        target: match row {
-            Some(_) => Target::Known(number),
-            None => one.target,
-        },
+    Entry::new(of_itself(size, align, number))
+}
+
+/// What would be kept of a number that names no own type.
+fn kept_elsewhere<L: Ledger, T: Types<L>>(types: &T, number: TypeNum) -> Entry
+    requires not_own { let d = (T.space types.now).own in
+        own_index_of d.child (length d.terms) number.0 ≡ None }
+    ensures { IsKept (T.space types.now) number.0 result }
+{
+    Entry::new(elsewhere(types, number))
+}
+
+/// What is kept of the type with a number that is a row of elements.
+fn kept_row(row: Row, element: Entry, number: TypeNum) -> Entry
+    ensures { (e : WholeExtent) → extent_kept element ≡ Some e
+        → IsByKept number.0 (Some row) e result }
+{
+    match element.extent() {
+        Some(e) => kept_itself(row_amount(Some(row), e.size), e.align, number),
+        None => Entry::open(),
     }
 }
 
-/// The extent of an own type, and those of the types that it hangs on, each of which is begun at
-/// most once. No chain of steps by value from it is longer than the budget.
+/// What is kept of the type with a number that hangs on one, as it is or for a row of elements.
+#[inline(always)]
+fn kept_by_one(row: Option<Row>, one: Entry, number: TypeNum) -> Entry
+    ensures { (e : WholeExtent) → extent_kept one ≡ Some e → IsByKept number.0 row e result }
+{
+    match row {
+        None => one,
+        Some(row) => kept_row(row, one, number),
+    }
+}
+
+/// Fills in an own type, and the types that it hangs on, each of which is begun at most once. No
+/// chain of steps by value from it is longer than the budget. Answers what is kept of it.
 #[cycle(extents)]
 #[inline(always)]
 fn extent<L: Ledger, T: Types<L>>(
@@ -99,48 +136,54 @@ fn extent<L: Ledger, T: Types<L>>(
     work: &mut Ticks<L>,
     i: usize,
     budget: u16,
-) -> Extent
+) -> Entry
     requires same { length table.old ≡ length (T.space types.now).own.terms }
     requires own { i < length (T.space types.now).own.terms }
     requires short { budget ≤ longest_chain }
     requires within { IsWithin (value_edges (T.space types.now).own) budget i }
     requires knows { Knows (T.space types.now) (table_kept table.old) }
-    ensures { IsVisited (T.space types.now) i (table_kept table.old) (table_kept table.new)
-        work.old work.new result }
+    ensures filled { IsFilled (T.space types.now) i (table_kept table.old) (table_kept table.new)
+        work.old work.new }
+    ensures kept { entry (table_kept table.new) i ≡ extent_kept result }
 {
-    match found(table, i) {
-        Some(extent) => extent,
-        None => visit(types, table, work, i, budget),
+    match known_entry(table, i) {
+        Some(entry) => entry,
+        None => {
+            visit_below(types, table, work, i, budget);
+            entry_at(table, i)
+        }
     }
 }
 
 /// The same for a type that the table does not have.
 #[cycle(extents)]
-#[inline(never)]
+#[inline(always)]
 fn visit<L: Ledger, T: Types<L>>(
     types: &T,
     table: &mut [Entry],
     work: &mut Ticks<L>,
     i: usize,
     budget: u16,
-) -> Extent
+)
     requires same { length table.old ≡ length (T.space types.now).own.terms }
     requires own { i < length (T.space types.now).own.terms }
     requires short { budget ≤ longest_chain }
     requires within { IsWithin (value_edges (T.space types.now).own) budget i }
     requires knows { Knows (T.space types.now) (table_kept table.old) }
     requires open { entry (table_kept table.old) i ≡ None }
-    ensures { IsVisited (T.space types.now) i (table_kept table.old) (table_kept table.new)
-        work.old work.new result }
+    ensures { IsFilled (T.space types.now) i (table_kept table.old) (table_kept table.new)
+        work.old work.new }
 {
     match types.basis(i, work) {
-        Basis::Itself(size, align) => { keep(table, i, of_itself(size, align, types.number(i))) }
+        Basis::Itself(size, align) => {
+            keep(table, i, kept_itself(size, align, types.number(i)));
+        }
         Basis::One(number, row) => {
             let one = match own_index(types, number) {
                 Some(j) => extent(types, table, work, j, budget - 1),
-                None => elsewhere(types, number),
+                None => kept_elsewhere(types, number),
             };
-            keep(table, i, by_one(row, one, types.number(i)))
+            keep(table, i, kept_by_one(row, one, types.number(i)));
         }
         Basis::Members(size, read) => {
             let mut align = Amount::Known(0);
@@ -148,13 +191,59 @@ fn visit<L: Ledger, T: Types<L>>(
                 let number = types.member_type(i, k, work);
                 let member = match own_index(types, number) {
                     Some(j) => extent(types, table, work, j, budget - 1),
-                    None => elsewhere(types, number),
+                    None => kept_elsewhere(types, number),
                 };
-                align = greater(align, member.align);
+                align = greater(align, member.alignment());
             }
             let size = Amount::Known(size);
-            keep(table, i, of_itself(size, align, types.number(i)))
+            keep(table, i, kept_itself(size, align, types.number(i)));
         }
+    }
+}
+
+/// `visit` out of line, for the recursion: the loop over all types inlines it, which saves a call
+/// for most types.
+#[cycle(extents)]
+#[inline(never)]
+fn visit_below<L: Ledger, T: Types<L>>(
+    types: &T,
+    table: &mut [Entry],
+    work: &mut Ticks<L>,
+    i: usize,
+    budget: u16,
+)
+    requires same { length table.old ≡ length (T.space types.now).own.terms }
+    requires own { i < length (T.space types.now).own.terms }
+    requires short { budget ≤ longest_chain }
+    requires within { IsWithin (value_edges (T.space types.now).own) budget i }
+    requires knows { Knows (T.space types.now) (table_kept table.old) }
+    requires open { entry (table_kept table.old) i ≡ None }
+    ensures { IsFilled (T.space types.now) i (table_kept table.old) (table_kept table.new)
+        work.old work.new }
+{
+    visit(types, table, work, i, budget);
+}
+
+/// Fills in an own type if it is not in the table, for the loop over all types: `visit` is inlined.
+#[inline(always)]
+fn fill_one<L: Ledger, T: Types<L>>(
+    types: &T,
+    table: &mut [Entry],
+    work: &mut Ticks<L>,
+    i: usize,
+    budget: u16,
+)
+    requires same { length table.old ≡ length (T.space types.now).own.terms }
+    requires own { i < length (T.space types.now).own.terms }
+    requires short { budget ≤ longest_chain }
+    requires within { IsWithin (value_edges (T.space types.now).own) budget i }
+    requires knows { Knows (T.space types.now) (table_kept table.old) }
+    ensures { IsFilled (T.space types.now) i (table_kept table.old) (table_kept table.new)
+        work.old work.new }
+{
+    match known_entry(table, i) {
+        Some(_) => {}
+        None => visit(types, table, work, i, budget),
     }
 }
 
@@ -167,6 +256,6 @@ pub fn fill<L: Ledger, T: Types<L>>(types: &T, table: &mut [Entry], work: &mut T
     ensures steps { work.new ≡ work.old + types_work (T.space types.now).own.terms }
 {
     for i in 0..types.count() {
-        extent(types, table, work, i, LONGEST_CHAIN);
+        fill_one(types, table, work, i, LONGEST_CHAIN);
     }
 }

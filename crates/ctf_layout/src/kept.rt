@@ -43,7 +43,7 @@ impl Extents {
         ensures { result ≡ extent_at self.now.entries.items i }
     {
         match self.entries.get(i) {
-            Some(entry) => entry.extent().unwrap_or(refused(Refusal::NoType)),
+            Some(entry) => entry.extent_said(),
             None => refused(Refusal::NoType),
         }
     }
@@ -53,7 +53,7 @@ impl Extents {
         ensures { result ≡ extent_at self.now.entries.items i }
     {
         match self.entries.get(i) {
-            Some(entry) => entry.figures().unwrap_or(refused(Refusal::NoType)),
+            Some(entry) => entry.figures(),
             None => refused(Refusal::NoType),
         }
     }

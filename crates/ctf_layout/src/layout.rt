@@ -2,7 +2,7 @@
 ghost use Rattle.std.specs.Prelude.{◌≡◌, ◌+◌, ◌<◌, ◌≤◌, IfOk, OnOk, None};
 ghost use Rattle.std.specs.Option.{ForSome, option_map};
 ghost use Rattle.std.specs.Result.{result_map_both};
-ghost use Rattle.ctf_chains.specs.Places.{capped};
+ghost use Rattle.ctf_chains.specs.Places.{cap};
 ghost use Rattle.ctf_layout.specs.Extents.{IsAnswered, IsExtent};
 ghost use Rattle.ctf_layout.specs.Kept.{AreExtents};
 ghost use Rattle.ctf_layout.specs.Fitting.{Fits, steps_of};
@@ -10,7 +10,7 @@ ghost use Rattle.ctf_layout.specs.Over.{OverParent};
 ghost use Rattle.ctf_layout.specs.Work.{space_size, space_work, types_and_members, types_work};
 ghost use Rattle.ctf_model.specs.figures.FigureLaws.{parent_alone};
 ghost use Rattle.ctf_model.specs.opened.Questions.{align_answered, resolved_answered, size_answered};
-ghost use Rattle.ctf_model.specs.figures.Figures.{align as align_of, resolved as resolved_of, size as size_of};
+ghost use Rattle.ctf_model.specs.figures.Figures.{align as align_of, resolved_type as resolved_of, size as size_of};
 ghost use Rattle.ctf_model.specs.spaces.Space.{Space as WholeSpace};
 ghost use Rattle.ctf_space.specs.SpaceView.{space_of};
 
@@ -39,7 +39,7 @@ pub struct Layout {
 }
 
 /// What a shared table holds.
-fn lent(extents: &Option<Rc<Extents>>) -> Option<&Extents>
+fn lend_extents(extents: &Option<Rc<Extents>>) -> Option<&Extents>
     ensures { option_map (λ e. e.now) result ≡ option_map (λ rc. rc.value) extents.now }
 {
     match extents {
@@ -57,14 +57,14 @@ fn beside<L: Ledger>(
 ) -> Result<Layout, AllocError>
     requires { OverParent (space_of space.now) (option_map (λ rc. rc.value.entries.items) parent) }
     ensures fits { IfOk result (λ l. Fits (space_of space.now) l) }
-    ensures steps { IfOk result (λ l. steps_of l ≡ capped work.new) }
+    ensures steps { IfOk result (λ l. steps_of l ≡ cap work.new) }
     ensures work { OnOk result (work.new
         ≡ work.old + types_work (space_of space.now).own.terms) }
 {
     let source = Source {
         space: *space,
         dictionary: space.dictionary(),
-        parent: lent(&parent),
+        parent: lend_extents(&parent),
     };
     let own = Extents::build(alloc, &source, work)?;
     Ok(Layout {
@@ -76,12 +76,12 @@ fn beside<L: Ledger>(
 }
 
 /// The layout of a space whose parent's types, if it has a parent, are found first.
-fn whole<L: Ledger>(alloc: Global, space: &Space<'_>, blank: Blank) -> Result<Layout, AllocError>
+fn of_space<L: Ledger>(alloc: Global, space: &Space<'_>, blank: Blank) -> Result<Layout, AllocError>
     requires name { blank.name ≡ L.name }
     requires parts { blank.parts ≡ L.parts }
     requires some { 0 < blank.parts }
     ensures fits { IfOk result (λ l. Fits (space_of space.now) l) }
-    ensures steps { IfOk result (λ l. steps_of l ≡ capped (space_work (space_of space.now))) }
+    ensures steps { IfOk result (λ l. steps_of l ≡ cap (space_work (space_of space.now))) }
 {
     let mut work = Ticks::<L>::new(blank);
     let parent = match space.parent() {
@@ -125,7 +125,7 @@ fn beside_shared<L: Ledger>(
     requires some { 0 < blank.parts }
     ensures fits { IfOk result (λ l. Fits (space_of space.now) l) }
     ensures steps { IfOk result (λ l. steps_of l
-        ≡ capped (types_work (space_of space.now).own.terms)) }
+        ≡ cap (types_work (space_of space.now).own.terms)) }
 {
     let mut work = Ticks::<L>::new(blank);
     beside(alloc, space, parent, &mut work)
@@ -135,10 +135,10 @@ impl Layout {
     /// The layout of a space. In a space with a parent those of the parent's types are found too.
     pub fn build(alloc: Global, space: &Space<'_>) -> Result<Layout, AllocError>
         ensures fits { IfOk result (λ l. Fits (space_of space.now) l) }
-        ensures steps { IfOk result (λ l. steps_of l ≡ capped (space_work (space_of space.now))) }
+        ensures steps { IfOk result (λ l. steps_of l ≡ cap (space_work (space_of space.now))) }
         ensures bounded { IfOk result (λ l. steps_of l ≤ space_size (space_of space.now)) }
     {
-        whole::<Brand>(alloc, space, Blank::new(1))
+        of_space::<Brand>(alloc, space, Blank::new(1))
     }
 
     /// The layout of a space over the parent whose own layout this is. It shares the parent's
@@ -148,7 +148,7 @@ impl Layout {
             (λ p. Fits (parent_alone (space_of space.now) p) parent.now) }
         ensures fits { IfOk result (λ l. Fits (space_of space.now) l) }
         ensures steps { IfOk result (λ l. steps_of l
-            ≡ capped (types_work (space_of space.now).own.terms)) }
+            ≡ cap (types_work (space_of space.now).own.terms)) }
         ensures bounded { IfOk result (λ l. steps_of l
             ≤ types_and_members (space_of space.now).own.terms) }
     {

@@ -70,7 +70,7 @@ fn step_to(
 {
     let number = resolve(space, at.tnum)?;
     match members(space, number) {
-        Some(members) => behind(step, at.offset, members.named(name, others)),
+        Some(members) => behind(step, at.offset, members.member_named(name, others)),
         None => Err(Fault {
             code: Fault::NOT_AGGREGATE,
             place: step,

@@ -29,6 +29,7 @@ pub struct Source<'a> {
 }
 
 /// The record of the own type with a number from 0.
+#[inline(always)]
 fn own_term<'a>(dictionary: &Checked<'a>, i: usize) -> Option<Record<'a>>
     ensures own { IfSome result (λ r. IsOwn dictionary.now r) }
     ensures spells { option_and_then
@@ -47,18 +48,22 @@ impl<'a, L: Ledger> Types<L> for Source<'a> {
 
     ghost space = { λ s. space_of s.space };
 
+    #[inline(always)]
     fn child(&self) -> bool {
         self.space.child()
     }
 
+    #[inline(always)]
     fn count(&self) -> usize {
         self.space.count()
     }
 
+    #[inline(always)]
     fn number(&self, i: usize) -> TypeNum {
         self.space.own_number(i)
     }
 
+    #[inline(always)]
     fn basis(&self, i: usize, work: &mut Ticks<L>) -> Basis {
         work.tick();
         match own_term(&self.dictionary, i) {
@@ -67,6 +72,7 @@ impl<'a, L: Ledger> Types<L> for Source<'a> {
         }
     }
 
+    #[inline(always)]
     fn member_type(&self, i: usize, k: usize, work: &mut Ticks<L>) -> TypeNum {
         work.tick();
         match own_term(&self.dictionary, i) {

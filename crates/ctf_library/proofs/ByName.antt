@@ -20,7 +20,7 @@ use Rattle.ctf_model.specs.spaces.Kept.{Kept}
 use Rattle.ctf_protocol.specs.sessions.Publications.{published_as, published_without}
 use Rattle.ctf_protocol.specs.sessions.State.{Publication}
 use Rattle.ctf_library.proofs.InTurn.{all_in_turn, gone_placed, kept_in_turn, parts_true, placed_last, placed_under}
-use Rattle.ctf_library.specs.Turns.{in_turn, placed}
+use Rattle.ctf_library.specs.Turns.{in_turn, insert_turn}
 
 abbrev pub by_bytes : Vec ℕ Global → Vec ℕ Global → Ordering
 by_bytes x y = slice_cmp nat_cmp x.items y.items
@@ -90,27 +90,27 @@ none_found name kept turn es h =
     let ordered = all_in_turn (turn_of turn) (λ e. not (pointwise nat_eq e.0.items name)) es h in
     none_in name (seen kept (in_turn (turn_of turn) es)) (all_seen kept (λ n. not (pointwise nat_eq n name)) (in_turn (turn_of turn) es) ∙ ordered)
 
-other_case : (name : List ℕ) {P : Type 0} (kept : P → Kept) (turn : P → ℕ) (e x : Vec ℕ Global × P) (xs : List (Vec ℕ Global × P)) → published_as name (seen kept (placed (turn_of turn) e xs)) ≡ published_as name (seen kept xs) → (t b : Bool) → ltb (turn e.1) (turn x.1) ≡ t → pointwise nat_eq x.0.items name ≡ b → pointwise nat_eq e.0.items name ≡ false → published_as name (seen kept (placed (turn_of turn) e (x ∷ xs))) ≡ published_as name (seen kept (x ∷ xs))
+other_case : (name : List ℕ) {P : Type 0} (kept : P → Kept) (turn : P → ℕ) (e x : Vec ℕ Global × P) (xs : List (Vec ℕ Global × P)) → published_as name (seen kept (insert_turn (turn_of turn) e xs)) ≡ published_as name (seen kept xs) → (t b : Bool) → ltb (turn e.1) (turn x.1) ≡ t → pointwise nat_eq x.0.items name ≡ b → pointwise nat_eq e.0.items name ≡ false → published_as name (seen kept (insert_turn (turn_of turn) e (x ∷ xs))) ≡ published_as name (seen kept (x ∷ xs))
 other_case name kept turn e x xs later true b t is differs = rw (t, differs) refl
 other_case name kept turn e x xs later false true t is differs = rw (t, is) refl
 other_case name kept turn e x xs later false false t is differs = rw (t, is) later
 
 -- one of another name
-other_placed : (name : List ℕ) {P : Type 0} (kept : P → Kept) (turn : P → ℕ) (e : Vec ℕ Global × P) (xs : List (Vec ℕ Global × P)) → pointwise nat_eq e.0.items name ≡ false → published_as name (seen kept (placed (turn_of turn) e xs)) ≡ published_as name (seen kept xs)
+other_placed : (name : List ℕ) {P : Type 0} (kept : P → Kept) (turn : P → ℕ) (e : Vec ℕ Global × P) (xs : List (Vec ℕ Global × P)) → pointwise nat_eq e.0.items name ≡ false → published_as name (seen kept (insert_turn (turn_of turn) e xs)) ≡ published_as name (seen kept xs)
 other_placed name kept turn e [] differs = rw differs refl
 other_placed name kept turn e (x ∷ xs) differs = other_case name kept turn e x xs (other_placed name kept turn e xs differs) (ltb (turn e.1) (turn x.1)) (pointwise nat_eq x.0.items name) refl refl differs
 
-here_case : (name : List ℕ) {P : Type 0} (kept : P → Kept) (turn : P → ℕ) (e x : Vec ℕ Global × P) (xs : List (Vec ℕ Global × P)) → (published_as name (seen kept xs) ≡ None → published_as name (seen kept (placed (turn_of turn) e xs)) ≡ Some (kept e.1)) → (t b : Bool) → ltb (turn e.1) (turn x.1) ≡ t → pointwise nat_eq x.0.items name ≡ b → pointwise nat_eq e.0.items name ≡ true → published_as name (seen kept (x ∷ xs)) ≡ None → published_as name (seen kept (placed (turn_of turn) e (x ∷ xs))) ≡ Some (kept e.1)
+here_case : (name : List ℕ) {P : Type 0} (kept : P → Kept) (turn : P → ℕ) (e x : Vec ℕ Global × P) (xs : List (Vec ℕ Global × P)) → (published_as name (seen kept xs) ≡ None → published_as name (seen kept (insert_turn (turn_of turn) e xs)) ≡ Some (kept e.1)) → (t b : Bool) → ltb (turn e.1) (turn x.1) ≡ t → pointwise nat_eq x.0.items name ≡ b → pointwise nat_eq e.0.items name ≡ true → published_as name (seen kept (x ∷ xs)) ≡ None → published_as name (seen kept (insert_turn (turn_of turn) e (x ∷ xs))) ≡ Some (kept e.1)
 here_case name kept turn e x xs later true b t is it none = rw (t, it) refl
 here_case name kept turn e x xs later false true t is it none = absurd (let there : Some (kept x.1) ≡ None = rw is at none in cc)
 here_case name kept turn e x xs later false false t is it none = rw (t, is) (later (rw is at none))
 
 -- one of this name, which no other has
-here_placed : (name : List ℕ) {P : Type 0} (kept : P → Kept) (turn : P → ℕ) (e : Vec ℕ Global × P) (xs : List (Vec ℕ Global × P)) → pointwise nat_eq e.0.items name ≡ true → published_as name (seen kept xs) ≡ None → published_as name (seen kept (placed (turn_of turn) e xs)) ≡ Some (kept e.1)
+here_placed : (name : List ℕ) {P : Type 0} (kept : P → Kept) (turn : P → ℕ) (e : Vec ℕ Global × P) (xs : List (Vec ℕ Global × P)) → pointwise nat_eq e.0.items name ≡ true → published_as name (seen kept xs) ≡ None → published_as name (seen kept (insert_turn (turn_of turn) e xs)) ≡ Some (kept e.1)
 here_placed name kept turn e [] it none = rw it refl
 here_placed name kept turn e (x ∷ xs) it none = here_case name kept turn e x xs (λ h. here_placed name kept turn e xs it h) (ltb (turn e.1) (turn x.1)) (pointwise nat_eq x.0.items name) refl refl it none
 
-found_case : (name : List ℕ) {P : Type 0} (kept : P → Kept) (turn : P → ℕ) (e : Vec ℕ Global × P) (es : List (Vec ℕ Global × P)) → IsStrictlySortedBy by_bytes (keys_of (e ∷ es)) → published_as name (seen kept (in_turn (turn_of turn) es)) ≡ option_map kept (lookup (at name) es) → (b : Bool) → at name e.0 ≡ b → published_as name (seen kept (placed (turn_of turn) e (in_turn (turn_of turn) es))) ≡ option_map kept (lookup (at name) (e ∷ es))
+found_case : (name : List ℕ) {P : Type 0} (kept : P → Kept) (turn : P → ℕ) (e : Vec ℕ Global × P) (es : List (Vec ℕ Global × P)) → IsStrictlySortedBy by_bytes (keys_of (e ∷ es)) → published_as name (seen kept (in_turn (turn_of turn) es)) ≡ option_map kept (lookup (at name) es) → (b : Bool) → at name e.0 ≡ b → published_as name (seen kept (insert_turn (turn_of turn) e (in_turn (turn_of turn) es))) ≡ option_map kept (lookup (at name) (e ∷ es))
 found_case name kept turn e es s later true is =
     rw is (here_placed name kept turn e (in_turn (turn_of turn) es) (sym (at_is name e.0) ∙ is) (none_found name kept turn es (no_other name e es s is)))
 found_case name kept turn e es s later false is =
@@ -139,7 +139,7 @@ stay keeps (x ∷ xs) h =
     let p = parts_true (keeps x) (list_all keeps xs) h in
     rw p.0 (ap (λ ys. x ∷ ys) (stay keeps xs p.1))
 
-left_case : (name : List ℕ) {P : Type 0} (turn : P → ℕ) (e : Vec ℕ Global × P) (es : List (Vec ℕ Global × P)) → IsStrictlySortedBy by_bytes (keys_of (e ∷ es)) → in_turn (turn_of turn) (remove_entry (at name) es) ≡ filter (λ e. not (pointwise nat_eq e.0.items name)) (in_turn (turn_of turn) es) → (b : Bool) → at name e.0 ≡ b → in_turn (turn_of turn) (remove_entry (at name) (e ∷ es)) ≡ filter (λ e. not (pointwise nat_eq e.0.items name)) (placed (turn_of turn) e (in_turn (turn_of turn) es))
+left_case : (name : List ℕ) {P : Type 0} (turn : P → ℕ) (e : Vec ℕ Global × P) (es : List (Vec ℕ Global × P)) → IsStrictlySortedBy by_bytes (keys_of (e ∷ es)) → in_turn (turn_of turn) (remove_entry (at name) es) ≡ filter (λ e. not (pointwise nat_eq e.0.items name)) (in_turn (turn_of turn) es) → (b : Bool) → at name e.0 ≡ b → in_turn (turn_of turn) (remove_entry (at name) (e ∷ es)) ≡ filter (λ e. not (pointwise nat_eq e.0.items name)) (insert_turn (turn_of turn) e (in_turn (turn_of turn) es))
 unfolding in_turn
 left_case name {P} turn e es s later true is =
     let keeps : Vec ℕ Global × P → Bool = λ e. not (pointwise nat_eq e.0.items name) in
@@ -149,7 +149,7 @@ left_case name {P} turn e es s later true is =
 left_case name {P} turn e es s later false is =
     let keeps : Vec ℕ Global × P → Bool = λ e. not (pointwise nat_eq e.0.items name) in
     let stays = ap not (sym (at_is name e.0) ∙ is) in
-    rw is (ap (placed (turn_of turn) e) later ∙ sym (kept_in_turn (turn_of turn) keeps e es stays))
+    rw is (ap (insert_turn (turn_of turn) e) later ∙ sym (kept_in_turn (turn_of turn) keeps e es stays))
 
 left : (name : List ℕ) {P : Type 0} (turn : P → ℕ) (es : List (Vec ℕ Global × P)) → IsStrictlySortedBy by_bytes (keys_of es) → in_turn (turn_of turn) (remove_entry (at name) es) ≡ filter (λ e. not (pointwise nat_eq e.0.items name)) (in_turn (turn_of turn) es)
 unfolding in_turn
@@ -164,10 +164,10 @@ removed name kept turn es s = ap (seen kept) (left name turn es s) ∙ sym (with
 
 more_case : {P : Type 0} (turn : P → ℕ) (k : Vec ℕ Global) (p : P) (e : Vec ℕ Global × P) (es : List (Vec ℕ Global × P)) → (lookup (is_at (by_bytes k)) es ≡ None → in_turn (turn_of turn) (insert_entry by_bytes es k p) ≡ in_turn (turn_of turn) es ++ (k, p) ∷ []) → (o : Ordering) → by_bytes k e.0 ≡ o → lookup (is_at (by_bytes k)) (e ∷ es) ≡ None → turn e.1 < turn p → list_all (λ f. nat_lt (turn f.1) (turn p)) (in_turn (turn_of turn) (e ∷ es)) ≡ true → in_turn (turn_of turn) (insert_entry by_bytes (e ∷ es) k p) ≡ in_turn (turn_of turn) (e ∷ es) ++ (k, p) ∷ []
 unfolding in_turn
-more_case turn k p e es later Less is none lt all = rw is (placed_last (turn_of turn) (k, p) (placed (turn_of turn) e (in_turn (turn_of turn) es)) all)
+more_case turn k p e es later Less is none lt all = rw is (placed_last (turn_of turn) (k, p) (insert_turn (turn_of turn) e (in_turn (turn_of turn) es)) all)
 more_case turn k p e es later Equal is none lt all = absurd (let there : Some e.1 ≡ None = rw is at none in cc)
 more_case turn k p e es later Greater is none lt all =
-    rw is (ap (placed (turn_of turn) e) (later (rw is at none)) ∙ placed_under (turn_of turn) e (k, p) (in_turn (turn_of turn) es) lt)
+    rw is (ap (insert_turn (turn_of turn) e) (later (rw is at none)) ∙ placed_under (turn_of turn) e (k, p) (in_turn (turn_of turn) es) lt)
 
 -- a new name comes last, where its turn is the latest
 more : {P : Type 0} (turn : P → ℕ) (k : Vec ℕ Global) (p : P) (es : List (Vec ℕ Global × P)) → lookup (is_at (by_bytes k)) es ≡ None → list_all (λ e. nat_lt (turn e.1) (turn p)) es ≡ true → in_turn (turn_of turn) (insert_entry by_bytes es k p) ≡ in_turn (turn_of turn) es ++ (k, p) ∷ []

@@ -1,6 +1,6 @@
 -- The step of the draft in the slot at a place.
 use Rattle.std.proofs.Common.{◌≡◌, ℕ, ◌+◌, ◌-◌, sum_by, subst, List, [], ◌∷◌, map, set, Bool, true, false, Option, Some, None, Result, Ok, Err, codes, eqb, refl, ap, sym, ◌∙◌, ◌⊎◌, inl, inr, arith}
-use Rattle.ctf_answers.specs.Replies.{changed}
+use Rattle.ctf_answers.specs.Replies.{change_answer}
 use Rattle.ctf_answers.specs.declared.counts.Counts.{Counts}
 use Rattle.ctf_library.proofs.Numbered.{IsPlace}
 use Rattle.ctf_library.specs.Drafting.{HaveStepped, IsStepped, step_in}
@@ -48,7 +48,7 @@ have_stepped others rest step n items i old new result p at same h = rw at (by (
     stepped = step_in others step (slot_of old) slots
 
     by : IsStepped stepped result (slot_of old) (slot_of new)
-        → ((changed result ≡ stepped.said) × (map slot_of (set items i new) ≡ slots_with n stepped.slot slots)) ⊎ ((result ≡ Err out_of_memory) × (map slot_of (set items i new) ≡ slots))
+        → ((change_answer result ≡ stepped.said) × (map slot_of (set items i new) ≡ slots_with n stepped.slot slots)) ⊎ ((result ≡ Err out_of_memory) × (map slot_of (set items i new) ≡ slots))
     by (inl done) = inl (done.0, becomes stepped.slot done.1)
     by (inr none) = inr (none.0, becomes (slot_of old) none.1 ∙ slot_kept n (slot_of old) slots at)
 
@@ -61,8 +61,8 @@ discard_answers : (s : Slot) (d : Option Draft) → (Err out_of_memory ≡ (slot
 discard_answers s None e = let numbers : 0 ≡ 52 = ap code_of e in absurd (omega (arith, numbers))
 discard_answers s (Some d) e = let numbers : 0 ≡ 1 = ap code_of e in absurd (omega (arith, numbers))
 
-pub discard_is_quiet : (s : Slot) (step : DraftStep) (result : Result Counts Fault) → step ≡ Discard → changed result ≡ (slot_step step s).said → result ≡ Err out_of_memory → ⊥
+pub discard_is_quiet : (s : Slot) (step : DraftStep) (result : Result Counts Fault) → step ≡ Discard → change_answer result ≡ (slot_step step s).said → result ≡ Err out_of_memory → ⊥
 unfolding slot_step
 discard_is_quiet s step result is said want =
-    let told : changed result ≡ (slot_step Discard s).said = rw is at said in
-    discard_answers s s.draft (sym (ap changed want) ∙ told)
+    let told : change_answer result ≡ (slot_step Discard s).said = rw is at said in
+    discard_answers s s.draft (sym (ap change_answer want) ∙ told)

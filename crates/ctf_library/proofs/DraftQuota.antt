@@ -1,7 +1,7 @@
 -- The step of a draft, judged beside what all else comes to, is that of the library.
 use Rattle.std.proofs.Common.{◌≡◌, ◌+◌, ◌-◌, ◌⊎◌, ℕ, List, sum_by, Option, Some, None, Result, Ok, Err, Bool, true, false, refl, inl, inr, ap, sym, subst, ◌∙◌, arith}
 use Rattle.std.specs.Prelude.{nat_lt}
-use Rattle.ctf_answers.specs.Replies.{changed, said}
+use Rattle.ctf_answers.specs.Replies.{change_answer, unaddressed_reply}
 use Rattle.ctf_answers.specs.declared.counts.Counts.{Counts}
 use Rattle.ctf_library.specs.Drafting.{HaveStepped, HaveSteppedAt, step_in}
 use Rattle.ctf_library.specs.Quotas.{granted_within, step_beside}
@@ -54,16 +54,16 @@ abbrev with_slots : State → List Slot → State
 with_slots s xs = record s { slots = xs }
 
 made_at : (o : Option Slot) (others : ℕ) (x : DraftStep) (d : ℕ) (s : State) (new : List Slot) (result : Result Counts Fault) → slot_at d s.slots ≡ o → others + sum_by slot_bytes s.slots ≡ charge s → HaveSteppedAt others o x d result s.slots new → Makes s (with_slot (λ slot. becomes_by x d (slot_step x slot) s) o s) result (with_slots s new)
-made_at None others x d s new result at is (refused, same) = inl (ap (λ (r : Result Counts Fault). said r) refused, ap (with_slots s) same)
+made_at None others x d s new result at is (refused, same) = inl (ap (λ (r : Result Counts Fault). unaddressed_reply r) refused, ap (with_slots s) same)
 made_at (Some slot) others x d s new result at is h =
     let less = without_bytes d slot s.slots at in
     let rest : ℕ = others + (sum_by slot_bytes s.slots - slot_bytes slot) in
     let to = becomes x d rest slot s at (omega (arith, less, is)) in
     subst (λ (o : Outcome). Makes s o result (with_slots s new)) (sym to) (by h)
   where
-    by : ((changed result ≡ (step_in others x slot s.slots).said) × (new ≡ slots_with d (step_in others x slot s.slots).slot s.slots)) ⊎ ((result ≡ Err out_of_memory) × (new ≡ s.slots)) → Makes s (slot_becomes d (step_in others x slot s.slots) s) result (with_slots s new)
+    by : ((change_answer result ≡ (step_in others x slot s.slots).said) × (new ≡ slots_with d (step_in others x slot s.slots).slot s.slots)) ⊎ ((result ≡ Err out_of_memory) × (new ≡ s.slots)) → Makes s (slot_becomes d (step_in others x slot s.slots) s) result (with_slots s new)
     by (inl done) = inl (ap reply_of done.0, ap (with_slots s) done.1)
-    by (inr none) = inr (ap (λ (r : Result Counts Fault). said r) none.0, ap (with_slots s) none.1)
+    by (inr none) = inr (ap (λ (r : Result Counts Fault). unaddressed_reply r) none.0, ap (with_slots s) none.1)
 
 pub made : (others : ℕ) (x : DraftStep) (d : ℕ) (s : State) (new : List Slot) (result : Result Counts Fault) → others + sum_by slot_bytes s.slots ≡ charge s → HaveStepped others x d result s.slots new → Makes s (steps_draft d x s) result (with_slots s new)
 made others x d s new result is h = made_at (slot_at d s.slots) others x d s new result refl is h

@@ -11,7 +11,7 @@ use Rattle.std.proofs.lemmas.Map.Entries.{sum_by-remove_entry}
 use Rattle.ctf_library.proofs.ByName.{added, all_removed, at, by_bytes, found, removed, turned}
 use Rattle.ctf_library.proofs.InTurn.{in_turn_sum}
 use Rattle.ctf_library.specs.Published.{IsKept, Named, publication_of, published_in}
-use Rattle.ctf_library.specs.Turns.{in_turn, placed}
+use Rattle.ctf_library.specs.Turns.{in_turn, insert_turn}
 use Rattle.ctf_library.specs.declared.publication.Publication as own
 use Rattle.ctf_model.specs.opened.Sizes.{kept_bytes}
 use Rattle.ctf_model.specs.spaces.Kept.{Kept}
@@ -45,9 +45,9 @@ placed_by : {X Y : Type 0} (shown : X → Y) (x other : X) (front others : List 
 placed_by shown x other front others true none = let clash : shown x ∷ map shown (other ∷ others) ≡ [] = none in cc
 placed_by shown x other front others false none = let clash : shown other ∷ map shown front ≡ [] = none in cc
 
-some_placed : {X Y : Type 0} (shown : X → Y) (turn : X → ℕ) (x : X) (xs : List X) → map shown (placed turn x xs) ≡ [] → ⊥
+some_placed : {X Y : Type 0} (shown : X → Y) (turn : X → ℕ) (x : X) (xs : List X) → map shown (insert_turn turn x xs) ≡ [] → ⊥
 some_placed shown turn x [] none = let clash : shown x ∷ [] ≡ [] = none in cc
-some_placed shown turn x (other ∷ others) none = placed_by shown x other (placed turn x others) others (nat_lt (turn x) (turn other)) none
+some_placed shown turn x (other ∷ others) none = placed_by shown x other (insert_turn turn x others) others (nat_lt (turn x) (turn other)) none
 
 pub published_none : (es : List Named) → published_in es ≡ [] → es ≡ []
 unfolding in_turn

@@ -14,7 +14,7 @@ use Rattle.ctf_protocol.specs.answers.Answers.{Answer, Reply, says}
 use Rattle.ctf_protocol.specs.answers.Answers as answers
 use Rattle.ctf_protocol.specs.sessions.Charges.{charge, slot_bytes}
 use Rattle.ctf_model.specs.opened.Sizes.{kept_bytes, parent_bytes}
-use Rattle.ctf_answers.specs.Replies.{changed, said}
+use Rattle.ctf_answers.specs.Replies.{change_answer, unaddressed_reply}
 use Rattle.ctf_answers.specs.declared.counts.Counts.{Counts}
 use Rattle.ctf_library.specs.Quotas.{IsFull, IsStaged, IsUncreated}
 use Rattle.ctf_open.specs.Quotas.{IsUnserved}
@@ -26,23 +26,23 @@ use Rattle.ctf_protocol.specs.sessions.State.{Slot, State}
 use Rattle.ctf_protocol.proofs.StepWords.{adds_created, imports_unless, publishes_within, takes_found}
 use Rattle.ctf_protocol.specs.sessions.Outcomes.{grants, outcome_of, quota, refuses}
 use Rattle.ctf_protocol.specs.sessions.Slots.{adds_slot, has_room, slot_at, slots_with_parent}
-use Rattle.ctf_protocol.specs.sessions.Steps.{adds_publication, creates, imports, publishes, publishes_kept, takes, longest_list, parts, staged, with_staged}
+use Rattle.ctf_protocol.specs.sessions.Steps.{adds_publication, creates, imports, publishes, publishes_kept, takes, longest_list, parts, list_in, with_staged}
 use Rattle.ctf_protocol.specs.declared.requests.ListName.{ListName}
 
 -- ---- part
 
-pub part_full : (list : ListName) (piece : List ℕ) (s : State) → longest_list < length (staged list s.stage ++ piece) → parts list piece s ≡ refuses STAGE_FULL s
-part_full list piece s lt = rw (lt-ltb longest_list (length (staged list s.stage ++ piece)) lt) refl
+pub part_full : (list : ListName) (piece : List ℕ) (s : State) → longest_list < length (list_in list s.stage ++ piece) → parts list piece s ≡ refuses STAGE_FULL s
+part_full list piece s lt = rw (lt-ltb longest_list (length (list_in list s.stage ++ piece)) lt) refl
 
-pub part_over : (list : ListName) (piece : List ℕ) (s : State) → length (staged list s.stage ++ piece) ≤ longest_list → quota < charge s + length piece → parts list piece s ≡ refuses QUOTA_FULL s
+pub part_over : (list : ListName) (piece : List ℕ) (s : State) → length (list_in list s.stage ++ piece) ≤ longest_list → quota < charge s + length piece → parts list piece s ≡ refuses QUOTA_FULL s
 part_over list piece s le lt =
     let more = part_charge list piece s in
-    rw (le-ltb longest_list (length (staged list s.stage ++ piece)) le) (over _ s (omega (arith, more, lt)))
+    rw (le-ltb longest_list (length (list_in list s.stage ++ piece)) le) (over _ s (omega (arith, more, lt)))
 
-pub part_done : (list : ListName) (piece : List ℕ) (s : State) → length (staged list s.stage ++ piece) ≤ longest_list → charge s + length piece ≤ quota → parts list piece s ≡ grants (says (codes "length") (answers.number (length (staged list s.stage ++ piece))) ∷ []) (record s { stage = with_staged list (staged list s.stage ++ piece) s.stage })
+pub part_done : (list : ListName) (piece : List ℕ) (s : State) → length (list_in list s.stage ++ piece) ≤ longest_list → charge s + length piece ≤ quota → parts list piece s ≡ grants (says (codes "length") (answers.number (length (list_in list s.stage ++ piece))) ∷ []) (record s { stage = with_staged list (list_in list s.stage ++ piece) s.stage })
 part_done list piece s le room =
     let more = part_charge list piece s in
-    rw (le-ltb longest_list (length (staged list s.stage ++ piece)) le) (granted _ s (omega (arith, more, room)))
+    rw (le-ltb longest_list (length (list_in list s.stage ++ piece)) le) (granted _ s (omega (arith, more, room)))
 
 -- ---- take
 
@@ -133,9 +133,9 @@ uncreated (Err g) s f h = ap (λ (e : Fault). outcome_of (Err e) s) (sym h)
 
 -- an import that was refused
 pub imports_refused : (d p : ℕ) (child parent : Slot) (s : State) (f : Fault) (room : Bool) → slot_at d s.slots ≡ Some child → slot_at p s.slots ≡ Some parent → is_some child.draft ≡ false → (room ≡ false → quota + parent_bytes child.parent < charge s + kept_bytes parent.kept) → (f ≡ out_of_memory) ⊎ IsUnserved room (fault_over child.kept parent.kept) f → Makes s (imports d p s) (Err f) s
-imports_refused d p child parent s f room at from plain over (inl want) = inr (ap (λ (g : Fault). said (Err g)) want, refl)
+imports_refused d p child parent s f room at from plain over (inl want) = inr (ap (λ (g : Fault). unaddressed_reply (Err g)) want, refl)
 imports_refused d p child parent s f room at from plain over (inr (inl fault)) = rw (imports_faulty d p child parent s f at from plain fault) (inl (refl, refl))
-imports_refused d p child parent s f room at from plain over (inr (inr full)) = rw (imports_over d p child parent s at from plain full.1 (over full.2)) (inl (ap (λ (g : Fault). said (Err g)) full.0, refl))
+imports_refused d p child parent s f room at from plain over (inr (inr full)) = rw (imports_over d p child parent s at from plain full.1 (over full.2)) (inl (ap (λ (g : Fault). unaddressed_reply (Err g)) full.0, refl))
 
 pub refused_creates : (asked : Created) (s : State) (above : Option Kept) (n others : ℕ) (f : Fault) → above ≡ option_and_then (λ d. option_map (λ (slot : Slot). slot.kept) (slot_at d s.slots)) asked.parent → is_some above ≡ is_some asked.parent → has_room s ≡ true → n ≡ s.next → others ≡ charge s → IsUncreated (created_slot n above asked) others f → creates asked s ≡ outcome_of (Err f) s
 refused_creates asked s above n others f is there room next same h =
@@ -148,15 +148,15 @@ abbrev with_stage : State → Lists → State
 with_stage s stage = record s { stage = stage }
 
 -- a part that was added
-pub part_makes : (list : ListName) (piece : List ℕ) (s : State) (stage : Lists) (n : ℕ) (result : Result Counts Fault) → IsStaged list piece s.stage stage n → length (staged list s.stage ++ piece) ≤ longest_list → charge s + length piece ≤ quota → changed result ≡ Ok (says (codes "length") (answers.number n) ∷ []) → Makes s (parts list piece s) result (with_stage s stage)
+pub part_makes : (list : ListName) (piece : List ℕ) (s : State) (stage : Lists) (n : ℕ) (result : Result Counts Fault) → IsStaged list piece s.stage stage n → length (list_in list s.stage ++ piece) ≤ longest_list → charge s + length piece ≤ quota → change_answer result ≡ Ok (says (codes "length") (answers.number n) ∷ []) → Makes s (parts list piece s) result (with_stage s stage)
 part_makes list piece s stage n result done le room told =
     rw (part_done list piece s le room) (inl (ap reply_of (told ∙ ap (λ (k : ℕ). Ok (says (codes "length") (answers.number k) ∷ [])) done.long), ap (with_stage s) done.lists))
 
 -- and one that was not
-pub part_refused : (list : ListName) (piece : List ℕ) (s : State) (stage : Lists) (f : Fault) (room : Bool) (result : Result Counts Fault) → (f ≡ out_of_memory) ⊎ IsFull room (length (staged list s.stage ++ piece)) f → (room ≡ false → quota < charge s + length piece) → stage ≡ s.stage → result ≡ Err f → Makes s (parts list piece s) result (with_stage s stage)
+pub part_refused : (list : ListName) (piece : List ℕ) (s : State) (stage : Lists) (f : Fault) (room : Bool) (result : Result Counts Fault) → (f ≡ out_of_memory) ⊎ IsFull room (length (list_in list s.stage ++ piece)) f → (room ≡ false → quota < charge s + length piece) → stage ≡ s.stage → result ≡ Err f → Makes s (parts list piece s) result (with_stage s stage)
 part_refused list piece s stage f room result (inl want) over same is =
-    inr (ap (λ (r : Result Counts Fault). said r) (is ∙ ap Err want), ap (with_stage s) same)
+    inr (ap (λ (r : Result Counts Fault). unaddressed_reply r) (is ∙ ap Err want), ap (with_stage s) same)
 part_refused list piece s stage f room result (inr (inl full)) over same is =
-    rw (part_full list piece s full.1) (inl (ap (λ (r : Result Counts Fault). said r) (is ∙ ap Err full.0), ap (with_stage s) same))
+    rw (part_full list piece s full.1) (inl (ap (λ (r : Result Counts Fault). unaddressed_reply r) (is ∙ ap Err full.0), ap (with_stage s) same))
 part_refused list piece s stage f room result (inr (inr full)) over same is =
-    rw (part_over list piece s full.1 (over full.2)) (inl (ap (λ (r : Result Counts Fault). said r) (is ∙ ap Err full.0), ap (with_stage s) same))
+    rw (part_over list piece s full.1 (over full.2)) (inl (ap (λ (r : Result Counts Fault). unaddressed_reply r) (is ∙ ap Err full.0), ap (with_stage s) same))

@@ -1,6 +1,6 @@
 -- Drafts in slots. The words are ours.
 use Rattle.std.specs.Prelude.{◌≡◌, ◌⊎◌, ◌+◌, ◌-◌, sum_by, ℕ, List, Option, None, Some, Result, Err}
-use Rattle.ctf_answers.specs.Replies.{changed}
+use Rattle.ctf_answers.specs.Replies.{change_answer}
 use Rattle.ctf_answers.specs.declared.counts.Counts.{Counts}
 use Rattle.ctf_library.specs.Quotas.{step_beside}
 use Rattle.ctf_protocol.specs.sessions.Charges.{slot_bytes}
@@ -16,7 +16,7 @@ use Rattle.ctf_protocol.specs.declared.requests.DraftStep.{DraftStep}
 -- the step of a slot was made, or memory for it was refused and the slot is as it was
 abbrev pub IsStepped : SlotOutcome → Result Counts Fault → Slot → Slot → Type 0
 IsStepped outcome result old new =
-    ((changed result ≡ outcome.said) × (new ≡ outcome.slot))
+    ((change_answer result ≡ outcome.said) × (new ≡ outcome.slot))
     ⊎ ((result ≡ Err out_of_memory) × (new ≡ old))
 
 -- beside the other slots, and all that is no slot
@@ -30,7 +30,7 @@ abbrev pub HaveSteppedAt : ℕ → Option Slot → DraftStep → ℕ → Result 
 HaveSteppedAt others None step number result old new =
     (result ≡ Err (placeless NO_SLOT)) × (new ≡ old)
 HaveSteppedAt others (Some slot) step number result old new =
-    ((changed result ≡ (step_in others step slot old).said)
+    ((change_answer result ≡ (step_in others step slot old).said)
     × (new ≡ slots_with number (step_in others step slot old).slot old))
     ⊎ ((result ≡ Err out_of_memory) × (new ≡ old))
 

@@ -11,7 +11,7 @@ use Rattle.ctf_model.specs.declared.faults.Fault.{Fault}
 use Rattle.ctf_model.specs.declared.faults.TheConstants.Fault.{QUOTA_FULL, STAGE_FULL}
 use Rattle.ctf_protocol.specs.sessions.Charges.{slot_bytes}
 use Rattle.ctf_protocol.specs.sessions.Outcomes.{quota}
-use Rattle.ctf_protocol.specs.sessions.Steps.{longest_list, staged, with_staged}
+use Rattle.ctf_protocol.specs.sessions.Steps.{longest_list, list_in, with_staged}
 use Rattle.ctf_model.specs.format.Lists.{Lists}
 use Rattle.ctf_protocol.specs.declared.requests.ListName.{ListName}
 
@@ -23,8 +23,8 @@ IsFull fits len f =
 
 -- a piece was added to a list, which is so long then
 pub record IsStaged (list : ListName) (piece : List ℕ) (old new : Lists) (len : ℕ) : Type 0 where
-  pub lists : new ≡ with_staged list (staged list old ++ piece) old
-  pub long : len ≡ length (staged list old ++ piece)
+  pub lists : new ≡ with_staged list (list_in list old ++ piece) old
+  pub long : len ≡ length (list_in list old ++ piece)
 
 -- ---- drafts
 

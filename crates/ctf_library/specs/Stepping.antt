@@ -1,6 +1,6 @@
 -- The step of a change in a library. The words are ours.
 use Rattle.std.specs.Prelude.{◌≡◌, Result}
-use Rattle.ctf_answers.specs.Replies.{said}
+use Rattle.ctf_answers.specs.Replies.{unaddressed_reply}
 use Rattle.ctf_answers.specs.declared.counts.Counts.{Counts}
 use Rattle.ctf_protocol.specs.sessions.Runs.{Answered}
 use Rattle.ctf_protocol.specs.sessions.State.{State}
@@ -9,9 +9,9 @@ use Rattle.ctf_model.specs.declared.faults.Fault.{Fault}
 
 -- a step was made, or memory was refused and nothing changed
 abbrev pub Makes : State → Outcome → Result Counts Fault → State → Type 0
-Makes old outcome result new = Answered old outcome (said result) new
+Makes old outcome result new = Answered old outcome (unaddressed_reply result) new
 
 -- a step was made, whatever memory there is
 pub record Does (outcome : Outcome) (result : Result Counts Fault) (new : State) : Type 0 where
-  pub reply : said result ≡ outcome.reply
+  pub reply : unaddressed_reply result ≡ outcome.reply
   pub state : new ≡ outcome.state

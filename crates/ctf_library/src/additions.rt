@@ -136,7 +136,7 @@ impl Slot {
     {
         let part = Part::Enumerator(t, name.as_slice(), value);
         self.dictionary.add_part(alloc, part)?;
-        Ok(Counts::done())
+        Ok(Counts::of_success())
     }
 
     fn add_label(&mut self, alloc: Global, name: &Piece, last: u32) -> Result<Counts, Fault>
@@ -148,7 +148,7 @@ impl Slot {
     {
         let part = Part::Label(name.as_slice(), last);
         self.dictionary.add_part(alloc, part)?;
-        Ok(Counts::done())
+        Ok(Counts::of_success())
     }
 
     /// Adds to its draft; the number of a type or the offset of a member is answered.

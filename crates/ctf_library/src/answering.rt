@@ -20,16 +20,16 @@ ghost use Rattle.ctf_entries.specs.FunctionView.{signature};
 ghost use Rattle.ctf_model.specs.symbols.SymbolQuestions.{or_refused};
 ghost use Rattle.ctf_model.specs.declared.faults.TheConstants.Fault.{WRONG_KIND};
 ghost use Rattle.ctf_views.specs.PartsView.{array_info, encoding_info};
-ghost use Rattle.ctf_check.specs.TypedView.{spelled};
+ghost use Rattle.ctf_check.specs.TypedView.{term_in};
 ghost use Rattle.ctf_records.specs.RecordView.{tag_of};
-ghost use Rattle.ctf_views.specs.VariantView.{seen};
+ghost use Rattle.ctf_views.specs.VariantView.{shown_of};
 ghost use Rattle.ctf_space.specs.SpaceView.{space_of};
 ghost use Rattle.ctf_protocol.specs.declared.questions.PlainQuestion.TheVariants as plain;
 ghost use Rattle.ctf_protocol.specs.declared.questions.TypeQuestion.TheVariants as about;
 ghost use Rattle.ctf_model.specs.spaces.TypeNumbers.{or_no_type};
 
+use crate::dictionary_answers::whole_answer;
 use crate::slots::Slot;
-use crate::whole::whole_answer;
 use ctf_answers::{Answer, Items, Listed, RecordAnswer, Single};
 use ctf_check::{Facts, Typed};
 use ctf_entries::Signature;
@@ -46,7 +46,7 @@ use ctf_views::{Args, ArrayInfo, Encoding, Variant, is_variadic};
 use std::alloc::Global;
 
 /// What a list answers that a type may have.
-pub(crate) fn listed<'a>(key: &'static str, items: Items<'a>, window: Window) -> Answer<'a>
+pub(crate) fn list_answer<'a>(key: &'static str, items: Items<'a>, window: Window) -> Answer<'a>
     ensures { result ≡ list_fields key.now window (items_of items.entry) }
 {
     let total = items.len() as u64;
@@ -56,21 +56,21 @@ pub(crate) fn listed<'a>(key: &'static str, items: Items<'a>, window: Window) ->
 fn members<'a>(behind: Variant<'a>, window: Window) -> Result<Answer<'a>, Fault>
     ensures { result
         ≡ as_fields (member_fields window)
-        (or_refused WRONG_KIND (members_in (seen behind.entry))) }
+        (or_refused WRONG_KIND (members_in (shown_of behind.entry))) }
 {
     match behind {
-        Variant::Members(members) => Ok(listed("members", Items::Members(members), window)),
+        Variant::Members(members) => Ok(list_answer("members", Items::Members(members), window)),
         _ => Err(placeless(Fault::WRONG_KIND)),
     }
 }
 
 fn enumerators<'a>(behind: Variant<'a>, window: Window) -> Result<Answer<'a>, Fault>
     ensures { result ≡ as_fields (enumerator_fields window)
-        (or_refused WRONG_KIND (enumerators_in (seen behind.entry))) }
+        (or_refused WRONG_KIND (enumerators_in (shown_of behind.entry))) }
 {
     match behind {
         Variant::Enumerators(enumerators) => {
-            Ok(listed("enumerators", Items::Enumerators(enumerators), window))
+            Ok(list_answer("enumerators", Items::Enumerators(enumerators), window))
         }
         _ => Err(placeless(Fault::WRONG_KIND)),
     }
@@ -91,7 +91,7 @@ fn named_count(args: &Args<'_>) -> usize
 }
 
 /// What a function returns and takes. Its arguments are as they are stored.
-pub(crate) fn signed<'a>(args: Args<'a>, ret: TypeNum) -> Answer<'a>
+pub(crate) fn call_answer<'a>(args: Args<'a>, ret: TypeNum) -> Answer<'a>
     ensures { result ≡ argument_fields ret.0 args.entry }
 {
     let varargs = is_variadic(&args);
@@ -108,7 +108,7 @@ pub(crate) fn signature_answer<'a>(found: Result<Signature<'a>, Fault>) -> Resul
     ensures { result ≡ as_fields signature_fields (result_map_both signature (λ f. f) found.entry) }
 {
     let signature = found?;
-    Ok(signed(signature.args, signature.ret))
+    Ok(call_answer(signature.args, signature.ret))
 }
 
 /// What the number of a type is answered as.
@@ -141,7 +141,7 @@ fn position_answer<'a>(at: Result<(u64, TypeNum), Fault>) -> Result<Answer<'a>, 
 
 /// How long the list of a type is.
 fn list_len(behind: &Variant<'_>) -> usize
-    ensures { result ≡ list_length (seen behind.now) }
+    ensures { result ≡ list_length (shown_of behind.now) }
 {
     match behind {
         Variant::Members(members) => members.len(),
@@ -206,7 +206,7 @@ fn name<'a>(alloc: Global, space: &Space<'_>, t: TypeNum) -> Result<Answer<'a>, 
 {
     let mut text = Vec::new(alloc);
     spell(alloc, space, t, &mut text)?;
-    Ok(Answer::made("name", Bytes::from(text)))
+    Ok(Answer::with_text("name", Bytes::from(text)))
 }
 
 /// What a value of a type shows, in memory and from a bit on.
@@ -224,7 +224,7 @@ fn value<'a>(
 {
     let mut text = Vec::new(alloc);
     show(alloc, space, layout, t, memory, offset, &mut text)?;
-    Ok(Answer::made("text", Bytes::from(text)))
+    Ok(Answer::with_text("text", Bytes::from(text)))
 }
 
 /// What is told of a type: an answer that is lent and takes no memory, or what text is to be made.
@@ -245,10 +245,10 @@ fn plain_answer<'a>(
     t: TypeNum,
     question: PlainQuestion,
 ) -> Option<Result<Answer<'a>, Fault>>
-    requires kind { option_map (λ x. kind_of x.body) (spelled x.now) ≡ Some kind }
+    requires kind { option_map (λ x. kind_of x.body) (term_in x.now) ≡ Some kind }
     requires tables { Serve space.now tables.now }
     ensures some { IfSome result (λ answer. answer
-        ≡ answer_of (about.Plain question) (space_of space.now) t.0 (or_no_type (spelled x.now))) }
+        ≡ answer_of (about.Plain question) (space_of space.now) t.0 (or_no_type (term_in x.now))) }
     ensures none { IfNone result (question ≡ plain.Name) }
 {
     match question {
@@ -275,9 +275,9 @@ fn tell<'a, 'q>(
     t: TypeNum,
     question: &'q TypeQuestion,
 ) -> Told<'a, 'q>
-    requires kind { option_map (λ x. kind_of x.body) (spelled x.now) ≡ Some kind }
+    requires kind { option_map (λ x. kind_of x.body) (term_in x.now) ≡ Some kind }
     requires tables { Serve space.now tables.now }
-    ensures { IsTold question.now (space_of space.now) t.0 (or_no_type (spelled x.now)) result }
+    ensures { IsTold question.now (space_of space.now) t.0 (or_no_type (term_in x.now)) result }
 {
     match question {
         TypeQuestion::Plain(question) => match plain_answer(x, kind, space, tables, t, *question) {
@@ -346,7 +346,7 @@ impl Slot {
                     question,
                 )
             }
-            Question::OfHeld(question) => Ok(self.held(*question)),
+            Question::OfHeld(question) => Ok(self.answer_held(*question)),
         }
     }
 }

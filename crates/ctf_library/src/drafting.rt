@@ -3,7 +3,7 @@ ghost use Rattle.std.specs.Prelude.{◌≡◌, ◌==◌, ◌⊎◌, ◌+◌, ◌
 ghost use Rattle.ctf_library.specs.Quotas.{IsUncreated, step_beside, within};
 ghost use Rattle.ctf_library.specs.Drafting.{IsStepped};
 ghost use Rattle.ctf_library.specs.SlotView.{slot_of};
-ghost use Rattle.ctf_answers.specs.Replies.{changed};
+ghost use Rattle.ctf_answers.specs.Replies.{change_answer};
 ghost use Rattle.ctf_model.specs.rules.Refusals.{out_of_memory};
 ghost use Rattle.ctf_model.specs.spaces.Kept.{model_over as parents_model};
 ghost use Rattle.ctf_protocol.specs.sessions.Charges.{slot_bytes};
@@ -54,7 +54,7 @@ impl Slot {
             ⊎ (others + slot_bytes (slot_of self.new) ≤ quota) }
         // This takes no memory.
         ensures quiet { step.now ≡ Discard
-            → changed result ≡ (slot_step step.now (slot_of self.old)).said }
+            → change_answer result ≡ (slot_step step.now (slot_of self.old)).said }
     {
         match step {
             DraftStep::Add(addition) => self.add(alloc, addition),
@@ -79,7 +79,7 @@ impl Slot {
     }
 
     fn discard(&mut self) -> Result<Counts, Fault>
-        ensures said { changed result ≡ (slot_step Discard (slot_of self.old)).said }
+        ensures said { change_answer result ≡ (slot_step Discard (slot_of self.old)).said }
         ensures slot { slot_of self.new ≡ (slot_step Discard (slot_of self.old)).slot }
         ensures number { self.new.number ≡ self.old.number }
         ensures same { slot_bytes (slot_of self.new) ≡ slot_bytes (slot_of self.old) }

@@ -4,18 +4,18 @@
 mod additions;
 mod answering;
 mod charges;
+mod dictionary_answers;
 mod drafting;
-mod held;
 mod library;
 mod places;
 mod pool;
 mod publication;
 mod publication_map;
 mod publications;
+mod slot_answers;
 mod slots;
 mod stage;
 mod staging;
-mod whole;
 
 pub use ctf_open::{Loaded, MODEL_UNSAID};
 pub use library::Library;

@@ -100,7 +100,7 @@ impl Library {
     }
 
     /// What it has published under a name.
-    pub fn published(&self, name: &[u8]) -> Option<&Loaded>
+    pub fn publication(&self, name: &[u8]) -> Option<&Loaded>
         ensures { option_map (λ l. l.now) result ≡ published_as name.now self.now.published }
     {
         self.published.find(name)
@@ -185,7 +185,7 @@ impl Library {
         ensures { Makes self.old (checks self.old) result self.new }
     {
         self.stage.check(self.alloc)?;
-        Ok(Counts::done())
+        Ok(Counts::of_success())
     }
 
     /// Whether there may be a slot more, and a number for it.
@@ -218,7 +218,7 @@ impl Library {
         ensures { Does (clears self.old) result self.new }
     {
         self.stage = Stage::new();
-        Ok(Counts::done())
+        Ok(Counts::of_success())
     }
 
     fn reset(&mut self) -> Result<Counts, Fault>
@@ -237,7 +237,7 @@ impl Library {
             return Err(placeless(Fault::NO_SLOT));
         };
         self.slot_bytes -= closed.bytes();
-        Ok(Counts::done())
+        Ok(Counts::of_success())
     }
 
     fn import(&mut self, d: u32, parent: u32) -> Result<Counts, Fault>
@@ -259,7 +259,7 @@ impl Library {
         let imported = child.dictionary.over(self.alloc, parent, has_room)?;
         set_parent(&mut self.slots, d, imported);
         self.slot_bytes = self.slot_bytes - old + new;
-        Ok(Counts::done())
+        Ok(Counts::of_success())
     }
 
     fn publish(&mut self, d: u32, name: &PublicationName) -> Result<Counts, Fault>
@@ -271,7 +271,7 @@ impl Library {
         if slot.dictionary.pending() > 0 {
             return Err(placeless(Fault::NOT_UPDATED));
         }
-        if self.published(name.as_slice()).is_some() {
+        if self.publication(name.as_slice()).is_some() {
             return Err(placeless(Fault::NAME_TAKEN));
         }
         if !fits(self.charge(), slot.dictionary.own().bytes()) {
@@ -290,7 +290,7 @@ impl Library {
     ) -> Result<Counts, Fault>
         ensures { Makes self.old (publishes_kept name.now loaded self.old) result self.new }
     {
-        if self.published(name.as_slice()).is_some() {
+        if self.publication(name.as_slice()).is_some() {
             return Err(placeless(Fault::NAME_TAKEN));
         }
         self.publish_free(name, loaded)
@@ -305,7 +305,7 @@ impl Library {
             return Err(placeless(Fault::MEMORY));
         }
         self.published.add(self.alloc, name, loaded)?;
-        Ok(Counts::done())
+        Ok(Counts::of_success())
     }
 
     fn withdraw(&mut self, name: &PublicationName) -> Result<Counts, Fault>
@@ -314,7 +314,7 @@ impl Library {
         if !self.published.remove(name.as_slice()) {
             return Err(placeless(Fault::NOT_PUBLISHED));
         }
-        Ok(Counts::done())
+        Ok(Counts::of_success())
     }
 
     fn take(&mut self, found: Option<Loaded>) -> Result<Counts, Fault>
@@ -361,7 +361,7 @@ impl Library {
         ensures { Makes self.old (creates creation.now self.old) result self.new }
     {
         self.slots.reserve_exact(1)?;
-        let slot = self.created(creation)?;
+        let slot = self.new_slot(creation)?;
         let number = slot.number;
         self.slot_bytes += slot.bytes();
         push_slot(&mut self.slots, slot);
@@ -370,7 +370,7 @@ impl Library {
     }
 
     /// The slot of a new draft, under the next number.
-    fn created(&self, creation: &Creation) -> Result<Slot, Fault>
+    fn new_slot(&self, creation: &Creation) -> Result<Slot, Fault>
         ensures ok { IfOk result (λ slot. (creates creation.now self.now
             ≡ adds_draft (slot_of slot) self.now) × (slot.number ≡ self.now.next)) }
         ensures free { OnOk result (room_in self.now ≡ true) }

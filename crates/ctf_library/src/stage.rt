@@ -6,7 +6,7 @@ ghost use Rattle.ctf_model.specs.format.Lists.{no_lists};
 ghost use Rattle.ctf_model.specs.opened.Sizes.{lists_bytes};
 ghost use Rattle.ctf_library.specs.Quotas.{IsFull, IsStaged};
 ghost use Rattle.ctf_model.specs.rules.Refusals.{out_of_memory};
-ghost use Rattle.ctf_protocol.specs.sessions.Steps.{longest_list, staged};
+ghost use Rattle.ctf_protocol.specs.sessions.Steps.{longest_list, list_in};
 
 use crate::pool::Pool;
 use crate::staging::Staged;
@@ -16,7 +16,7 @@ use std::alloc::{AllocError, Global};
 use std::marker::Model;
 
 /// Staged lists in memory of their own.
-fn boxed(alloc: Global, staged: Staged) -> Result<Box<Staged>, AllocError>
+fn box_staged(alloc: Global, staged: Staged) -> Result<Box<Staged>, AllocError>
     ensures { IfOk result (λ b. b.value ≡ staged) }
 {
     Ok(Box::new(alloc, staged)?)
@@ -76,10 +76,10 @@ impl Stage {
         fits: bool,
     ) -> Result<u64, Fault>
         ensures staged { IfOk result (λ n. IsStaged list piece.now self.old self.new n) }
-        ensures short { OnOk result (length (staged list self.old ++ piece.now) ≤ longest_list) }
+        ensures short { OnOk result (length (list_in list self.old ++ piece.now) ≤ longest_list) }
         ensures fits { OnOk result (fits ≡ true) }
         ensures full { IfErr result (λ f. (f ≡ out_of_memory)
-            ⊎ IsFull fits (length (staged list self.old ++ piece.now)) f) }
+            ⊎ IsFull fits (length (list_in list self.old ++ piece.now)) f) }
         ensures err { OnErr result (self.new ≡ self.old) }
     {
         match &mut self.staged {
@@ -87,7 +87,7 @@ impl Stage {
             None => {
                 let mut staged = Staged::new(alloc);
                 let length = staged.add(alloc, list, piece, fits)?;
-                self.staged = Some(boxed(alloc, staged)?);
+                self.staged = Some(box_staged(alloc, staged)?);
                 Ok(length)
             }
         }
@@ -142,7 +142,7 @@ impl Stage {
         match pool.open(staged.take(alloc), model) {
             Ok(loaded) => Ok(loaded),
             Err((fault, parts)) => {
-                *staged = Staged::refused(parts, fault);
+                *staged = Staged::refuse(parts, fault);
                 self.staged = Some(staged);
                 Err(fault)
             }

@@ -7,7 +7,7 @@ ghost use Rattle.ctf_model.specs.format.OwnedLists.{lists_owned};
 ghost use Rattle.ctf_model.specs.opened.Sizes.{lists_bytes};
 ghost use Rattle.ctf_library.specs.Quotas.{IsFull, IsStaged};
 ghost use Rattle.ctf_model.specs.rules.Refusals.{placeless, out_of_memory};
-ghost use Rattle.ctf_protocol.specs.sessions.Steps.{longest_list, staged};
+ghost use Rattle.ctf_protocol.specs.sessions.Steps.{longest_list, list_in};
 ghost use Rattle.ctf_model.specs.declared.faults.TheConstants.Fault.{STAGE_FULL};
 
 use ctf_check::{check, lent};
@@ -77,10 +77,10 @@ fn stage_piece(
     ensures staged { IfOk result (λ n. IsStaged list piece.now (lists_owned stage.old)
         (lists_owned stage.new) n) }
     ensures short { OnOk result
-        (length (staged list (lists_owned stage.old) ++ piece.now) ≤ longest_list) }
+        (length (list_in list (lists_owned stage.old) ++ piece.now) ≤ longest_list) }
     ensures fits { OnOk result (fits ≡ true) }
     ensures full { IfErr result (λ f. (f ≡ out_of_memory)
-        ⊎ IsFull fits (length (staged list (lists_owned stage.old) ++ piece.now)) f) }
+        ⊎ IsFull fits (length (list_in list (lists_owned stage.old) ++ piece.now)) f) }
     ensures err { OnErr result (lists_owned stage.new ≡ lists_owned stage.old) }
 {
     match list {
@@ -139,7 +139,7 @@ impl Staged {
     }
 
     /// Lists that were not opened, for this fault of theirs or because memory ran out.
-    pub fn refused(parts: Parts, fault: Fault) -> Staged
+    pub fn refuse(parts: Parts, fault: Fault) -> Staged
         requires { (fault ≡ out_of_memory) ⊎ (fault_of (lists_owned parts) ≡ Some fault) }
         ensures { result ≡ lists_owned parts }
     {
@@ -189,10 +189,10 @@ impl Staged {
         fits: bool,
     ) -> Result<u64, Fault>
         ensures staged { IfOk result (λ n. IsStaged list piece.now self.old self.new n) }
-        ensures short { OnOk result (length (staged list self.old ++ piece.now) ≤ longest_list) }
+        ensures short { OnOk result (length (list_in list self.old ++ piece.now) ≤ longest_list) }
         ensures fits { OnOk result (fits ≡ true) }
         ensures full { IfErr result (λ f. (f ≡ out_of_memory)
-            ⊎ IsFull fits (length (staged list self.old ++ piece.now)) f) }
+            ⊎ IsFull fits (length (list_in list self.old ++ piece.now)) f) }
         ensures err { OnErr result (self.new ≡ self.old) }
     {
         self.known = None;

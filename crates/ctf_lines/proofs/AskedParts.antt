@@ -6,7 +6,7 @@ use Rattle.serde_json.specs.Data.{Data, Items}
 use Rattle.serde_json.specs.Find.{get, as_array, as_bool, as_i64, as_number, as_str, as_u64}
 use Rattle.std.proofs.lemmas.Bool.{false≢true}
 use Rattle.ctf_json.specs.Keys.{wanted_at}
-use Rattle.ctf_json.specs.Kept.{kept, listed}
+use Rattle.ctf_json.specs.Kept.{kept_data, list_data}
 use Rattle.ctf_json.specs.Told.{is_one_of}
 use Rattle.ctf_json.specs.Values.{are, is_small, is_text, keys}
 use Rattle.ctf_json.specs.declared.wanted.Wanted.{Wanted}
@@ -108,7 +108,7 @@ kept-list : {A : Type 0} (f : Items → Option A) (ds : Items) (b : Bool) → (b
 kept-list f ds true h = refl
 kept-list f ds false h = sym (h refl)
 
-names-kept : (d : Data) → option_and_then fields.names_spelled (as_array (kept Texts d)) ≡ option_and_then fields.names_spelled (as_array d)
+names-kept : (d : Data) → option_and_then fields.names_spelled (as_array (kept_data Texts d)) ≡ option_and_then fields.names_spelled (as_array d)
 names-kept json.null = refl
 names-kept (json.boolean b) = refl
 names-kept (json.number n) = refl
@@ -116,7 +116,7 @@ names-kept (json.string s) = refl
 names-kept (json.array ds) = kept-list fields.names_spelled ds (are is_text ds) (each-none fields.name_spelled is_text no_text ds)
 names-kept (json.object ms) = refl
 
-types-kept : (d : Data) → option_and_then says.types_listed (as_array (kept Numbers d)) ≡ option_and_then says.types_listed (as_array d)
+types-kept : (d : Data) → option_and_then says.types_listed (as_array (kept_data Numbers d)) ≡ option_and_then says.types_listed (as_array d)
 types-kept json.null = refl
 types-kept (json.boolean b) = refl
 types-kept (json.number n) = refl
@@ -125,11 +125,11 @@ types-kept (json.array ds) = kept-list says.types_listed ds (are is_small ds) (e
 types-kept (json.object ms) = refl
 
 -- what says the same of what is kept of a value says the same of what is kept of a field
-under : {A : Type 0} (f : Data → Option A) (w : Wanted) → ((d : Data) → f (kept w d) ≡ f d) → (o : Option Data) → option_and_then f (option_map (kept w) o) ≡ option_and_then f o
+under : {A : Type 0} (f : Data → Option A) (w : Wanted) → ((d : Data) → f (kept_data w d) ≡ f d) → (o : Option Data) → option_and_then f (option_map (kept_data w) o) ≡ option_and_then f o
 under f w h None = refl
 under f w h (Some d) = h d
 
-none-kept : (w : Wanted) (o : Option Data) → is_none (option_map (kept w) o) ≡ is_none o
+none-kept : (w : Wanted) (o : Option Data) → is_none (option_map (kept_data w) o) ≡ is_none o
 none-kept w None = refl
 none-kept w (Some d) = refl
 
@@ -137,12 +137,12 @@ list_cond : {A : Type 0} (f : Data → Option A) → f json.null ≡ None → ((
 list_cond f n a true ds = refl
 list_cond f n a false ds = n ∙ sym (a ds)
 
-listed-kept : {A : Type 0} (f : Data → Option A) → f json.null ≡ None → ((ds : Items) → f (json.array ds) ≡ None) → (w : Wanted) (ds : Items) → f (listed w ds) ≡ f (json.array ds)
+listed-kept : {A : Type 0} (f : Data → Option A) → f json.null ≡ None → ((ds : Items) → f (json.array ds) ≡ None) → (w : Wanted) (ds : Items) → f (list_data w ds) ≡ f (json.array ds)
 listed-kept f n a Texts ds = list_cond f n a (are is_text ds) ds
 listed-kept f n a Numbers ds = list_cond f n a (are is_small ds) ds
 listed-kept f n a Nothing ds = n ∙ sym (a ds)
 
-str-kept : (w : Wanted) (d : Data) → as_str (kept w d) ≡ as_str d
+str-kept : (w : Wanted) (d : Data) → as_str (kept_data w d) ≡ as_str d
 str-kept w json.null = refl
 str-kept w (json.boolean b) = refl
 str-kept w (json.number n) = refl
@@ -150,7 +150,7 @@ str-kept w (json.string s) = refl
 str-kept w (json.array ds) = listed-kept as_str refl (λ ds. refl) w ds
 str-kept w (json.object ms) = refl
 
-number-kept : (w : Wanted) (d : Data) → as_number (kept w d) ≡ as_number d
+number-kept : (w : Wanted) (d : Data) → as_number (kept_data w d) ≡ as_number d
 number-kept w json.null = refl
 number-kept w (json.boolean b) = refl
 number-kept w (json.number n) = refl
@@ -158,7 +158,7 @@ number-kept w (json.string s) = refl
 number-kept w (json.array ds) = listed-kept as_number refl (λ ds. refl) w ds
 number-kept w (json.object ms) = refl
 
-bool-kept : (w : Wanted) (d : Data) → as_bool (kept w d) ≡ as_bool d
+bool-kept : (w : Wanted) (d : Data) → as_bool (kept_data w d) ≡ as_bool d
 bool-kept w json.null = refl
 bool-kept w (json.boolean b) = refl
 bool-kept w (json.number n) = refl
@@ -166,11 +166,11 @@ bool-kept w (json.string s) = refl
 bool-kept w (json.array ds) = listed-kept as_bool refl (λ ds. refl) w ds
 bool-kept w (json.object ms) = refl
 
-list-under : {A : Type 0} (f : Items → Option A) (w : Wanted) → ((d : Data) → option_and_then f (as_array (kept w d)) ≡ option_and_then f (as_array d)) → (o : Option Data) → option_and_then f (option_and_then as_array (option_map (kept w) o)) ≡ option_and_then f (option_and_then as_array o)
+list-under : {A : Type 0} (f : Items → Option A) (w : Wanted) → ((d : Data) → option_and_then f (as_array (kept_data w d)) ≡ option_and_then f (as_array d)) → (o : Option Data) → option_and_then f (option_and_then as_array (option_map (kept_data w) o)) ≡ option_and_then f (option_and_then as_array o)
 list-under f w h None = refl
 list-under f w h (Some d) = h d
 
-module _ (a b : Data) (same : (key : List ℕ) → is_one_of key keys ≡ true → get key a ≡ option_map (kept (wanted_at key)) (get key b)) where
+module _ (a b : Data) (same : (key : List ℕ) → is_one_of key keys ≡ true → get key a ≡ option_map (kept_data (wanted_at key)) (get key b)) where
   -- ---- fields
 
   numbered : (key : List ℕ) → is_one_of key keys ≡ true → option_and_then as_number (get key a) ≡ option_and_then as_number (get key b)
@@ -185,7 +185,7 @@ module _ (a b : Data) (same : (key : List ℕ) → is_one_of key keys ≡ true �
   unsaid : (key : List ℕ) → is_one_of key keys ≡ true → is_none (get key a) ≡ is_none (get key b)
   unsaid key one = ap is_none (same key one) ∙ none-kept (wanted_at key) (get key b)
 
-  listed_at : {A : Type 0} (f : Items → Option A) (key : List ℕ) → ((d : Data) → option_and_then f (as_array (kept (wanted_at key) d)) ≡ option_and_then f (as_array d)) → is_one_of key keys ≡ true
+  listed_at : {A : Type 0} (f : Items → Option A) (key : List ℕ) → ((d : Data) → option_and_then f (as_array (kept_data (wanted_at key) d)) ≡ option_and_then f (as_array d)) → is_one_of key keys ≡ true
       → option_and_then f (option_and_then as_array (get key a)) ≡ option_and_then f (option_and_then as_array (get key b))
   listed_at f key h one = ap (λ o. option_and_then f (option_and_then as_array o)) (same key one) ∙ list-under f (wanted_at key) h (get key b)
 

@@ -2,7 +2,7 @@
 use Rattle.std.proofs.Common.{◌≡◌, ℕ, ◌+◌, ◌<◌, ◌≤◌, ◌^◌, List, ◌++◌, length, append_assoc, codes, decimal, refl, sym, ap, ◌∙◌, arith}
 use Rattle.ctf_model.specs.declared.faults.Fault.{Fault}
 use Rattle.ctf_model.specs.rules.FaultNames.{name_of_fault}
-use Rattle.ctf_protocol.specs.lines.ReplyLines.{fault_line, key_text, quoted}
+use Rattle.ctf_protocol.specs.lines.ReplyLines.{fault_line, key_text, quote}
 use Rattle.ctf_lines.specs.Rows.{fault_row}
 use Rattle.ctf_lines.proofs.Objects.{three_before}
 use Rattle.ctf_lines.proofs.Short.{fault_short}
@@ -13,7 +13,7 @@ fault_text s f =
     let end = codes "},\"s\":" ++ (decimal s ++ codes "}\n") in
     let behind = codes ",\"place\":" ++ (decimal f.place ++ end) in
     ap (λ (t : List ℕ). codes "{\"fault\":{\"code\":" ++ (decimal f.code ++ (codes ",\"name\":\"" ++ t))) (sym (append_assoc name (codes "\"") behind))
-    ∙ ap (λ (t : List ℕ). codes "{\"fault\":{" ++ t) (three_before (key_text (codes "code") ++ decimal f.code) (key_text (codes "name") ++ quoted name) (key_text (codes "place") ++ decimal f.place) end)
+    ∙ ap (λ (t : List ℕ). codes "{\"fault\":{" ++ t) (three_before (key_text (codes "code") ++ decimal f.code) (key_text (codes "name") ++ quote name) (key_text (codes "place") ++ decimal f.place) end)
 
 -- the same of what is known to be its parts
 pub row_text : (s code : ℕ) (name : List ℕ) (session : ℕ) (f : Fault) → s ≡ session → code ≡ f.code → name ≡ name_of_fault f.code → fault_row s code name f.place ≡ fault_line session f

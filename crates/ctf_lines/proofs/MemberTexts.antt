@@ -6,7 +6,7 @@ use Rattle.std.specs.declared.alloc.Global.{Global}
 use Rattle.ctf_model.specs.dumps.Texts.{with_commas}
 use Rattle.ctf_model.specs.format.Term.{Member}
 use Rattle.ctf_protocol.specs.lines.Text.{text_of}
-use Rattle.ctf_protocol.specs.lines.ReplyLines.{item_text, key_text, quoted}
+use Rattle.ctf_protocol.specs.lines.ReplyLines.{item_text, key_text, quote}
 use Rattle.ctf_protocol.specs.answers.Questions.{member_item}
 use Rattle.ctf_lines.specs.Appending.{Appended}
 use Rattle.ctf_lines.specs.Rows.{member_row}
@@ -30,11 +30,11 @@ member_short name offset number fits small =
     omega (arith, first, second, end, behind, all)
 
 -- a member whose name stands as a text
-row_text : (text : List ℕ) (offset number : ℕ) → member_row text offset number ≡ concat (codes "{" ∷ with_commas ((key_text (codes "name") ++ quoted text) ∷ (key_text (codes "offset") ++ decimal offset) ∷ (key_text (codes "type") ++ decimal number) ∷ []) ∷ codes "}" ∷ [])
+row_text : (text : List ℕ) (offset number : ℕ) → member_row text offset number ≡ concat (codes "{" ∷ with_commas ((key_text (codes "name") ++ quote text) ∷ (key_text (codes "offset") ++ decimal offset) ∷ (key_text (codes "type") ++ decimal number) ∷ []) ∷ codes "}" ∷ [])
 row_text text offset number =
     let behind = codes ",\"offset\":" ++ (decimal offset ++ (codes ",\"type\":" ++ (decimal number ++ codes "}"))) in
     ap (λ (t : List ℕ). codes "{\"name\":\"" ++ t) (sym (append_assoc text (codes "\"") behind))
-    ∙ ap (λ (t : List ℕ). 123 ∷ t) (three_parts (key_text (codes "name") ++ quoted text) (key_text (codes "offset") ++ decimal offset) (key_text (codes "type") ++ decimal number))
+    ∙ ap (λ (t : List ℕ). 123 ∷ t) (three_parts (key_text (codes "name") ++ quote text) (key_text (codes "offset") ++ decimal offset) (key_text (codes "type") ++ decimal number))
 
 pub member_text : (m : Member) → text_of m.name ≡ m.name → member_row m.name m.offset m.tnum ≡ item_text (member_item m)
 member_text m same = ap (λ (t : List ℕ). member_row t m.offset m.tnum) (sym same) ∙ row_text (text_of m.name) m.offset m.tnum

@@ -11,7 +11,7 @@ use Rattle.ctf_answers.specs.declared.count.Count.{Count}
 use Rattle.ctf_answers.specs.declared.counts.Counts.{Counts}
 use Rattle.ctf_model.specs.rules.FaultNames.{fault_names, name_beside, name_of_fault}
 use Rattle.ctf_model.specs.dumps.Texts.{after_commas, with_commas}
-use Rattle.ctf_protocol.specs.lines.ReplyLines.{key_text, quoted, field_text, object_line, answer_line, fault_fields, fault_line, fitting_line}
+use Rattle.ctf_protocol.specs.lines.ReplyLines.{key_text, quote, field_text, object_line, answer_line, fault_fields, fault_line, fitting_line}
 use Rattle.ctf_model.specs.declared.faults.Fault.{Fault}
 use Rattle.ctf_model.specs.declared.faults.TheConstants.Fault.{LONG_REPLY}
 
@@ -76,7 +76,7 @@ length-number key n h =
 -- and of a word
 length-word : (key w : List ℕ) → length (field_text (says key (answers.word w))) ≤ length key + 5 + length w
 length-word key w =
-    let all = length-append (key_text key) (quoted w) in
+    let all = length-append (key_text key) (quote w) in
     let front = length-concat (codes "\"" ∷ key ∷ codes "\":" ∷ []) in
     let back = length-concat (codes "\"" ∷ w ∷ codes "\"" ∷ []) in
     omega (arith, all, front, back)
@@ -100,7 +100,7 @@ fault_short s f h i k =
     let e = decimal_64 f.place k in
     let g = decimal_32 s h in
     let code = length-append (key_text (codes "code")) (decimal f.code) in
-    let word = length-append (key_text (codes "name")) (quoted (name_of_fault f.code)) in
+    let word = length-append (key_text (codes "name")) (quote (name_of_fault f.code)) in
     let in_quotes = length-concat (codes "\"" ∷ name_of_fault f.code ∷ codes "\"" ∷ []) in
     let place = length-append (key_text (codes "place")) (decimal f.place) in
     let fields = total-separated (map field_text (fault_fields f)) in

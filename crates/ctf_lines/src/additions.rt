@@ -104,7 +104,7 @@ fn function(line: &mut Line<'_>) -> Option<NewKind>
 }
 
 /// What a forward declares.
-fn declared(line: &Line<'_>) -> Option<Declared>
+fn declared_sort(line: &Line<'_>) -> Option<Declared>
     ensures { result ≡ option_and_then declared_named (text_in (codes "tag") (view line.now)) }
 {
     match text(line, "tag")? {
@@ -192,7 +192,7 @@ fn member(alloc: Global, line: &Line<'_>) -> Result<Option<Addition>, AllocError
 }
 
 /// The value of an enumerator.
-fn signed(line: &Line<'_>) -> Option<i32>
+fn signed_value(line: &Line<'_>) -> Option<i32>
     ensures { result ≡ value_asked_for (view line.now) }
 {
     let number = as_i64(&get(line, "value")?)?;
@@ -208,7 +208,7 @@ fn enumerator(alloc: Global, line: &Line<'_>) -> Result<Option<Addition>, AllocE
     let Some(name) = name_or_empty(alloc, line, "name")? else {
         return Ok(None);
     };
-    match signed(line) {
+    match signed_value(line) {
         Some(value) => Ok(Some(Addition::Enumerator { t, name, value })),
         None => Ok(None),
     }
@@ -242,7 +242,7 @@ fn kind(line: &Line<'_>, what: Addable) -> Option<NewKind>
         Addable::Struct => Some(NewKind::Struct(size_or(line, 0)?)),
         Addable::Union => Some(NewKind::Union(size_or(line, 0)?)),
         Addable::Enum => Some(NewKind::Enum(size_or(line, 4)?)),
-        Addable::Forward => Some(NewKind::Forward(declared(line)?)),
+        Addable::Forward => Some(NewKind::Forward(declared_sort(line)?)),
         Addable::Typedef => Some(NewKind::Typedef(type_under(line, "type")?)),
         Addable::Volatile => Some(NewKind::Volatile(type_under(line, "type")?)),
         Addable::Const => Some(NewKind::Const(type_under(line, "type")?)),
@@ -275,7 +275,7 @@ pub(crate) fn addition(alloc: Global, line: &mut Line<'_>) -> Result<Option<Addi
     let Some(word) = text(line, "what") else {
         return Ok(None);
     };
-    match Addable::named(word) {
+    match Addable::of_word(word) {
         Some(what) => addition_with(alloc, line, what),
         None => Ok(None),
     }

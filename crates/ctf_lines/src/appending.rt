@@ -7,7 +7,7 @@ use itoa::Buffer;
 
 /// A list with bytes behind it.
 #[inline(always)]
-pub fn appended(out: Vec<u8>, bytes: &[u8]) -> Vec<u8>
+pub fn append_bytes(out: Vec<u8>, bytes: &[u8]) -> Vec<u8>
     requires { HasRoom out bytes.now }
     ensures { Appended out result bytes.now }
 {
@@ -31,7 +31,7 @@ fn with_digit(out: Vec<u8>, number: u64) -> Vec<u8>
     requires room { HasRoom out (decimal number) }
     ensures { Appended out result (decimal number) }
 {
-    appended(out, &[digit(number)])
+    append_bytes(out, &[digit(number)])
 }
 
 #[inline(always)]
@@ -40,7 +40,7 @@ fn with_two_digits(out: Vec<u8>, number: u64) -> Vec<u8>
     requires room { HasRoom out (decimal number) }
     ensures { Appended out result (decimal number) }
 {
-    appended(out, &[digit(number / 10), digit(number % 10)])
+    append_bytes(out, &[digit(number / 10), digit(number % 10)])
 }
 
 #[inline(always)]
@@ -50,7 +50,7 @@ fn with_three_digits(out: Vec<u8>, number: u64) -> Vec<u8>
     ensures { Appended out result (decimal number) }
 {
     let front = number / 10;
-    appended(
+    append_bytes(
         out,
         &[digit(front / 10), digit(front % 10), digit(number % 10)],
     )
@@ -62,7 +62,7 @@ fn with_long_number(out: Vec<u8>, number: u64) -> Vec<u8>
     requires { HasRoom out (decimal number) }
     ensures { Appended out result (decimal number) }
 {
-    appended(out, Buffer::new().format(number).as_bytes())
+    append_bytes(out, Buffer::new().format(number).as_bytes())
 }
 
 /// A list with a number behind it.
@@ -88,16 +88,16 @@ pub fn between(out: Vec<u8>, front: &[u8], text: &[u8], back: &[u8]) -> Vec<u8>
     requires { HasRoom out (front.now ++ (text.now ++ back.now)) }
     ensures { Appended out result (front.now ++ (text.now ++ back.now)) }
 {
-    appended(appended(appended(out, front), text), back)
+    append_bytes(append_bytes(append_bytes(out, front), text), back)
 }
 
 /// A list with a number behind it that stands between two texts.
 #[inline(always)]
-pub fn numbered(out: Vec<u8>, front: &[u8], number: u64, back: &[u8]) -> Vec<u8>
+pub fn append_number(out: Vec<u8>, front: &[u8], number: u64, back: &[u8]) -> Vec<u8>
     requires { HasRoom out (front.now ++ (decimal number ++ back.now)) }
     ensures { Appended out result (front.now ++ (decimal number ++ back.now)) }
 {
-    appended(with_number(appended(out, front), number), back)
+    append_bytes(with_number(append_bytes(out, front), number), back)
 }
 
 /// A list with a member behind it whose name stands as it is.
@@ -107,6 +107,6 @@ pub fn with_member(out: Vec<u8>, name: &[u8], offset: u64, number: u64) -> Vec<u
     ensures { Appended out result (member_row name.now offset number) }
 {
     let out = between(out, b"{\"name\":\"", name, b"\",\"offset\":");
-    let out = numbered(out, b"", offset, b",\"type\":");
-    numbered(out, b"", number, b"}")
+    let out = append_number(out, b"", offset, b",\"type\":");
+    append_number(out, b"", number, b"}")
 }

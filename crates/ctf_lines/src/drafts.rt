@@ -7,7 +7,7 @@ ghost use Rattle.ctf_protocol.specs.lines.LineFields.{name_or_empty as name_or_e
 use crate::additions::addition;
 use crate::models::model;
 use crate::reading::{as_slot_number, slot};
-use crate::spelled::name;
+use crate::spelling::name;
 use ctf_json::{Line, get};
 use ctf_protocol::{Change, Creation, DraftStep, Piece, Request, SlotNumber};
 use std::alloc::{AllocError, Global};

@@ -22,7 +22,7 @@ ghost use Rattle.ctf_protocol.specs.declared.words.Word.TheVariants as word;
 use crate::drafts::{add, create, discard, update};
 use crate::line_traits::FromLine;
 use crate::models::model;
-use crate::spelled::{name, names, piece};
+use crate::spelling::{name, names, piece};
 use ctf_joined::Joined;
 use ctf_json::{Line, NotRead, Scratch, Value, as_str, as_u64, get};
 use ctf_protocol::{
@@ -238,12 +238,12 @@ pub(crate) fn text<'a>(line: &Line<'a>, key: &str) -> Option<&'a str>
 fn word(line: &Line<'_>) -> Option<Word>
     ensures { result ≡ word_asked (view line.now) }
 {
-    named(text(line, "op")?)
+    word_of(text(line, "op")?)
 }
 
 /// The word that a text is. Those that are asked most are known at once.
 #[tactic(auto, unfolding(ctf_protocol::specs::words::Words::words))]
-fn named(text: &str) -> Option<Word>
+fn word_of(text: &str) -> Option<Word>
     ensures { result ≡ word_named text.now words }
 {
     match text.as_bytes() {
@@ -263,7 +263,7 @@ fn named_long(text: &str) -> Option<Word>
         "members" => Some(Word::Members),
         "symbol" => Some(Word::Symbol),
         "reset" => Some(Word::Reset),
-        _ => Word::named(text),
+        _ => Word::of_text(text),
     }
 }
 

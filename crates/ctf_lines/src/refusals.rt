@@ -4,7 +4,7 @@ ghost use Rattle.ctf_protocol.specs.lines.ReplyLines.{fault_line};
 ghost use Rattle.ctf_lines.specs.Appending.{Appended, HasRoom};
 ghost use Rattle.ctf_lines.specs.Rows.{fault_row};
 
-use crate::appending::{appended, numbered};
+use crate::appending::{append_bytes, append_number};
 use ctf_protocol::{Fault, fault_name};
 use std::mem::replace;
 
@@ -14,16 +14,18 @@ fn with_fault(out: Vec<u8>, session: u64, code: u64, name: &[u8], place: u64) ->
     requires { HasRoom out (fault_row session code name.now place) }
     ensures { Appended out result (fault_row session code name.now place) }
 {
-    let out = numbered(out, b"{\"fault\":{\"code\":", code, b",\"name\":\"");
-    let out = appended(out, name);
-    let out = numbered(out, b"\",\"place\":", place, b"},\"s\":");
-    numbered(out, b"", session, b"}\n")
+    let out = append_number(out, b"{\"fault\":{\"code\":", code, b",\"name\":\"");
+    let out = append_bytes(out, name);
+    let out = append_number(out, b"\",\"place\":", place, b"},\"s\":");
+    append_number(out, b"", session, b"}\n")
 }
 
-/// Puts the line of a refusal, given in its parts, behind lines where there is room for the longest.
+/// Puts the line of a refusal, given in its parts, behind lines where there is room for the
+/// longest.
 fn put_parts(out: &mut Vec<u8>, session: u32, code: u16, place: u64)
     requires { vec_len out.old + 96 ≤ vec_capacity out.old }
-    ensures { Appended out.old out.new (fault_line session (record { code = code; place = place })) }
+    ensures { Appended out.old out.new
+        (fault_line session (record { code = code; place = place })) }
 {
     let name = fault_name(code);
     let empty = Vec::new(*out.allocator());

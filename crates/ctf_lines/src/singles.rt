@@ -1,6 +1,6 @@
 //! Single values and the parts of objects in a line.
 ghost use Rattle.std.specs.Prelude.{◌≡◌, ◌++◌};
-ghost use Rattle.ctf_protocol.specs.lines.ReplyLines.{single_text, entry_text, key_text, quoted, truth as truth_text};
+ghost use Rattle.ctf_protocol.specs.lines.ReplyLines.{single_text, entry_text, key_text, quote, truth as truth_text};
 ghost use Rattle.ctf_protocol.specs.lines.Text.{text_of, hex_of};
 ghost use Rattle.ctf_answers.specs.Singles.{single_of, entry_of};
 
@@ -31,14 +31,14 @@ pub fn put_single<P: TextSink>(sink: &mut P, value: &Single<'_>)
 }
 
 fn put_word<P: TextSink>(sink: &mut P, word: &str)
-    ensures { P.Took sink.old (quoted word.now) sink.new }
+    ensures { P.Took sink.old (quote word.now) sink.new }
 {
     sink.put_between(b"\"", word.as_bytes(), b"\"");
 }
 
 /// Puts a text on, with its quotes.
 pub fn put_quoted<P: TextSink>(sink: &mut P, text: &[u8])
-    ensures { P.Took sink.old (quoted (text_of text.now)) sink.new }
+    ensures { P.Took sink.old (quote (text_of text.now)) sink.new }
 {
     if are_plain(text) {
         sink.put_between(b"\"", text, b"\"");
@@ -48,7 +48,7 @@ pub fn put_quoted<P: TextSink>(sink: &mut P, text: &[u8])
 }
 
 fn put_escaped<P: TextSink>(sink: &mut P, text: &[u8])
-    ensures { P.Took sink.old (quoted (text_of text.now)) sink.new }
+    ensures { P.Took sink.old (quote (text_of text.now)) sink.new }
 {
     sink.put_one(b'"');
     put_name(sink, text);
@@ -56,7 +56,7 @@ fn put_escaped<P: TextSink>(sink: &mut P, text: &[u8])
 }
 
 fn put_quoted_hex<P: TextSink>(sink: &mut P, bytes: &[u8])
-    ensures { P.Took sink.old (quoted (hex_of bytes.now)) sink.new }
+    ensures { P.Took sink.old (quote (hex_of bytes.now)) sink.new }
 {
     sink.put_one(b'"');
     sink.put_hex(bytes);

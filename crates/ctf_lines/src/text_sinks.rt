@@ -5,7 +5,7 @@ ghost use Rattle.ctf_lines.specs.Rows.{member_row};
 
 /// What texts are put on, one behind the other.
 pub trait TextSink {
-    /// A text that was put on the first may have left the second.
+    /// `Took old text new`: writing `text` to `old` can give `new`.
     ghost Took: { Self → List ℕ → Self → Type 0 };
 
     /// Whether it stays as it is, whatever is put on.

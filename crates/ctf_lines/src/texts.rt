@@ -3,7 +3,7 @@ ghost use Rattle.std.specs.Prelude.{◌≡◌, ◌+◌, ◌<◌, ◌≤◌, ◌+
 ghost use Rattle.ctf_model.specs.dumps.Texts.{signed_decimal};
 ghost use Rattle.ctf_lines.specs.Appending.{HasRoom, Appended};
 
-use crate::appending::appended;
+use crate::appending::append_bytes;
 use crate::escapes::append_hex;
 use crate::text_sinks::TextSink;
 use itoa::Buffer;
@@ -21,7 +21,7 @@ fn append(out: &mut Vec<u8>, bytes: &[u8])
     ensures { Appended out.old out.new bytes.now }
 {
     let empty = Vec::new(*out.allocator());
-    *out = appended(replace(out, empty), bytes);
+    *out = append_bytes(replace(out, empty), bytes);
 }
 
 /// A line, to whose end a text is appended where there is room.

@@ -5,11 +5,11 @@ ghost use Rattle.ctf_answers.specs.Counts.{counts_view};
 ghost use Rattle.ctf_answers.specs.Replies.{reply_of, said_to};
 ghost use Rattle.ctf_lines.specs.Appending.{Appended, IsAsBefore, Writes, and_text};
 
-use crate::granted::put_counts;
 use crate::line_buffers::LineBuffer;
 use crate::line_traits::ToLine;
 use crate::measures::Measure;
 use crate::refusals::put_fault;
+use crate::room::put_counts;
 use crate::rows::Fields;
 use crate::series::put_series;
 use crate::text_sinks::TextSink;

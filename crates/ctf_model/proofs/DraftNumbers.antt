@@ -7,7 +7,7 @@ use Rattle.std.proofs.lemmas.Option.{slice_get_within}
 use Rattle.ctf_model.proofs.OwnTypes.{own_inside}
 use Rattle.ctf_model.specs.rules.Chains.{own_index}
 use Rattle.ctf_model.specs.format.Dictionary.{Dictionary}
-use Rattle.ctf_model.specs.drafts.Drafts.{Draft, all_of, behind_updated, count_of, held, is_absent, is_settled, is_unknown, pending_place, space_of}
+use Rattle.ctf_model.specs.drafts.Drafts.{Draft, all_of, behind_updated, count_of, content, is_absent, is_settled, is_unknown, pending_place, space_of}
 use Rattle.ctf_model.specs.rules.Needs.{number_in_parent, parents_number}
 use Rattle.ctf_model.specs.rules.References.{is_missing, is_missing_at}
 use Rattle.ctf_model.specs.spaces.Space.{space_type}
@@ -61,12 +61,12 @@ there_at parent d n (Own i) z h = let lt = found_below d.terms i h in at (leb (l
     at false e = refl
 there_at parent d n (Parents i) z h = refl
 
-pub there_not_missing : (d : Draft) (n : ℕ) → is_absent d n ≡ false → is_missing (held d).child (length (held d).terms) n ≡ false
+pub there_not_missing : (d : Draft) (n : ℕ) → is_absent d n ≡ false → is_missing (content d).child (length (content d).terms) n ≡ false
 there_not_missing d n h = at (eqb n 0) refl h
   where
-    at : (z : Bool) → eqb n 0 ≡ z → (not z && is_err (type_in (held d) d.parent (place (held d).child n))) ≡ false → is_missing (held d).child (length (held d).terms) n ≡ false
+    at : (z : Bool) → eqb n 0 ≡ z → (not z && is_err (type_in (content d) d.parent (place (content d).child n))) ≡ false → is_missing (content d).child (length (content d).terms) n ≡ false
     at true z h = rw (z, z) refl
-    at false z h = there_at d.parent (held d) n (place (held d).child n) z h
+    at false z h = there_at d.parent (content d) n (place (content d).child n) z h
 
 -- it isn't the mark of the long form
 own_low : (child : Bool) (count n : ℕ) → count ≤ 32766 → (z : Bool) → eqb n 0 ≡ z → is_missing_at count n (cond z Nowhere (cond child (place_in_child n) (Own (n - 1)))) ≡ false → n < 0xffff
@@ -80,7 +80,7 @@ own_low true count n low false z h = at (ltb n 0x8000) refl (eqb n 0x8000) refl 
     at false e false f h = let lt = leb-false count (n - 0x8001) h in omega arith
 
 pub there_low : (d : Draft) (n : ℕ) → count_of d ≤ 32766 → is_absent d n ≡ false → n < 0xffff
-there_low d n low h = own_low (held d).child (length (held d).terms) n low (eqb n 0) refl (there_not_missing d n h)
+there_low d n low h = own_low (content d).child (length (content d).terms) n low (eqb n 0) refl (there_not_missing d n h)
 
 -- it isn't behind the parent's types
 in_parent : (d : Dictionary) (parent : Dictionary) (p : Place) → is_err (type_in d (Some parent) p) ≡ false → parents_number p ≤ length parent.terms
@@ -113,13 +113,13 @@ own_found d parent n j x e h = let own = own_inside d.child (length d.terms) n j
     got (Some y) h = cc
 
 pub opened : (d : Draft) (n : ℕ) → is_unknown d n ≡ false → is_settled d n ≡ false → (x : Term) × (i : ℕ) × IsOpen d n x i
-opened d n known pending = at (space_type (space_of d) n) refl known (own_index (held d).child (count_of d) n) refl pending
+opened d n known pending = at (space_type (space_of d) n) refl known (own_index (content d).child (count_of d) n) refl pending
   where
-    at : (r : Result Term Fault) → space_type (space_of d) n ≡ r → is_err r ≡ false → (q : Option ℕ) → own_index (held d).child (count_of d) n ≡ q → is_none (behind_updated (length d.updated.terms) q) ≡ false → (x : Term) × (i : ℕ) × IsOpen d n x i
+    at : (r : Result Term Fault) → space_type (space_of d) n ≡ r → is_err r ≡ false → (q : Option ℕ) → own_index (content d).child (count_of d) n ≡ q → is_none (behind_updated (length d.updated.terms) q) ≡ false → (x : Term) × (i : ℕ) × IsOpen d n x i
     at (Err f) e k q g h = absurd cc
     at (Ok x) e k None g h = absurd cc
     at (Ok x) e k (Some j) g h = go (ltb j (length d.updated.terms)) refl h
       where
         go : (b : Bool) → ltb j (length d.updated.terms) ≡ b → is_none (cond b None (Some (j - length d.updated.terms))) ≡ false → (x : Term) × (i : ℕ) × IsOpen d n x i
         go true f h = absurd cc
-        go false f h = (x, j - length d.updated.terms, record { found = e; pending = rw (g, f) refl; at = j; stands = own_found (held d) d.parent n j x g e })
+        go false f h = (x, j - length d.updated.terms, record { found = e; pending = rw (g, f) refl; at = j; stands = own_found (content d) d.parent n j x g e })

@@ -8,7 +8,7 @@ use Rattle.std.proofs.lemmas.Bool.{ne_eqb, eqb-true}
 use Rattle.std.proofs.lemmas.List.{drop_at, append_assoc, length-append, nil_from_length}
 use Rattle.ctf_model.specs.format.Name.{text, is_zero, name}
 use Rattle.ctf_model.specs.drafts.Fitting.{IsName}
-use Rattle.ctf_model.specs.writing.WrittenNames.{closed, string_bytes, name_reference, is_empty}
+use Rattle.ctf_model.specs.writing.WrittenNames.{closed_name, string_bytes, name_reference, is_empty}
 use Rattle.ctf_model.specs.writing.WritingLaws.{IsKept, IsFound, table_of}
 
 -- what stands before the first: nothing where the head passes
@@ -21,36 +21,36 @@ first_later p x xs e = let more : 1 + position_or_len p xs ≡ suc (position_or_
 
 -- ---- the text at a name
 
-has_zero : (n rest : List ℕ) → IsName n → list_any is_zero (closed n ++ rest) ≡ true
+has_zero : (n rest : List ℕ) → IsName n → list_any is_zero (closed_name n ++ rest) ≡ true
 has_zero [] rest h = refl
 has_zero (b ∷ n) rest h = let some : eqb b 0 ≡ false = ne_eqb b 0 (omega (arith, h.0)) in rw some (has_zero n rest h.1)
 
-before_zero : (n rest : List ℕ) → IsName n → before_first is_zero (closed n ++ rest) ≡ n
+before_zero : (n rest : List ℕ) → IsName n → before_first is_zero (closed_name n ++ rest) ≡ n
 before_zero [] rest h = refl
 before_zero (b ∷ n) rest h =
     let some : eqb b 0 ≡ false = ne_eqb b 0 (omega (arith, h.0)) in
-    first_later is_zero b (closed n ++ rest) some ∙ ap (λ (r : List ℕ). b ∷ r) (before_zero n rest h.1)
+    first_later is_zero b (closed_name n ++ rest) some ∙ ap (λ (r : List ℕ). b ∷ r) (before_zero n rest h.1)
 
 -- a name that ends in a zero byte is the text there
-closed_text : (n rest : List ℕ) → IsName n → text (closed n ++ rest) ≡ Some n
+closed_text : (n rest : List ℕ) → IsName n → text (closed_name n ++ rest) ≡ Some n
 closed_text n rest h = rw (has_zero n rest h, before_zero n rest h) refl
 
 -- ---- where a name stands
 
 -- the strings are those before the name, the name, and others
-at_name : (names : List (List ℕ)) (t : List ℕ) → list_any (bytes_eq t) names ≡ true → (rest : List ℕ) × (flat_map closed names ≡ flat_map closed (before_first (bytes_eq t) names) ++ (closed t ++ rest))
+at_name : (names : List (List ℕ)) (t : List ℕ) → list_any (bytes_eq t) names ≡ true → (rest : List ℕ) × (flat_map closed_name names ≡ flat_map closed_name (before_first (bytes_eq t) names) ++ (closed_name t ++ rest))
 at_name [] t h = absurd cc
 at_name (n ∷ names) t h = at (bytes_eq t n) refl h (at_name names t)
   where
     at : (b : Bool) → bytes_eq t n ≡ b → (b || list_any (bytes_eq t) names) ≡ true
-        → (list_any (bytes_eq t) names ≡ true → (rest : List ℕ) × (flat_map closed names ≡ flat_map closed (before_first (bytes_eq t) names) ++ (closed t ++ rest)))
-        → (rest : List ℕ) × (flat_map closed (n ∷ names) ≡ flat_map closed (before_first (bytes_eq t) (n ∷ names)) ++ (closed t ++ rest))
+        → (list_any (bytes_eq t) names ≡ true → (rest : List ℕ) × (flat_map closed_name names ≡ flat_map closed_name (before_first (bytes_eq t) names) ++ (closed_name t ++ rest)))
+        → (rest : List ℕ) × (flat_map closed_name (n ∷ names) ≡ flat_map closed_name (before_first (bytes_eq t) (n ∷ names)) ++ (closed_name t ++ rest))
     at true e h more =
         let same : t ≡ n = (bytes_decides t n).0 e in
-        (flat_map closed names, rw (first_here (bytes_eq t) n names e) (ap (λ (m : List ℕ). closed m ++ flat_map closed names) (sym same)))
+        (flat_map closed_name names, rw (first_here (bytes_eq t) n names e) (ap (λ (m : List ℕ). closed_name m ++ flat_map closed_name names) (sym same)))
     at false e h more =
         let later = more h in
-        (later.0, rw (first_later (bytes_eq t) n names e) (ap (λ (r : List ℕ). closed n ++ r) later.1 ∙ sym (append_assoc (closed n) (flat_map closed (before_first (bytes_eq t) names)) (closed t ++ later.0))))
+        (later.0, rw (first_later (bytes_eq t) n names e) (ap (λ (r : List ℕ). closed_name n ++ r) later.1 ∙ sym (append_assoc (closed_name n) (flat_map closed_name (before_first (bytes_eq t) names)) (closed_name t ++ later.0))))
 
 -- the name of a reference that is not 0 and names the string section
 low_name : (names : List (List ℕ)) (r : ℕ) → 0 < r → r < 2 ^ 31 → name (table_of names) r ≡ text (drop r (string_bytes names))
@@ -79,10 +79,10 @@ found names t all kept low = at (is_empty t) refl
     at false e =
         let is = kept e in
         let split = at_name names t is in
-        let front = flat_map closed (before_first (bytes_eq t) names) in
-        let behind = closed t ++ split.0 in
-        let len : length (flat_map closed names) ≡ length front + length behind = ap length split.1 ∙ length-append front behind in
-        let here : drop (length front) (flat_map closed names) ≡ behind = ap (drop (length front)) split.1 ∙ drop_at front behind (length front) refl in
+        let front = flat_map closed_name (before_first (bytes_eq t) names) in
+        let behind = closed_name t ++ split.0 in
+        let len : length (flat_map closed_name names) ≡ length front + length behind = ap length split.1 ∙ length-append front behind in
+        let here : drop (length front) (flat_map closed_name names) ≡ behind = ap (drop (length front)) split.1 ∙ drop_at front behind (length front) refl in
         let far : suc (length front) < 2 ^ 31 = omega arith in
         let at : name_reference names t ≡ suc (length front) = rw e refl in
         record {

@@ -7,7 +7,7 @@ use Rattle.std.proofs.lemmas.Bool.{cases_lt, false≢true}
 use Rattle.std.proofs.lemmas.Bool.Decides.{Decides-eqb, Decides-ltb, Decides-not, Decides-or, Decides-and, Decides-like, Decides-at}
 use Rattle.std.proofs.lemmas.List.{length-take, length-drop, get_or-take, get_or-drop}
 use Rattle.ctf_model.specs.format.Bytes.{u16_at}
-use Rattle.ctf_model.specs.rules.Faults.{if_broken, too_short, bad_magic, bad_version, compressed, short_header, bad_order, bad_align, past_end, bad_strings, is_out_of_order, is_misaligned}
+use Rattle.ctf_model.specs.rules.Faults.{if_broken, too_short, bad_magic, bad_version, compression, short_header, bad_order, bad_align, past_end, bad_strings, is_out_of_order, is_misaligned}
 use Rattle.ctf_model.specs.format.Header.{Fields, fields, section}
 use Rattle.ctf_model.specs.format.Lists.{Lists}
 use Rattle.ctf_model.specs.rules.Rules.{IsBroken, Keeps, IsOutOfOrder, IsMisaligned}
@@ -23,7 +23,7 @@ bad_magic_agrees s = test_agrees _ _ (Decides-not _ (Decides-eqb (u16_at s.ctf 0
 pub bad_version_agrees : (s : Lists) → Agrees (bad_version s.ctf) (IsBroken s 3)
 bad_version_agrees s = test_agrees _ _ (Decides-not _ (Decides-eqb (slice_index s.ctf 2) 2))
 
-pub compressed_agrees : (s : Lists) → Agrees (compressed s.ctf) (IsBroken s 4)
+pub compressed_agrees : (s : Lists) → Agrees (compression s.ctf) (IsBroken s 4)
 compressed_agrees s = test_agrees _ _ (Decides-eqb (slice_index s.ctf 3 % 2) 1)
 
 pub short_header_agrees : (s : Lists) → Agrees (short_header s.ctf) (IsBroken s 5)

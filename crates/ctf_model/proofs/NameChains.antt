@@ -5,7 +5,7 @@ use Rattle.std.specs.List.{AllByRecursion}
 use Rattle.ctf_model.specs.rules.ChainLaws.{HasShortChainsIn}
 use Rattle.ctf_model.specs.rules.Chains.{declarator}
 use Rattle.ctf_model.specs.names.NameLaws.{NamesAreTheirRules, NamesAskByDeclarator, declaration_rule}
-use Rattle.ctf_model.specs.names.TypeNames.{Declaration, around, bare, declaration, declaration_of, declaration_within, longest_text, text_of_declaration}
+use Rattle.ctf_model.specs.names.TypeNames.{Declaration, around, bare_name, declaration, declaration_of, declaration_within, longest_text, text_of_declaration}
 use Rattle.ctf_model.specs.spaces.Space.{Space, space_type}
 use Rattle.ctf_model.specs.format.Term.{Term, Body}
 use Rattle.ctf_model.specs.format.Term as term
@@ -35,7 +35,7 @@ names_ask f g name term.unknown a = refl
 
 -- the same of a number, where it names a type
 rule_same : (s : Space) (f g : ℕ → Result Declaration Fault) (n : ℕ) → ((z : Term) → space_type s n ≡ Ok z → AllByRecursion (λ t. f t ≡ g t) (declarator z.body)) → declaration_rule s f n ≡ declaration_rule s g n
-rule_same s f g n h = ap (λ (x : Result Declaration Fault). cond (eqb n 0) (bare (codes "void")) x) (at (space_type s n) refl)
+rule_same s f g n h = ap (λ (x : Result Declaration Fault). cond (eqb n 0) (bare_name (codes "void")) x) (at (space_type s n) refl)
   where
     at : (r : Result Term Fault) → space_type s n ≡ r → declaration_of f r ≡ declaration_of g r
     at (Err fault) e = refl

@@ -6,7 +6,7 @@ use Rattle.ctf_model.specs.rules.ChainLaws.{HasShortChains, HasShortChainsIn, Is
 use Rattle.ctf_model.specs.rules.Chains.{by_value}
 use Rattle.ctf_model.specs.format.Dictionary.{Dictionary}
 use Rattle.ctf_model.specs.figures.FigureLaws.{AsksByValue, parent_alone}
-use Rattle.ctf_model.specs.figures.Figures.{Figure, comes_to, figure_in, most_numbers, of_found, parents_figure, resolved, resolved_body, resolving}
+use Rattle.ctf_model.specs.figures.Figures.{Figure, comes_to, figure_in, most_numbers, of_found, parents_figure, resolved_type, resolved_body, resolving}
 use Rattle.ctf_model.specs.figures.PathLaws.{FiguresAreTheirRules, StepsAreTheirRules, figure_rule, stands_for, step_found, step_from}
 use Rattle.ctf_model.specs.figures.Paths.{members_found, position_among, position_within, step_to}
 use Rattle.ctf_model.specs.format.Shown.{members_in, shown}
@@ -103,7 +103,7 @@ figures_rule figure asks s short n = at (place s.own.child n) refl
 
 -- from a type that resolving finds
 body_step : (s : Space) (step : ℕ) (name : List ℕ) (offset n : ℕ) (body : Body) → members_found (space_type s n) ≡ members_in (shown body)
-    → position_within s step name offset (resolved_body (resolved s) n body) ≡ step_from (step_to s step name) step name offset body (stands_for body)
+    → position_within s step name offset (resolved_body (resolved_type s) n body) ≡ step_from (step_to s step name) step name offset body (stands_for body)
 body_step s step name offset n (term.typedef t) e = refl
 body_step s step name offset n (term.volatile t) e = refl
 body_step s step name offset n (term.const t) e = refl
@@ -121,14 +121,14 @@ body_step s step name offset n term.unknown e = ap (position_among step name off
 
 -- from what resolving's rule finds of a number
 resolved_step : (s : Space) (step : ℕ) (name : List ℕ) (offset n : ℕ)
-    → position_within s step name offset (figure_rule resolving s (resolved s) n) ≡ cond (eqb n 0) (position_among step name offset None) (step_found (step_to s step name) step name offset (space_type s n))
+    → position_within s step name offset (figure_rule resolving s (resolved_type s) n) ≡ cond (eqb n 0) (position_among step name offset None) (step_found (step_to s step name) step name offset (space_type s n))
 resolved_step s step name offset n = at (eqb n 0)
   where
-    found : (r : Result Term Fault) → space_type s n ≡ r → position_within s step name offset (of_found resolving (resolved s) n r) ≡ step_found (step_to s step name) step name offset r
+    found : (r : Result Term Fault) → space_type s n ≡ r → position_within s step name offset (of_found resolving (resolved_type s) n r) ≡ step_found (step_to s step name) step name offset r
     found (Err fault) e = refl
     found (Ok z) e = body_step s step name offset n z.body (ap members_found e)
 
-    at : (none : Bool) → position_within s step name offset (cond none (Ok 0) (of_found resolving (resolved s) n (space_type s n))) ≡ cond none (position_among step name offset None) (step_found (step_to s step name) step name offset (space_type s n))
+    at : (none : Bool) → position_within s step name offset (cond none (Ok 0) (of_found resolving (resolved_type s) n (space_type s n))) ≡ cond none (position_among step name offset None) (step_found (step_to s step name) step name offset (space_type s n))
     at true = refl
     at false = found (space_type s n) refl
 

@@ -6,7 +6,7 @@ use Rattle.std.proofs.lemmas.Option.{same_Some, cond_some}
 use Rattle.ctf_model.specs.declared.faults.Fault.{Fault}
 use Rattle.ctf_model.specs.declared.faults.TheConstants.Fault.{TRUNCATED, BAD_KIND}
 use Rattle.ctf_model.specs.declared.sections.Section.TheVariants.{STypes}
-use Rattle.ctf_model.specs.rules.Faults.{walk_fault, types, place_of, truncated, bad_kind, too_many}
+use Rattle.ctf_model.specs.rules.Faults.{walk_fault, types, place_of, cut_record, bad_kind, too_many}
 use Rattle.ctf_model.specs.format.Header.{section}
 use Rattle.ctf_model.specs.format.Laws.{pieces, rest_fault}
 use Rattle.ctf_model.specs.format.Lists.{Lists}
@@ -89,8 +89,8 @@ unknown_code rest e = at _ (unknown_decided rest)
     at false d = let other : BAD_KIND ≡ TRUNCATED = sym e ∙ code_cut_off rest (λ h. false≢true (d.1 h)) in absurd cc
 
 -- where a record is cut off, its number is computed, and no other
-pub truncated_agrees : (s : Lists) → Agrees (truncated s) (IsBroken s 10)
-truncated_agrees s = exact_agrees (truncated s) (Truncated s) (λ p t. code_at s TRUNCATED p t.0 t.1 t.2 t.3 (code_cut_off t.1 t.4) t.5, λ p e. let r = at_code s TRUNCATED p e in (r.0, r.1, r.2, r.3, cut_off_code r.1 r.4, r.5))
+pub truncated_agrees : (s : Lists) → Agrees (cut_record s) (IsBroken s 10)
+truncated_agrees s = exact_agrees (cut_record s) (Truncated s) (λ p t. code_at s TRUNCATED p t.0 t.1 t.2 t.3 (code_cut_off t.1 t.4) t.5, λ p e. let r = at_code s TRUNCATED p e in (r.0, r.1, r.2, r.3, cut_off_code r.1 r.4, r.5))
 
 -- so it is where a kind is not known
 pub bad_kind_agrees : (s : Lists) → Agrees (bad_kind s) (IsBroken s 11)

@@ -8,18 +8,18 @@ use Rattle.std.proofs.lemmas.List.{length-append, append_assoc, length-set, map-
 use Rattle.ctf_model.proofs.Alls.{all_got, all_joined, all_set, all_split, none_joined, none_weaker, or_parts}
 use Rattle.ctf_model.proofs.Anywhere.{all_map}
 use Rattle.ctf_model.proofs.DraftNumbers.{IsOpen, opened, still_there}
-use Rattle.ctf_model.specs.drafts.Adders.{Added, add_enumerator, add_label, add_member, add_type, against_enumerator, against_label, against_member, against_place, against_type, body_at, found_body, members_at, most_items, most_types, place_member, present_enumerators, present_members, put_member, replaced, size_with, with_body, with_enumerator, with_label, with_member, with_pending, with_type}
+use Rattle.ctf_model.specs.drafts.Adders.{Added, add_enumerator, add_label, add_member, add_type, against_enumerator, against_label, against_member, against_place, against_type, body_at, found_body, members_at, most_items, most_types, place_member, present_enumerators, present_members, put_member, replace_body, size_with, with_body, with_enumerator, with_label, with_member, with_pending, with_type}
 use Rattle.ctf_model.specs.format.Dictionary.{Label}
-use Rattle.ctf_model.specs.drafts.DraftChanges.{DraftChange, after, changed, draft_of, or_as_before}
+use Rattle.ctf_model.specs.drafts.DraftChanges.{DraftChange, after, apply_change, draft_of, or_as_before}
 use Rattle.ctf_model.specs.drafts.DraftChanges as does
 use Rattle.ctf_model.specs.drafts.DraftLaws.{FitsChange, HoldsTogether, IsSound, NamesThere}
-use Rattle.ctf_model.specs.drafts.Drafts.{Draft, above, against_draft, all_of, count_of, discarded, empty_draft, has_zero, held, is_absent, new_draft, next_number, settled, space_of}
+use Rattle.ctf_model.specs.drafts.Drafts.{Draft, above, against_draft, all_of, count_of, rollback, empty_draft, has_zero, content, is_absent, new_draft, next_number, commit, space_of}
 use Rattle.ctf_model.specs.drafts.Fitting.{Fits, FitsBody, FitsEnumerator, FitsLabel, FitsMember, FitsMembers, FitsNew, IsName}
 use Rattle.ctf_model.specs.spaces.Imports.{Modelled}
 use Rattle.ctf_model.specs.rules.Judgements.{Row, first_met, unless, ◌then◌}
 use Rattle.ctf_model.specs.drafts.NewTypes.{NewBody, NewType, new_body, new_term}
 use Rattle.ctf_model.specs.drafts.NewTypes as new
-use Rattle.ctf_model.specs.drafts.Placement.{bits_filled, grown, is_too_far, member_place}
+use Rattle.ctf_model.specs.drafts.Placement.{bits_filled, grown_size, is_too_far, member_place}
 use Rattle.ctf_model.specs.rules.References.{references}
 use Rattle.ctf_model.specs.rules.Refusals.{placeless}
 use Rattle.ctf_model.specs.format.Shown.{enumerators_in, list_length, members_in, shown, size_of}
@@ -82,7 +82,7 @@ renewed d ts ok more few fits named =
     let old = length-append d.updated.terms d.pending.terms in
     let now = length-append d.updated.terms ts in
     let le : count_of d ≤ length (d.updated.terms ++ ts) = omega arith in
-    let there = λ (n : ℕ) (h : is_absent d n ≡ false). still_there d.parent (held d) (held (with_pending d ts)) n (place (is_some d.parent) n) le h in
+    let there = λ (n : ℕ) (h : is_absent d n ≡ false). still_there d.parent (content d) (content (with_pending d ts)) n (place (is_some d.parent) n) le h in
     let weaker = λ (x : Term) (h : NamesThere d x). none_weaker (is_absent d) (is_absent (with_pending d ts)) there (references x.body) h in
     let before = all_split (NamesThere d) d.updated.terms d.pending.terms ok.all.named in
     let first = all_split Fits d.updated.terms d.pending.terms ok.all.terms in
@@ -102,7 +102,7 @@ renewed d ts ok more few fits named =
     }
 
 -- one pending type may be another
-replaced_sound : (d : Draft) (n : ℕ) (x : Term) (i : ℕ) (body : Body) → IsSound d → IsOpen d n x i → FitsBody body → list_any (is_absent d) (references body) ≡ false → IsSound (replaced d n body)
+replaced_sound : (d : Draft) (n : ℕ) (x : Term) (i : ℕ) (body : Body) → IsSound d → IsOpen d n x i → FitsBody body → list_any (is_absent d) (references body) ≡ false → IsSound (replace_body d n body)
 replaced_sound d n x i body ok known fits named =
     let len = length-set d.pending.terms i (with_body body x) in
     let old = length-append d.updated.terms d.pending.terms in
@@ -198,7 +198,7 @@ names_with p (term.volatile _) m size h own = h
 names_with p (term.const _) m size h own = h
 names_with p (term.restrict _) m size h own = h
 
-grown_holds : (size offset bits : ℕ) → (size ≤ grown size offset bits) × (offset ≤ 8 * grown size offset bits)
+grown_holds : (size offset bits : ℕ) → (size ≤ grown_size size offset bits) × (offset ≤ 8 * grown_size size offset bits)
 grown_holds size offset bits = (omega arith, omega arith)
 
 -- the body of an open type fits, and names what is there
@@ -207,7 +207,7 @@ open_body d n x i known = ap found_body known.found
 
 put_sound : (d : Draft) (n : ℕ) (x : Term) (i : ℕ) (m : Member) (bits : ℕ) (a : Added) → IsSound d → IsOpen d n x i → has_zero m.name ≡ false → is_none (members_at d n) ≡ false → leb most_items (length (present_members d n)) ≡ false → is_absent d m.tnum ≡ false → put_member d n m bits ≡ Ok a → IsSound a.draft
 put_sound d n x i m bits a ok known clean right few there h =
-    let judged = passed (against_place m.offset (size_with d n m.offset bits)) (Ok (record { draft = replaced d n (with_member m (size_with d n m.offset bits) (body_at d n)); answer = m.offset })) a h in
+    let judged = passed (against_place m.offset (size_with d n m.offset bits)) (Ok (record { draft = replace_body d n (with_member m (size_with d n m.offset bits) (body_at d n)); answer = m.offset })) a h in
     let far = or_parts (is_too_far m.offset) (is_too_far (size_with d n m.offset bits)) judged.0.0 in
     let near = leb-false (2 ^ 64) m.offset far.0 in
     let near_size = leb-false (2 ^ 64) (size_with d n m.offset bits) far.1 in
@@ -271,7 +271,7 @@ names_enum (term.restrict _) e = refl
 pub enumerator_sound : (d : Draft) (n : ℕ) (e : Enumerator) (a : Draft) → IsSound d → FitsSigned w32 e.value → add_enumerator d n e ≡ Ok a → IsSound a
 unfolding add_enumerator
 enumerator_sound d n e a ok low h =
-    let judged = passed (against_enumerator d n e.name) (Ok (replaced d n (with_enumerator e (body_at d n)))) a h in
+    let judged = passed (against_enumerator d n e.name) (Ok (replace_body d n (with_enumerator e (body_at d n)))) a h in
     let found = opened d n judged.0.1.0 judged.0.1.1.0 in
     let known = found.2 in
     let few = leb-false most_items (length (present_enumerators d n)) judged.0.1.1.1.1.0 in
@@ -291,7 +291,7 @@ label_sound d label a ok low h =
     let judged = passed (against_label d label.name) (Ok (with_label d label)) a h in
     let own : FitsLabel label = record { name = is_name label.name judged.0.0; last = low } in
     let labels = all_joined FitsLabel (d.updated.labels ++ d.pending.labels) (label ∷ []) ok.all.labels (own, tt) in
-    let there = λ (n : ℕ) (h : is_absent d n ≡ false). still_there d.parent (held d) (held (with_label d label)) n (place (is_some d.parent) n) (omega arith) h in
+    let there = λ (n : ℕ) (h : is_absent d n ≡ false). still_there d.parent (content d) (content (with_label d label)) n (place (is_some d.parent) n) (omega arith) h in
     let weaker = λ (x : Term) (h : NamesThere d x). none_weaker (is_absent d) (is_absent (with_label d label)) there (references x.body) h in
     subst IsSound (ok_is _ a judged.1) (record {
       all = record {
@@ -309,11 +309,11 @@ label_sound d label a ok low h =
 
 -- ---- discard and update
 
-settled_sound : (d : Draft) → IsSound d → HoldsTogether (settled d)
+settled_sound : (d : Draft) → IsSound d → HoldsTogether (commit d)
 settled_sound d ok =
     let len = length-append (all_of d).terms [] in
-    let there = λ (n : ℕ) (h : is_absent d n ≡ false). still_there d.parent (held d) (held (settled d)) n (place (is_some d.parent) n) (omega arith) h in
-    let weaker = λ (x : Term) (h : NamesThere d x). none_weaker (is_absent d) (is_absent (settled d)) there (references x.body) h in
+    let there = λ (n : ℕ) (h : is_absent d n ≡ false). still_there d.parent (content d) (content (commit d)) n (place (is_some d.parent) n) (omega arith) h in
+    let weaker = λ (x : Term) (h : NamesThere d x). none_weaker (is_absent d) (is_absent (commit d)) there (references x.body) h in
     let count = ok.all.count in
     record {
       parent = ok.all.parent;
@@ -323,10 +323,10 @@ settled_sound d ok =
       labels = all_joined FitsLabel (all_of d).labels [] ok.all.labels tt;
       count = omega arith;
       terms = all_joined Fits (all_of d).terms [] ok.all.terms tt;
-      named = all_joined (NamesThere (settled d)) (all_of d).terms [] (all_map (NamesThere d) (NamesThere (settled d)) weaker (all_of d).terms ok.all.named) tt;
+      named = all_joined (NamesThere (commit d)) (all_of d).terms [] (all_map (NamesThere d) (NamesThere (commit d)) weaker (all_of d).terms ok.all.named) tt;
     }
 
-pub life_sound : (d : Draft) → IsSound d → IsSound (discarded d) × IsSound (settled d)
+pub life_sound : (d : Draft) → IsSound d → IsSound (rollback d) × IsSound (commit d)
 life_sound d ok = let all = settled_sound d ok in (record { all = ok.updated; updated = ok.updated }, record { all = all; updated = all })
 
 -- ---- one thing after the other
@@ -339,7 +339,7 @@ kept_draft : (d : Draft) (r : Result Draft Fault) → IsSound d → ((a : Draft)
 kept_draft d (Err f) ok h = ok
 kept_draft d (Ok a) ok h = h a refl
 
-changed_sound : (d : Draft) (change : DraftChange) → IsSound d → FitsChange change → IsSound (changed d change)
+changed_sound : (d : Draft) (change : DraftChange) → IsSound d → FitsChange change → IsSound (apply_change d change)
 changed_sound d (does.adds_type x) ok fits = kept_type d (add_type d x) ok (λ a h. type_sound d x a ok fits h)
 changed_sound d (does.adds_member n name tnum offset) ok fits = kept_type d (add_member d n name tnum offset) ok (λ a h. member_sound d n name tnum offset a ok h)
 changed_sound d (does.adds_enumerator n e) ok fits = kept_draft d (add_enumerator d n e) ok (λ a h. enumerator_sound d n e a ok fits h)
@@ -350,4 +350,4 @@ changed_sound d does.settles ok fits = (life_sound d ok).1
 pub changes_sound : (d : Draft) (changes : List DraftChange) → IsSound d → AllByRecursion FitsChange changes → IsSound (after d changes)
 unfolding after
 changes_sound d [] ok fits = ok
-changes_sound d (change ∷ changes) ok fits = changes_sound (changed d change) changes (changed_sound d change ok fits.0) fits.1
+changes_sound d (change ∷ changes) ok fits = changes_sound (apply_change d change) changes (changed_sound d change ok fits.0) fits.1

@@ -14,7 +14,7 @@ use Rattle.ctf_model.specs.format.Lists.{Lists}
 use Rattle.ctf_model.specs.rules.References.{is_missing}
 use Rattle.ctf_model.specs.rules.Rules.{IsBroken, Keeps, IsBadEntry, IsMissing, TellsMissing, BadSymbolType}
 use Rattle.ctf_model.specs.format.Section.{Piece, IsCut}
-use Rattle.ctf_model.specs.symbols.Symbols.{Symbol, symbols, considered, considered_from, is_considered, is_object}
+use Rattle.ctf_model.specs.symbols.Symbols.{Symbol, symbols, with_types, considered_from, is_considered, is_object}
 use Rattle.ctf_model.specs.declared.sections.Section.TheVariants.{SObjects, SFunctions, STypes}
 use Rattle.ctf_model.specs.declared.faults.Fault.{Fault}
 use Rattle.ctf_model.proofs.Anywhere.{any_here, any_there, any_split, any_map}
@@ -108,7 +108,7 @@ bad_entry_decides b =
 
 pub bad_funcs_agrees : (s : Lists) → Agrees (bad_funcs s) (IsBroken s 17)
 unfolding bad_funcs function_sites
-bad_funcs_agrees s = first_agrees (λ (site : FunctionSite). is_bad_entry site.left) (λ (site : FunctionSite). site.number) (λ (site : FunctionSite). IsBadEntry site.left) (λ site. bad_entry_decides site.left) (function_sites s) 0 (sites_rising (considered (symbols s)) (section s.ctf SFunctions) 0 (considered_rising 0 (symbols s)))
+bad_funcs_agrees s = first_agrees (λ (site : FunctionSite). is_bad_entry site.left) (λ (site : FunctionSite). site.number) (λ (site : FunctionSite). IsBadEntry site.left) (λ site. bad_entry_decides site.left) (function_sites s) 0 (sites_rising (with_types (symbols s)) (section s.ctf SFunctions) 0 (considered_rising 0 (symbols s)))
 
 -- one of some numbers is missing
 missing_decides : (child : Bool) (count : ℕ) (ts : List ℕ) → Decides (list_any (is_missing child count) ts) (Any (IsMissing child count) ts)
@@ -123,7 +123,7 @@ IsMistold s count p = Any (λ e. (e.number ≡ p) × TellsMissing (is_child (fie
 
 mistold_agrees : (s : Lists) (count : ℕ) → Agrees (first_where (tells_missing (is_child (fields s.ctf)) count) (λ (e : Entry). e.number) (entries s)) (IsMistold s count)
 unfolding entries
-mistold_agrees s count = first_agrees (tells_missing (is_child (fields s.ctf)) count) (λ (e : Entry). e.number) (TellsMissing (is_child (fields s.ctf)) count) (λ e. missing_decides (is_child (fields s.ctf)) count (types_named e.told)) (entries s) 0 (entries_rising (considered (symbols s)) (section s.ctf SObjects) (section s.ctf SFunctions) 0 (considered_rising 0 (symbols s)))
+mistold_agrees s count = first_agrees (tells_missing (is_child (fields s.ctf)) count) (λ (e : Entry). e.number) (TellsMissing (is_child (fields s.ctf)) count) (λ e. missing_decides (is_child (fields s.ctf)) count (types_named e.told)) (entries s) 0 (entries_rising (with_types (symbols s)) (section s.ctf SObjects) (section s.ctf SFunctions) 0 (considered_rising 0 (symbols s)))
 
 -- where the rules before it are kept, the rule agrees with its fact
 pub bad_symbol_type_agrees : (s : Lists) → Keeps s 18 → Agrees (bad_symbol_type s) (IsBroken s 18)

@@ -6,7 +6,7 @@ use Rattle.ctf_model.specs.symbols.Entries.{Entry, Owner, Signature, Told, AreEn
 use Rattle.ctf_model.specs.symbols.Entries as told
 use Rattle.ctf_model.specs.format.Header.{section}
 use Rattle.ctf_model.specs.format.Lists.{Lists}
-use Rattle.ctf_model.specs.symbols.Symbols.{Symbol, symbols, considered, is_object}
+use Rattle.ctf_model.specs.symbols.Symbols.{Symbol, symbols, with_types, is_object}
 use Rattle.ctf_model.specs.declared.sections.Section.TheVariants.{SObjects, SFunctions}
 use Rattle.ctf_model.specs.declared.symbols.SymbolClass.TheVariants.{Object, Function}
 
@@ -57,7 +57,7 @@ functions_computed (x ∷ xs) o f = at (is_object x.1) (functions_computed xs (d
 pub entries_said : (s : Lists) → AreEntries (symbols s) (section s.ctf SObjects) (section s.ctf SFunctions) (entries s)
 unfolding entries
 entries_said s =
-    let xs = considered (symbols s) in
+    let xs = with_types (symbols s) in
     let o = section s.ctf SObjects in
     let f = section s.ctf SFunctions in
     record { owners = owners_computed xs o f; types = objects_computed xs o f; signatures = functions_computed xs o f }

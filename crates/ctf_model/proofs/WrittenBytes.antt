@@ -7,7 +7,7 @@ use Rattle.std.proofs.lemmas.List.{length-append, drop-drop}
 use Rattle.ctf_model.specs.format.Bytes.{number, u32_at}
 use Rattle.ctf_model.specs.rules.Chains.{by_value, declarator, edges}
 use Rattle.ctf_model.specs.format.Dictionary.{Dictionary, Label, Denotes, AreLabels}
-use Rattle.ctf_model.specs.rules.Faults.{Site, first_fault, first_broken, first_nameless, first_deep, or_later, rules, on_ctf, header_rules, truncated, bad_kind, too_many, bad_name, bad_reference, value_deep, decl_deep, bad_funcs, bad_symbol_type, bad_symtab, edges_by, first_misnaming, types, sites, label_sites, record_sites, walk_fault, place_of}
+use Rattle.ctf_model.specs.rules.Faults.{Site, first_fault, first_broken, first_nameless, first_deep, or_later, rules, on_ctf, header_rules, cut_record, bad_kind, too_many, bad_name, bad_reference, value_deep, decl_deep, bad_funcs, bad_symbol_type, bad_symtab, edges_by, first_misnaming, types, sites, label_sites, record_sites, walk_fault, place_of}
 use Rattle.ctf_model.specs.format.Header.{Fields, fields, is_child, section}
 use Rattle.ctf_model.specs.format.Lists.{Lists, tables}
 use Rattle.ctf_model.specs.format.Name.{Tables, name}
@@ -296,8 +296,8 @@ module _ (d : Dictionary) (ctf : List ℕ) (ok : IsWritable d) (read : AreRead d
   fault_is : first_fault (lists_of ctf) ≡ unwritten_by (deep_by by_value d) (deep_by declarator d)
   unfolding first_fault rules
   fault_is =
-      later_broken 1 15 (map on_ctf header_rules ++ truncated ∷ bad_kind ∷ too_many ∷ bad_name ∷ bad_reference ∷ []) (value_deep ∷ decl_deep ∷ bad_funcs ∷ bad_symbol_type ∷ bad_symtab ∷ []) (lists_of ctf)
-      (all_joined (λ (rule : Lists → Option ℕ). rule (lists_of ctf) ≡ None) (map on_ctf header_rules) (truncated ∷ bad_kind ∷ too_many ∷ bad_name ∷ bad_reference ∷ [])
+      later_broken 1 15 (map on_ctf header_rules ++ cut_record ∷ bad_kind ∷ too_many ∷ bad_name ∷ bad_reference ∷ []) (value_deep ∷ decl_deep ∷ bad_funcs ∷ bad_symbol_type ∷ bad_symtab ∷ []) (lists_of ctf)
+      (all_joined (λ (rule : Lists → Option ℕ). rule (lists_of ctf) ≡ None) (map on_ctf header_rules) (cut_record ∷ bad_kind ∷ too_many ∷ bad_name ∷ bad_reference ∷ [])
       (header_kept _ _ ctf (labels_written d) (records_written d) (string_bytes (strings_of d)) read.laid refl words)
       (ap (place_of 10) no_fault_in_walk, (ap (place_of 11) no_fault_in_walk, (few_kept, (names_kept, (references_kept, tt))))))
       refl
@@ -308,7 +308,7 @@ module _ (d : Dictionary) (ctf : List ℕ) (ok : IsWritable d) (read : AreRead d
   faultless : deep_by by_value d ≡ None → deep_by declarator d ≡ None → first_fault (lists_of ctf) ≡ None
   unfolding first_fault rules
   faultless value declared =
-      none_broken 1 rules (lists_of ctf) (all_joined (λ (rule : Lists → Option ℕ). rule (lists_of ctf) ≡ None) (map on_ctf header_rules) (truncated ∷ bad_kind ∷ too_many ∷ bad_name ∷ bad_reference ∷ value_deep ∷ decl_deep ∷ symbol_rules)
+      none_broken 1 rules (lists_of ctf) (all_joined (λ (rule : Lists → Option ℕ). rule (lists_of ctf) ≡ None) (map on_ctf header_rules) (cut_record ∷ bad_kind ∷ too_many ∷ bad_name ∷ bad_reference ∷ value_deep ∷ decl_deep ∷ symbol_rules)
       (header_kept _ _ ctf (labels_written d) (records_written d) (string_bytes (strings_of d)) read.laid refl words)
       (ap (place_of 10) no_fault_in_walk, (ap (place_of 11) no_fault_in_walk, (few_kept, (names_kept, (references_kept, (deep_is by_value ∙ value, (deep_is declarator ∙ declared, symbols_kept ctf))))))))
 

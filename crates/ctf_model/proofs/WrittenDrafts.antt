@@ -6,13 +6,13 @@ use Rattle.ctf_model.proofs.UnderParents.{misses_none, names_short, stays_under}
 use Rattle.ctf_model.proofs.WrittenBytes.{IsWritable, alike, whole}
 use Rattle.ctf_model.specs.format.Dictionary.{Dictionary, Denotes}
 use Rattle.ctf_model.specs.drafts.DraftLaws.{IsSound}
-use Rattle.ctf_model.specs.drafts.Drafts.{Draft, held}
+use Rattle.ctf_model.specs.drafts.Drafts.{Draft, content}
 use Rattle.ctf_model.specs.rules.Faults.{first_fault}
 use Rattle.ctf_model.specs.format.Header.{fields, is_child}
 use Rattle.ctf_model.specs.spaces.Imports.{import_fault, of_one_model}
 use Rattle.ctf_model.specs.writing.Written.{bytes_of, lists_of, most_written, unwritten, written}
 
-writable : (d : Draft) → IsSound d → IsWritable (held d)
+writable : (d : Draft) → IsSound d → IsWritable (content d)
 writable d ok = record {
   child = ok.all.child;
   parname = ok.all.parname;
@@ -26,16 +26,16 @@ writable d ok = record {
   entries = refl;
 }
 
-pub draft_denoted : (d : Draft) (bytes : List ℕ) → IsSound d → written (held d) ≡ Ok bytes → Denotes (lists_of bytes) (held d)
-draft_denoted d bytes ok e = whole (held d) bytes (writable d ok) e
+pub draft_denoted : (d : Draft) (bytes : List ℕ) → IsSound d → written (content d) ≡ Ok bytes → Denotes (lists_of bytes) (content d)
+draft_denoted d bytes ok e = whole (content d) bytes (writable d ok) e
 
-pub draft_child : (d : Draft) (bytes : List ℕ) → IsSound d → written (held d) ≡ Ok bytes → is_child (fields bytes) ≡ is_some d.parent
+pub draft_child : (d : Draft) (bytes : List ℕ) → IsSound d → written (content d) ≡ Ok bytes → is_child (fields bytes) ≡ is_some d.parent
 draft_child d bytes ok e = sym (draft_denoted d bytes ok e).child
 
-pub draft_imported : (d : Draft) (parent : Dictionary) (bytes : List ℕ) (child : Dictionary) → IsSound d → d.parent ≡ Some parent → written (held d) ≡ Ok bytes → Denotes (lists_of bytes) child → import_fault (of_one_model d.model child parent) ≡ None
+pub draft_imported : (d : Draft) (parent : Dictionary) (bytes : List ℕ) (child : Dictionary) → IsSound d → d.parent ≡ Some parent → written (content d) ≡ Ok bytes → Denotes (lists_of bytes) child → import_fault (of_one_model d.model child parent) ≡ None
 draft_imported d parent bytes child ok p e denotes =
-    let same : held d ≡ child = one_dictionary (lists_of bytes) (held d) child (draft_denoted d bytes ok e) denotes in
+    let same : content d ≡ child = one_dictionary (lists_of bytes) (content d) child (draft_denoted d bytes ok e) denotes in
     subst (λ (c : Dictionary). import_fault (of_one_model d.model c parent) ≡ None) same (stays_under d parent ok p)
 
-pub draft_alike : (d : Draft) → IsSound d → length (bytes_of (held d)) ≤ most_written → first_fault (lists_of (bytes_of (held d))) ≡ unwritten (held d)
-draft_alike d ok small = alike (held d) (writable d ok) small
+pub draft_alike : (d : Draft) → IsSound d → length (bytes_of (content d)) ≤ most_written → first_fault (lists_of (bytes_of (content d))) ≡ unwritten (content d)
+draft_alike d ok small = alike (content d) (writable d ok) small

@@ -3,11 +3,11 @@ use Rattle.std.proofs.Common.{◌≡◌, ℕ, suc, ◌+◌, ◌-◌, ◌≤◌, 
 use Rattle.std.specs.Option.{IfSome}
 use Rattle.std.proofs.lemmas.Option.{IfSome_then}
 use Rattle.std.specs.BTreeMap.{BTreeMap, IsEmpty}
-use Rattle.ctf_model.specs.names.TypeNames.{Declaration, around, bare, declaration_of, declaration_within, longest_text, spelled_name, text_of_declaration}
+use Rattle.ctf_model.specs.names.TypeNames.{Declaration, around, bare_name, declaration_of, declaration_within, longest_text, spelled_name, text_of_declaration}
 use Rattle.ctf_model.specs.spaces.Space.{Space, space_type}
 use Rattle.ctf_model.specs.declared.faults.Fault.{Fault}
 use Rattle.ctf_model.specs.declared.layers.Layer.{Layer}
-use Rattle.ctf_names.specs.NameLengths.{measured}
+use Rattle.ctf_names.specs.NameLengths.{measure}
 use Rattle.ctf_names.specs.KnownView.{AreRight}
 use Rattle.ctf_names.specs.Measuring.{IsMeasured}
 use Rattle.ctf_names.specs.declared.name_lengths.NameLengths.{NameLengths}
@@ -15,13 +15,13 @@ use Rattle.ctf_names.specs.declared.measures.Measured.{Measured}
 use Rattle.ctf_names.proofs.Unrolls.{at_type, at_void}
 
 -- nothing is round it
-pub end_found : (s : Space) (n : ℕ) (x : Result Declaration Fault) (lengths : Result NameLengths Fault) → ((k : ℕ) → declaration_within s (suc k) n ≡ x) → measured x ≡ lengths → IsMeasured s n (record { layers = 0; lengths = lengths })
+pub end_found : (s : Space) (n : ℕ) (x : Result Declaration Fault) (lengths : Result NameLengths Fault) → ((k : ℕ) → declaration_within s (suc k) n ≡ x) → measure x ≡ lengths → IsMeasured s n (record { layers = 0; lengths = lengths })
 end_found s n x lengths all e = record {
   same = λ k. all (k + 0) ∙ sym (all 0);
-  right = ap measured (all 0) ∙ e;
+  right = ap measure (all 0) ∙ e;
 }
 
-pub void_found : (s : Space) (n k : ℕ) → n ≡ 0 → declaration_within s (suc k) n ≡ bare (118 ∷ 111 ∷ 105 ∷ 100 ∷ [])
+pub void_found : (s : Space) (n k : ℕ) → n ≡ 0 → declaration_within s (suc k) n ≡ bare_name (118 ∷ 111 ∷ 105 ∷ 100 ∷ [])
 void_found s n k e = at_void s (suc k) n (omega arith) e
 
 pub type_found : (s : Space) (n k : ℕ) → (n ≡ 0 → ⊥) → declaration_within s (suc k) n ≡ declaration_of (declaration_within s k) (space_type s n)
@@ -29,7 +29,7 @@ type_found s n k ne = at_type s (suc k) k n (omega arith) ne
 
 -- a layer more
 pub round_found : (s : Space) (n t : ℕ) (layer : Layer) (m : Measured) (lengths : Result NameLengths Fault) → ((k : ℕ) → declaration_within s (suc k) n ≡ around layer (declaration_within s k t)) → IsMeasured s t m
-    → ((x : Result Declaration Fault) → measured x ≡ m.lengths → lengths ≡ measured (around layer x)) → IsMeasured s n (record { layers = m.layers + 1; lengths = lengths })
+    → ((x : Result Declaration Fault) → measure x ≡ m.lengths → lengths ≡ measure (around layer x)) → IsMeasured s n (record { layers = m.layers + 1; lengths = lengths })
 round_found s n t layer m lengths step inside more =
     let one : m.layers + 1 ≡ suc m.layers = omega arith in
     let here = step (suc m.layers) in
@@ -39,7 +39,7 @@ round_found s n t layer m lengths step inside more =
           let all : declaration_within s (suc (suc (k + m.layers))) n ≡ declaration_within s (suc (suc m.layers)) n =
           step (suc (k + m.layers)) ∙ ap (around layer) (inside.same k) ∙ sym here in
           rw (up, one) all;
-      right = rw one (ap measured here ∙ sym (more (declaration_within s (suc m.layers) t) inside.right));
+      right = rw one (ap measure here ∙ sym (more (declaration_within s (suc m.layers) t) inside.right));
     }
 
 -- what all of it is
@@ -49,7 +49,7 @@ within s n t j layer m most step inside e = rw e (step (suc (j + m.layers)) ∙ 
 
 -- why there is no name
 pub no_name : (s : Space) (n t : ℕ) (layer : Layer) (m : Measured) (refused : Option Fault) → ((k : ℕ) → declaration_within s (suc k) n ≡ around layer (declaration_within s k t)) → IsMeasured s t m → m.layers ≤ 1026
-    → ((x : Result Declaration Fault) → measured x ≡ m.lengths → IfSome refused (λ f. text_of_declaration (around layer x) ≡ Err f)) → IfSome refused (λ f. spelled_name s n ≡ Err f)
+    → ((x : Result Declaration Fault) → measure x ≡ m.lengths → IfSome refused (λ f. text_of_declaration (around layer x) ≡ Err f)) → IfSome refused (λ f. spelled_name s n ≡ Err f)
 no_name s n t layer m refused step inside few because =
     let most : longest_text ≡ suc (suc ((65534 - m.layers) + m.layers)) = omega (arith, few) in
     let all = ap text_of_declaration (within s n t (65534 - m.layers) layer m longest_text step inside most) in

@@ -5,7 +5,7 @@ use Rattle.std.proofs.lemmas.Option.{same_Some}
 use Rattle.ctf_model.specs.format.Shown.{Shape, shape}
 use Rattle.ctf_model.specs.format.Term.{Body, Tag, Term}
 use Rattle.ctf_model.specs.format.Term as term
-use Rattle.ctf_model.specs.names.TypeNames.{Declaration, around, bare, declaration_by, declaration_of, or_anon}
+use Rattle.ctf_model.specs.names.TypeNames.{Declaration, around, bare_name, declaration_by, declaration_of, or_anon}
 use Rattle.ctf_model.specs.spaces.TypeNumbers.{or_no_type}
 use Rattle.ctf_model.specs.declared.faults.Fault.{Fault}
 use Rattle.ctf_model.specs.declared.layers.Layer.{Layer}
@@ -28,14 +28,14 @@ by_inside f name (term.volatile t) = refl
 by_inside f name (term.const t) = refl
 by_inside f name (term.restrict t) = refl
 
-bare_behind : (tag : Option Tag) (name : List ℕ) → name_by tag name ≡ bare (behind_tag tag (or_anon name))
+bare_behind : (tag : Option Tag) (name : List ℕ) → name_by tag name ≡ bare_name (behind_tag tag (or_anon name))
 bare_behind None name = refl
 bare_behind (Some tag) name = refl
 
 -- a type that was found, where a name is inside
 pub name_found : (f : ℕ → Result Declaration Fault) (o : Option Term) (x : Shape) (tag : Option Tag) (name : List ℕ)
     → option_map (λ y. shape y.body) o ≡ Some x → option_map (λ y. y.name) o ≡ Some name → inside x ≡ a_name tag
-    → declaration_of f (or_no_type o) ≡ bare (behind_tag tag (or_anon name))
+    → declaration_of f (or_no_type o) ≡ bare_name (behind_tag tag (or_anon name))
 name_found f None x tag name is called has = absurd cc
 name_found f (Some y) x tag name is called has =
     by_inside f y.name y.body ∙ ap (λ (z : Shape). declaration_from f y.name (inside z)) (same_Some _ _ is) ∙ ap (declaration_from f y.name) has ∙ ap (name_by tag) (same_Some _ _ called) ∙ bare_behind tag name

@@ -5,7 +5,7 @@ use Rattle.std.specs.List.{flat_map}
 use Rattle.ctf_model.specs.names.TypeNames.{Declaration, declared, past}
 use Rattle.ctf_model.specs.declared.layers.Layer.{Layer}
 use Rattle.ctf_names.specs.NameLengths.{lengths_of, of_base, one_more}
-use Rattle.ctf_names.specs.Marks.{front, left, mark, marked_text, marks, right}
+use Rattle.ctf_names.specs.Marks.{front, text_before, mark, marked_text, marks, right}
 use Rattle.ctf_names.specs.MarkSteps.{beyond}
 use Rattle.ctf_names.specs.declared.name_lengths.NameLengths.{NameLengths}
 use Rattle.ctf_names.specs.declared.marks.Mark.{Mark}
@@ -21,7 +21,7 @@ name_is : (d : Declaration) (inside : NameLengths) → inside ≡ lengths_of d �
 unfolding lengths_of
 name_is d inside e = rw e refl
 
-declarator_is : (d : Declaration) (inside : NameLengths) → inside ≡ lengths_of d → inside.declarator ≡ min (length (flat_map left (marks false d.layers)) + length (flat_map right (marks false d.layers))) 65537
+declarator_is : (d : Declaration) (inside : NameLengths) → inside ≡ lengths_of d → inside.declarator ≡ min (length (flat_map text_before (marks false d.layers)) + length (flat_map right (marks false d.layers))) 65537
 unfolding lengths_of
 declarator_is d inside e = rw e refl
 
@@ -31,7 +31,7 @@ below_is d inside e = rw e refl
 
 all_three : (d : Declaration) (layer : Layer) (name declarator : ℕ) (below : Option Layer)
     → name ≡ min (length (flat_map front (marks false (layer ∷ d.layers))) + length d.name) 65537
-    → declarator ≡ min (length (flat_map left (marks false (layer ∷ d.layers))) + length (flat_map right (marks false (layer ∷ d.layers)))) 65537
+    → declarator ≡ min (length (flat_map text_before (marks false (layer ∷ d.layers))) + length (flat_map right (marks false (layer ∷ d.layers)))) 65537
     → below ≡ past (layer ∷ d.layers)
     → record { name = name; declarator = declarator; below = below } ≡ lengths_of (one_more layer d)
 unfolding lengths_of
@@ -43,15 +43,15 @@ all_three d layer name declarator below a b c = rw (a, b, c) refl
 fronts_more : (m : Mark) (ms : List Mark) → length (flat_map front (m ∷ ms)) ≡ length (front m) + length (flat_map front ms)
 fronts_more m ms = length-append (front m) (flat_map front ms)
 
-lefts_more : (m : Mark) (ms : List Mark) → length (flat_map left (m ∷ ms)) ≡ length (left m) + length (flat_map left ms)
-lefts_more m ms = length-append (left m) (flat_map left ms)
+lefts_more : (m : Mark) (ms : List Mark) → length (flat_map text_before (m ∷ ms)) ≡ length (text_before m) + length (flat_map text_before ms)
+lefts_more m ms = length-append (text_before m) (flat_map text_before ms)
 
 rights_more : (m : Mark) (ms : List Mark) → length (flat_map right (m ∷ ms)) ≡ length (right m) + length (flat_map right ms)
 rights_more m ms = length-append (right m) (flat_map right ms)
 
 pub round_is : (layer : Layer) (d : Declaration) (inside : NameLengths) (m : Mark) (name declarator : ℕ) (below : Option Layer) → inside ≡ lengths_of d → m ≡ mark false layer inside.below
     → name ≡ min (inside.name + length (front m)) 65537
-    → declarator ≡ min (inside.declarator + (length (left m) + length (right m))) 65537
+    → declarator ≡ min (inside.declarator + (length (text_before m) + length (right m))) 65537
     → below ≡ beyond layer inside.below
     → record { name = name; declarator = declarator; below = below } ≡ lengths_of (one_more layer d)
 round_is layer d inside m name declarator below e is n sides b =
@@ -59,7 +59,7 @@ round_is layer d inside m name declarator below e is n sides b =
     let under = below_is d inside e in
     let this : m ≡ mark false layer (past d.layers) = is ∙ ap (mark false layer) under in
     let fronts = ap (λ (x : Mark). length (flat_map front (x ∷ ms))) (sym this) ∙ fronts_more m ms in
-    let lefts = ap (λ (x : Mark). length (flat_map left (x ∷ ms))) (sym this) ∙ lefts_more m ms in
+    let lefts = ap (λ (x : Mark). length (flat_map text_before (x ∷ ms))) (sym this) ∙ lefts_more m ms in
     let rights = ap (λ (x : Mark). length (flat_map right (x ∷ ms))) (sym this) ∙ rights_more m ms in
     let old_name = name_is d inside e in
     let old_declarator = declarator_is d inside e in
@@ -76,7 +76,7 @@ whole_length layer d m is =
 
 pub bare_is : (layer : Layer) (d : Declaration) (inside : NameLengths) (m : Mark) (name declarator : ℕ) → inside ≡ lengths_of d → m ≡ mark true layer inside.below
     → name ≡ min (inside.name + length (front m)) 65537
-    → declarator ≡ min (inside.declarator + (length (left m) + length (right m))) 65537
+    → declarator ≡ min (inside.declarator + (length (text_before m) + length (right m))) 65537
     → declarator ≡ 0
     → name ≡ min (length (declared (layer ∷ d.layers) d.name [])) 65537
 bare_is layer d inside m name declarator e is n sides none =
@@ -87,12 +87,12 @@ bare_is layer d inside m name declarator e is n sides none =
     let fronts = fronts_more m ms in
     let lefts = lefts_more m ms in
     let rights = rights_more m ms in
-    let nothing : length (flat_map left (m ∷ ms)) + length (flat_map right (m ∷ ms)) ≡ 0 = omega (arith, sides, old_declarator, lefts, rights, none) in
+    let nothing : length (flat_map text_before (m ∷ ms)) + length (flat_map right (m ∷ ms)) ≡ 0 = omega (arith, sides, old_declarator, lefts, rights, none) in
     omega (arith, n, old_name, fronts, whole, bare_length (m ∷ ms) d.name nothing)
 
 pub with_is : (layer : Layer) (d : Declaration) (inside : NameLengths) (m : Mark) (name declarator one result : ℕ) → inside ≡ lengths_of d → m ≡ mark true layer inside.below
     → name ≡ min (inside.name + length (front m)) 65537
-    → declarator ≡ min (inside.declarator + (length (left m) + length (right m))) 65537
+    → declarator ≡ min (inside.declarator + (length (text_before m) + length (right m))) 65537
     → (declarator ≡ 0 → ⊥)
     → one ≡ min (name + 1) 65537 → result ≡ min (one + declarator) 65537
     → result ≡ min (length (declared (layer ∷ d.layers) d.name [])) 65537
@@ -104,5 +104,5 @@ with_is layer d inside m name declarator one result e is n sides some first all 
     let fronts = fronts_more m ms in
     let lefts = lefts_more m ms in
     let rights = rights_more m ms in
-    let much : 0 < length (flat_map left (m ∷ ms)) + length (flat_map right (m ∷ ms)) = omega (arith, sides, old_declarator, lefts, rights, some) in
+    let much : 0 < length (flat_map text_before (m ∷ ms)) + length (flat_map right (m ∷ ms)) = omega (arith, sides, old_declarator, lefts, rights, some) in
     omega (arith, n, old_name, fronts, first, all, sides, old_declarator, lefts, rights, whole, with_length (m ∷ ms) d.name much)

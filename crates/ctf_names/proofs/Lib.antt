@@ -2,12 +2,13 @@ pub mod FoundInside
 pub mod Unrolls
 pub mod MarkedText
 pub mod SpelledBy
-pub mod Entered
 pub mod Briefed
 pub mod Places
+pub mod Led
+pub mod InChains
 pub mod Pointing
 pub mod WrittenTexts
 pub mod Steps
 pub mod Lengths
 pub mod Findings
-pub mod Guessed
+pub mod Shares

@@ -3,7 +3,7 @@ use Rattle.std.proofs.Common.{◌≡◌, ℕ, zero, suc, ◌+◌, ◌<◌, eqb, 
 use Rattle.std.proofs.lemmas.List.{append-nil}
 use Rattle.std.proofs.lemmas.Bool.{ne_eqb}
 use Rattle.ctf_model.specs.spaces.Space.{Space, space_type}
-use Rattle.ctf_model.specs.names.TypeNames.{Declaration, around, bare, declaration_of, declaration_within, too_long}
+use Rattle.ctf_model.specs.names.TypeNames.{Declaration, around, bare_name, declaration_of, declaration_within, too_long}
 use Rattle.ctf_model.specs.declared.faults.Fault.{Fault}
 use Rattle.ctf_model.specs.declared.layers.Layer.{Layer}
 use Rattle.ctf_names.specs.Unrolling.{around_all}
@@ -24,7 +24,7 @@ one_more_layer (first ∷ layers) layer inside = rw (one_more_layer layers layer
 
 -- ---- one step
 
-pub at_void : (s : Space) (k n : ℕ) → 0 < k → n ≡ 0 → declaration_within s k n ≡ bare (118 ∷ 111 ∷ 105 ∷ 100 ∷ [])
+pub at_void : (s : Space) (k n : ℕ) → 0 < k → n ≡ 0 → declaration_within s k n ≡ bare_name (118 ∷ 111 ∷ 105 ∷ 100 ∷ [])
 unfolding declaration_within
 at_void s zero n h e = absurd (omega arith)
 at_void s (suc k) n h e = rw e refl
@@ -43,9 +43,9 @@ no_steps s k n e = rw e refl
 
 -- ---- what all of it is, from what is inside
 
-pub ended : (whole inside : Result Declaration Fault) (layers : List Layer) (name : List ℕ) → whole ≡ around_all layers inside → inside ≡ bare name → whole ≡ Ok (record { layers = layers; name = name })
+pub ended : (whole inside : Result Declaration Fault) (layers : List Layer) (name : List ℕ) → whole ≡ around_all layers inside → inside ≡ bare_name name → whole ≡ Ok (record { layers = layers; name = name })
 ended whole inside layers name is end =
-    let all : around_all layers (bare name) ≡ Ok (record { layers = layers ++ []; name = name }) = in_layers layers (record { layers = []; name = name }) in
+    let all : around_all layers (bare_name name) ≡ Ok (record { layers = layers ++ []; name = name }) = in_layers layers (record { layers = []; name = name }) in
     let none : layers ++ [] ≡ layers = append-nil layers in
     rw (is, end, all, none) refl
 

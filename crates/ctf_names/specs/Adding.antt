@@ -3,6 +3,6 @@ use Rattle.std.specs.Prelude.{ℕ, ◌++◌, List, Result, Ok, Err}
 use Rattle.ctf_model.specs.declared.faults.Fault.{Fault}
 
 -- old bytes with a text behind them
-abbrev pub added : List ℕ → Result (List ℕ) Fault → Result (List ℕ) Fault
-added old (Ok text) = Ok (old ++ text)
-added old (Err fault) = Err fault
+abbrev pub append_text : List ℕ → Result (List ℕ) Fault → Result (List ℕ) Fault
+append_text old (Ok text) = Ok (old ++ text)
+append_text old (Err fault) = Err fault

@@ -1,21 +1,17 @@
 -- Which indexes of names fit a space. Source: ours.
-use Rattle.std.specs.Prelude.{◌≡◌, Option, Some, None}
+use Rattle.std.specs.Prelude.{◌≡◌, Option}
 use Rattle.std.specs.Option.{ForSome, is_some, option_map}
 use Rattle.ctf_model.specs.format.Dictionary.{said_by}
-use Rattle.ctf_model.specs.format.Lists.{Lists, tables}
-use Rattle.ctf_model.specs.format.Term as term
-use Rattle.ctf_names.specs.Entries.{AreInOrder}
-use Rattle.ctf_names.specs.Pointers.{PointersInOrder}
+use Rattle.ctf_model.specs.format.Lists.{Lists}
+use Rattle.ctf_names.specs.Chained.{Chained}
+use Rattle.ctf_names.specs.PointersKept.{ArePointers}
 use Rattle.ctf_names.specs.declared.index.NameIndex.{NameIndex}
 use Rattle.ctf_names.specs.declared.kept.Names.{Names}
 
--- the types of a dictionary by their names, those of each word apart, and its pointers
+-- all types of a dictionary in chains by their names, and its pointers
 pub record IsNamesOf (s : Lists) (n : Names) : Type 0 where
-  pub plain : AreInOrder (tables s) None (said_by s).terms n.plain
-  pub structs : AreInOrder (tables s) (Some term.struct_tag) (said_by s).terms n.structs
-  pub unions : AreInOrder (tables s) (Some term.union_tag) (said_by s).terms n.unions
-  pub enums : AreInOrder (tables s) (Some term.enum_tag) (said_by s).terms n.enums
-  pub pointers : PointersInOrder (said_by s).terms n.pointers.items
+  pub names : Chained (said_by s).terms 0 n.chains.heads.items n.chains.next.items
+  pub pointers : ArePointers (said_by s).terms n.pointers
 
 -- those of a parent are there where there is a parent
 pub record OverParent (parent : Option Lists) (names : Option Names) : Type 0 where

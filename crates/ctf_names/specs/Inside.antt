@@ -2,7 +2,7 @@
 use Rattle.std.specs.Prelude.{ℕ, List, Option, Some, None, Result}
 use Rattle.ctf_model.specs.format.Shown.{ArrayParts, Shape, array_in}
 use Rattle.ctf_model.specs.format.Term.{Tag, struct_tag, union_tag, enum_tag}
-use Rattle.ctf_model.specs.names.TypeNames.{Declaration, around, bare, or_anon, tagged}
+use Rattle.ctf_model.specs.names.TypeNames.{Declaration, around, bare_name, or_anon, tagged_name}
 use Rattle.ctf_model.specs.declared.faults.Fault.{Fault}
 use Rattle.ctf_model.specs.declared.kinds.Kind.{Kind}
 use Rattle.ctf_model.specs.declared.kinds.Kind.TheVariants.{KUnknown, KInteger, KFloat, KPointer, KArray, KFunction, KStruct, KUnion, KEnum, KForward, KTypedef, KVolatile, KConst, KRestrict}
@@ -44,8 +44,8 @@ abbrev pub inside : Shape → Inside
 inside x = inside_by x.kind x
 
 abbrev pub name_by : Option Tag → List ℕ → Result Declaration Fault
-name_by None name = bare (or_anon name)
-name_by (Some tag) name = tagged tag name
+name_by None name = bare_name (or_anon name)
+name_by (Some tag) name = tagged_name tag name
 
 -- the declaration of a type with a name, from what is inside
 abbrev pub declaration_from : (ℕ → Result Declaration Fault) → List ℕ → Inside

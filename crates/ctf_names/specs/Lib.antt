@@ -9,8 +9,11 @@ pub mod Measuring
 pub mod KnownView
 pub mod Adding
 pub mod Sorts
-pub mod Entries
+pub mod Buckets
+pub mod Leading
+pub mod Chained
 pub mod Pointers
+pub mod PointersKept
 pub mod Briefs
 pub mod Fitting
 pub mod Sought

@@ -1,7 +1,7 @@
 -- What each layer of a declaration adds to its text, and where. The words are ours.
 use Rattle.std.specs.Prelude.{ℕ, ◌++◌, Bool, false, List, [], ◌∷◌, Option, reverse, codes, decimal, if◌then◌else◌}
 use Rattle.std.specs.List.{flat_map}
-use Rattle.ctf_model.specs.names.TypeNames.{joined, past, is_pointer, is_behind, word_of_qualifier}
+use Rattle.ctf_model.specs.names.TypeNames.{join_texts, past, is_pointer, is_behind, word_of_qualifier}
 use Rattle.ctf_model.specs.declared.layers.Layer.{Layer}
 use Rattle.ctf_model.specs.declared.layers.Layer.TheVariants.{Pointer, Array, Function, Qualified}
 use Rattle.ctf_names.specs.declared.marks.Mark.{Mark}
@@ -24,12 +24,12 @@ abbrev pub front : Mark → List ℕ
 front (Front q) = word_of_qualifier q ++ codes " "
 front _ = []
 
-abbrev pub left : Mark → List ℕ
-left (Alone q) = word_of_qualifier q
-left (Before q) = word_of_qualifier q ++ codes " "
-left Star = codes "*"
-left Grouped = codes "(*"
-left _ = []
+abbrev pub text_before : Mark → List ℕ
+text_before (Alone q) = word_of_qualifier q
+text_before (Before q) = word_of_qualifier q ++ codes " "
+text_before Star = codes "*"
+text_before Grouped = codes "(*"
+text_before _ = []
 
 abbrev pub right : Mark → List ℕ
 right Grouped = codes ")"
@@ -38,7 +38,7 @@ right Call = codes "()"
 right _ = []
 
 abbrev pub declarator : List Mark → List ℕ
-declarator ms = flat_map left (reverse ms) ++ flat_map right ms
+declarator ms = flat_map text_before (reverse ms) ++ flat_map right ms
 
 abbrev pub marked_text : List Mark → List ℕ → List ℕ
-marked_text ms name = flat_map front ms ++ joined name (declarator ms)
+marked_text ms name = flat_map front ms ++ join_texts name (declarator ms)

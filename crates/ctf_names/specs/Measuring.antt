@@ -2,7 +2,7 @@
 use Rattle.std.specs.Prelude.{◌≡◌, ◌+◌, ℕ, suc}
 use Rattle.ctf_model.specs.names.TypeNames.{around, declaration_within}
 use Rattle.ctf_model.specs.spaces.Space.{Space}
-use Rattle.ctf_names.specs.NameLengths.{measured}
+use Rattle.ctf_names.specs.NameLengths.{measure}
 use Rattle.ctf_names.specs.declared.measures.Measured.{Measured}
 use Rattle.ctf_names.specs.declared.measures.Step.{Step}
 use Rattle.ctf_names.specs.declared.measures.Step.TheVariants.{End, Round}
@@ -11,7 +11,7 @@ use Rattle.ctf_names.specs.declared.measures.Step.TheVariants.{End, Round}
 pub record IsMeasured (s : Space) (n : ℕ) (m : Measured) : Type 0 where
   pub same : (k : ℕ)
       → declaration_within s (suc (k + m.layers)) n ≡ declaration_within s (suc m.layers) n
-  pub right : measured (declaration_within s (suc m.layers) n) ≡ m.lengths
+  pub right : measure (declaration_within s (suc m.layers) n) ≡ m.lengths
 
 abbrev pub IsStep : Space → ℕ → Step → Type 0
 IsStep s n (End lengths) = IsMeasured s n (record { layers = 0; lengths = lengths })

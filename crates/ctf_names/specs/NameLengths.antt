@@ -5,12 +5,12 @@ use Rattle.std.specs.List.{flat_map}
 use Rattle.ctf_model.specs.names.TypeNames.{Declaration, past}
 use Rattle.ctf_model.specs.declared.faults.Fault.{Fault}
 use Rattle.ctf_model.specs.declared.layers.Layer.{Layer}
-use Rattle.ctf_names.specs.Marks.{front, left, marks, right}
+use Rattle.ctf_names.specs.Marks.{front, text_before, marks, right}
 use Rattle.ctf_names.specs.declared.name_lengths.NameLengths.{NameLengths}
 
 -- a length, where all that are too long count alike
-abbrev pub counted : ℕ → ℕ
-counted n = min n 65537
+abbrev pub cap_length : ℕ → ℕ
+cap_length n = min n 65537
 
 -- a layer more
 abbrev pub one_more : Layer → Declaration → Declaration
@@ -19,8 +19,8 @@ one_more layer d = record { layers = layer ∷ d.layers; name = d.name }
 -- that of a declaration which is no outermost one
 unfoldable pub lengths_of : Declaration → NameLengths
 lengths_of d = record {
-  name = counted (length (flat_map front (marks false d.layers)) + length d.name);
-  declarator = counted (length (flat_map left (marks false d.layers))
+  name = cap_length (length (flat_map front (marks false d.layers)) + length d.name);
+  declarator = cap_length (length (flat_map text_before (marks false d.layers))
       + length (flat_map right (marks false d.layers)));
   below = past d.layers;
 }
@@ -30,6 +30,6 @@ abbrev pub of_base : List ℕ → NameLengths
 of_base name = lengths_of (record { layers = []; name = name })
 
 -- that of what a type comes to
-abbrev pub measured : Result Declaration Fault → Result NameLengths Fault
-measured (Ok d) = Ok (lengths_of d)
-measured (Err fault) = Err fault
+abbrev pub measure : Result Declaration Fault → Result NameLengths Fault
+measure (Ok d) = Ok (lengths_of d)
+measure (Err fault) = Err fault

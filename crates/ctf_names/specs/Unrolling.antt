@@ -6,8 +6,8 @@ use Rattle.ctf_model.specs.declared.layers.Layer.{Layer}
 use Rattle.ctf_names.specs.Bases.{base_text}
 use Rattle.ctf_names.specs.declared.unrolling.Unrolled.{Unrolled}
 
-abbrev pub unrolled : Unrolled → Declaration
-unrolled u = record { layers = u.layers.items; name = base_text u.base }
+abbrev pub declare : Unrolled → Declaration
+declare u = record { layers = u.layers.items; name = base_text u.base }
 
 -- what is inside, in these layers
 abbrev pub around_all : List Layer → Result Declaration Fault → Result Declaration Fault

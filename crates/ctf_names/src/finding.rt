@@ -2,8 +2,8 @@
 ghost use Rattle.std.specs.Prelude.{◌≡◌, Ok};
 ghost use Rattle.std.specs.Option.{option_map};
 ghost use Rattle.std.specs.Result.{result_map_both};
-ghost use Rattle.ctf_model.specs.names.Found.{found, or_not_found as or_not_found_of, pointed as pointed_of, pointer_behind as pointer_behind_of, pointer_to as pointer_of};
-ghost use Rattle.ctf_model.specs.figures.Figures.{resolved as resolved_of};
+ghost use Rattle.ctf_model.specs.names.Found.{lookup, or_not_found as or_not_found_of, pointers_on as pointed_of, pointer_behind as pointer_behind_of, pointer_to as pointer_of};
+ghost use Rattle.ctf_model.specs.figures.Figures.{resolved_type as resolved_of};
 ghost use Rattle.ctf_names.specs.Fitting.{Fits};
 ghost use Rattle.ctf_space.specs.SpaceView.{own_lists, parent_lists, space_of};
 
@@ -74,7 +74,7 @@ pub fn pointer_resolved(
 }
 
 /// So many pointers further.
-fn pointed(
+fn pointers_on(
     space: &Space<'_>,
     index: &NameIndex,
     count: usize,
@@ -94,7 +94,7 @@ fn pointed(
 /// The type that a written name finds, as `struct node **`. It takes no memory.
 pub fn find(space: &Space<'_>, index: &NameIndex, text: &[u8]) -> Result<TypeNum, Fault>
     requires { Fits (own_lists space.now) (parent_lists space.now) index.now }
-    ensures { result_map_both (λ t. t.0) (λ f. f) result ≡ found (space_of space.now) text.now }
+    ensures { result_map_both (λ t. t.0) (λ f. f) result ≡ lookup (space_of space.now) text.now }
 {
     let base = base(text);
     if is_no_name(base) {
@@ -106,5 +106,5 @@ pub fn find(space: &Space<'_>, index: &NameIndex, text: &[u8]) -> Result<TypeNum
         name: parts.name,
     };
     let first = or_not_found(least(space, index, sought))?;
-    pointed(space, index, stars(&text[base.len()..]), first)
+    pointers_on(space, index, stars(&text[base.len()..]), first)
 }

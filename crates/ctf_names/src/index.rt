@@ -10,11 +10,10 @@ use std::alloc::{AllocError, Global};
 use std::rc::Rc;
 
 /// The types of a dictionary, and of its parent where it has one, by their names: a type is found
-/// by halves.
+/// by a hash of its name.
 ///
-/// It keeps plain numbers, at most 16 bytes for each type that is visible to look-ups by name, 4
-/// for each pointer and 2 for each type, and borrows nothing. Those of a parent are shared with
-/// the parent's own index.
+/// It keeps plain numbers, 6 bytes for each type and 4 for each pointer of a child to a type of its
+/// parent, and borrows nothing. Those of a parent are shared with the parent's own index.
 #[derive(Drop)]
 pub struct NameIndex {
     pub(crate) own: Rc<Names>,

@@ -8,7 +8,7 @@ ghost use Rattle.ctf_names.specs.Bases.{base_text};
 ghost use Rattle.ctf_names.specs.Inside.{inside as inside_of, layer_round, of_array};
 ghost use Rattle.ctf_names.specs.Layered.{inside_view};
 ghost use Rattle.ctf_records.specs.RecordView.{tag_of};
-ghost use Rattle.ctf_views.specs.VariantView.{seen};
+ghost use Rattle.ctf_views.specs.VariantView.{shown_of};
 
 use crate::texts::{TOO_LONG, plus, put};
 use ctf_check::Shape;
@@ -36,7 +36,7 @@ fn round(layer: Layer, reference: Option<TypeNum>) -> Inside
 }
 
 fn array(behind: &Variant<'_>) -> Inside
-    ensures { inside_view result ≡ of_array (array_in (seen behind.now)) }
+    ensures { inside_view result ≡ of_array (array_in (shown_of behind.now)) }
 {
     match behind {
         Variant::Array(parts) => Inside::Layer(Layer::Array(parts.count), parts.contents),

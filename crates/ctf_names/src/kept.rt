@@ -1,79 +1,75 @@
 //! The names and pointers of a dictionary, as they are kept.
-ghost use Rattle.std.specs.Prelude.{◌≡◌, IfOk};
-ghost use Rattle.ctf_check.specs.CheckedView.{lists_of};
-ghost use Rattle.ctf_model.specs.format.Dictionary.{said_by};
+ghost use Rattle.std.specs.Prelude.{◌≡◌, IfOk, replicate};
+ghost use Rattle.ctf_check.specs.CheckedView.{dictionary_of, lists_of};
 ghost use Rattle.ctf_model.specs.names.Found.{first_place};
-ghost use Rattle.ctf_model.specs.format.Lists.{Lists, tables as tables_in};
-ghost use Rattle.ctf_names.specs.Entries.{AreInOrder};
 ghost use Rattle.ctf_names.specs.Fitting.{IsNamesOf};
-ghost use Rattle.ctf_names.specs.Sorts.{tag_in};
 ghost use Rattle.ctf_names.specs.Sought.{passes};
-ghost use Rattle.ctf_sections.specs.StringsView.{tables};
 
-use crate::gathering::gather;
-use crate::guesses::guess;
-use crate::names;
-use crate::pointers::{self, Pointer};
-use crate::sorts::Sort;
+use crate::buckets::bucket_count;
+use crate::chains::Chains;
+use crate::filling::fill;
+use crate::pointers::{Pointers, in_order};
 use crate::sought::Sought;
 use ctf_check::Checked;
-use ctf_order::Order;
-use ctf_sections::Strings;
 use std::alloc::{AllocError, Global};
 
 /// The own types of a dictionary by their names, and its pointers.
 #[derive(Drop)]
 pub(crate) struct Names {
-    plain: Order,
-    structs: Order,
-    unions: Order,
-    enums: Order,
-    pointers: Vec<Pointer>,
-    guesses: Vec<u16>,
+    pub(crate) chains: Chains,
+    pub(crate) pointers: Pointers,
+}
+
+/// A table that leads to no type yet.
+fn blank(alloc: Global, count: usize) -> Result<Vec<u16>, AllocError>
+    ensures { IfOk result (λ table. table.items ≡ replicate count 65535) }
+{
+    let table = vec![in alloc; u16::MAX; count]?;
+    Ok(table)
+}
+
+/// The number of no type, before those of own types.
+fn number_before(child: bool) -> u16 {
+    if child { 0x8000 } else { 0 }
 }
 
 impl Names {
     pub(crate) fn build(alloc: Global, dictionary: &Checked<'_>) -> Result<Names, AllocError>
         ensures { IfOk result (λ n. IsNamesOf (lists_of dictionary.now) n) }
     {
-        let all = gather(alloc, dictionary)?;
-        let strings = dictionary.strings();
-        let pointers = pointers::in_order(all.pointers);
-        let guesses = guess(alloc, &pointers, dictionary.count())?;
+        let count = dictionary.count();
+        let base = number_before(dictionary.child());
+        let mut heads = blank(alloc, bucket_count(count))?;
+        let mut next = blank(alloc, count)?;
+        let mut firsts = blank(alloc, count.saturating_add(1))?;
+        let mut outside = Vec::new(alloc);
+        fill(
+            dictionary,
+            base,
+            heads.as_mut_slice(),
+            next.as_mut_slice(),
+            firsts.as_mut_slice(),
+            &mut outside,
+        )?;
         Ok(Names {
-            plain: names::in_order(alloc, &strings, all.plain)?,
-            structs: names::in_order(alloc, &strings, all.structs)?,
-            unions: names::in_order(alloc, &strings, all.unions)?,
-            enums: names::in_order(alloc, &strings, all.enums)?,
-            pointers,
-            guesses,
+            chains: Chains { heads, next },
+            pointers: Pointers {
+                base,
+                firsts,
+                outside: in_order(outside),
+            },
         })
     }
 
     /// The first type that is sought, from 0.
     #[inline(always)]
-    pub(crate) fn first(&self, strings: &Strings<'_>, sought: Sought<'_>) -> Option<u32>
-        ensures { (s : Lists) → IsNamesOf s self.now → tables_in s ≡ tables strings.now
-            → result ≡ first_place (passes sought.entry) (said_by s).terms }
+    pub(crate) fn first(&self, dictionary: &Checked<'_>, sought: Sought<'_>) -> Option<u32>
+        requires { IsNamesOf (lists_of dictionary.now) self.now }
+        ensures { result ≡ first_place (passes sought.entry) (dictionary_of dictionary.now).terms }
     {
         match sought {
-            Sought::Named { sort, name } => names::first_of(self.of(sort), strings, name),
-            Sought::PointerTo(target) => {
-                pointers::first_to(&self.pointers, &self.guesses, target)
-            },
-        }
-    }
-
-    /// The types of a sort.
-    fn of(&self, sort: Sort) -> &Order
-        ensures { (s : Lists) → IsNamesOf s self.now
-            → AreInOrder (tables_in s) (tag_in sort) (said_by s).terms result.now }
-    {
-        match sort {
-            Sort::Plain => &self.plain,
-            Sort::Struct => &self.structs,
-            Sort::Union => &self.unions,
-            Sort::Enum => &self.enums,
+            Sought::Named { sort, name } => self.chains.first_called(dictionary, sort, name),
+            Sought::PointerTo(target) => self.pointers.first_to(dictionary.count(), target),
         }
     }
 }

@@ -2,7 +2,7 @@
 ghost use Rattle.std.specs.Prelude.{◌≡◌, ◌⊎◌, IfErr, IfSome, OnErr, OnOk, Err, Ok};
 ghost use Rattle.ctf_model.specs.names.TypeNames.{spelled_name};
 ghost use Rattle.ctf_model.specs.rules.Refusals.{out_of_memory};
-ghost use Rattle.ctf_names.specs.Adding.{added};
+ghost use Rattle.ctf_names.specs.Adding.{append_text};
 ghost use Rattle.ctf_names.specs.Measuring.{IsMeasured, IsStep};
 ghost use Rattle.ctf_space.specs.SpaceView.{space_of};
 
@@ -151,7 +151,7 @@ impl<'a> KnownNames<'a> {
     /// appended.
     pub fn spell(&mut self, number: TypeNum, out: &mut Vec<u8>) -> Result<(), Fault>
         ensures exact_ok { OnOk result
-            (added out.old.items (spelled_name self.old number.0) ≡ Ok out.new.items) }
+            (append_text out.old.items (spelled_name self.old number.0) ≡ Ok out.new.items) }
         ensures exact_err { IfErr result (λ f. (f ≡ out_of_memory)
             ⊎ (spelled_name self.old number.0 ≡ Err f)) }
         ensures kept { OnErr result (out.new.items ≡ out.old.items) }

@@ -1,9 +1,10 @@
 //! Names of types: as C spells them, and looked up.
 #![tactic(auto)]
 
+mod buckets;
+mod chains;
+mod filling;
 mod finding;
-mod gathering;
-mod guesses;
 mod index;
 mod inside;
 mod kept;
@@ -11,7 +12,6 @@ mod known;
 mod marks;
 mod measures;
 mod name_lengths;
-mod names;
 mod numbers;
 mod pointers;
 mod sides;

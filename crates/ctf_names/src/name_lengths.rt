@@ -3,7 +3,7 @@ ghost use Rattle.std.specs.Prelude.{◌≡◌, [], ◌∷◌, IfSome, Result, Er
 ghost use Rattle.ctf_model.specs.declared.faults.Fault.{Fault as Refusal};
 ghost use Rattle.ctf_model.specs.names.TypeNames.{Declaration, around as round_of, declared, text_of_declaration};
 ghost use Rattle.ctf_names.specs.Bases.{base_text};
-ghost use Rattle.ctf_names.specs.NameLengths.{lengths_of, measured, of_base as lengths_of_base, one_more};
+ghost use Rattle.ctf_names.specs.NameLengths.{lengths_of, measure, of_base as lengths_of_base, one_more};
 
 use crate::inside::{Base, plus_base};
 use crate::marks::{first_beyond, mark_of};
@@ -48,8 +48,8 @@ fn round(layer: Layer, inside: NameLengths) -> NameLengths
 
 /// What a layer round a type comes to.
 pub fn around(layer: Layer, inside: Result<NameLengths, Fault>) -> Result<NameLengths, Fault>
-    ensures { (x : Result Declaration Refusal) → measured x ≡ inside
-        → result ≡ measured (round_of layer x) }
+    ensures { (x : Result Declaration Refusal) → measure x ≡ inside
+        → result ≡ measure (round_of layer x) }
 {
     Ok(round(layer, inside?))
 }
@@ -71,7 +71,7 @@ fn whole_len(layer: Layer, inside: NameLengths) -> usize
 
 /// Why a layer round a type has no name, if that is so.
 pub fn refused(layer: Layer, inside: Result<NameLengths, Fault>) -> Option<Fault>
-    ensures { (x : Result Declaration Refusal) → measured x ≡ inside
+    ensures { (x : Result Declaration Refusal) → measure x ≡ inside
         → IfSome result (λ f. text_of_declaration (round_of layer x) ≡ Err f) }
 {
     match inside {

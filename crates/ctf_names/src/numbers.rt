@@ -20,7 +20,7 @@ fn least_among(space: &Space<'_>, names: &Names, sought: Sought<'_>) -> Option<T
         ≡ least_own (passes sought.entry) (space_of space.now).own }
 {
     let dictionary = space.dictionary();
-    let place = names.first(&dictionary.strings(), sought)?;
+    let place = names.first(&dictionary, sought)?;
     Some(space.own_number(place as usize))
 }
 

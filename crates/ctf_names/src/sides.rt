@@ -2,7 +2,7 @@
 ghost use Rattle.std.specs.Prelude.{◌≡◌, ◌+◌, ◌≤◌, ◌++◌, length, min, reverse, vec_len, vec_capacity};
 ghost use Rattle.std.specs.List.{flat_map};
 ghost use Rattle.ctf_model.specs.names.TypeNames.{word_of_qualifier};
-ghost use Rattle.ctf_names.specs.Marks.{front as front_text, left as left_text, right as right_text};
+ghost use Rattle.ctf_names.specs.Marks.{front as front_text, text_before as left_text, right as right_text};
 ghost use Rattle.ctf_names.specs.declared.marks.Mark.TheVariants.{Front};
 
 use crate::marks::Mark;
@@ -40,7 +40,7 @@ fn front(mark: Mark) -> &'static str
 }
 
 /// What stands before the declarator.
-fn left(mark: Mark) -> &'static str
+fn text_before(mark: Mark) -> &'static str
     ensures { result.now ≡ left_text mark }
 {
     match mark {
@@ -92,7 +92,7 @@ pub fn plus_front(len: usize, mark: Mark) -> usize
 pub fn plus_sides(len: usize, mark: Mark) -> usize
     ensures { result ≡ min (len + (length (left_text mark) + length (right_text mark))) TOO_LONG }
 {
-    plus_right(plus(len, left(mark).len()), mark)
+    plus_right(plus(len, text_before(mark).len()), mark)
 }
 
 pub fn plus_fronts(start: usize, marks: &[Mark]) -> usize
@@ -112,7 +112,7 @@ pub fn plus_lefts(start: usize, marks: &[Mark]) -> usize
 {
     let mut len = start;
     for mark in marks {
-        len = plus(len, left(*mark).len());
+        len = plus(len, text_before(*mark).len());
     }
     len
 }
@@ -149,7 +149,7 @@ pub fn put_lefts(out: &mut Vec<u8>, marks: &[Mark])
     ensures capacity { vec_capacity out.new ≡ vec_capacity out.old }
 {
     for k in 0..marks.len() {
-        put(out, left(marks[marks.len() - 1 - k]).as_bytes());
+        put(out, text_before(marks[marks.len() - 1 - k]).as_bytes());
     }
 }
 

@@ -2,7 +2,7 @@
 ghost use Rattle.std.specs.Prelude.{◌≡◌, ◌+◌, ◌≤◌, ◌⊎◌, ◌++◌, length, min, vec_len, vec_capacity, OnOk, IfErr, OnErr, Ok, Err};
 ghost use Rattle.ctf_model.specs.rules.Refusals.{out_of_memory};
 ghost use Rattle.ctf_model.specs.names.TypeNames.{spelled_name};
-ghost use Rattle.ctf_names.specs.Adding.{added};
+ghost use Rattle.ctf_names.specs.Adding.{append_text};
 ghost use Rattle.ctf_names.specs.Bases.{base_text};
 ghost use Rattle.ctf_names.specs.Marks.{marked_text};
 ghost use Rattle.ctf_space.specs.SpaceView.{space_of};
@@ -53,7 +53,8 @@ pub fn spell(
     out: &mut Vec<u8>,
 ) -> Result<(), Fault>
     ensures exact_ok { OnOk result
-        (added out.old.items (spelled_name (space_of space.now) number.0) ≡ Ok out.new.items) }
+        (append_text out.old.items (spelled_name (space_of space.now) number.0)
+        ≡ Ok out.new.items) }
     ensures exact_err { IfErr result (λ f. (f ≡ out_of_memory)
         ⊎ (spelled_name (space_of space.now) number.0 ≡ Err f)) }
     ensures kept { OnErr result (out.new.items ≡ out.old.items) }

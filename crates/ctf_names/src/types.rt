@@ -1,94 +1,94 @@
 //! The own types of a dictionary, as an index of names takes them.
-ghost use Rattle.std.specs.Prelude.{◌≡◌, ◌<◌, ◌^◌, length, IfSome, List, MatchOption, slice_get, option_and_then, option_map};
+ghost use Rattle.std.specs.Prelude.{◌≡◌, ◌+◌, ◌<◌, ◌^◌, ℕ, length, IfSome, MatchOption, slice_get, option_and_then, option_map};
 ghost use Rattle.ctf_check.specs.CheckedView.{dictionary_of, tables_of};
-ghost use Rattle.ctf_check.specs.FactsView.{shape_view};
-ghost use Rattle.ctf_check.specs.TypedView.{dictionary_in, spelled};
-ghost use Rattle.ctf_model.specs.format.Name.{Tables};
-ghost use Rattle.ctf_model.specs.format.Term.{Term};
-ghost use Rattle.ctf_names.specs.Briefs.{target_shown, IsBrief, IsBriefAt};
-ghost use Rattle.ctf_names.specs.Entries.{IsEntryAt};
-ghost use Rattle.ctf_names.specs.Sorts.{tag_in};
+ghost use Rattle.ctf_check.specs.TypedView.{dictionary_in, term_in};
+ghost use Rattle.ctf_model.specs.names.Found.{is_pointer_to};
+ghost use Rattle.ctf_names.specs.Briefs.{is_target, target_by, IsBrief, IsBriefAt};
+ghost use Rattle.ctf_names.specs.Buckets.{is_in};
+ghost use Rattle.ctf_sections.specs.StringsView.{tables};
 
-use crate::sorts::{Sort, is_same, sort_of};
-use ctf_check::{Checked, Shape, Typed};
+use crate::buckets::{LONGEST_HASHED, bucket_among};
+use ctf_check::{Checked, Typed};
 use ctf_model::{Kind, TypeNum};
-use ctf_order::Entry;
+use ctf_sections::Strings;
 
 /// What an index takes of a type, which is read once for it.
 #[derive(Clone, Copy)]
 pub(crate) struct Brief {
-    /// Whether it is visible to look-ups by name.
-    pub(crate) visible: bool,
-    pub(crate) sort: Sort,
-    /// The reference to its name.
-    pub(crate) reference: u32,
+    /// The bucket of its name, if it is visible to look-ups by name.
+    pub(crate) bucket: Option<usize>,
     /// What it points to, if it is a pointer.
     pub(crate) target: Option<TypeNum>,
 }
 
 /// The own type of a dictionary with a number from 0.
-fn own_type<'a>(dictionary: &Checked<'a>, place: usize) -> Option<Typed<'a>>
-    ensures found { option_and_then spelled result
+#[inline(always)]
+pub(crate) fn own_type<'a>(dictionary: &Checked<'a>, place: usize) -> Option<Typed<'a>>
+    ensures found { option_and_then term_in result
         ≡ slice_get (dictionary_of dictionary.now).terms place }
     ensures of { IfSome result (λ x. dictionary_in x ≡ dictionary.now) }
+    ensures inside { IfSome result (λ x. place < length (dictionary_of dictionary.now).terms) }
 {
     if place < dictionary.count() {
-        dictionary.typed(place + 1)
+        dictionary.type_at(place + 1)
     } else {
         None
     }
 }
 
-/// What a type of a shape points to, if it is a pointer.
-fn target_of(x: &Shape<'_>) -> Option<TypeNum>
-    ensures { option_map (λ t. t.0) result ≡ target_shown (shape_view x.now) }
+/// What a type of a kind points to, if it is a pointer.
+#[inline(always)]
+fn target_of(kind: Kind, reference: Option<TypeNum>) -> Option<TypeNum>
+    ensures { option_map (λ t. t.0) result
+        ≡ target_by kind (option_map (λ t. t.0) reference) }
 {
-    match x.kind {
-        Kind::KPointer => x.reference,
+    match kind {
+        Kind::KPointer => reference,
         _ => None,
     }
 }
 
-/// What is taken of a type that was found.
-fn brief_of(found: &Typed<'_>) -> Brief
-    ensures { MatchOption (spelled found.now) ⊥
-        (λ x. IsBrief (tables_of (dictionary_in found.now)) x result) }
+/// The bucket of a type's name, if it is visible. Of a long name no more is read than is hashed.
+#[inline(always)]
+fn bucket_of(found: &Typed<'_>, strings: &Strings<'_>, types: usize) -> Option<usize>
+    requires few { types < 2 ^ 16 }
+    requires tables { tables strings.now ≡ tables_of (dictionary_in found.now) }
+    ensures is { MatchOption (term_in found.now) ⊥
+        (λ x. (n : ℕ) → is_in types n x ≡ is_target n result) }
+    ensures inside { IfSome result (λ n. n < types + 2) }
 {
-    let shape = found.shape();
+    if !found.root() {
+        return None;
+    }
+    let name = strings.short_name(found.name_reference(), LONGEST_HASHED);
+    Some(bucket_among(types, name))
+}
+
+/// What is taken of a type that was found, in a dictionary of so many.
+#[inline(always)]
+fn brief_of(found: &Typed<'_>, strings: &Strings<'_>, types: usize) -> Brief
+    requires few { types < 2 ^ 16 }
+    requires tables { tables strings.now ≡ tables_of (dictionary_in found.now) }
+    ensures is { MatchOption (term_in found.now) ⊥ (λ x. IsBrief types x result) }
+    ensures inside { IfSome result.bucket (λ n. n < types + 2) }
+{
     Brief {
-        visible: found.root(),
-        sort: sort_of(&shape),
-        reference: found.name_reference(),
-        target: target_of(&shape),
+        bucket: bucket_of(found, strings, types),
+        target: target_of(found.kind(), found.reference()),
     }
 }
 
 /// What is taken of the own type of a dictionary with a number from 0.
-pub(crate) fn brief_at(dictionary: &Checked<'_>, place: usize) -> Brief
-    requires { place < length (dictionary_of dictionary.now).terms }
-    ensures { IsBriefAt (tables_of dictionary.now) (dictionary_of dictionary.now).terms
-        place result }
+#[inline(always)]
+pub(crate) fn brief_at(dictionary: &Checked<'_>, strings: &Strings<'_>, place: usize) -> Brief
+    requires there { place < length (dictionary_of dictionary.now).terms }
+    requires tables { tables strings.now ≡ tables_of dictionary.now }
+    ensures is { IsBriefAt (dictionary_of dictionary.now).terms place result }
+    ensures inside { IfSome result.bucket
+        (λ n. n < length (dictionary_of dictionary.now).terms + 2) }
 {
     match own_type(dictionary, place) {
-        Some(found) => brief_of(&found),
+        Some(found) => brief_of(&found, strings, dictionary.count()),
         None => unreachable!(),
     }
-}
-
-/// The entry of a type, if it is visible and of a sort.
-pub(crate) fn entry_of(of: Brief, sort: Sort, place: usize) -> Option<Entry>
-    requires { place < 2 ^ 32 }
-    ensures { (t : Tables) (terms : List Term) → IsBriefAt t terms place of
-        → IsEntryAt t (tag_in sort) terms place result }
-{
-    if !of.visible {
-        return None;
-    }
-    if !is_same(of.sort, sort) {
-        return None;
-    }
-    Some(Entry {
-        reference: of.reference,
-        item: place as u32,
-    })
 }

@@ -3,7 +3,7 @@ ghost use Rattle.std.specs.Prelude.{◌≡◌, ◌⊎◌, ◌<◌, IfOk, IfErr, 
 ghost use Rattle.ctf_model.specs.rules.Refusals.{out_of_memory};
 ghost use Rattle.ctf_model.specs.names.TypeNames.{declaration, longest_text};
 ghost use Rattle.ctf_names.specs.Bases.{base_text};
-ghost use Rattle.ctf_names.specs.Unrolling.{unrolled};
+ghost use Rattle.ctf_names.specs.Unrolling.{declare};
 ghost use Rattle.ctf_space.specs.SpaceView.{space_of};
 
 use crate::inside::{Base, Inside, found_inside, or_anon};
@@ -31,7 +31,7 @@ pub fn void<'a>() -> Base<'a>
 
 /// Unrolls the type with a number, layer by layer.
 pub fn unroll<'a>(alloc: Global, space: &Space<'a>, number: TypeNum) -> Result<Unrolled<'a>, Fault>
-    ensures ok { IfOk result (λ u. declaration (space_of space.now) number.0 ≡ Ok (unrolled u)) }
+    ensures ok { IfOk result (λ u. declaration (space_of space.now) number.0 ≡ Ok (declare u)) }
     ensures few { IfOk result (λ u. vec_len u.layers < longest_text) }
     ensures err { IfErr result (λ f. (f ≡ out_of_memory)
         ⊎ (declaration (space_of space.now) number.0 ≡ Err f)) }

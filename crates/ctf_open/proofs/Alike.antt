@@ -10,7 +10,7 @@ use Rattle.ctf_draft.specs.Stating.{add_member_at}
 use Rattle.ctf_open.proofs.DraftParents.{AreAlike, enumerator_alike, label_alike, member_alike, stated_alike}
 use Rattle.ctf_open.specs.Drafting.{IsUnder, IsWritten}
 use Rattle.ctf_model.specs.drafts.Adders.{Added, add_enumerator, add_label}
-use Rattle.ctf_model.specs.drafts.Drafts.{Draft, discarded}
+use Rattle.ctf_model.specs.drafts.Drafts.{Draft, rollback}
 use Rattle.ctf_model.specs.spaces.Kept.{Kept}
 use Rattle.ctf_model.specs.declared.faults.Fault.{Fault}
 
@@ -37,9 +37,9 @@ still_under number (Err f) adds old new above alike ok err under =
     subst (λ (d : Owned). IsUnder d.draft above) (sym err) under
 
 -- and its dictionary is still what it was written as
-pub still_written : {A : Type 0} (number : A → ℕ) (result : Result A Fault) (adds : Draft → Result Added Fault) (old new : Owned) (kept : Kept) → ((a : Added) → adds old.draft ≡ Ok a → AreAlike old.draft a.draft) → IfOk result (λ n. adds old.draft ≡ Ok (record { draft = new.draft; answer = number n })) → OnErr result (new ≡ old) → IsWritten (discarded old.draft) kept → IsWritten (discarded new.draft) kept
+pub still_written : {A : Type 0} (number : A → ℕ) (result : Result A Fault) (adds : Draft → Result Added Fault) (old new : Owned) (kept : Kept) → ((a : Added) → adds old.draft ≡ Ok a → AreAlike old.draft a.draft) → IfOk result (λ n. adds old.draft ≡ Ok (record { draft = new.draft; answer = number n })) → OnErr result (new ≡ old) → IsWritten (rollback old.draft) kept → IsWritten (rollback new.draft) kept
 still_written number (Ok n) adds old new kept alike ok err w =
     let same = alike (record { draft = new.draft; answer = number n }) ok in
     subst (λ (d : Draft). IsWritten d kept) (sym same) w
 still_written number (Err f) adds old new kept alike ok err w =
-    subst (λ (d : Owned). IsWritten (discarded d.draft) kept) (sym err) w
+    subst (λ (d : Owned). IsWritten (rollback d.draft) kept) (sym err) w

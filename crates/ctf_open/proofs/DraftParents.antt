@@ -4,9 +4,9 @@ use Rattle.std.specs.Prelude.{◌||◌, option_map, is_some, not}
 use Rattle.std.specs.Option.{ForSome}
 use Rattle.ctf_open.specs.Drafting.{IsUnder}
 use Rattle.ctf_draft.specs.Stating.{add_member_at, against_stated}
-use Rattle.ctf_model.specs.drafts.Adders.{Added, add_enumerator, add_label, add_member, add_type, against_enumerator, against_label, against_member, against_place, against_type, body_at, put_member, replaced, replaced_at, size_with, with_enumerator, with_label, with_member, with_type}
+use Rattle.ctf_model.specs.drafts.Adders.{Added, add_enumerator, add_label, add_member, add_type, against_enumerator, against_label, against_member, against_place, against_type, body_at, put_member, replace_body, replaced_at, size_with, with_enumerator, with_label, with_member, with_type}
 use Rattle.ctf_model.specs.format.Dictionary.{Label}
-use Rattle.ctf_model.specs.drafts.Drafts.{Draft, above as dictionary_above, against_draft, discarded, empty_draft, has_zero, is_childs, is_of_other, new_draft, next_number, pending_place, space_of}
+use Rattle.ctf_model.specs.drafts.Drafts.{Draft, above as dictionary_above, against_draft, rollback, empty_draft, has_zero, is_childs, is_of_other, new_draft, next_number, pending_place, space_of}
 use Rattle.ctf_model.specs.rules.Judgements.{Row, first_met, unless, ◌then◌}
 use Rattle.ctf_model.specs.spaces.Imports.{Modelled, same_model}
 use Rattle.ctf_model.specs.spaces.Kept.{Kept, kept_dictionary, modelled_by}
@@ -21,7 +21,7 @@ use Rattle.ctf_model.specs.declared.faults.TheConstants.Fault.{MODEL_DIFFERS, NA
 
 -- without what is pending the two are the same
 abbrev pub AreAlike : Draft → Draft → Type 0
-AreAlike a b = discarded b ≡ discarded a
+AreAlike a b = rollback b ≡ rollback a
 
 -- what is answered where nothing is refused
 unless_ok : {A : Type 0} (fault : Option Fault) (done : Result A Fault) (a : A) → unless fault done ≡ Ok a → done ≡ Ok a
@@ -39,7 +39,7 @@ added_alike d b a alike e = let is : b ≡ a = cc in subst (λ (x : Added). AreA
 draft_alike : (d b a : Draft) → AreAlike d b → unless None (Ok b) ≡ Ok a → AreAlike d a
 draft_alike d b a alike e = let is : b ≡ a = cc in subst (λ (x : Draft). AreAlike d x) is alike
 
-replaced_alike : (d : Draft) (n : ℕ) (body : Body) → AreAlike d (replaced d n body)
+replaced_alike : (d : Draft) (n : ℕ) (body : Body) → AreAlike d (replace_body d n body)
 replaced_alike d n body = at (pending_place d n) (space_type (space_of d) n)
   where
     at : (o : Option ℕ) (r : Result Term Fault) → AreAlike d (replaced_at d o r body)
@@ -56,7 +56,7 @@ type_alike d x a e =
 
 put_alike : (d : Draft) (n : ℕ) (m : Member) (bits : ℕ) (a : Added) → put_member d n m bits ≡ Ok a → AreAlike d a.draft
 put_alike d n m bits a e =
-    let b : Added = record { draft = replaced d n (with_member m (size_with d n m.offset bits) (body_at d n)); answer = m.offset } in
+    let b : Added = record { draft = replace_body d n (with_member m (size_with d n m.offset bits) (body_at d n)); answer = m.offset } in
     let done = unless_ok (first_met (against_place m.offset (size_with d n m.offset bits))) (Ok b) a e in
     added_alike d b a (replaced_alike d n (with_member m (size_with d n m.offset bits) (body_at d n))) done
 
@@ -71,14 +71,14 @@ member_alike d n name tnum offset a e =
 pub stated_alike : (d : Draft) (n : ℕ) (m : Member) (size : ℕ) (a : Draft) → add_member_at d n m size ≡ Ok a → AreAlike d a
 unfolding add_member_at
 stated_alike d n m size a e =
-    let b : Draft = replaced d n (with_member m size (body_at d n)) in
+    let b : Draft = replace_body d n (with_member m size (body_at d n)) in
     let done = unless_ok (first_met (against_member d n m.name m.tnum ++ against_stated d n m size)) (Ok b) a e in
     draft_alike d b a (replaced_alike d n (with_member m size (body_at d n))) done
 
 pub enumerator_alike : (d : Draft) (n : ℕ) (x : Enumerator) (a : Draft) → add_enumerator d n x ≡ Ok a → AreAlike d a
 unfolding add_enumerator
 enumerator_alike d n x a e =
-    let b : Draft = replaced d n (with_enumerator x (body_at d n)) in
+    let b : Draft = replace_body d n (with_enumerator x (body_at d n)) in
     let done = unless_ok (first_met (against_enumerator d n x.name)) (Ok b) a e in
     draft_alike d b a (replaced_alike d n (with_enumerator x (body_at d n))) done
 

@@ -1,7 +1,7 @@
 -- Drafts of open dictionaries. The words are ours.
 use Rattle.std.specs.Prelude.{◌≡◌, Option, Ok, option_map}
 use Rattle.std.specs.Option.{ForSome}
-use Rattle.ctf_model.specs.drafts.Drafts.{Draft, held}
+use Rattle.ctf_model.specs.drafts.Drafts.{Draft, content}
 use Rattle.ctf_model.specs.spaces.Kept.{Kept, kept_dictionary}
 use Rattle.ctf_model.specs.writing.Written.{lists_of, written}
 
@@ -12,5 +12,5 @@ pub record IsUnder (d : Draft) (above : Option Kept) : Type 0 where
 
 -- this is what is kept of all that it holds once that is written
 pub record IsWritten (d : Draft) (kept : Kept) : Type 0 where
-  pub bytes : written (held d) ≡ Ok kept.lists.ctf
+  pub bytes : written (content d) ≡ Ok kept.lists.ctf
   pub alone : kept ≡ record { lists = lists_of kept.lists.ctf; model = d.model }

@@ -1,13 +1,13 @@
 //! What is added to the draft of a session.
 ghost use Rattle.std.specs.Prelude.{◌≡◌, ◌⊎◌, IfErr, IfOk, OnErr, Ok, Err};
-ghost use Rattle.ctf_model.specs.opened.Steps.{enlarged, silent, type_added};
+ghost use Rattle.ctf_model.specs.opened.Steps.{enlarge, silent, type_added};
 ghost use Rattle.ctf_open.specs.PartView.{part_in};
 ghost use Rattle.ctf_draft.specs.NewView.{new_body_of};
 ghost use Rattle.ctf_draft.specs.Stating.{add_member_at as add_member_at_to};
 ghost use Rattle.ctf_model.specs.drafts.Adders.{add_enumerator as add_enumerator_to, add_label as add_label_to, add_member as add_member_to};
 ghost use Rattle.ctf_model.specs.rules.Refusals.{out_of_memory};
 
-use crate::opened::OpenDictionary;
+use crate::open_dictionary::OpenDictionary;
 use ctf_draft::{Draft, Member, NewBody, NewType};
 use ctf_model::{Bytes, Fault, TypeNum, placeless};
 use std::alloc::Global;
@@ -148,10 +148,10 @@ impl OpenDictionary {
     /// Adds a member, an enumerator or a label to its draft, and answers the offset of a member, or
     /// else 0. A refusal changes nothing.
     pub fn add_part(&mut self, alloc: Global, part: Part<'_>) -> Result<u64, Fault>
-        ensures ok { IfOk result (λ n. enlarged (part_in part.entry) self.old
+        ensures ok { IfOk result (λ n. enlarge (part_in part.entry) self.old
             ≡ Ok (record { served = self.new; answer = n })) }
         ensures exact_err { IfErr result (λ f. (f ≡ out_of_memory)
-            ⊎ (enlarged (part_in part.entry) self.old ≡ Err f)) }
+            ⊎ (enlarge (part_in part.entry) self.old ≡ Err f)) }
         ensures as_before { OnErr result (self.new ≡ self.old) }
         ensures own { self.new.own ≡ self.old.own }
         ensures parent { self.new.parent ≡ self.old.parent }

@@ -7,8 +7,8 @@ ghost use Rattle.ctf_check.specs.ListsView.{lists_in};
 ghost use Rattle.ctf_model.specs.format.OwnedLists.{lists_owned};
 ghost use Rattle.ctf_model.specs.opened.Sizes.{kept_bytes, lists_bytes, parent_bytes};
 
-use crate::loaded::Loaded;
-use crate::opened::OpenDictionary;
+use crate::loading::Loaded;
+use crate::open_dictionary::OpenDictionary;
 use ctf_check::{LentLists, lent};
 use ctf_model::Parts;
 

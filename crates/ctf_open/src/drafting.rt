@@ -1,13 +1,13 @@
 //! Drafts of sessions: how they are made, updated and dropped.
 ghost use Rattle.std.specs.Prelude.{◌≡◌, ◌==◌, ◌⊎◌, ◌+◌, ◌<◌, ◌^◌, true, false, not, length, is_some, IfErr, IfOk, OnErr, OnOk, Ok, Err, None, Some, option_map, option_copied, option_and_then};
 ghost use Rattle.std.specs.Option.{ForSome};
-ghost use Rattle.ctf_model.specs.opened.Steps.{created, dropped, updated};
+ghost use Rattle.ctf_model.specs.opened.Steps.{created, discard_step, step_update};
 ghost use Rattle.ctf_open.specs.Drafting.{IsUnder, IsWritten};
 ghost use Rattle.ctf_open.specs.Fitting.{AreTablesOf};
 ghost use Rattle.ctf_open.specs.Quotas.{IsRefused, IsUncreated, IsUnwritten, fits_in, open_bytes};
 ghost use Rattle.ctf_model.specs.opened.Open.{own_in};
 ghost use Rattle.ctf_model.specs.opened.Sizes.{kept_bytes, parent_bytes};
-ghost use Rattle.ctf_model.specs.drafts.Drafts.{held, new_draft as new_draft_of};
+ghost use Rattle.ctf_model.specs.drafts.Drafts.{content, new_draft as new_draft_of};
 ghost use Rattle.ctf_model.specs.format.Dictionary.{Denotes};
 ghost use Rattle.ctf_model.specs.rules.Refusals.{placeless as refusal, out_of_memory};
 ghost use Rattle.ctf_model.specs.declared.faults.TheConstants.Fault.{QUOTA_FULL};
@@ -16,8 +16,8 @@ ghost use Rattle.ctf_model.specs.writing.Written.{written};
 
 use crate::bytes::bytes_above;
 use crate::imports::Imported;
-use crate::loaded::Loaded;
-use crate::opened::OpenDictionary;
+use crate::loading::Loaded;
+use crate::open_dictionary::OpenDictionary;
 use crate::rooms::{Room, has_room};
 use ctf_check::Judged;
 use ctf_draft::Draft;
@@ -54,16 +54,16 @@ struct Updated {
 }
 
 /// The dictionary that a draft's bytes make, where there is room for it over a parent of so many.
-fn loaded(alloc: Global, draft: &Draft, parent: u128, room: Option<Room>) -> Result<Loaded, Fault>
+fn load(alloc: Global, draft: &Draft, parent: u128, room: Option<Room>) -> Result<Loaded, Fault>
     requires { parent < 2 ^ 66 }
     ensures written { IfOk result (λ l. IsWritten draft.now.draft l) }
-    ensures denotes { IfOk result (λ l. Denotes l.lists (held draft.now.draft)) }
+    ensures denotes { IfOk result (λ l. Denotes l.lists (content draft.now.draft)) }
     ensures under { IfOk result
         (λ l. (p : Kept) → draft.now.draft.parent ≡ Some (kept_dictionary p)
         → p.model ≡ draft.now.draft.model → fault_over l p ≡ None) }
     ensures room { IfOk result (λ l. fits_in room (length l.lists.ctf + parent) ≡ true) }
     ensures exact_err { IfErr result (λ f. (f ≡ out_of_memory)
-        ⊎ IsUnwritten (written (held draft.now.draft)) parent room f) }
+        ⊎ IsUnwritten (written (content draft.now.draft)) parent room f) }
 {
     let bytes = write(alloc, draft)?;
     if !has_room(room, bytes.len() as u128 + parent) {
@@ -90,7 +90,7 @@ fn updated_over(
 ) -> Result<Updated, Fault>
     requires { IsUnder draft.now.draft (option_copied parent) }
     ensures written { IfOk result (λ u. IsWritten draft.now.draft u.own) }
-    ensures denotes { IfOk result (λ u. Denotes u.own.lists (held draft.now.draft)) }
+    ensures denotes { IfOk result (λ u. Denotes u.own.lists (content draft.now.draft)) }
     ensures judged { IfOk result (λ u. u.judged.value.kept ≡ u.own) }
     ensures parent { IfOk result (λ u. option_map (λ i. i.parent) u.imported
         ≡ option_copied parent.entry) }
@@ -100,12 +100,12 @@ fn updated_over(
     ensures room { IfOk result (λ u. fits_in room (length u.own.lists.ctf
         + parent_bytes (option_copied parent.entry)) ≡ true) }
     ensures exact_err { IfErr result (λ f. (f ≡ out_of_memory)
-        ⊎ IsUnwritten (written (held draft.now.draft))
+        ⊎ IsUnwritten (written (content draft.now.draft))
         (parent_bytes (option_copied parent.entry)) room f) }
 {
-    let own = loaded(alloc, draft, bytes_above(parent), room)?;
+    let own = load(alloc, draft, bytes_above(parent), room)?;
     let imported = imported_over(alloc, &own, parent)?;
-    let judged = own.judged()?;
+    let judged = own.share_judged()?;
     Ok(Updated {
         own,
         judged,
@@ -124,11 +124,11 @@ fn parent_of(imported: &Option<Imported>) -> Option<&Loaded>
 }
 
 /// A dictionary, if there is one, to be the parent of a draft.
-fn judged(parent: Option<&Loaded>) -> Result<Option<Rc<Judged<'static>>>, AllocError>
+fn judged_parent(parent: Option<&Loaded>) -> Result<Option<Rc<Judged<'static>>>, AllocError>
     ensures { IfOk result (λ j. option_map (λ p. p.value.kept) j ≡ option_copied parent.entry) }
 {
     match parent {
-        Some(parent) => Ok(Some(parent.judged()?)),
+        Some(parent) => Ok(Some(parent.share_judged()?)),
         None => Ok(None),
     }
 }
@@ -152,7 +152,7 @@ fn new_draft(
 {
     let parname = Bytes::from_slice(alloc, parname)?;
     let parlabel = Bytes::from_slice(alloc, parlabel)?;
-    let parent = judged(parent)?;
+    let parent = judged_parent(parent)?;
     Draft::new(alloc, parent, parname, parlabel, model)
 }
 
@@ -226,8 +226,9 @@ impl OpenDictionary {
     /// that has. A refusal changes nothing.
     pub fn update(&mut self, alloc: Global) -> Result<u64, Fault>
         ensures ok { IfOk result (λ n.
-            updated self.old ≡ Ok (record { served = self.new; answer = n })) }
-        ensures exact_err { IfErr result (λ f. (f ≡ out_of_memory) ⊎ (updated self.old ≡ Err f)) }
+            step_update self.old ≡ Ok (record { served = self.new; answer = n })) }
+        ensures exact_err { IfErr result (λ f.
+            (f ≡ out_of_memory) ⊎ (step_update self.old ≡ Err f)) }
         ensures as_before { OnErr result (self.new ≡ self.old) }
     {
         self.update_within(alloc, None)
@@ -236,12 +237,12 @@ impl OpenDictionary {
     /// The same where there is room for what it makes. Nothing is built where nothing is pending.
     pub fn update_within(&mut self, alloc: Global, room: Option<Room>) -> Result<u64, Fault>
         ensures ok { IfOk result (λ n.
-            updated self.old ≡ Ok (record { served = self.new; answer = n })) }
+            step_update self.old ≡ Ok (record { served = self.new; answer = n })) }
         ensures room { IfOk result (λ n. fits_in room (kept_bytes self.new.own
             + parent_bytes self.old.parent) ≡ true) }
         ensures parent { self.new.parent ≡ self.old.parent }
         ensures exact_err { IfErr result (λ f. (f ≡ out_of_memory)
-            ⊎ IsRefused (updated self.old) room f) }
+            ⊎ IsRefused (step_update self.old) room f) }
         ensures as_before { OnErr result (self.new ≡ self.old) }
     {
         let Some(draft) = &mut self.draft else {
@@ -261,8 +262,8 @@ impl OpenDictionary {
     /// dictionary has.
     pub fn discard(&mut self) -> Result<u64, Fault>
         ensures ok { IfOk result (λ n.
-            dropped self.old ≡ Ok (record { served = self.new; answer = n })) }
-        ensures err { IfErr result (λ f. dropped self.old ≡ Err f) }
+            discard_step self.old ≡ Ok (record { served = self.new; answer = n })) }
+        ensures err { IfErr result (λ f. discard_step self.old ≡ Err f) }
         ensures as_before { OnErr result (self.new ≡ self.old) }
         ensures own { self.new.own ≡ self.old.own }
         ensures parent { self.new.parent ≡ self.old.parent }

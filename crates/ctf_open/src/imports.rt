@@ -6,8 +6,8 @@ ghost use Rattle.ctf_model.specs.spaces.Kept.{fault_over};
 ghost use Rattle.ctf_open.specs.Fitting.{AreTablesOf};
 ghost use Rattle.ctf_open.specs.Quotas.{IsUnserved};
 
-use crate::loaded::Loaded;
-use crate::opened::OpenDictionary;
+use crate::loading::Loaded;
+use crate::open_dictionary::OpenDictionary;
 use crate::tables::{Tables, tables_over};
 use ctf_model::{Fault, placeless};
 use std::alloc::{AllocError, Global};
@@ -22,7 +22,7 @@ pub struct Imported {
 }
 
 /// A value, to be shared.
-fn shared<T>(alloc: Global, value: T) -> Result<Rc<T>, AllocError>
+fn share_value<T>(alloc: Global, value: T) -> Result<Rc<T>, AllocError>
 where
     T: Drop,
     ensures { IfOk result (λ shared. shared.value ≡ value) }
@@ -39,7 +39,7 @@ fn new_tables(alloc: Global, own: &Loaded, parent: &Loaded, fits: bool) -> Resul
         ⊎ IsUnserved fits (fault_over own.now parent.now) f) }
 {
     let tables = tables_over(alloc, own, parent, fits)?;
-    Ok(shared(alloc, tables)?)
+    Ok(share_value(alloc, tables)?)
 }
 
 impl Imported {

@@ -9,8 +9,8 @@ ghost use Rattle.ctf_model.specs.format.Shown.{named_arguments};
 ghost use Rattle.ctf_model.specs.symbols.SymbolQuestions.{function_of, name_of_symbol, or_refused};
 ghost use Rattle.ctf_views.specs.ItemsView.{label as label_view};
 
-use crate::loaded::Loaded;
-use crate::opened::OpenDictionary;
+use crate::loading::Loaded;
+use crate::open_dictionary::OpenDictionary;
 use ctf_entries::Signature;
 use ctf_model::{DataModel, Fault, TypeNum, placeless};
 use ctf_symbols::symbol_name;
@@ -28,7 +28,7 @@ pub fn named_count(args: &Args<'_>) -> usize
 }
 
 /// An argument that is named, from 0.
-fn named(args: Args<'_>, index: usize) -> Result<TypeNum, Fault>
+fn argument_type(args: Args<'_>, index: usize) -> Result<TypeNum, Fault>
     ensures { result_map_both (λ t. t.0) (λ f. f) result
         ≡ or_refused NO_MEMBER (slice_get (named_arguments args.entry) index) }
 {
@@ -110,6 +110,6 @@ impl OpenDictionary {
             ≡ named_answered index (function_of (own_in self.now) number) }
     {
         let function = self.function(number)?;
-        named(function.args, index)
+        argument_type(function.args, index)
     }
 }

@@ -7,7 +7,7 @@ ghost use Rattle.ctf_check.specs.FactsView.{shape_view};
 ghost use Rattle.ctf_entries.specs.FunctionView.{signature};
 ghost use Rattle.ctf_layout.specs.Reached.{position_of};
 ghost use Rattle.ctf_model.specs.figures.Figures.{reference as reference_of};
-ghost use Rattle.ctf_model.specs.names.Found.{found};
+ghost use Rattle.ctf_model.specs.names.Found.{lookup};
 ghost use Rattle.ctf_model.specs.rules.Refusals.{out_of_memory};
 ghost use Rattle.ctf_model.specs.spaces.Space.{space_type};
 ghost use Rattle.ctf_model.specs.symbols.SymbolQuestions.{by_name, label_of, object_of};
@@ -16,7 +16,7 @@ ghost use Rattle.ctf_space.specs.TypeView.{name_in};
 ghost use Rattle.ctf_views.specs.ItemsView.{enumerator as enumerator_view, member as member_view};
 ghost use Rattle.ctf_views.specs.PartsView.{array_info, encoding_info};
 
-use crate::opened::OpenDictionary;
+use crate::open_dictionary::OpenDictionary;
 use ctf_check::Shape;
 use ctf_entries::Signature;
 use ctf_layout::{path, reference};
@@ -215,7 +215,7 @@ impl OpenDictionary {
     }
 
     /// What a function type returns.
-    pub fn returned(&self, t: TypeNum) -> Result<TypeNum, Fault>
+    pub fn return_type(&self, t: TypeNum) -> Result<TypeNum, Fault>
         ensures { result_map_both (λ t. t.0) (λ f. f) result
             ≡ on_shape return_answered (shape_of (space_type (space_in self.now) t.0)) }
     {
@@ -318,7 +318,7 @@ impl OpenDictionary {
 
     /// The type that a written name finds.
     pub fn find(&self, text: &[u8]) -> Result<TypeNum, Fault>
-        ensures { result_map_both (λ t. t.0) (λ f. f) result ≡ found (space_in self.now) text.now }
+        ensures { result_map_both (λ t. t.0) (λ f. f) result ≡ lookup (space_in self.now) text.now }
     {
         find(&self.space(), &self.tables().index, text)
     }

@@ -3,7 +3,7 @@ ghost use Rattle.std.specs.Prelude.{◌≡◌, None, true};
 ghost use Rattle.ctf_check.specs.ListsView.{lists_in};
 ghost use Rattle.ctf_model.specs.rules.Faults.{first_fault};
 
-use crate::loaded::Loaded;
+use crate::loading::Loaded;
 use ctf_check::LentLists;
 use ctf_model::DataModel;
 

@@ -6,7 +6,7 @@ ghost use Rattle.ctf_open.specs.Fitting.{AreTablesOf, Serve, ServeParent};
 ghost use Rattle.ctf_model.specs.rules.Refusals.{out_of_memory};
 ghost use Rattle.ctf_model.specs.spaces.Kept.{fault_over};
 
-use crate::loaded::Loaded;
+use crate::loading::Loaded;
 use ctf_check::Judged;
 use ctf_layout::Layout;
 use ctf_model::{Fault, placeless};

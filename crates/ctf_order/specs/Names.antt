@@ -10,23 +10,23 @@ use Rattle.std.specs.declared.cmp.Ordering.{Ordering}
 use Rattle.ctf_model.specs.format.Bytes.{u64_at}
 
 -- the high half of a product of two words
-abbrev pub mixed : ℕ → ℕ → ℕ
-mixed h word = ((h + word) % 2 ^ 64 * 11400714819323198485) % 2 ^ 64 / 2 ^ 32
+abbrev pub mix : ℕ → ℕ → ℕ
+mix h word = ((h + word) % 2 ^ 64 * 11400714819323198485) % 2 ^ 64 / 2 ^ 32
 
 abbrev pub hash_of_bytes : List ℕ → ℕ
-hash_of_bytes name = fold mixed 0 name
+hash_of_bytes name = fold mix 0 name
 
 -- of the last eight bytes, and of so many words at the front
 abbrev pub hash_of_words : List ℕ → ℕ → ℕ
-hash_of_words name zero = mixed 0 (u64_at name (length name - 8))
-hash_of_words name (suc n) = mixed (hash_of_words name n) (u64_at name (n * 8))
+hash_of_words name zero = mix 0 (u64_at name (length name - 8))
+hash_of_words name (suc n) = mix (hash_of_words name n) (u64_at name (n * 8))
 
 abbrev pub hash : List ℕ → ℕ
 hash name =
     if ltb (length name) 8 then hash_of_bytes name
-    else hash_of_words name (min (length name) 56 / 8)
+    else hash_of_words name (min (length name) 2048 / 8)
 
--- a number for at most 64 bytes of a name in the high half, its length in the low half
+-- a number for at most 2,056 bytes of a name in the high half, its length in the low half
 unfoldable pub rank : List ℕ → ℕ
 rank name = hash name * 2 ^ 32 + length name % 2 ^ 32
 

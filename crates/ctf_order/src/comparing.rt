@@ -1,13 +1,13 @@
 //! Names by numbers, and against a text.
 ghost use Rattle.std.specs.Prelude.{◌≡◌, ◌+◌, ◌*◌, ◌<◌, ◌≤◌, ◌^◌, length};
 ghost use Rattle.ctf_order.specs.Naming.{naming};
-ghost use Rattle.ctf_order.specs.Names.{hash as hash_of, hash_of_bytes, hash_of_words, is_text as is_the_text, mixed as mixed_of, rank as rank_of};
+ghost use Rattle.ctf_order.specs.Names.{hash as hash_of, hash_of_bytes, hash_of_words, is_text as is_the_text, mix as mixed_of, rank as rank_of};
 
 use crate::texts::Texts;
 use ctf_sections::bytes::u64_at;
 
-/// How many bytes at the front of a name are read for its rank, beside its last eight.
-const FRONT: usize = 56;
+/// How many bytes at the front of a name are read for its number, beside its last eight.
+const FRONT: usize = 2048;
 
 /// What the numbers of half a word stay below.
 const HALF: u64 = 1 << 32;
@@ -16,7 +16,7 @@ const HALF: u64 = 1 << 32;
 const FACTOR: u64 = 0x9e37_79b9_7f4a_7c15;
 
 /// A number below 2^32 for one before it and a word more: the high half of a product.
-fn mixed(hash: u64, word: u64) -> u64
+fn mix(hash: u64, word: u64) -> u64
     ensures below { result < 2 ^ 32 }
     ensures is { result ≡ mixed_of hash word }
 {
@@ -30,7 +30,7 @@ fn bytes_hash(name: &[u8]) -> u64
 {
     let mut hash = 0;
     for byte in name {
-        hash = mixed(hash, u64::from(*byte));
+        hash = mix(hash, u64::from(*byte));
     }
     hash
 }
@@ -42,14 +42,16 @@ fn words_hash(name: &[u8], words: usize) -> u64
     ensures below { result < 2 ^ 32 }
     ensures is { result ≡ hash_of_words name.now words }
 {
-    let mut hash = mixed(0, u64_at(name, name.len() - 8));
+    let mut hash = mix(0, u64_at(name, name.len() - 8));
     for word in 0..words {
-        hash = mixed(hash, u64_at(name, word * 8));
+        hash = mix(hash, u64_at(name, word * 8));
     }
     hash
 }
 
-fn hash(name: &[u8]) -> u64
+/// A number below 2^32 for a name. It reads 2,056 bytes at most, eight at a time: all of a name that
+/// has no more.
+pub fn hash(name: &[u8]) -> u64
     ensures below { result < 2 ^ 32 }
     ensures is { result ≡ hash_of name.now }
 {
@@ -59,7 +61,7 @@ fn hash(name: &[u8]) -> u64
     words_hash(name, name.len().min(FRONT) / 8)
 }
 
-/// The number of a name that names are put in order by. It reads 64 bytes at most.
+/// The number of a name that names are put in order by. It reads 2,056 bytes at most.
 #[tactic(auto, unfolding(crate::specs::Names::rank))]
 pub(crate) fn rank(name: &[u8]) -> u64
     ensures { result ≡ rank_of name.now }

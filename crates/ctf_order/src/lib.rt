@@ -7,6 +7,7 @@ mod lending;
 mod order;
 mod texts;
 
+pub use comparing::hash;
 pub use entries::Entry;
 pub use order::Order;
 pub use texts::Texts;

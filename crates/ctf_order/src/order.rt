@@ -92,7 +92,7 @@ impl Order {
     /// one reference the least is kept, since it is the one that is found.
     ///
     /// To find where names end it reads each table once at most, or 64 bytes for each item and one
-    /// name; and then at most 64 bytes of each name. No name is read while items are sorted.
+    /// name; and then at most 2,056 bytes of each name. No name is read while items are sorted.
     pub fn build(alloc: Global, texts: &Texts<'_>, items: Vec<Entry>) -> Result<Order, AllocError>
         ensures { IfOk result (λ o. Fits (naming texts.now) items.items o) }
     {

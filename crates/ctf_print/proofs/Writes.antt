@@ -5,7 +5,7 @@ use Rattle.std.proofs.lemmas.List.{append-nil, drop_more, drop_all, length-map}
 use Rattle.std.specs.Prelude.{slice_get}
 use Rattle.std.specs.List.{range_with_len}
 use Rattle.std.proofs.lemmas.List.FromFn.{length-map-range_with_len, get_or-map-range_with_len}
-use Rattle.ctf_model.specs.values.Pieces.{Pieces, piece, no_pieces, ends, goes_on, then_pieces, each_behind_comma, separated, answered, ended_by}
+use Rattle.ctf_model.specs.values.Pieces.{Pieces, piece, no_pieces, ends, goes_on, then_pieces, each_behind_comma, separate, text_or_fault, ended_by}
 use Rattle.ctf_model.specs.rules.Refusals.{out_of_memory}
 use Rattle.ctf_model.specs.spaces.Space.{Space}
 use Rattle.ctf_model.specs.names.TypeNames.{longest_text, too_long}
@@ -61,7 +61,7 @@ behind_is i (x ∷ xs) h =
     let some : eqb i 0 ≡ false = ne_eqb i 0 (λ e. omega arith) in
     rw some (rw (behind_is (i + 1) xs (omega arith)) refl)
 
-pub separated_is : (xs : List Pieces) → separated xs ≡ separated_from 0 xs
+pub separated_is : (xs : List Pieces) → separate xs ≡ separated_from 0 xs
 unfolding then_pieces
 separated_is [] = refl
 separated_is (x ∷ xs) = rw (behind_is 1 xs (omega arith)) refl
@@ -107,17 +107,17 @@ no_more show p contents count size i sized e h =
     let none : drop i (map (λ j. show contents (p + 8 * size * j)) (range_with_len 0 count)) ≡ [] = drop_all i (map (λ j. show contents (p + 8 * size * j)) (range_with_len 0 count)) (omega (arith, length-map-range_with_len (λ j. show contents (p + 8 * size * j)) 0 count)) in
     rw e (rw none refl)
 
-pub no_size : (show : Shows) (p contents count : ℕ) (sized : Result ℕ Fault) (fault : Fault) → sized ≡ Err fault → separated (each_element show p contents count sized) ≡ ends fault
+pub no_size : (show : Shows) (p contents count : ℕ) (sized : Result ℕ Fault) (fault : Fault) → sized ≡ Err fault → separate (each_element show p contents count sized) ≡ ends fault
 unfolding then_pieces
 no_size show p contents count sized fault e = rw e refl
 
 -- the first element is refused wherever it stands, and all are with it
-pub first_element_refused : (old : List ℕ) (show : Shows) (p contents count size : ℕ) (sized : Result ℕ Fault) (fault : Fault) → sized ≡ Ok size → 0 < count → ((q : ℕ) → Refused old (show contents q) fault) → Refused old (separated (each_element show p contents count sized)) fault
+pub first_element_refused : (old : List ℕ) (show : Shows) (p contents count size : ℕ) (sized : Result ℕ Fault) (fault : Fault) → sized ≡ Ok size → 0 < count → ((q : ℕ) → Refused old (show contents q) fault) → Refused old (separate (each_element show p contents count sized)) fault
 first_element_refused old show p contents count size sized fault e some refused =
     let first = show contents (p + 8 * size * 0) in
     let rest = separated_from 1 (drop 1 (each_element show p contents count sized)) in
     let is = separated_is (each_element show p contents count sized) ∙ at_element show p contents count size 0 sized e some in
-    refused_as old old (separated (each_element show p contents count sized)) (then_pieces first rest) fault (ap (written old) is ∙ sym (next_nothing old old (then_pieces first rest))) (refused_first old first rest fault (refused (p + 8 * size * 0)))
+    refused_as old old (separate (each_element show p contents count sized)) (then_pieces first rest) fault (ap (written old) is ∙ sym (next_nothing old old (then_pieces first rest))) (refused_first old first rest fault (refused (p + 8 * size * 0)))
 
 -- ---- members
 
@@ -196,13 +196,13 @@ most_are : most_values ≡ 1027
 unfolding most_values
 most_are = refl
 
-written_alone : (pieces : Pieces) → written [] pieces ≡ answered pieces
+written_alone : (pieces : Pieces) → written [] pieces ≡ text_or_fault pieces
 unfolding written
 written_alone pieces = refl
 
 -- a text by itself is what is answered
 pub alone_is : (s : Space) (memory : List ℕ) (n p : ℕ) → written [] (shown_within s memory 1027 n p) ≡ value_text s memory n p
-alone_is s memory n p = written_alone (shown_within s memory 1027 n p) ∙ sym (ap (λ (k : ℕ). answered (shown_within s memory k n p)) most_are)
+alone_is s memory n p = written_alone (shown_within s memory 1027 n p) ∙ sym (ap (λ (k : ℕ). text_or_fault (shown_within s memory k n p)) most_are)
 
 pub alone_refused : (s : Space) (memory : List ℕ) (n p : ℕ) (f : Fault) → Refused [] (shown_within s memory 1027 n p) f → (f ≡ out_of_memory) ⊎ (value_text s memory n p ≡ Err f)
 alone_refused s memory n p f (inl e) = inl e

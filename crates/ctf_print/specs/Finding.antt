@@ -7,7 +7,7 @@ use Rattle.ctf_print.specs.Placing.{shown_how}
 use Rattle.ctf_print.specs.Telling.{told_shown}
 use Rattle.ctf_print.specs.ToldView.{told_view}
 use Rattle.ctf_print.specs.Written.{written}
-use Rattle.ctf_print.specs.declared.found.Found.{Found}
+use Rattle.ctf_print.specs.declared.value_form.Found.{Found}
 use Rattle.ctf_print.specs.declared.image.Image.{Image}
 
 -- a record says how each value of the type n is shown, where no more than so many numbers follow

@@ -25,6 +25,6 @@ separated_from i [] = no_pieces
 separated_from i (x ∷ xs) = then_pieces (comma_before i) (then_pieces x (separated_from (i + 1) xs))
 
 -- old bytes with an answer behind them
-abbrev pub added : List ℕ → Result (List ℕ) Fault → Result (List ℕ) Fault
-added old (Ok text) = Ok (old ++ text)
-added old (Err fault) = Err fault
+abbrev pub append_answer : List ℕ → Result (List ℕ) Fault → Result (List ℕ) Fault
+append_answer old (Ok text) = Ok (old ++ text)
+append_answer old (Err fault) = Err fault

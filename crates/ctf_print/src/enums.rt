@@ -7,7 +7,7 @@ ghost use Rattle.ctf_print.specs.Telling as told;
 ghost use Rattle.ctf_print.specs.Telling.{said_size};
 ghost use Rattle.ctf_print.specs.Written.{Refused, written};
 
-use crate::integers::{put_signed, signed};
+use crate::integers::{put_signed, twos_complement};
 use crate::numbers::{field, show_raw};
 use crate::show_cache::ShowCache;
 use crate::text::Text;
@@ -70,7 +70,7 @@ pub fn show_enum(
     let width = size as u16 * 8;
     match field(memory, at, width) {
         Ok(bits) => {
-            let value = signed(width, bits);
+            let value = twos_complement(width, bits);
             let place = known.first_place(number, enumerators, value);
             put_name(enumerators, place, value, out)
         }

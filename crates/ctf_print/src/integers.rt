@@ -15,7 +15,7 @@ use itoa::Buffer;
 
 /// What so many bits say in two's complement: in a negative number all bits above are set.
 #[inline(always)]
-pub fn signed(width: u16, number: u64) -> i64
+pub fn twos_complement(width: u16, number: u64) -> i64
     requires some { 0 < width }
     requires short { width ≤ 64 }
     requires small { number < 2 ^ width }
@@ -83,7 +83,7 @@ fn put_integer(encoding: Encoding, number: u64, out: &mut Text) -> Result<(), Fa
         (piece (signed_decimal (integer_value encoding.encoding encoding.bits number)))) }
 {
     if encoding.encoding % 2 == 1 {
-        put_signed(signed(encoding.bits, number), out)
+        put_signed(twos_complement(encoding.bits, number), out)
     } else {
         put_unsigned(number, out)
     }

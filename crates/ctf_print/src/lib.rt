@@ -2,7 +2,6 @@
 #![tactic(auto)]
 
 mod enums;
-mod found;
 mod image;
 mod integers;
 mod numbers;
@@ -12,6 +11,7 @@ mod show_cache;
 mod showing;
 mod telling;
 mod text;
+mod value_form;
 mod values;
 
 pub use showing::show;

@@ -2,7 +2,7 @@
 ghost use Rattle.std.specs.Prelude.{◌≡◌, ◌<◌, ℕ, length, slice_get, IfErr, IfOk, OnOk, Ok, Some};
 ghost use Rattle.ctf_model.specs.figures.Figures.{size as size_of};
 ghost use Rattle.ctf_model.specs.format.Term.{Member};
-ghost use Rattle.ctf_model.specs.values.Pieces.{ends, no_pieces, piece, separated};
+ghost use Rattle.ctf_model.specs.values.Pieces.{ends, no_pieces, piece, separate};
 ghost use Rattle.ctf_model.specs.values.Values.{each_element, enum_shown, float_shown, integer_shown, label, member_shown, raw_shown};
 ghost use Rattle.ctf_views.specs.PartsView.{encoding_info};
 ghost use Rattle.ctf_print.specs.Finding.{IsBegun, IsFound};
@@ -13,12 +13,12 @@ ghost use Rattle.ctf_print.specs.Telling.{said_size};
 ghost use Rattle.ctf_print.specs.Written.{Refused, comma_before, written};
 
 use crate::enums::show_enum;
-use crate::found::{Found, find_how};
 use crate::image::Image;
 use crate::integers::{show_float, show_integer};
 use crate::numbers::show_raw;
 use crate::show_cache::ShowCache;
 use crate::text::Text;
+use crate::value_form::{Found, find_how};
 use ctf_model::{Fault, TypeNum};
 use ctf_views::{Encoding, Enumerators, Members};
 
@@ -253,7 +253,7 @@ impl<'a> Pen<'a> {
         ensures found { IfOk result (λ size. (size_of (types_of image.now) contents.0 ≡ Ok size)
             × IsFound image.now nesting contents.0 found.new) }
         ensures refused { IfErr result (λ _. (p count : ℕ) → 0 < count
-            → Refused self.old.out (separated (each_element (shows image.now nesting) p contents.0
+            → Refused self.old.out (separate (each_element (shows image.now nesting) p contents.0
             count (size_of (types_of image.now) contents.0))) self.new.fault) }
         ensures kept { self.new.known ≡ self.old.known }
         ensures text { self.new.out ≡ self.old.out }

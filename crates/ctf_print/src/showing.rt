@@ -1,10 +1,10 @@
-//! Shows a value.
+//! The entry point: appends one value of a type as text, or nothing.
 ghost use Rattle.std.specs.Prelude.{◌≡◌, ◌⊎◌, IfErr, OnErr, OnOk, Err, Ok};
 ghost use Rattle.ctf_layout.specs.Fitting.{Fits};
 ghost use Rattle.ctf_model.specs.rules.Refusals.{out_of_memory};
 ghost use Rattle.ctf_model.specs.values.Values.{value_text};
 ghost use Rattle.ctf_space.specs.SpaceView.{space_of};
-ghost use Rattle.ctf_print.specs.Written.{added};
+ghost use Rattle.ctf_print.specs.Written.{append_answer};
 
 use crate::image::Image;
 use crate::pen::Pen;
@@ -31,7 +31,7 @@ pub fn show(
     out: &mut Vec<u8>,
 ) -> Result<(), Fault>
     requires { Fits (space_of space.now) layout.now }
-    ensures exact_ok { OnOk result (added out.old.items
+    ensures exact_ok { OnOk result (append_answer out.old.items
         (value_text (space_of space.now) memory.now number.0 offset) ≡ Ok out.new.items) }
     ensures exact_err { IfErr result (λ f. (f ≡ out_of_memory)
         ⊎ (value_text (space_of space.now) memory.now number.0 offset ≡ Err f)) }

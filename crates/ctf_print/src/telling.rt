@@ -1,4 +1,4 @@
-//! How the value of a type is shown.
+//! The form of a type's values, by its kind: the one match over kinds.
 ghost use Rattle.std.specs.Prelude.{◌≡◌};
 ghost use Rattle.std.specs.Option.{option_map};
 ghost use Rattle.ctf_check.specs.FactsView.{shape_view};

@@ -1,5 +1,5 @@
-//! Values and the values that they hold. Each shows what it may, up to the longest text; no more
-//! than so many values stand in each other.
+//! Recursive formatting of values, bounded in the length of the text and in how deeply values are
+//! nested.
 //!
 //! A struct in a struct takes one frame of the stack, that of `show_members`, and an array in an
 //! array that of `show_array`. A frame holds what is found of one type and where its value stands:
@@ -7,7 +7,7 @@
 ghost use Rattle.std.specs.Prelude.{◌≡◌, ◌*◌, ◌<◌, length, map, slice_get, IfErr, OnOk, Ok, Some};
 ghost use Rattle.ctf_model.specs.format.Term.{Member};
 ghost use Rattle.ctf_model.specs.figures.Figures.{size as size_of};
-ghost use Rattle.ctf_model.specs.values.Pieces.{separated};
+ghost use Rattle.ctf_model.specs.values.Pieces.{separate};
 ghost use Rattle.ctf_model.specs.spaces.Space.{pointer_size};
 ghost use Rattle.ctf_model.specs.values.Values.{array_shown, elements_shown, member_shown, members_shown};
 ghost use Rattle.ctf_print.specs.ImageView.{memory_of, shows, types_of};
@@ -16,10 +16,10 @@ ghost use Rattle.ctf_print.specs.Telling.{told_shown};
 ghost use Rattle.ctf_print.specs.ToldView.{told_view};
 ghost use Rattle.ctf_print.specs.Written.{Refused, written};
 
-use crate::found::{Found, nothing_found};
 use crate::image::Image;
 use crate::pen::{Ended, Pen};
 use crate::telling::Told;
+use crate::value_form::{Found, nothing_found};
 use ctf_model::{DataModel, Fault, TypeNum, placeless};
 use ctf_views::{ArrayInfo, Members};
 
@@ -126,10 +126,10 @@ fn show_each_member(
 ) -> Result<(), Ended>
     requires known { pen.old.known ≡ types_of image.now }
     ensures ok { OnOk result (written pen.old.out
-        (separated (map (member_shown (shows image.now nesting) at) members.now))
+        (separate (map (member_shown (shows image.now nesting) at) members.now))
         ≡ Ok pen.new.out) }
     ensures err { IfErr result (λ _. Refused pen.old.out
-        (separated (map (member_shown (shows image.now nesting) at) members.now))
+        (separate (map (member_shown (shows image.now nesting) at) members.now))
         pen.new.fault) }
     ensures kept { pen.new.known ≡ pen.old.known }
 {
@@ -197,8 +197,8 @@ fn show_told(image: &Image<'_>, found: &Found<'_>, at: u128, pen: &mut Pen<'_>) 
     }
 }
 
-/// Puts what the value of a number's type shows that begins at a bit. Typedefs and qualifiers are
-/// followed once for each type.
+/// Formats the value of type `number` that begins at a bit. Typedefs and qualifiers are followed
+/// once for each type.
 #[inline(always)]
 #[cycle(values)]
 pub fn show_value(

@@ -13,7 +13,7 @@ use Rattle.ctf_protocol.specs.sessions.Slots.{slots_with}
 use Rattle.ctf_protocol.specs.sessions.State.{Publication, Slot, State}
 use Rattle.ctf_protocol.specs.sessions.Outcomes.{Outcome, quota, refuses, within_quota}
 use Rattle.ctf_protocol.specs.sessions.Slots.{slot_at, slots_with_parent, slots_without}
-use Rattle.ctf_protocol.specs.sessions.Steps.{staged, with_staged}
+use Rattle.ctf_protocol.specs.sessions.Steps.{list_in, with_staged}
 use Rattle.ctf_protocol.specs.declared.requests.ListName.{ListName}
 use Rattle.ctf_protocol.specs.declared.requests.ListName.TheVariants.{Ctf, Sym, Str}
 
@@ -25,7 +25,7 @@ charge_is s = refl
 -- ---- staged lists
 
 -- a piece counts its bytes
-pub staged_more : (list : ListName) (piece : List ℕ) (s : Lists) → lists_bytes (with_staged list (staged list s ++ piece) s) ≡ lists_bytes s + length piece
+pub staged_more : (list : ListName) (piece : List ℕ) (s : Lists) → lists_bytes (with_staged list (list_in list s ++ piece) s) ≡ lists_bytes s + length piece
 staged_more Ctf piece s = omega (arith, length-append s.ctf piece)
 staged_more Sym piece s = omega (arith, length-append (unwrap_or s.sym []) piece)
 staged_more Str piece s = omega (arith, length-append (unwrap_or s.strs []) piece)
@@ -103,8 +103,8 @@ granted o s le = rw (le-ltb quota (charge o.state) le) refl
 pub over : (o : Outcome) (s : State) → quota < charge o.state → within_quota o s ≡ refuses QUOTA_FULL s
 over o s lt = rw (lt-ltb quota (charge o.state) lt) refl
 
-pub part_charge : (list : ListName) (piece : List ℕ) (s : State) → charge (record s { stage = with_staged list (staged list s.stage ++ piece) s.stage }) ≡ charge s + length piece
-part_charge list piece s = omega (arith, charge_is s, charge_is (record s { stage = with_staged list (staged list s.stage ++ piece) s.stage }), staged_more list piece s.stage)
+pub part_charge : (list : ListName) (piece : List ℕ) (s : State) → charge (record s { stage = with_staged list (list_in list s.stage ++ piece) s.stage }) ≡ charge s + length piece
+part_charge list piece s = omega (arith, charge_is s, charge_is (record s { stage = with_staged list (list_in list s.stage ++ piece) s.stage }), staged_more list piece s.stage)
 
 pub slot_charge : (slot : Slot) (next : ℕ) (s : State) → charge (record s { slots = s.slots ++ slot ∷ []; next = next }) ≡ charge s + slot_bytes slot
 slot_charge slot next s = omega (arith, charge_is s, charge_is (record s { slots = s.slots ++ slot ∷ []; next = next }), sum_by_push slot_bytes s.slots slot)

@@ -6,24 +6,24 @@ use Rattle.std.specs.Cmp.Derive.{both_true}
 use Rattle.std.proofs.lemmas.List.{take-append-drop}
 use Rattle.std.proofs.lemmas.List.Folds.{list_all-append}
 use Rattle.ctf_model.specs.opened.Questions.{array_answered, encoding_answered, enumerators_answered, members_answered, signature_answered}
-use Rattle.ctf_protocol.specs.sessions.Additions.{added, addition_answered}
+use Rattle.ctf_protocol.specs.sessions.Additions.{apply_addition, addition_answered}
 use Rattle.ctf_protocol.specs.sessions.Creations.{Created}
 use Rattle.ctf_protocol.specs.sessions.DraftSteps.{created_slot, slot_step}
 use Rattle.ctf_protocol.specs.sessions.Opened.{SlotOutcome, open_of, slot_stepped}
 use Rattle.ctf_model.specs.opened.Open.{pending_in}
-use Rattle.ctf_model.specs.opened.Steps.{Stepped, dropped, import_refusal, updated}
+use Rattle.ctf_model.specs.opened.Steps.{Stepped, discard_step, import_refusal, step_update}
 use Rattle.ctf_protocol.specs.declared.additions.Addition.{Addition}
 use Rattle.ctf_protocol.specs.declared.additions.Addition.TheVariants as add
 use Rattle.ctf_protocol.specs.answers.Answers.{Answer, Item, Single, number, truth, word, text, says, may_say}
 use Rattle.ctf_model.specs.rules.Faults.{first_fault}
-use Rattle.ctf_model.specs.names.Found.{found, pointer_to}
+use Rattle.ctf_model.specs.names.Found.{lookup, pointer_to}
 use Rattle.ctf_model.specs.names.KindNames.{name_of_kind}
-use Rattle.ctf_model.specs.figures.Figures.{align, referred, resolved, size}
+use Rattle.ctf_model.specs.figures.Figures.{align, referred_type, resolved_type, size}
 use Rattle.ctf_protocol.specs.answers.KeyOrder.{item_in_order, in_order, IsInOrder}
 use Rattle.ctf_model.specs.spaces.Kept.{Kept}
 use Rattle.ctf_model.specs.figures.Paths.{path}
 use Rattle.ctf_protocol.specs.sessions.Publications.{published_as}
-use Rattle.ctf_protocol.specs.answers.Questions.{at_most, windowed, as_fields, member_fields, member_item, enumerator_fields, enumerator_item, number_item, argument_fields, array_fields, encoding_fields, signature_fields, type_fields, size_fields, align_fields, name_fields, position_fields, value_fields, plain_answered, said_on, answer_of}
+use Rattle.ctf_protocol.specs.answers.Questions.{at_most, window_of, as_fields, member_fields, member_item, enumerator_fields, enumerator_item, number_item, argument_fields, array_fields, encoding_fields, signature_fields, type_fields, size_fields, align_fields, name_fields, position_fields, value_fields, plain_answered, said_on, answer_of}
 use Rattle.ctf_protocol.specs.answers.SlotAnswers.{symbol_fields, label_item, last_fields, whole_answered}
 use Rattle.ctf_model.specs.symbols.SymbolQuestions.{symbol_found, object_of, function_of, label_of}
 use Rattle.ctf_model.specs.format.Shown.{Facts, facts, list_length, named_arguments}
@@ -68,7 +68,7 @@ some_items : (count : Option ℕ) (items : List Item) → list_all item_in_order
 some_items None items h = h
 some_items (Some n) items h = (halves n items h).0
 
-in_window : (window : Window) (items : List Item) → list_all item_in_order items ≡ true → list_all item_in_order (windowed window items) ≡ true
+in_window : (window : Window) (items : List Item) → list_all item_in_order items ≡ true → list_all item_in_order (window_of window items) ≡ true
 in_window window items h = some_items window.count (drop window.from items) (halves window.from items h).1
 
 each : {A : Type 0} (item : A → Item) → ((a : A) → item_in_order (item a) ≡ true) → (xs : List A) → list_all item_in_order (map item xs) ≡ true
@@ -105,8 +105,8 @@ on_plain plain.Record s t x = head (word (name_of_kind x.shape.kind)) (text x.na
 on_plain plain.Args s t x = figure signature_fields (λ f. arguments_rise f.ret f.args) (signature_answered x.shape)
 on_plain plain.Array s t x = figure array_fields (λ a. refl) (array_answered x.shape)
 on_plain plain.Encoding s t x = figure encoding_fields (λ a. refl) (encoding_answered x.shape)
-on_plain plain.Reference s t x = figure type_fields (λ n. refl) (referred x.shape)
-on_plain plain.Resolve s t x = figure type_fields (λ n. refl) (resolved s t)
+on_plain plain.Reference s t x = figure type_fields (λ n. refl) (referred_type x.shape)
+on_plain plain.Resolve s t x = figure type_fields (λ n. refl) (resolved_type s t)
 on_plain plain.Size s t x = figure size_fields (λ n. refl) (size s t)
 on_plain plain.Align s t x = figure align_fields (λ n. refl) (align s t)
 on_plain plain.Name s t x = figure name_fields (λ name. refl) (spelled_name s t)
@@ -114,8 +114,8 @@ on_plain plain.Pointer s t x = figure type_fields (λ n. refl) (pointer_to s t)
 
 on_type : (question : TypeQuestion) (s : Space) (t : ℕ) (x : Facts) → IsInOrder (said_on question s t x)
 on_type (ask.Plain question) s t x = on_plain question s t x
-on_type (ask.Members window) s t x = figure (member_fields window) (λ ms. listed (windowed window (map member_item ms)) true (in_window window (map member_item ms) (each member_item (λ m. refl) ms)) refl) (members_answered x.shape)
-on_type (ask.Enumerators window) s t x = figure (enumerator_fields window) (λ es. listed (windowed window (map enumerator_item es)) true (in_window window (map enumerator_item es) (each enumerator_item (λ e. refl) es)) refl) (enumerators_answered x.shape)
+on_type (ask.Members window) s t x = figure (member_fields window) (λ ms. listed (window_of window (map member_item ms)) true (in_window window (map member_item ms) (each member_item (λ m. refl) ms)) refl) (members_answered x.shape)
+on_type (ask.Enumerators window) s t x = figure (enumerator_fields window) (λ es. listed (window_of window (map enumerator_item es)) true (in_window window (map enumerator_item es) (each enumerator_item (λ e. refl) es)) refl) (enumerators_answered x.shape)
 on_type (ask.Path names) s t x = figure position_fields (λ at. refl) (path s t names)
 on_type (ask.Show memory offset) s t x = figure value_fields (λ shown. refl) (value_text s memory t offset)
 
@@ -124,11 +124,11 @@ of_type question s t (Ok x) = on_type question s t (facts x)
 of_type question s t (Err fault) = tt
 
 on_whole : (question : SlotQuestion) (s : Space) → IsInOrder (whole_answered question s)
-on_whole (whole.Find written) s = figure type_fields (λ n. refl) (found s written)
+on_whole (whole.Find written) s = figure type_fields (λ n. refl) (lookup s written)
 on_whole (whole.Symbol name) s = figure symbol_fields (λ e. refl) (symbol_found s.own name)
 on_whole (whole.Object n) s = figure type_fields (λ t. refl) (object_of s.own n)
 on_whole (whole.Function n) s = figure signature_fields (λ f. arguments_rise f.ret f.args) (function_of s.own n)
-on_whole (whole.Labels window) s = listed (windowed window (map label_item s.own.labels)) true (in_window window (map label_item s.own.labels) (each label_item (λ x. refl) s.own.labels)) refl
+on_whole (whole.Labels window) s = listed (window_of window (map label_item s.own.labels)) true (in_window window (map label_item s.own.labels) (each label_item (λ x. refl) s.own.labels)) refl
 on_whole (whole.Label name) s = figure last_fields (λ n. refl) (label_of s.own name)
 
 pub of_slot : (question : Question) (slot : Option Slot) → IsInOrder (said_by_slot question slot)
@@ -232,9 +232,9 @@ adding (add.Label name last) n = refl
 
 of_draft : (step : DraftStep) (slot : Slot) → IsInOrder (slot_step step slot).said
 unfolding slot_step
-of_draft (steps.Add addition) slot = stepped (addition_answered addition) slot (adding addition) (added addition (open_of slot))
-of_draft steps.Update slot = stepped _ slot (λ n. refl) (updated (open_of slot))
-of_draft steps.Discard slot = stepped _ slot (λ n. refl) (dropped (open_of slot))
+of_draft (steps.Add addition) slot = stepped (addition_answered addition) slot (adding addition) (apply_addition addition (open_of slot))
+of_draft steps.Update slot = stepped _ slot (λ n. refl) (step_update (open_of slot))
+of_draft steps.Discard slot = stepped _ slot (λ n. refl) (discard_step (open_of slot))
 
 updated_within : (said : Result Answer Fault) (outcome : Outcome) (state : State) → IsInOrder outcome.reply.outcome → IsInOrder (updates_within said outcome state).reply.outcome
 updated_within (Ok answer) outcome state h = quoted _ outcome state refl h

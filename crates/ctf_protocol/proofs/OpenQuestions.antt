@@ -1,7 +1,7 @@
 -- What a word answers of a type is what is asked of it where the type is there, and its fault else.
 use Rattle.std.proofs.Common.{◌≡◌, ℕ, List, Result, Ok, Err, refl}
 use Rattle.ctf_model.specs.declared.faults.Fault.{Fault}
-use Rattle.ctf_model.specs.figures.Figures.{align, referred_by, resolved, size}
+use Rattle.ctf_model.specs.figures.Figures.{align, referred_by, resolved_type, size}
 use Rattle.ctf_model.specs.figures.Paths.{path}
 use Rattle.ctf_model.specs.format.Term.{Term}
 use Rattle.ctf_model.specs.names.Found.{pointer_to}
@@ -55,7 +55,7 @@ reference_as : (s : Space) (t : ℕ) (r : Result Term Fault) → answer_of (ask.
 reference_as s t (Ok x) = refl
 reference_as s t (Err f) = refl
 
-resolve_as : (s : Space) (t : ℕ) (r : Result Term Fault) → answer_of (ask.Plain plain.Resolve) s t r ≡ as_fields type_fields (if_there (resolved s t) r)
+resolve_as : (s : Space) (t : ℕ) (r : Result Term Fault) → answer_of (ask.Plain plain.Resolve) s t r ≡ as_fields type_fields (if_there (resolved_type s t) r)
 resolve_as s t (Ok x) = refl
 resolve_as s t (Err f) = refl
 

@@ -7,8 +7,8 @@ use Rattle.ctf_model.specs.declared.data_model.DataModel.{DataModel}
 use Rattle.ctf_model.specs.declared.faults.Fault.{Fault}
 use Rattle.ctf_protocol.specs.answers.Answers.{Answer}
 use Rattle.ctf_model.specs.opened.Open.{pending_in}
-use Rattle.ctf_model.specs.opened.Steps.{Stepped, dropped, import_refusal, updated}
-use Rattle.ctf_protocol.specs.sessions.Additions.{added, addition_answered}
+use Rattle.ctf_model.specs.opened.Steps.{Stepped, discard_step, import_refusal, step_update}
+use Rattle.ctf_protocol.specs.sessions.Additions.{apply_addition, addition_answered}
 use Rattle.ctf_protocol.specs.sessions.Charges.{charge}
 use Rattle.ctf_protocol.specs.sessions.Creations.{Created}
 use Rattle.ctf_protocol.specs.sessions.DraftSteps.{created_slot, slot_step}
@@ -125,9 +125,9 @@ stepped say slot (Err fault) f e = refl
 
 of_slot : (x : DraftStep) (slot : Slot) → Same slot (slot_step x slot)
 unfolding slot_step
-of_slot (steps.Add addition) slot = stepped (addition_answered addition) slot (added addition (open_of slot))
-of_slot steps.Update slot = stepped _ slot (updated (open_of slot))
-of_slot steps.Discard slot = stepped _ slot (dropped (open_of slot))
+of_slot (steps.Add addition) slot = stepped (addition_answered addition) slot (apply_addition addition (open_of slot))
+of_slot steps.Update slot = stepped _ slot (step_update (open_of slot))
+of_slot steps.Discard slot = stepped _ slot (discard_step (open_of slot))
 
 -- a slot that takes its own place changes nothing
 with_case : (d : ℕ) (slot first : Slot) (rest : List Slot) → (slot_at d rest ≡ Some slot → slots_with d slot rest ≡ rest) → (t : Bool) → eqb first.number d ≡ t → slot_at d (first ∷ rest) ≡ Some slot → slots_with d slot (first ∷ rest) ≡ first ∷ rest

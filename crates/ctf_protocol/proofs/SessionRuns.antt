@@ -5,8 +5,8 @@ use Rattle.std.proofs.lemmas.Bool.Decides.{nat_tests}
 use Rattle.ctf_protocol.specs.answers.Answers.{Reply}
 use Rattle.ctf_model.specs.spaces.Kept.{Kept}
 use Rattle.ctf_protocol.specs.sessions.Publications.{published_as}
-use Rattle.ctf_protocol.specs.sessions.Runs.{Call, Given, Steps, IsGranted, IsRefused, given, found_in, own_state, own_replies, addressed, private_state, private_replies, taken_by}
-use Rattle.ctf_protocol.specs.sessions.SessionLaws.{SameGiven, UnreachedDoNotMatter, is_among, TakesFrom, IsClosed, calls_among, Event, Happens, IsReplied, EachStepHappens, granted, calls_of, replies_to, EachRunsAlone}
+use Rattle.ctf_protocol.specs.sessions.Runs.{Call, Given, Steps, IsGranted, IsRefused, own_inputs, found_in, own_state, own_replies, address_to, private_state, private_replies, taken_by}
+use Rattle.ctf_protocol.specs.sessions.SessionLaws.{SameGiven, UnreachedDoNotMatter, is_among, TakesFrom, IsClosed, calls_among, Event, Happens, IsReplied, EachStepHappens, granted_events, calls_of, replies_to, EachRunsAlone}
 use Rattle.ctf_protocol.specs.sessions.State.{State}
 use Rattle.ctf_protocol.specs.sessions.Outcomes.{Outcome}
 use Rattle.ctf_protocol.specs.sessions.Steps.{step}
@@ -16,7 +16,7 @@ use Rattle.ctf_protocol.specs.declared.requests.Request.{Request}
 
 pub same_given : SameGiven
 same_given start other calls others s h e =
-    (ap (λ x. private_replies x (given start calls s)) h ∙ ap (private_replies (other s)) e, ap (λ x. private_state x (given start calls s)) h ∙ ap (private_state (other s)) e)
+    (ap (λ x. private_replies x (own_inputs start calls s)) h ∙ ap (private_replies (other s)) e, ap (λ x. private_state x (own_inputs start calls s)) h ∙ ap (private_state (other s)) e)
 
 -- ---- sessions that no take reaches
 
@@ -28,11 +28,11 @@ found_among a b sessions request here h = at (taken_by request) here
     at None e = refl
     at (Some t) e = ap (λ (l : State). published_as t.1 l.published) (h t.0 (e t refl))
 
-one_unreached : (start : ℕ → State) (call : Call) (calls : List Call) (r : List ℕ) → IsClosed r (call ∷ calls) → ((s : ℕ) → is_among r s ≡ true → given start (calls_among r calls) s ≡ given start calls s)
-    → (s : ℕ) → is_among r s ≡ true → (k : Bool) → is_among r call.session ≡ k → (t : Bool) → eqb call.session s ≡ t → given start (calls_among r (call ∷ calls)) s ≡ given start (call ∷ calls) s
+one_unreached : (start : ℕ → State) (call : Call) (calls : List Call) (r : List ℕ) → IsClosed r (call ∷ calls) → ((s : ℕ) → is_among r s ≡ true → own_inputs start (calls_among r calls) s ≡ own_inputs start calls s)
+    → (s : ℕ) → is_among r s ≡ true → (k : Bool) → is_among r call.session ≡ k → (t : Bool) → eqb call.session s ≡ t → own_inputs start (calls_among r (call ∷ calls)) s ≡ own_inputs start (call ∷ calls) s
 one_unreached start call calls r closed h s i true k true e =
-    let found = found_among (λ q. private_state (start q) (given start (calls_among r calls) q)) (λ q. private_state (start q) (given start calls q)) r call.request (closed.0 k) (λ q j. ap (private_state (start q)) (h q j)) in
-    rw (k, e) (ap (λ (f : Option Kept). record { request = call.request; found = f } ∷ given start (calls_among r calls) s) found ∙ ap (λ (asks : List Given). record { request = call.request; found = found_in (λ q. private_state (start q) (given start calls q)) call.request } ∷ asks) (h s i))
+    let found = found_among (λ q. private_state (start q) (own_inputs start (calls_among r calls) q)) (λ q. private_state (start q) (own_inputs start calls q)) r call.request (closed.0 k) (λ q j. ap (private_state (start q)) (h q j)) in
+    rw (k, e) (ap (λ (f : Option Kept). record { request = call.request; found = f } ∷ own_inputs start (calls_among r calls) s) found ∙ ap (λ (asks : List Given). record { request = call.request; found = found_in (λ q. private_state (start q) (own_inputs start calls q)) call.request } ∷ asks) (h s i))
 one_unreached start call calls r closed h s i true k false e = rw (k, e) (h s i)
 one_unreached start call calls r closed h s i false k true e =
     let same : call.session ≡ s = grind (arith, nat_tests, e) in
@@ -64,7 +64,7 @@ each_step_happens old new s request reply steps = happens_by old new s request r
 
 -- what holds for a session after events
 abbrev Holds : (ℕ → State) → (ℕ → State) → List Event → ℕ → Type 0
-Holds start new events s = (replies_to s (granted events) ≡ map (addressed s) (own_replies start (calls_of (granted events)) s)) × (new s ≡ own_state start (calls_of (granted events)) s)
+Holds start new events s = (replies_to s (granted_events events) ≡ map (address_to s) (own_replies start (calls_of (granted_events events)) s)) × (new s ≡ own_state start (calls_of (granted_events events)) s)
 
 other_stays : (between new : ℕ → State) (event : Event) → Happens between event new → (s : ℕ) → eqb event.session s ≡ false → new s ≡ between s
 other_stays between new event happens s h =
@@ -87,15 +87,15 @@ one_more start between new event earlier h happens s false m own false e =
     rw (m, e) ((h s).0, other_stays between new event happens s e ∙ (h s).1)
 one_more start between new event earlier h happens s false m own true e =
     let same : event.session ≡ s = grind (arith, nat_tests, e) in
-    let later : ℕ → State = own_state start (calls_of (granted earlier)) in
+    let later : ℕ → State = own_state start (calls_of (granted_events earlier)) in
     let found = found_same between later event.request (λ q. (h q).1) in
     let here : between event.session ≡ later s = (h event.session).1 ∙ ap later same in
     let out : step (between event.session) event.request (found_in between event.request) ≡ step (later s) event.request (found_in later event.request) =
     ap (λ (l : State). step l event.request (found_in between event.request)) here ∙ ap (step (later s) event.request) found in
-    let reply : event.reply ≡ addressed s (step (later s) event.request (found_in later event.request)).reply =
-    own.0 ∙ ap (λ (x : ℕ). addressed x (step (between event.session) event.request (found_in between event.request)).reply) same ∙ ap (λ (o : Outcome). addressed s o.reply) out in
+    let reply : event.reply ≡ address_to s (step (later s) event.request (found_in later event.request)).reply =
+    own.0 ∙ ap (λ (x : ℕ). address_to x (step (between event.session) event.request (found_in between event.request)).reply) same ∙ ap (λ (o : Outcome). address_to s o.reply) out in
     rw (m, e) (
-      ap (λ (p : Reply). p ∷ replies_to s (granted earlier)) reply ∙ ap (λ (ps : List Reply). addressed s (step (later s) event.request (found_in later event.request)).reply ∷ ps) (h s).0,
+      ap (λ (p : Reply). p ∷ replies_to s (granted_events earlier)) reply ∙ ap (λ (ps : List Reply). address_to s (step (later s) event.request (found_in later event.request)).reply ∷ ps) (h s).0,
       ap new (sym same) ∙ own.1 ∙ ap (λ (o : Outcome). o.state) out,
     )
 

@@ -2,11 +2,11 @@
 -- table.
 use Rattle.std.proofs.Common.{◌≡◌, ℕ, ◌+◌, List, [], ◌∷◌, Bool, true, false, Option, Some, None, Result, Ok, Err, refl}
 use Rattle.std.specs.Prelude.{if◌then◌else◌}
-use Rattle.ctf_model.specs.drafts.Adders.{add_enumerator, add_label, add_member, add_type, against_enumerator, against_label, against_member, against_place, against_type, body_at, place_member, put_member, replaced, size_with, with_enumerator, with_label, with_member, with_type}
+use Rattle.ctf_model.specs.drafts.Adders.{add_enumerator, add_label, add_member, add_type, against_enumerator, against_label, against_member, against_place, against_type, body_at, place_member, put_member, replace_body, size_with, with_enumerator, with_label, with_member, with_type}
 use Rattle.ctf_model.specs.drafts.Drafts.{Draft, above, against_draft, empty_draft, new_draft, next_number, space_of}
 use Rattle.ctf_model.specs.drafts.NewTypes.{NewType, new_term}
 use Rattle.ctf_model.specs.drafts.Placement.{behind_last, bits_filled, bits_found, last_member, member_place, own_place}
-use Rattle.ctf_model.specs.figures.Figures.{align, resolved, size}
+use Rattle.ctf_model.specs.figures.Figures.{align, resolved_type, size}
 use Rattle.ctf_model.specs.format.Dictionary.{Dictionary, Label}
 use Rattle.ctf_model.specs.format.Lists.{Lists}
 use Rattle.ctf_model.specs.format.Term.{Body, Enumerator, Member, Term}
@@ -75,7 +75,7 @@ found_bits n (Err f) g = g
 found_bits n (Ok x) g = refl
 
 bits_good : (s : Space) (n : ℕ) → good (bits_filled s n) ≡ true
-bits_good s n = then_good (size s n) _ (size_good s n) (λ bytes. then_good (resolved s n) _ (resolved_good s n) (λ t. found_bits bytes (space_type s t) (type_good s t)))
+bits_good s n = then_good (size s n) _ (size_good s n) (λ bytes. then_good (resolved_type s n) _ (resolved_good s n) (λ t. found_bits bytes (space_type s t) (type_good s t)))
 
 behind_good : (s : Space) (last : Option Member) (tnum : ℕ) → good (behind_last s last tnum) ≡ true
 behind_good s None tnum = refl
@@ -102,7 +102,7 @@ place_good s b tnum (Some offset) = refl
 place_good s b tnum None = own_good s b tnum
 
 put_good : (d : Draft) (n : ℕ) (m : Member) (bits : ℕ) → good (put_member d n m bits) ≡ true
-put_good d n m bits = unless_good (first_met (against_place m.offset (size_with d n m.offset bits))) (Ok (record { draft = replaced d n (with_member m (size_with d n m.offset bits) (body_at d n)); answer = m.offset })) (met (against_place m.offset (size_with d n m.offset bits)) refl) refl
+put_good d n m bits = unless_good (first_met (against_place m.offset (size_with d n m.offset bits))) (Ok (record { draft = replace_body d n (with_member m (size_with d n m.offset bits) (body_at d n)); answer = m.offset })) (met (against_place m.offset (size_with d n m.offset bits)) refl) refl
 
 placed_good : (d : Draft) (n : ℕ) (name : List ℕ) (tnum : ℕ) (offset : Option ℕ) → good (place_member d n name tnum offset) ≡ true
 placed_good d n name tnum offset = then_good (bits_filled (space_of d) tnum) _ (bits_good (space_of d) tnum) (λ bits. then_good (member_place (space_of d) (body_at d n) tnum offset) _ (place_good (space_of d) (body_at d n) tnum offset) (λ place. put_good d n (record { name = name; tnum = tnum; offset = place }) bits))
@@ -113,7 +113,7 @@ member_added d n name tnum offset = unless_good (first_met (against_member d n n
 
 pub enumerator_added : (d : Draft) (n : ℕ) (e : Enumerator) → good (add_enumerator d n e) ≡ true
 unfolding add_enumerator
-enumerator_added d n e = unless_good (first_met (against_enumerator d n e.name)) (Ok (replaced d n (with_enumerator e (body_at d n)))) (met (against_enumerator d n e.name) refl) refl
+enumerator_added d n e = unless_good (first_met (against_enumerator d n e.name)) (Ok (replace_body d n (with_enumerator e (body_at d n)))) (met (against_enumerator d n e.name) refl) refl
 
 pub label_added : (d : Draft) (x : Label) → good (add_label d x) ≡ true
 unfolding add_label

@@ -1,7 +1,7 @@
 -- The faults of types, of what they come to and of paths have rows in the table.
 use Rattle.std.proofs.Common.{◌≡◌, ℕ, suc, zero, ◌+◌, ◌*◌, List, [], ◌∷◌, true, Option, Some, None, Result, Ok, Err, refl}
 use Rattle.std.specs.Prelude.{◌==◌, ◌^◌, is_none, nat_lt, slice_get}
-use Rattle.ctf_model.specs.figures.Figures.{Figure, align, align_body, aligning, array_size, at_place, comes_to, figure_in, first_of, greater, greatest, most_numbers, of_found, or_not_reference, parents_figure, referred, resolved, resolved_body, resolving, size, size_body, sizing, times, too_big}
+use Rattle.ctf_model.specs.figures.Figures.{Figure, align, align_body, aligning, array_size, at_place, comes_to, figure_in, first_of, greater, greatest, most_numbers, of_found, or_not_reference, parents_figure, referred_type, resolved_type, resolved_body, resolving, size, size_body, sizing, times, too_big}
 use Rattle.ctf_model.specs.figures.Paths.{Position, and_on, member_named, member_position, members_found, path, path_from, position_among, position_within, step_to}
 use Rattle.ctf_model.specs.format.Dictionary.{Dictionary}
 use Rattle.ctf_model.specs.format.Shown.{Shape, arguments_in}
@@ -81,7 +81,7 @@ resolving_body others h n (term.volatile t) = h t
 resolving_body others h n (term.const t) = h t
 resolving_body others h n (term.restrict t) = h t
 
-pub resolved_good : (s : Space) → AreGood (resolved s)
+pub resolved_good : (s : Space) → AreGood (resolved_type s)
 resolved_good s = figure_good resolving (record { none = refl; type = resolving_body }) s
 
 times_good : (count : ℕ) (r : Result ℕ Fault) → good r ≡ true → good (times count r) ≡ true
@@ -146,7 +146,7 @@ reference_or_none : (t : Option ℕ) → good (or_not_reference t) ≡ true
 reference_or_none None = refl
 reference_or_none (Some t) = refl
 
-pub referred_good : (x : Shape) → good (referred x) ≡ true
+pub referred_good : (x : Shape) → good (referred_type x) ≡ true
 referred_good x = either (is_none (arguments_in x.behind)) (or_not_reference x.reference) (Err (placeless NOT_REFERENCE)) (reference_or_none x.reference) refl
 
 -- ---- paths
@@ -170,7 +170,7 @@ on_good (Ok at) next g h = h at
 from_good : (s : Space) (names : List (List ℕ)) (step : ℕ) (at : Position) → good (path_from s step names at) ≡ true
 unfolding path_from
 from_good s [] step at = refl
-from_good s (name ∷ names) step at = on_good (step_to s step name at) (path_from s (step + 1) names) (within_good s step name at.offset (resolved s at.tnum) (resolved_good s at.tnum)) (from_good s names (step + 1))
+from_good s (name ∷ names) step at = on_good (step_to s step name at) (path_from s (step + 1) names) (within_good s step name at.offset (resolved_type s at.tnum) (resolved_good s at.tnum)) (from_good s names (step + 1))
 
 pub path_good : (s : Space) (n : ℕ) (names : List (List ℕ)) → good (path s n names) ≡ true
 path_good s n names = from_good s names 0 (record { offset = 0; tnum = n })

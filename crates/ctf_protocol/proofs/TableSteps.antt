@@ -4,13 +4,13 @@ use Rattle.std.specs.Prelude.{is_some, nat_lt, slice_get, if◌then◌else◌}
 use Rattle.std.specs.Option.{option_map}
 use Rattle.serde_json.specs.Data.{Data}
 use Rattle.ctf_model.specs.drafts.Adders.{Added, add_enumerator, add_label}
-use Rattle.ctf_model.specs.drafts.Drafts.{Draft, held, new_draft}
-use Rattle.ctf_model.specs.figures.Figures.{align, referred, resolved, size}
+use Rattle.ctf_model.specs.drafts.Drafts.{Draft, content, new_draft}
+use Rattle.ctf_model.specs.figures.Figures.{align, referred_type, resolved_type, size}
 use Rattle.ctf_model.specs.figures.Paths.{path}
 use Rattle.ctf_model.specs.format.Dictionary.{Dictionary}
 use Rattle.ctf_model.specs.format.Shown.{Facts, array_in, encoding_in, enumerators_in, facts, members_in}
 use Rattle.ctf_model.specs.format.Term.{Term}
-use Rattle.ctf_model.specs.names.Found.{found, pointer_to}
+use Rattle.ctf_model.specs.names.Found.{lookup, pointer_to}
 use Rattle.ctf_model.specs.names.TypeNames.{spelled_name}
 use Rattle.ctf_model.specs.rules.Faults.{first_fault}
 use Rattle.ctf_model.specs.rules.Refusals.{placeless}
@@ -29,11 +29,11 @@ use Rattle.ctf_protocol.proofs.TableFigures.{align_good, path_good, referred_goo
 use Rattle.ctf_protocol.proofs.TableTexts.{lookup_good, name_good, pointer_good, value_good}
 use Rattle.ctf_protocol.specs.answers.Answers.{Answer}
 use Rattle.ctf_model.specs.opened.Open.{Open, pending_in}
-use Rattle.ctf_model.specs.opened.Steps.{Stepped, counted, created, discarded_if, dropped, enlarged_as, enlarged_if, import_refusal, settled_as, silent, updated, updated_if, updated_over}
+use Rattle.ctf_model.specs.opened.Steps.{Stepped, with_count, created, discarded_if, discard_step, enlarged_as, enlarged_if, import_refusal, settled_as, silent, step_update, updated_if, updated_over}
 use Rattle.ctf_protocol.specs.answers.Questions.{align_fields, array_fields, as_fields, encoding_fields, enumerator_fields, member_fields, name_fields, plain_answered, position_fields, answer_of, said_on, signature_fields, size_fields, type_fields, type_answered, value_fields}
 use Rattle.ctf_protocol.specs.answers.SlotAnswers.{last_fields, symbol_fields, whole_answered}
 use Rattle.ctf_protocol.specs.lines.Ask.{ask, asked_by, json, or_bad_request, request_asked, value_asked}
-use Rattle.ctf_protocol.specs.sessions.Additions.{added}
+use Rattle.ctf_protocol.specs.sessions.Additions.{apply_addition}
 use Rattle.ctf_protocol.specs.sessions.Charges.{charge}
 use Rattle.ctf_protocol.specs.sessions.Creations.{Created}
 use Rattle.ctf_protocol.specs.sessions.DraftSteps.{created_slot, model_made, slot_step}
@@ -77,8 +77,8 @@ plain_good plain.Record s t x = refl
 plain_good plain.Args s t x = kind_good signature_fields _
 plain_good plain.Array s t x = kind_good array_fields (array_in x.shape.behind)
 plain_good plain.Encoding s t x = kind_good encoding_fields (encoding_in x.shape.behind)
-plain_good plain.Reference s t x = fields_good type_fields (referred x.shape) (referred_good x.shape)
-plain_good plain.Resolve s t x = fields_good type_fields (resolved s t) (resolved_good s t)
+plain_good plain.Reference s t x = fields_good type_fields (referred_type x.shape) (referred_good x.shape)
+plain_good plain.Resolve s t x = fields_good type_fields (resolved_type s t) (resolved_good s t)
 plain_good plain.Size s t x = fields_good size_fields (size s t) (size_good s t)
 plain_good plain.Align s t x = fields_good align_fields (align s t) (align_good s t)
 plain_good plain.Name s t x = fields_good name_fields (spelled_name s t) (name_good s t)
@@ -107,7 +107,7 @@ function_good d n None = refl
 function_good d n (Some x) = either (is_function x) (or_refused NO_INFO (signature_of_function (told_of d.entries n))) (Err (placeless NOT_FUNCTION)) (refused NO_INFO (signature_of_function (told_of d.entries n)) refl) refl
 
 slot_asked : (q : SlotQuestion) (s : Space) → good (whole_answered q s) ≡ true
-slot_asked (whole.Find text) s = fields_good type_fields (found s text) (lookup_good s text)
+slot_asked (whole.Find text) s = fields_good type_fields (lookup s text) (lookup_good s text)
 slot_asked (whole.Symbol name) s = fields_good symbol_fields (symbol_found s.own name) (refused NO_SYMBOL _ refl)
 slot_asked (whole.Object n) s = fields_good type_fields (object_of s.own n) (object_good s.own n (slice_get s.own.symbols n))
 slot_asked (whole.Function n) s = fields_good signature_fields (function_of s.own n) (function_good s.own n (slice_get s.own.symbols n))
@@ -187,7 +187,7 @@ settled_good parent d (Ok bytes) g = refl
 settled_good parent d (Err f) g = g
 
 over_good : (parent : Option Kept) (r : Result Draft Fault) → good r ≡ true → good (updated_over parent r) ≡ true
-over_good parent (Ok d) g = settled_good parent d (written (held d)) (written_good (held d))
+over_good parent (Ok d) g = settled_good parent d (written (content d)) (written_good (content d))
 over_good parent (Err f) g = g
 
 made_good : (number : ℕ) (r : Result Open Fault) → good r ≡ true → good (slot_made number r) ≡ true
@@ -218,22 +218,22 @@ enlarged_good o adds None g = refl
 enlarged_good o adds (Some d) g = by (adds d) (g d)
   where
     by : (r : Result Added Fault) → good r ≡ true → good (enlarged_as o r) ≡ true
-    by (Ok added) h = refl
+    by (Ok apply_addition) h = refl
     by (Err f) h = h
 
-added_good : (o : Open) (x : Addition) → good (added x o) ≡ true
+added_good : (o : Open) (x : Addition) → good (apply_addition x o) ≡ true
 added_good o (add.Type name root kind) = enlarged_good o _ o.draft (λ d. type_added d _)
 added_good o (add.Member t name tnum offset) = enlarged_good o _ o.draft (λ d. member_added d t.0 name tnum.0 offset)
 added_good o (add.Enumerator t name value) = enlarged_good o _ o.draft (λ d. silent_good (add_enumerator d t.0 _) (enumerator_added d t.0 _))
 added_good o (add.Label name last) = enlarged_good o _ o.draft (λ d. silent_good (add_label d _) (label_added d _))
 
-counted_good : (r : Result Open Fault) → good r ≡ true → good (counted r) ≡ true
+counted_good : (r : Result Open Fault) → good r ≡ true → good (with_count r) ≡ true
 counted_good (Ok o) g = refl
 counted_good (Err f) g = g
 
 updated_good : (parent : Option Kept) (draft : Option Draft) → good (updated_if parent draft) ≡ true
 updated_good parent None = refl
-updated_good parent (Some d) = counted_good (settled_as parent d (written (held d))) (settled_good parent d (written (held d)) (written_good (held d)))
+updated_good parent (Some d) = counted_good (settled_as parent d (written (content d))) (settled_good parent d (written (content d)) (written_good (content d)))
 
 dropped_good : (o : Open) (draft : Option Draft) → good (discarded_if o draft) ≡ true
 dropped_good o None = refl
@@ -245,9 +245,9 @@ stepped_good say slot (Err f) g = g
 
 step_good : (x : DraftStep) (slot : Slot) → good (slot_step x slot).said ≡ true
 unfolding slot_step
-step_good (steps.Add addition) slot = stepped_good _ slot (added addition (open_of slot)) (added_good (open_of slot) addition)
-step_good steps.Update slot = stepped_good _ slot (updated (open_of slot)) (updated_good slot.parent slot.draft)
-step_good steps.Discard slot = stepped_good _ slot (dropped (open_of slot)) (dropped_good (open_of slot) slot.draft)
+step_good (steps.Add addition) slot = stepped_good _ slot (apply_addition addition (open_of slot)) (added_good (open_of slot) addition)
+step_good steps.Update slot = stepped_good _ slot (step_update (open_of slot)) (updated_good slot.parent slot.draft)
+step_good steps.Discard slot = stepped_good _ slot (discard_step (open_of slot)) (dropped_good (open_of slot) slot.draft)
 
 updates_right : (said : Result Answer Fault) (outcome : Outcome) (state : State) → right outcome ≡ true → right (updates_within said outcome state) ≡ true
 updates_right (Ok answer) outcome state g = within outcome state g

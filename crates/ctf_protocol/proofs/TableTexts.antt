@@ -3,16 +3,16 @@ use Rattle.std.proofs.Common.{◌≡◌, ℕ, suc, zero, ◌+◌, ◌*◌, List,
 use Rattle.std.specs.Prelude.{◌==◌, nat_lt, nat_le, codes, if◌then◌else◌}
 use Rattle.std.specs.List.{range_with_len}
 use Rattle.ctf_model.specs.dumps.Texts.{signed_decimal}
-use Rattle.ctf_model.specs.figures.Figures.{enum_size, incomplete, resolved, size}
+use Rattle.ctf_model.specs.figures.Figures.{enum_size, incomplete, resolved_type, size}
 use Rattle.ctf_model.specs.format.Shown.{EncodingParts, encoding_parts}
 use Rattle.ctf_model.specs.format.Term.{Body, Enumerator, Member, Term}
 use Rattle.ctf_model.specs.format.Term as term
-use Rattle.ctf_model.specs.names.Found.{base, found, is_called, is_no_name, is_pointer_to, least, or_not_found, pointed, pointer_behind, pointer_or_behind, pointer_to, stars, written_name}
-use Rattle.ctf_model.specs.names.TypeNames.{Declaration, around, bare, declaration, declaration_by, declaration_of, declaration_within, declared, longest_text, spelled_name, text_of_declaration, too_long}
+use Rattle.ctf_model.specs.names.Found.{base, lookup, is_called, is_no_name, is_pointer_to, least, or_not_found, pointers_on, pointer_behind, pointer_or_behind, pointer_to, stars, written_name}
+use Rattle.ctf_model.specs.names.TypeNames.{Declaration, around, bare_name, declaration, declaration_by, declaration_of, declaration_within, declared, longest_text, spelled_name, text_of_declaration, too_long}
 use Rattle.ctf_model.specs.rules.Refusals.{placeless}
 use Rattle.ctf_model.specs.spaces.Space.{Space, pointer_size, space_type}
 use Rattle.ctf_model.specs.values.MemoryBits.{bits_at, bit_field, short_memory, signed_value}
-use Rattle.ctf_model.specs.values.Pieces.{Pieces, between, each_behind_comma, ended_by, ends, then_pieces, goes_on, no_pieces, piece, separated}
+use Rattle.ctf_model.specs.values.Pieces.{Pieces, between, each_behind_comma, ended_by, ends, then_pieces, goes_on, no_pieces, piece, separate}
 use Rattle.ctf_model.specs.values.Values.{Shows, array_shown, body_shown, by_number, each_element, elements_shown, enum_shown, float_shown, found_shown, integer_shown, integer_value, label, member_shown, members_shown, most_values, name_of_value, raw_shown, raw_text, shown_value, shown_within, value_text}
 use Rattle.ctf_model.specs.declared.faults.Fault.{Fault}
 use Rattle.ctf_model.specs.declared.faults.TheConstants.Fault.{BAD_SYNTAX}
@@ -49,7 +49,7 @@ of_good others h (Err f) g = g
 within_good : (s : Space) (k n : ℕ) → good (declaration_within s k n) ≡ true
 unfolding declaration_within
 within_good s zero n = refl
-within_good s (suc k) n = either (n == 0) (bare (codes "void")) (declaration_of (declaration_within s k) (space_type s n)) refl (of_good (declaration_within s k) (within_good s k) (space_type s n) (type_good s n))
+within_good s (suc k) n = either (n == 0) (bare_name (codes "void")) (declaration_of (declaration_within s k) (space_type s n)) refl (of_good (declaration_within s k) (within_good s k) (space_type s n) (type_good s n))
 
 text_good : (r : Result Declaration Fault) → good r ≡ true → good (text_of_declaration r) ≡ true
 text_good (Ok d) g = either (nat_le (length (declared d.layers d.name [])) longest_text) (Ok (declared d.layers d.name [])) (Err too_long) refl refl
@@ -70,20 +70,20 @@ behind_good s (Ok u) g = found_or_not (if u == 0 then None else least (is_pointe
 
 pointer_or : (s : Space) (t : ℕ) (n : Option ℕ) → good (pointer_or_behind s t n) ≡ true
 pointer_or s t (Some n) = refl
-pointer_or s t None = behind_good s (resolved s t) (resolved_good s t)
+pointer_or s t None = behind_good s (resolved_type s t) (resolved_good s t)
 
 pub pointer_good : (s : Space) (t : ℕ) → good (pointer_to s t) ≡ true
 pointer_good s t = pointer_or s t (least (is_pointer_to t) s)
 
-pointed_good : (s : Space) (k : ℕ) (r : Result ℕ Fault) → good r ≡ true → good (pointed s k r) ≡ true
+pointed_good : (s : Space) (k : ℕ) (r : Result ℕ Fault) → good r ≡ true → good (pointers_on s k r) ≡ true
 pointed_good s zero r g = g
 pointed_good s (suc k) (Err f) g = g
 pointed_good s (suc k) (Ok t) g = pointed_good s k (pointer_to s t) (pointer_good s t)
 
-pub lookup_good : (s : Space) (text : List ℕ) → good (found s text) ≡ true
+pub lookup_good : (s : Space) (text : List ℕ) → good (lookup s text) ≡ true
 lookup_good s text =
     let first = or_not_found (least (is_called (written_name (base text))) s) in
-    either (is_no_name (base text)) (Err (placeless BAD_SYNTAX)) (pointed s (stars text) first) refl (pointed_good s (stars text) first (found_or_not (least (is_called (written_name (base text))) s)))
+    either (is_no_name (base text)) (Err (placeless BAD_SYNTAX)) (pointers_on s (stars text) first) refl (pointed_good s (stars text) first (found_or_not (least (is_called (written_name (base text))) s)))
 
 -- ---- pieces of a shown value
 
@@ -106,7 +106,7 @@ commas_good : {X : Type 0} → (show : X → Pieces) → ((x : X) → shown_good
 commas_good show h [] = refl
 commas_good show h (x ∷ xs) = followed_good (piece (codes ", ")) (then_pieces (show x) (each_behind_comma (map show xs))) refl (followed_good (show x) (each_behind_comma (map show xs)) (h x) (commas_good show h xs))
 
-separated_good : {X : Type 0} → (show : X → Pieces) → ((x : X) → shown_good (show x) ≡ true) → (xs : List X) → shown_good (separated (map show xs)) ≡ true
+separated_good : {X : Type 0} → (show : X → Pieces) → ((x : X) → shown_good (show x) ≡ true) → (xs : List X) → shown_good (separate (map show xs)) ≡ true
 separated_good show h [] = refl
 separated_good show h (x ∷ xs) = followed_good (show x) (each_behind_comma (map show xs)) (h x) (commas_good show h xs)
 
@@ -151,14 +151,14 @@ member_good : (show : Shows) → AreShown show → (p : ℕ) (m : Member) → sh
 member_good show h p m = followed_good (label m.name) (show m.tnum (p + m.offset)) (label_good m.name) (h m.tnum (p + m.offset))
 
 members_good : (show : Shows) → AreShown show → (p : ℕ) (ms : List Member) → shown_good (members_shown show p ms) ≡ true
-members_good show h p ms = between_good (codes "{") (codes "}") (separated (map (member_shown show p) ms)) (separated_good (member_shown show p) (member_good show h p) ms)
+members_good show h p ms = between_good (codes "{") (codes "}") (separate (map (member_shown show p) ms)) (separated_good (member_shown show p) (member_good show h p) ms)
 
-each_good : (show : Shows) → AreShown show → (p contents count : ℕ) (r : Result ℕ Fault) → good r ≡ true → shown_good (separated (each_element show p contents count r)) ≡ true
+each_good : (show : Shows) → AreShown show → (p contents count : ℕ) (r : Result ℕ Fault) → good r ≡ true → shown_good (separate (each_element show p contents count r)) ≡ true
 each_good show h p contents count (Ok size) g = separated_good (λ i. show contents (p + 8 * size * i)) (λ i. h contents (p + 8 * size * i)) (range_with_len 0 count)
 each_good show h p contents count (Err f) g = followed_good (ends f) no_pieces g refl
 
 elements_good : (show : Shows) → AreShown show → (p contents count : ℕ) (r : Result ℕ Fault) → good r ≡ true → shown_good (elements_shown show p contents count r) ≡ true
-elements_good show h p contents count r g = either_shown (count == 0) no_pieces (separated (each_element show p contents count r)) refl (each_good show h p contents count r g)
+elements_good show h p contents count r g = either_shown (count == 0) no_pieces (separate (each_element show p contents count r)) refl (each_good show h p contents count r g)
 
 array_good : (show : Shows) → AreShown show → (p contents count : ℕ) (r : Result ℕ Fault) → good r ≡ true → shown_good (array_shown show p contents count r) ≡ true
 array_good show h p contents count r g = between_good (codes "[") (codes "]") (elements_shown show p contents count r) (elements_good show h p contents count r g)

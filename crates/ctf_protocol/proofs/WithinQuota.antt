@@ -13,8 +13,8 @@ use Rattle.ctf_model.specs.declared.faults.Fault.{Fault}
 use Rattle.ctf_protocol.proofs.Charged.{charge_is, filter_bytes, with_bytes, without_bytes}
 use Rattle.ctf_protocol.specs.answers.Answers.{Answer}
 use Rattle.ctf_model.specs.opened.Open.{pending_in}
-use Rattle.ctf_model.specs.opened.Steps.{Stepped, discarded_if, enlarged_as, enlarged_if, import_refusal, updated}
-use Rattle.ctf_protocol.specs.sessions.Additions.{added, addition_answered}
+use Rattle.ctf_model.specs.opened.Steps.{Stepped, discarded_if, enlarged_as, enlarged_if, import_refusal, step_update}
+use Rattle.ctf_protocol.specs.sessions.Additions.{apply_addition, addition_answered}
 use Rattle.ctf_protocol.specs.sessions.Charges.{charge, slot_bytes}
 use Rattle.ctf_protocol.specs.sessions.Creations.{Created}
 use Rattle.ctf_protocol.specs.sessions.DraftSteps.{created_slot, slot_step}
@@ -153,14 +153,14 @@ abbrev SameBytes : Slot → SlotOutcome → Type 0
 SameBytes slot outcome = slot_bytes outcome.slot ≡ slot_bytes slot
 
 enlarging : (say : ℕ → Answer) (slot : Slot) (r : Result Added Fault) → SameBytes slot (slot_stepped say slot (enlarged_as (open_of slot) r))
-enlarging say slot (Ok added) = refl
+enlarging say slot (Ok apply_addition) = refl
 enlarging say slot (Err fault) = refl
 
 enlarging_if : (say : ℕ → Answer) (slot : Slot) (adds : Draft → Result Added Fault) (draft : Option Draft) → SameBytes slot (slot_stepped say slot (enlarged_if (open_of slot) adds draft))
 enlarging_if say slot adds None = refl
 enlarging_if say slot adds (Some d) = enlarging say slot (adds d)
 
-adding : (slot : Slot) (x : Addition) → SameBytes slot (slot_stepped (addition_answered x) slot (added x (open_of slot)))
+adding : (slot : Slot) (x : Addition) → SameBytes slot (slot_stepped (addition_answered x) slot (apply_addition x (open_of slot)))
 adding slot (add.Type name root kind) = enlarging_if _ slot _ slot.draft
 adding slot (add.Member t name tnum offset) = enlarging_if _ slot _ slot.draft
 adding slot (add.Enumerator t name value) = enlarging_if _ slot _ slot.draft
@@ -191,7 +191,7 @@ refused_same say slot (Err fault) f e = refl
 
 refused : (slot : Slot) (f : Fault) → (slot_step steps.Update slot).said ≡ Err f → SameBytes slot (slot_step steps.Update slot)
 unfolding slot_step
-refused slot f e = refused_same _ slot (updated (open_of slot)) f e
+refused slot f e = refused_same _ slot (step_update (open_of slot)) f e
 
 updating : (said : Result Answer Fault) (d : ℕ) (slot : Slot) (state : State) → (slot_step steps.Update slot).said ≡ said → slot_at d state.slots ≡ Some slot → charge state ≤ quota → Stays (updates_within said (slot_becomes d (slot_step steps.Update slot) state) state)
 updating (Ok answer) d slot state e at h = within _ state h

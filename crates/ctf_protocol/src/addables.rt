@@ -26,7 +26,7 @@ pub enum Addable {
 
 impl Addable {
     /// What a word of a request says.
-    pub fn named(word: &str) -> Option<Addable>
+    pub fn of_word(word: &str) -> Option<Addable>
         ensures { result ≡ addable_named word.now }
     {
         match word {

@@ -95,7 +95,7 @@ fn find(table: &[(&str, Word)], text: &str) -> Option<Word>
 impl Word {
     /// The word that a text is.
     #[tactic(auto, unfolding(crate::specs::words::Words::words))]
-    pub fn named(text: &str) -> Option<Word>
+    pub fn of_text(text: &str) -> Option<Word>
         ensures { result ≡ word_named text.now all_words }
     {
         find(&WORDS, text)

@@ -6,7 +6,7 @@ use Rattle.ctf_model.specs.format.Bytes.{u16_at}
 use Rattle.ctf_model.specs.format.Record.{kind, size, vlen, member_len, behind_head}
 use Rattle.ctf_model.specs.declared.kinds.Kind.{Kind}
 use Rattle.ctf_model.specs.declared.kinds.Kind.TheVariants.{KUnknown, KInteger, KFloat, KPointer, KArray, KFunction, KStruct, KUnion, KEnum, KForward, KTypedef, KVolatile, KConst, KRestrict}
-use Rattle.ctf_records.specs.ByKind.{listed, len_behind}
+use Rattle.ctf_records.specs.ByKind.{list_length, len_behind}
 use Rattle.ctf_records.specs.ListedTypes.{numbers_in, listed_types_of_kind, listed_types_at, listed_types}
 
 pub numbers_in-length : (len at n : ℕ) (b : List ℕ) → length (numbers_in len at n b) ≡ n
@@ -41,19 +41,19 @@ number_inside len at (suc n) (suc k) fits lt =
 -- ---- of a record
 
 -- it lists as many types as its list is long
-pub arguments_count : (b : List ℕ) → kind b ≡ Some KFunction → listed b ≡ length (listed_types b)
+pub arguments_count : (b : List ℕ) → kind b ≡ Some KFunction → list_length b ≡ length (listed_types b)
 arguments_count b e = rw e (sym (numbers_in-length 2 0 (vlen b) (behind_head b)))
 
-pub struct_count : (b : List ℕ) → kind b ≡ Some KStruct → listed b ≡ length (listed_types b)
+pub struct_count : (b : List ℕ) → kind b ≡ Some KStruct → list_length b ≡ length (listed_types b)
 struct_count b e = rw e (sym (numbers_in-length (member_len (size b)) 4 (vlen b) (behind_head b)))
 
-pub union_count : (b : List ℕ) → kind b ≡ Some KUnion → listed b ≡ length (listed_types b)
+pub union_count : (b : List ℕ) → kind b ≡ Some KUnion → list_length b ≡ length (listed_types b)
 union_count b e = rw e (sym (numbers_in-length (member_len (size b)) 4 (vlen b) (behind_head b)))
 
 -- a list of items of a length behind the head, each with one of the types that it lists
 pub record ListedIn (b : List ℕ) (len : ℕ) : Type 0 where
-  pub count : listed b ≡ length (listed_types b)
-  pub room : len * listed b ≤ len_behind b
+  pub count : list_length b ≡ length (listed_types b)
+  pub room : len * list_length b ≤ len_behind b
 
 -- where a kind lists some, and is neither an array nor a function, they are those of members
 members_of_kind : (b : List ℕ) (item : ℕ) (k : Kind) → kind b ≡ Some k → ¬ (k ≡ KArray) → ¬ (k ≡ KFunction) → item < length (listed_types_of_kind k b) → ListedIn b (member_len (size b))
@@ -92,13 +92,13 @@ array_listed b e = rw (e, u16_behind (behind_head b) 2 0) refl
 
 -- ---- as they are listed
 
-pub arguments_are : (b : List ℕ) → kind b ≡ Some KFunction → numbers_in 2 0 (listed b) (behind_head b) ≡ listed_types b
+pub arguments_are : (b : List ℕ) → kind b ≡ Some KFunction → numbers_in 2 0 (list_length b) (behind_head b) ≡ listed_types b
 arguments_are b e = rw e refl
 
-pub struct_are : (b : List ℕ) → kind b ≡ Some KStruct → numbers_in (member_len (size b)) 4 (listed b) (behind_head b) ≡ listed_types b
+pub struct_are : (b : List ℕ) → kind b ≡ Some KStruct → numbers_in (member_len (size b)) 4 (list_length b) (behind_head b) ≡ listed_types b
 struct_are b e = rw e refl
 
-pub union_are : (b : List ℕ) → kind b ≡ Some KUnion → numbers_in (member_len (size b)) 4 (listed b) (behind_head b) ≡ listed_types b
+pub union_are : (b : List ℕ) → kind b ≡ Some KUnion → numbers_in (member_len (size b)) 4 (list_length b) (behind_head b) ≡ listed_types b
 union_are b e = rw e refl
 
 pub none_listed : (len at : ℕ) (b : List ℕ) → numbers_in len at 0 b ≡ []

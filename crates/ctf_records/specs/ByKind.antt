@@ -63,8 +63,8 @@ abbrev pub declared_in : List ℕ → Option Tag
 declared_in b = option_and_then (λ k. declared_of_kind k b) (kind b)
 
 -- how many arguments, members or enumerators it lists
-abbrev pub listed : List ℕ → ℕ
-listed b = at_kind (λ k. listed_of_kind k b) (kind b)
+abbrev pub list_length : List ℕ → ℕ
+list_length b = at_kind (λ k. listed_of_kind k b) (kind b)
 
 -- how many bytes stand behind its head
 abbrev pub len_behind : List ℕ → ℕ

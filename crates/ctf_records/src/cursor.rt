@@ -7,7 +7,7 @@ ghost use Rattle.ctf_records.specs.RecordView.{piece, result_piece};
 ghost use Rattle.ctf_records.specs.Pieces.{piece_numbered};
 
 use crate::front::{front_len, kind_of};
-use crate::place::taken;
+use crate::place::take_record;
 use crate::record::Record;
 use ctf_model::Fault;
 use std::marker::Model;
@@ -75,7 +75,7 @@ impl<'a> Iterator for Records<'a> {
                 Some(Err(fault))
             }
             Some(len) => {
-                let record = taken(self.rest, len, self.index, self.at);
+                let record = take_record(self.rest, len, self.index, self.at);
                 self.rest = self.rest.split_at(len).1;
                 self.index += 1;
                 self.at += len;

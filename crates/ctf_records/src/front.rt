@@ -3,7 +3,7 @@ ghost use Rattle.std.specs.Prelude.{◌≡◌, ◌≤◌, length, slice_get};
 ghost use Rattle.ctf_model.specs.format.Record.{kinds, kind, size, vlen, head_len, variant_len};
 ghost use Rattle.ctf_model.specs.format.Section.{front_len as front_of};
 
-use crate::listed::member_len;
+use crate::reference_list::member_len;
 use ctf_model::Kind;
 use ctf_sections::bytes::{u16_at, u32_at};
 

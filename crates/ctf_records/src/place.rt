@@ -8,7 +8,7 @@ use crate::front::front_len;
 use crate::record::Record;
 
 /// The record of a length at the front of some bytes that stand at a place of their section.
-pub(crate) fn taken<'a>(rest: &'a [u8], len: usize, index: u64, at: usize) -> Record<'a>
+pub(crate) fn take_record<'a>(rest: &'a [u8], len: usize, index: u64, at: usize) -> Record<'a>
     requires whole { front_of rest.now ≡ Some len }
     requires near { at + len ≤ 2 ^ 63 }
     ensures { piece result ≡ record { index = index; at = at; bytes = take len rest.now } }
@@ -25,7 +25,7 @@ pub fn record_of_len<'a>(types: &'a [u8], at: usize, len: usize, index: u64) -> 
     ensures { Some (piece result) ≡ piece_at types.now at index }
 {
     let (_, rest) = types.split_at(at);
-    taken(rest, len, index, at)
+    take_record(rest, len, index, at)
 }
 
 /// The whole record that begins at a place of a section, if one does; it is given the number.
@@ -37,5 +37,5 @@ pub fn record_at<'a>(types: &'a [u8], at: usize, index: u64) -> Option<Record<'a
     }
     let (_, rest) = types.split_at(at);
     let len = front_len(rest)?;
-    Some(taken(rest, len, index, at))
+    Some(take_record(rest, len, index, at))
 }

@@ -25,7 +25,7 @@ pub struct Record<'a> {
 
 impl<'a> Record<'a> {
     ghost use Rattle.ctf_records.specs.RecordView.{index_of, at_of, bytes_of, tag_of};
-    ghost use Rattle.ctf_records.specs.ByKind.{size_in, reference_in, declared_in, listed, len_behind};
+    ghost use Rattle.ctf_records.specs.ByKind.{size_in, reference_in, declared_in, list_length, len_behind};
 
     /// The number of the record in its section, from 1.
     pub fn index(&self) -> u64
@@ -120,7 +120,7 @@ impl<'a> Record<'a> {
 
     /// How many arguments, members or enumerators the list behind the head has.
     pub fn vlen(&self) -> usize
-        ensures number { result ≡ listed (bytes_of self.now) }
+        ensures number { result ≡ list_length (bytes_of self.now) }
         ensures short { result ≤ 1023 }
     {
         match self.kind() {

@@ -9,8 +9,8 @@ const SLOTS: usize = 4096;
 /// How many of the last places are kept beside them.
 const RECENT: usize = 8;
 
-/// Places where names were found to differ from texts that were looked for, counted from their ends.
-/// A name is known by where it ends, so names that are ends of one text have one place. Each has two
+/// A small cache of places where names are known to differ from texts that were looked for. A name
+/// is known by where it ends, so names that are ends of one text have one place. Each has two
 /// slots, by two factors.
 #[derive(Drop)]
 pub struct Places {

@@ -8,8 +8,8 @@ use Rattle.ctf_model.specs.format.Lists.{Lists}
 use Rattle.ctf_check.specs.CheckedView.{dictionary_of, lists_of}
 use Rattle.ctf_space.specs.declared.space.Space.{Space}
 
-abbrev pub alone : Dictionary → DataModel → spaces.Space
-alone own model = record { own = own; parent = None; model = model }
+abbrev pub space_alone : Dictionary → DataModel → spaces.Space
+space_alone own model = record { own = own; parent = None; model = model }
 
 abbrev pub over_parent : Dictionary → Dictionary → DataModel → spaces.Space
 over_parent own parent model = record { own = own; parent = Some parent; model = model }

@@ -7,15 +7,15 @@ use Rattle.ctf_model.specs.spaces.TypeNumbers.{or_no_type}
 use Rattle.ctf_model.specs.declared.data_model.DataModel.{DataModel}
 use Rattle.ctf_model.specs.declared.faults.Fault.{Fault}
 use Rattle.ctf_check.specs.CheckedView.{dictionary_of}
-use Rattle.ctf_check.specs.TypedView.{spelled}
+use Rattle.ctf_check.specs.TypedView.{term_in}
 use Rattle.ctf_check.specs.declared.checked.Checked.{Checked}
 use Rattle.ctf_check.specs.declared.typed.Typed.{Typed}
-use Rattle.ctf_views.specs.VariantView.{seen}
-use Rattle.ctf_views.specs.declared.shown.Variant.{Variant}
+use Rattle.ctf_views.specs.VariantView.{shown_of}
+use Rattle.ctf_views.specs.declared.variants.Variant.{Variant}
 
 -- the type, or why there is none
 abbrev pub type_found : Result Typed Fault → Result Term Fault
-type_found (Ok x) = or_no_type (spelled x)
+type_found (Ok x) = or_no_type (term_in x)
 type_found (Err fault) = Err fault
 
 -- a dictionary that is lent, with a data model
@@ -39,5 +39,5 @@ shown_in (Ok x) = Ok (shown x.body)
 shown_in (Err fault) = Err fault
 
 abbrev pub shown_found : Result Variant Fault → Result Shown Fault
-shown_found (Ok v) = Ok (seen v)
+shown_found (Ok v) = Ok (shown_of v)
 shown_found (Err fault) = Err fault

@@ -29,7 +29,7 @@ fn own_type<'a>(dictionary: Checked<'a>, i: usize) -> Result<Typed<'a>, Fault>
     requires { i < 65536 }
     ensures { type_found result ≡ or_no_type (slice_get (dictionary_of dictionary.entry).terms i) }
 {
-    match dictionary.typed(i + 1) {
+    match dictionary.type_at(i + 1) {
         Some(found) => Ok(found),
         None => Err(placeless(Fault::NO_TYPE)),
     }
@@ -37,7 +37,7 @@ fn own_type<'a>(dictionary: Checked<'a>, i: usize) -> Result<Typed<'a>, Fault>
 
 /// The number of an own type, which is here counted from 0.
 #[inline(always)]
-fn numbered(child: bool, place: usize) -> TypeNum
+fn number_of(child: bool, place: usize) -> TypeNum
     requires { place < 32767 }
     ensures { result.0 ≡ own_number_of child place }
 {
@@ -49,12 +49,12 @@ fn numbered(child: bool, place: usize) -> TypeNum
 }
 
 impl<'a> Space<'a> {
-    ghost use Rattle.ctf_space.specs.SpaceView.{alone, over_parent, own_lists, parent_lists, space_of};
+    ghost use Rattle.ctf_space.specs.SpaceView.{space_alone, over_parent, own_lists, parent_lists, space_of};
     ghost use Rattle.ctf_space.specs.TypeView.{fault_of_import, name_in, shown_found, shown_in};
 
     /// A dictionary without a parent.
     pub fn own(own: Checked<'a>, model: DataModel) -> Space<'a>
-        ensures space { space_of result ≡ alone (dictionary_of own.entry) model }
+        ensures space { space_of result ≡ space_alone (dictionary_of own.entry) model }
         ensures lists { own_lists result ≡ lists_of own.entry }
         ensures parent { parent_lists result ≡ None }
     {
@@ -158,7 +158,7 @@ impl<'a> Space<'a> {
     /// Its parent as a space of its own. It is no child itself.
     pub fn parent(&self) -> Option<Space<'a>>
         ensures parent { option_map space_of result
-            ≡ option_map (λ p. alone p (space_of self.now).model) (space_of self.now).parent }
+            ≡ option_map (λ p. space_alone p (space_of self.now).model) (space_of self.now).parent }
         ensures plain { ForSome (space_of self.now).parent (λ p. p.child ≡ false) }
         ensures lists { option_map own_lists result ≡ parent_lists self.now }
     {
@@ -195,7 +195,7 @@ impl<'a> Space<'a> {
         requires { place < length (space_of self.now).own.terms }
         ensures { result.0 ≡ own_number_of (space_of self.now).own.child place }
     {
-        numbered(self.child(), place)
+        number_of(self.child(), place)
     }
 
     /// The number of its parent's types.

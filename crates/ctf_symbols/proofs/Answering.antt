@@ -12,7 +12,7 @@ use Rattle.ctf_model.specs.format.Header.{section}
 use Rattle.ctf_model.specs.format.Lists.{Lists}
 use Rattle.ctf_model.specs.rules.Refusals.{placeless}
 use Rattle.ctf_model.specs.symbols.SymbolQuestions.{told_of, type_of_object, signature_of_function, or_refused, object_of, function_of, name_of_symbol}
-use Rattle.ctf_model.specs.symbols.Symbols.{Symbol, symbol_of, symbols_in, symbols_of, symbols, considered, is_object, is_function}
+use Rattle.ctf_model.specs.symbols.Symbols.{Symbol, symbol_of, symbols_in, symbols_of, symbols, with_types, is_object, is_function}
 use Rattle.ctf_model.specs.declared.sections.Section.TheVariants.{SObjects, SFunctions}
 use Rattle.ctf_entries.proofs.Telling.{no_signature}
 use Rattle.ctf_entries.specs.Sound.{bad_place}
@@ -73,14 +73,14 @@ there s table k sort t e = let x = some_symbol s.strs table k sort e in (x.0, ap
 abbrev pub left_of : Lists → ℕ → ℕ
 left_of s k = unwrap_or (slice_get (lefts_of s) k) 0
 
-pub kept_of : (s : Lists) (k : ℕ) (x : Symbol) → bad_place (considered (symbols s)) (section s.ctf SFunctions) ≡ None → slice_get (symbols s) k ≡ Some x
+pub kept_of : (s : Lists) (k : ℕ) (x : Symbol) → bad_place (with_types (symbols s)) (section s.ctf SFunctions) ≡ None → slice_get (symbols s) k ≡ Some x
     → IsKept (section s.ctf SObjects) (section s.ctf SFunctions) x (left_of s k) (told_of (entries s) k)
 unfolding entries
 kept_of s k x sound at =
     let o = section s.ctf SObjects in
     let f = section s.ctf SFunctions in
     let same : 0 + k ≡ k = omega arith in
-    subst (λ (m : ℕ). IsKept o f x (left_of s k) (told_of (entries_of (considered (symbols s)) o f) m)) same
+    subst (λ (m : ℕ). IsKept o f x (left_of s k) (told_of (entries_of (with_types (symbols s)) o f) m)) same
     (kept_at o f 0 (symbols s) k o f (end_whole o) (end_whole f) sound x (left_of s k) at (lefts_there 0 (symbols s) k x o f at))
 
 -- where nothing is left
@@ -133,7 +133,7 @@ pub other_sort : (x : Symbol) (sort n : ℕ) → x.sort ≡ sort → sort ≢ n 
 other_sort x sort n e other = ne_eqb x.sort n (λ same. other (sym e ∙ same))
 
 -- the symbols of the parts that the code reads
-pub sound_parts : (s : Lists) (strs : Option (List ℕ)) (table functions : List ℕ) → strs ≡ s.strs → table ≡ unwrap_or s.sym [] → functions ≡ section s.ctf SFunctions → bad_place (considered (symbols_of strs table)) functions ≡ None → bad_place (considered (symbols s)) (section s.ctf SFunctions) ≡ None
+pub sound_parts : (s : Lists) (strs : Option (List ℕ)) (table functions : List ℕ) → strs ≡ s.strs → table ≡ unwrap_or s.sym [] → functions ≡ section s.ctf SFunctions → bad_place (with_types (symbols_of strs table)) functions ≡ None → bad_place (with_types (symbols s)) (section s.ctf SFunctions) ≡ None
 unfolding symbols
 sound_parts s strs table functions e t f h = rw (← e, ← t, ← f) h
 

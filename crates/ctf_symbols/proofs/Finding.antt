@@ -18,7 +18,7 @@ use Rattle.ctf_model.specs.format.Lists.{Lists, tables}
 use Rattle.ctf_model.specs.format.Name.{name}
 use Rattle.ctf_model.specs.rules.Refusals.{placeless}
 use Rattle.ctf_model.specs.symbols.SymbolQuestions.{entry_named, label_of, last_of_label}
-use Rattle.ctf_model.specs.symbols.Symbols.{Symbol, class_of, considered, considered_from, is_considered, symbols}
+use Rattle.ctf_model.specs.symbols.Symbols.{Symbol, class_of, with_types, considered_from, is_considered, symbols}
 use Rattle.ctf_model.specs.declared.faults.TheConstants.Fault.{NO_LABEL}
 use Rattle.ctf_model.specs.declared.symbols.SymbolClass.TheVariants.{Object, Function}
 use Rattle.ctf_order.specs.Holding.{Fits, IsFound, IsLeast, IsNamed}
@@ -135,13 +135,13 @@ symbol_owner text (x ∷ xs) = by_case (bytes_eq x.1.name text) (symbol_owner te
     by_case true rest = refl
     by_case false rest = rest
 
-owners : (s : Lists) → first_fault s ≡ None → map owner_of (said_by s).entries ≡ map owner (considered (symbols s))
+owners : (s : Lists) → first_fault s ≡ None → map owner_of (said_by s).entries ≡ map owner (with_types (symbols s))
 unfolding said_by
 owners s sound = (denotes_said s sound).entries.owners
 
 -- the first entry of a name is that of the first considered symbol of the name
-entry_of_symbol : (s : Lists) (text : List ℕ) → first_fault s ≡ None → option_map owner_of (entry_named (said_by s).entries text) ≡ option_map owner (first_called called_symbol text (considered (symbols s)))
-entry_of_symbol s text sound = entry_owner text (said_by s).entries ∙ ap (owner_called text) (owners s sound) ∙ sym (symbol_owner text (considered (symbols s)))
+entry_of_symbol : (s : Lists) (text : List ℕ) → first_fault s ≡ None → option_map owner_of (entry_named (said_by s).entries text) ≡ option_map owner (first_called called_symbol text (with_types (symbols s)))
+entry_of_symbol s text sound = entry_owner text (said_by s).entries ∙ ap (owner_called text) (owners s sound) ∙ sym (symbol_owner text (with_types (symbols s)))
 
 -- what is found has the name, and is the symbol of its number
 pub record IsSymbol (n : ℕ) (xs : List Symbol) (text : List ℕ) (x : ℕ × Symbol) : Type 0 where
@@ -179,10 +179,10 @@ class_there s table k x t at (Some sort) e =
 pub found_owner : (s : Lists) (o : Order) (table text : List ℕ) (names : Naming) (number : ℕ) → first_fault s ≡ None → table ≡ unwrap_or s.sym [] → names ≡ program_names s.strs → SymbolsInOrder s o → ((items : List Entry) → Fits names items o → IsFound names items text (Some number))
     → Some (record { number = number; name = text; class = class_in (sort_in table number) }) ≡ option_map owner_of (entry_named (said_by s).entries text)
 found_owner s o table text names number sound t by order finds =
-    let first = found_first (program_names s.strs) called_symbol (considered (symbols s)) o text (Some number) (considered_rising 0 (symbols s)) order (rw by at finds) in
-    at (first_called called_symbol text (considered (symbols s))) refl first ∙ sym (entry_of_symbol s text sound)
+    let first = found_first (program_names s.strs) called_symbol (with_types (symbols s)) o text (Some number) (considered_rising 0 (symbols s)) order (rw by at finds) in
+    at (first_called called_symbol text (with_types (symbols s))) refl first ∙ sym (entry_of_symbol s text sound)
   where
-    at : (f : Option (ℕ × Symbol)) → first_called called_symbol text (considered (symbols s)) ≡ f → Some number ≡ option_map (λ x. x.0) f → Some (record { number = number; name = text; class = class_in (sort_in table number) }) ≡ option_map owner (first_called called_symbol text (considered (symbols s)))
+    at : (f : Option (ℕ × Symbol)) → first_called called_symbol text (with_types (symbols s)) ≡ f → Some number ≡ option_map (λ x. x.0) f → Some (record { number = number; name = text; class = class_in (sort_in table number) }) ≡ option_map owner (first_called called_symbol text (with_types (symbols s)))
     at None e same = absurd cc
     at (Some x) e same =
         let is = found_symbol 0 (symbols s) text x e in
@@ -195,10 +195,10 @@ found_owner s o table text names number sound t by order finds =
 pub none_owned : (s : Lists) (o : Order) (text : List ℕ) (names : Naming) → first_fault s ≡ None → names ≡ program_names s.strs → SymbolsInOrder s o → ((items : List Entry) → Fits names items o → IsFound names items text None)
     → None ≡ option_map owner_of (entry_named (said_by s).entries text)
 none_owned s o text names sound by order finds =
-    let first = found_first (program_names s.strs) called_symbol (considered (symbols s)) o text None (considered_rising 0 (symbols s)) order (rw by at finds) in
-    at (first_called called_symbol text (considered (symbols s))) refl first ∙ sym (entry_of_symbol s text sound)
+    let first = found_first (program_names s.strs) called_symbol (with_types (symbols s)) o text None (considered_rising 0 (symbols s)) order (rw by at finds) in
+    at (first_called called_symbol text (with_types (symbols s))) refl first ∙ sym (entry_of_symbol s text sound)
   where
-    at : (f : Option (ℕ × Symbol)) → first_called called_symbol text (considered (symbols s)) ≡ f → None ≡ option_map (λ x. x.0) f → None ≡ option_map owner (first_called called_symbol text (considered (symbols s)))
+    at : (f : Option (ℕ × Symbol)) → first_called called_symbol text (with_types (symbols s)) ≡ f → None ≡ option_map (λ x. x.0) f → None ≡ option_map owner (first_called called_symbol text (with_types (symbols s)))
     at None e same = rw e refl
     at (Some x) e same = absurd cc
 

@@ -5,7 +5,7 @@ use Rattle.std.specs.Str.{bytes_eq}
 use Rattle.ctf_model.specs.format.Dictionary.{Label, said_by}
 use Rattle.ctf_model.specs.format.Lists.{Lists, tables}
 use Rattle.ctf_model.specs.format.Name.{name, text_at}
-use Rattle.ctf_model.specs.symbols.Symbols.{Symbol, considered, symbols}
+use Rattle.ctf_model.specs.symbols.Symbols.{Symbol, with_types, symbols}
 use Rattle.ctf_order.specs.Holding.{Fits}
 use Rattle.ctf_order.specs.Naming.{Naming}
 use Rattle.ctf_order.specs.declared.entries.Entry.{Entry}
@@ -49,7 +49,7 @@ called_label x = x.name
 
 -- the considered symbols
 abbrev pub SymbolsInOrder : Lists → Order → Type 0
-SymbolsInOrder s o = AreInOrder (program_names s.strs) called_symbol (considered (symbols s)) o
+SymbolsInOrder s o = AreInOrder (program_names s.strs) called_symbol (with_types (symbols s)) o
 
 -- the labels, numbered from 0
 abbrev pub LabelsInOrder : Lists → Order → Type 0

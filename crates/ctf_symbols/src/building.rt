@@ -1,6 +1,6 @@
 //! The symbols of a table in one walk: where the entry of each begins, and which ones have names.
 ghost use Rattle.std.specs.Prelude.{◌≡◌, ◌≤◌, ◌<◌, ◌^◌, length, IfOk, None};
-ghost use Rattle.ctf_model.specs.symbols.Symbols.{considered, symbols_of};
+ghost use Rattle.ctf_model.specs.symbols.Symbols.{with_types, symbols_of};
 ghost use Rattle.ctf_entries.specs.NamesView.{strings_of};
 ghost use Rattle.ctf_entries.specs.Sound.{bad_place};
 ghost use Rattle.ctf_symbols.specs.Kept.{lefts_from};
@@ -30,7 +30,7 @@ pub(crate) fn list(
     objects: &[u8],
     functions: &[u8],
 ) -> Result<Listed, AllocError>
-    requires sound { bad_place (considered (symbols_of (strings_of names) sym.now)) functions.now
+    requires sound { bad_place (with_types (symbols_of (strings_of names) sym.now)) functions.now
         ≡ None }
     requires objects { length objects.now < 2 ^ 32 }
     requires functions { length functions.now < 2 ^ 32 }
@@ -38,7 +38,7 @@ pub(crate) fn list(
     ensures lefts { IfOk result (λ l. l.lefts.items
         ≡ lefts_from 0 (symbols_of (strings_of names.entry) sym.now) objects.now functions.now) }
     ensures items { IfOk result (λ l. AreItems (program_names (strings_of names.entry))
-        called_symbol (considered (symbols_of (strings_of names.entry) sym.now)) l.items.items) }
+        called_symbol (with_types (symbols_of (strings_of names.entry) sym.now)) l.items.items) }
 {
     let mut lefts = Vec::with_capacity(alloc, sym.len() / 24)?;
     let mut items = Vec::with_capacity(alloc, sym.len() / 24)?;

@@ -39,7 +39,7 @@ fn class_of(sym: &[u8], number: u32) -> SymbolClass
 
 impl SymbolMap {
     /// The first considered symbol of a name. It is found by halves and takes no memory.
-    pub fn named(&self, dictionary: &Checked<'_>, name: &[u8]) -> Option<NamedSymbol>
+    pub fn symbol_named(&self, dictionary: &Checked<'_>, name: &[u8]) -> Option<NamedSymbol>
         requires fits { Fits (lists_of dictionary.now) self.now }
         ensures { option_map (owner_named name.now) result ≡ option_map owner_of
             (entry_named (dictionary_of dictionary.now).entries name.now) }
@@ -55,7 +55,7 @@ impl SymbolMap {
         requires fits { Fits (lists_of dictionary.now) self.now }
         ensures { result ≡ by_name (dictionary_of dictionary.now) name.now }
     {
-        match self.named(dictionary, name) {
+        match self.symbol_named(dictionary, name) {
             Some(found) => Ok(found.number),
             None => Err(placeless(Fault::NO_SYMBOL)),
         }

@@ -34,7 +34,7 @@ pub(crate) fn sort_of(sym: &[u8], number: u32) -> Option<u8>
 
 impl SymbolMap {
     /// How much is left of its section where the entry of a symbol begins.
-    fn left(&self, number: u32) -> u32
+    fn bytes_left(&self, number: u32) -> u32
         ensures { result ≡ unwrap_or (slice_get self.now.lefts.items number) 0 }
     {
         match self.lefts.get(number as usize) {
@@ -58,7 +58,7 @@ impl SymbolMap {
         if sort != 1 {
             return Err(placeless(Fault::NOT_DATA));
         }
-        match type_in(ending(parts.objects, self.left(number))) {
+        match type_in(ending(parts.objects, self.bytes_left(number))) {
             Some(found) => Ok(found),
             None => Err(placeless(Fault::NO_INFO)),
         }
@@ -84,7 +84,7 @@ impl SymbolMap {
         if sort != 2 {
             return Err(placeless(Fault::NOT_FUNCTION));
         }
-        let entry = ending(parts.functions, self.left(number));
+        let entry = ending(parts.functions, self.bytes_left(number));
         match signature_of(entry) {
             Some(found) => Ok(found),
             None => Err(placeless(Fault::NO_INFO)),

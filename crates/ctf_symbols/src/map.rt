@@ -25,7 +25,7 @@ pub struct SymbolMap {
 
 impl SymbolMap {
     /// The map of a dictionary. Reads each symbol and each entry once, each table of names once to
-    /// find where names end, and at most 64 bytes of each name, and then sorts. While it runs it
+    /// find where names end, and at most 2,056 bytes of each name, and then sorts. While it runs it
     /// takes at most 8 bytes more for each symbol, and then for each label.
     pub fn build(alloc: Global, dictionary: &Checked<'_>) -> Result<SymbolMap, AllocError>
         ensures { IfOk result (λ m. Fits (lists_of dictionary.now) m) }

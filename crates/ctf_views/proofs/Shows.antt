@@ -10,7 +10,7 @@ use Rattle.ctf_model.specs.format.Spelling.{◌>>=◌, items, member_of, enumera
 use Rattle.ctf_model.specs.format.Term.{Body, Term, Member, Enumerator}
 use Rattle.ctf_model.specs.declared.kinds.Kind.{Kind}
 use Rattle.ctf_model.specs.declared.kinds.Kind.TheVariants.{KUnknown, KInteger, KFloat, KPointer, KArray, KFunction, KStruct, KUnion, KEnum, KForward, KTypedef, KVolatile, KConst, KRestrict}
-use Rattle.ctf_records.specs.ByKind.{size_in, declared_in, listed, len_behind}
+use Rattle.ctf_records.specs.ByKind.{size_in, declared_in, list_length, len_behind}
 use Rattle.ctf_records.specs.RecordView.{tag_of}
 use Rattle.ctf_records.specs.declared.tag.Tag.{Tag}
 use Rattle.ctf_views.specs.Lists.{AreGood}
@@ -71,13 +71,13 @@ pub record MemberParts (b rest : List ℕ) (bytes count : ℕ) : Type 0 where
   pub count_is : count ≡ vlen b
   pub long : length rest ≡ member_len (size b) * vlen b
 
-pub member_parts : (b rest : List ℕ) (bytes count : ℕ) → (kind b ≡ Some KStruct) ⊎ (kind b ≡ Some KUnion) → size_in b ≡ Some bytes → count ≡ listed b → length rest ≡ len_behind b → MemberParts b rest bytes count
+pub member_parts : (b rest : List ℕ) (bytes count : ℕ) → (kind b ≡ Some KStruct) ⊎ (kind b ≡ Some KUnion) → size_in b ≡ Some bytes → count ≡ list_length b → length rest ≡ len_behind b → MemberParts b rest bytes count
 member_parts b rest bytes count k s n l = ⊎_elim (at_struct s n l) (at_union s n l) k
   where
-    at_struct : size_in b ≡ Some bytes → count ≡ listed b → length rest ≡ len_behind b → kind b ≡ Some KStruct → MemberParts b rest bytes count
+    at_struct : size_in b ≡ Some bytes → count ≡ list_length b → length rest ≡ len_behind b → kind b ≡ Some KStruct → MemberParts b rest bytes count
     at_struct s n l e = record { size_is = sym (same_Some _ _ (rw e at s)); count_is = (rw e at n); long = (rw e at l) }
 
-    at_union : size_in b ≡ Some bytes → count ≡ listed b → length rest ≡ len_behind b → kind b ≡ Some KUnion → MemberParts b rest bytes count
+    at_union : size_in b ≡ Some bytes → count ≡ list_length b → length rest ≡ len_behind b → kind b ≡ Some KUnion → MemberParts b rest bytes count
     at_union s n l e = record { size_is = sym (same_Some _ _ (rw e at s)); count_is = (rw e at n); long = (rw e at l) }
 
 pub members_good : (t : Tables) (b rest : List ℕ) (bytes count : ℕ) → (kind b ≡ Some KStruct) ⊎ (kind b ≡ Some KUnion) → IsSome (term_of t b) → rest ≡ behind_head b → MemberParts b rest bytes count → AreGood (member_of bytes t) (member_len bytes) count rest
@@ -90,7 +90,7 @@ pub members_view : (t : Tables) (b rest : List ℕ) (bytes count : ℕ) (xs : Li
     → items (member_of bytes t) (member_len bytes) count rest ≡ Some xs → shown_by t b ≡ Some (show.members xs)
 members_view t b rest bytes count xs k h r p e = (members_shown t b k h).1 ∙ ap (option_map show.members) (rw (p.size_is, p.count_is, r) at e)
 
-pub enumerators_good : (t : Tables) (b rest : List ℕ) (count : ℕ) → kind b ≡ Some KEnum → IsSome (term_of t b) → rest ≡ behind_head b → length rest ≡ len_behind b → count ≡ listed b → AreGood (enumerator_of t) 8 count rest
+pub enumerators_good : (t : Tables) (b rest : List ℕ) (count : ℕ) → kind b ≡ Some KEnum → IsSome (term_of t b) → rest ≡ behind_head b → length rest ≡ len_behind b → count ≡ list_length b → AreGood (enumerator_of t) 8 count rest
 enumerators_good t b rest count k h r l n =
     let many : count ≡ vlen b = (rw k at n) in
     let long : length rest ≡ 8 * vlen b = (rw k at l) in
@@ -99,13 +99,13 @@ enumerators_good t b rest count k h r l n =
       good = rw (many, r) (enumerators_shown t b k h).0;
     }
 
-pub enumerators_view : (t : Tables) (b rest : List ℕ) (count : ℕ) (xs : List Enumerator) → kind b ≡ Some KEnum → IsSome (term_of t b) → rest ≡ behind_head b → count ≡ listed b
+pub enumerators_view : (t : Tables) (b rest : List ℕ) (count : ℕ) (xs : List Enumerator) → kind b ≡ Some KEnum → IsSome (term_of t b) → rest ≡ behind_head b → count ≡ list_length b
     → items (enumerator_of t) 8 count rest ≡ Some xs → shown_by t b ≡ Some (show.enumerators xs)
 enumerators_view t b rest count xs k h r n e =
     let many : count ≡ vlen b = (rw k at n) in
     (enumerators_shown t b k h).1 ∙ ap (option_map show.enumerators) (rw (many, r) at e)
 
-pub arguments_view : (t : Tables) (b rest : List ℕ) (count : ℕ) (xs : List ℕ) → kind b ≡ Some KFunction → IsSome (term_of t b) → rest ≡ behind_head b → count ≡ listed b
+pub arguments_view : (t : Tables) (b rest : List ℕ) (count : ℕ) (xs : List ℕ) → kind b ≡ Some KFunction → IsSome (term_of t b) → rest ≡ behind_head b → count ≡ list_length b
     → items argument_of 2 count rest ≡ Some xs → shown_by t b ≡ Some (show.arguments xs)
 arguments_view t b rest count xs k h r n e =
     let many : count ≡ vlen b = (rw k at n) in

@@ -9,7 +9,7 @@ mod parts;
 mod reading;
 mod row;
 mod rows;
-mod shown;
+mod variants;
 
 pub use args::{Args, arguments, is_variadic};
 pub use enumerators::{Enumerator, Enumerators};
@@ -19,4 +19,4 @@ pub use parts::{ArrayInfo, Encoding};
 pub use reading::variant;
 pub use row::Row;
 pub use rows::Rows;
-pub use shown::Variant;
+pub use variants::Variant;

@@ -114,7 +114,7 @@ impl<'a> Rows<'a, MemberRow<'a>> {
     /// The first member with a name; the empty name is that of each unnamed one. `others` is what
     /// is known of members that were looked at before: however long their names are and wherever
     /// they overlap, no more bytes are compared than a few times those of the tables.
-    pub fn named(&self, name: &[u8], others: &mut Differences<'_>) -> Option<Member<'a>>
+    pub fn member_named(&self, name: &[u8], others: &mut Differences<'_>) -> Option<Member<'a>>
         ensures { option_map member result ≡ member_named name.now self.now }
     {
         let (row, bytes, count) = self.parts();

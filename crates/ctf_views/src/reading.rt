@@ -5,14 +5,14 @@ ghost use Rattle.ctf_model.specs.format.Spelling.{term_of};
 ghost use Rattle.ctf_sections.specs.StringsView.{tables};
 ghost use Rattle.ctf_records.specs.RecordView.{bytes_of};
 ghost use Rattle.ctf_model.specs.format.Shown.{shown};
-ghost use Rattle.ctf_views.specs.VariantView.{seen};
+ghost use Rattle.ctf_views.specs.VariantView.{shown_of};
 
 use crate::args::arguments;
 use crate::enumerators::EnumeratorRow;
 use crate::members::MemberRow;
 use crate::parts::{ArrayInfo, Encoding};
 use crate::rows::Rows;
-use crate::shown::Variant;
+use crate::variants::Variant;
 use ctf_model::Kind;
 use ctf_records::Record;
 use ctf_sections::Strings;
@@ -21,7 +21,7 @@ use ctf_sections::Strings;
 pub fn variant<'a>(record: &Record<'a>, strings: Strings<'a>) -> Variant<'a>
     requires { IsSome (term_of (tables strings) (bytes_of «record».now)) }
     ensures { option_map (λ x. shown x.body)
-        (term_of (tables strings.entry) (bytes_of «record».now)) ≡ Some (seen result) }
+        (term_of (tables strings.entry) (bytes_of «record».now)) ≡ Some (shown_of result) }
 {
     let rest = record.rest();
     let count = record.vlen();

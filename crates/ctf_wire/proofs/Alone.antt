@@ -3,10 +3,10 @@ use Rattle.std.proofs.Common.{◌≡◌, ◌≢◌, ◌≤◌, ℕ, List, [], �
 use Rattle.std.proofs.lemmas.Bool.{leb-false}
 use Rattle.std.proofs.lemmas.Bool.Decides.{nat_tests}
 use Rattle.ctf_protocol.specs.lines.Ask.{ask}
-use Rattle.ctf_protocol.specs.lines.Lines.{stored}
+use Rattle.ctf_protocol.specs.lines.Lines.{stored_line}
 use Rattle.ctf_protocol.specs.lines.Output.{Mark, answered, refused, unread, line_out, calls_after, out, calls_made}
 use Rattle.ctf_protocol.specs.lines.ReplyLines.{reply_line}
-use Rattle.ctf_protocol.specs.sessions.Runs.{Call, Steps, IsGranted, IsRefused, found_in, own_state, addressed, no_memory}
+use Rattle.ctf_protocol.specs.sessions.Runs.{Call, Steps, IsGranted, IsRefused, found_in, own_state, address_to, no_memory}
 use Rattle.ctf_protocol.specs.sessions.State.{State}
 use Rattle.ctf_protocol.specs.sessions.Outcomes.{Outcome}
 use Rattle.ctf_protocol.specs.sessions.Steps.{step}
@@ -29,7 +29,7 @@ abbrev Did : (ℕ → State) → List ℕ → List ℕ → (ℕ → State) → T
 Did old line written new = (MayWant (Some line) × (written ≡ reply_line (no_memory 0)) × AllStay old new) ⊎ Said old (ask line) written new
 
 -- a line that is too long to be stored asks what its place does
-did_stored : (old new : ℕ → State) (line written : List ℕ) → LineSteps old (stored line) written new → Did old line written new
+did_stored : (old new : ℕ → State) (line written : List ℕ) → LineSteps old (stored_line line) written new → Did old line written new
 did_stored old new line written = by_length (leb (length line) 1048576) refl
   where
     none : leb (length line) 1048576 ≡ false → LineSteps old None written new → Did old line written new
@@ -38,7 +38,7 @@ did_stored old new line written = by_length (leb (length line) 1048576) refl
         let long = leb-false (length line) 1048576 e in
         inr (subst (λ (r : Result (ℕ × Request) (ℕ × Fault)). Said old r written new) (sym (ask-long line (omega (arith, long)))) said)
 
-    by_length : (t : Bool) → leb (length line) 1048576 ≡ t → LineSteps old (stored line) written new → Did old line written new
+    by_length : (t : Bool) → leb (length line) 1048576 ≡ t → LineSteps old (stored_line line) written new → Did old line written new
     by_length true e h = let here : LineSteps old (Some line) written new = rw e at h in here
     by_length false e h = let gone : LineSteps old None written new = rw e at h in none e gone
 
@@ -94,7 +94,7 @@ granted_done : (start old new : ℕ → State) (calls : List Call) (line : List 
 granted_done start old new calls line s request reply written held w st m = record {
   mark = answered;
   marked = tt;
-  wrote = w ∙ ap reply_line (m.0 ∙ ap (λ (o : Outcome). addressed s o.reply) (own_step start old calls s request held));
+  wrote = w ∙ ap reply_line (m.0 ∙ ap (λ (o : Outcome). address_to s o.reply) (own_step start old calls s request held));
   holds = λ q. granted_holds start old new calls s request reply held st m q (eqb s q) refl;
 }
 

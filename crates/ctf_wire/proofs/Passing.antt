@@ -1,6 +1,6 @@
 -- What pushes and flushes add up to.
 use Rattle.std.proofs.Common.{◌≡◌, ℕ, List, [], ◌∷◌, ◌++◌, Option, Some, None, refl, ◌∙◌, ap, append_assoc, append-nil}
-use Rattle.ctf_wire.specs.Flushes.{Flushes, and_waits, ended_piece, delivered, after_pieces}
+use Rattle.ctf_wire.specs.Flushes.{Flushes, and_waits, ended_piece, deliver, after_pieces}
 
 pub and_waits-nil : (known : Option Flushes) → and_waits known [] ≡ known
 and_waits-nil None = refl
@@ -21,8 +21,8 @@ front_waits None front = refl
 front_waits (Some f) front = refl
 
 -- pieces were delivered, and then more
-delivered-more : (f : Flushes) (pieces more : List (List ℕ)) (front : List ℕ) → delivered (delivered f pieces []) more front ≡ delivered f (pieces ++ more) front
-delivered-more f [] more front = ap (λ w. delivered (record { pieces = f.pieces; waiting = w }) more front) (append-nil f.waiting)
+delivered-more : (f : Flushes) (pieces more : List (List ℕ)) (front : List ℕ) → deliver (deliver f pieces []) more front ≡ deliver f (pieces ++ more) front
+delivered-more f [] more front = ap (λ w. deliver (record { pieces = f.pieces; waiting = w }) more front) (append-nil f.waiting)
 delivered-more f (piece ∷ pieces) more front = delivered-more (record { pieces = f.pieces ++ (f.waiting ++ piece) ∷ []; waiting = [] }) pieces more front
 
 pub after_pieces-more : (known : Option Flushes) (pieces more : List (List ℕ)) (front : List ℕ) → after_pieces (after_pieces known pieces []) more front ≡ after_pieces known (pieces ++ more) front

@@ -7,7 +7,7 @@ use Rattle.std.proofs.KnownBytes.{Appends-trans}
 use Rattle.std.proofs.lemmas.List.{map-append, length-append}
 use Rattle.std.proofs.lemmas.List.Folds.{concat-append}
 use Rattle.std.proofs.lemmas.Bool.{le-leb}
-use Rattle.ctf_protocol.specs.lines.Lines.{whole_lines, last_piece, all_lines, if_not_empty, longest_line, stored}
+use Rattle.ctf_protocol.specs.lines.Lines.{whole_lines, last_piece, all_lines, if_not_empty, longest_line, stored_line}
 use Rattle.ctf_wire.specs.Flushes.{after_pieces}
 use Rattle.ctf_wire.specs.Served.{Answers, BeginsWith, SentPiece, SentPart, all_of, AreFilled, Sent, SentFront, Sends, Serves, BrokenOff}
 use Rattle.ctf_wire.specs.Gathering.{Gathered, Gathers, Feeds, MakesRoom, FlushesBatch}
@@ -19,9 +19,9 @@ use Rattle.ctf_wire.proofs.Passing.{after_pieces-more}
 
 -- one more line is answered
 Answers-push : {S : Type 0} (Step : S → Option (List ℕ) → List ℕ → S → Type 0) (old mid new : S) (lines replies : List (List ℕ)) (line reply : List ℕ)
-    → Answers Step old lines replies mid → Step mid (stored line) reply new → Answers Step old (lines ++ line ∷ []) (replies ++ reply ∷ []) new
+    → Answers Step old lines replies mid → Step mid (stored_line line) reply new → Answers Step old (lines ++ line ∷ []) (replies ++ reply ∷ []) new
 Answers-push {S} Step old mid new [] [] line reply a s =
-    let P : S → Type 0 = λ x. Step x (stored line) reply new in
+    let P : S → Type 0 = λ x. Step x (stored_line line) reply new in
     (new, subst P a s, refl)
 Answers-push {S} Step old mid new [] (r ∷ replies) line reply a s = absurd a
 Answers-push {S} Step old mid new (l ∷ lines) [] line reply a s = absurd a
@@ -102,7 +102,7 @@ not_nil (w ∷ waiting) reply = λ e. cc
 
 -- one more waits
 Gathered-push : {S : Type 0} (Step : S → Option (List ℕ) → List ℕ → S → Type 0) (start mid new : S) (sure : ℕ) (lines : List (List ℕ)) (line reply : List ℕ) (batch batch_new : Batch) (a b : Pushed)
-    → Gathered Step start sure lines mid batch a b → Step mid (stored line) reply new → batch_new.bytes.items ≡ batch.bytes.items ++ reply → batch_new.waits ≡ true
+    → Gathered Step start sure lines mid batch a b → Step mid (stored_line line) reply new → batch_new.bytes.items ≡ batch.bytes.items ++ reply → batch_new.waits ≡ true
     → Gathered Step start sure (lines ++ line ∷ []) new batch_new a b
 Gathered-push {S} Step start mid new sure lines line reply batch batch_new a b g step grown waits =
     let P : List (List ℕ) → Type 0 = λ rs. Answers Step start (lines ++ line ∷ []) rs new in
@@ -201,16 +201,16 @@ Feeds-none {S} Step machine held batch sink = λ start a sure read s.
 
 -- a piece without newline came
 pub Feeds-piece : {S : Type 0} (Step : S → Option (List ℕ) → List ℕ → S → Type 0) (machine : S) (held now : Option (List ℕ)) (batch : Batch) (sink : Pushed) (piece : List ℕ)
-    → whole_lines piece ≡ [] → ((bs : List ℕ) → held ≡ stored bs → now ≡ stored (bs ++ piece)) → Feeds Step machine held batch sink piece true machine now batch sink
+    → whole_lines piece ≡ [] → ((bs : List ℕ) → held ≡ stored_line bs → now ≡ stored_line (bs ++ piece)) → Feeds Step machine held batch sink piece true machine now batch sink
 Feeds-piece {S} Step machine held now batch sink piece none joined = λ start a sure read s.
     let P : List (List ℕ) → Type 0 = λ lines. Gathered Step start sure lines machine batch a sink in
     record {
       lines = subst P (sym (whole_lines-piece read piece none)) s.lines;
-      holds = joined (last_piece read) s.holds ∙ ap stored (sym (last_piece-piece read piece none));
+      holds = joined (last_piece read) s.holds ∙ ap stored_line (sym (last_piece-piece read piece none));
     }
 
 -- a line that is no longer than may be stored, behind nothing
-pub whole_joins : (piece : List ℕ) → length piece ≤ longest_line → (bs : List ℕ) → Some [] ≡ stored bs → Some piece ≡ stored (bs ++ piece)
+pub whole_joins : (piece : List ℕ) → length piece ≤ longest_line → (bs : List ℕ) → Some [] ≡ stored_line bs → Some piece ≡ stored_line (bs ++ piece)
 whole_joins piece short [] e = rw (le-leb (length piece) longest_line short) refl
 whole_joins piece short (b ∷ bs) e = absurd (no (leb (length (b ∷ bs)) longest_line) e)
   where
@@ -220,7 +220,7 @@ whole_joins piece short (b ∷ bs) e = absurd (no (leb (length (b ∷ bs)) longe
 
 -- a piece and a newline came, and the line that they end is answered
 pub Feeds-line : {S : Type 0} (Step : S → Option (List ℕ) → List ℕ → S → Type 0) (old new : S) (held joined now : Option (List ℕ)) (batch roomy batch_new : Batch) (b c : Pushed) (piece reply : List ℕ)
-    → whole_lines piece ≡ [] → ((bs : List ℕ) → held ≡ stored bs → joined ≡ stored (bs ++ piece)) → MakesRoom batch b true roomy c
+    → whole_lines piece ≡ [] → ((bs : List ℕ) → held ≡ stored_line bs → joined ≡ stored_line (bs ++ piece)) → MakesRoom batch b true roomy c
     → Step old joined reply new → batch_new.bytes.items ≡ roomy.bytes.items ++ reply → batch_new.waits ≡ true → now ≡ Some []
     → Feeds Step old held batch b (piece ++ 10 ∷ []) true new now batch_new c
 Feeds-line {S} Step old new held joined now batch roomy batch_new b c piece reply none joins room step grown waits cleared = λ start a sure read s.
@@ -229,7 +229,7 @@ Feeds-line {S} Step old new held joined now batch roomy batch_new b c piece repl
     let g = Gathered-room Step start old sure (whole_lines read) batch roomy a b c s.lines room in
     record {
       lines = subst P (sym (whole_lines-line read piece none)) (Gathered-push Step start old new sure (whole_lines read) (last_piece read ++ piece) reply roomy batch_new a c g (subst Q (joins (last_piece read) s.holds) step) grown waits);
-      holds = cleared ∙ ap stored (sym (last_piece-line read piece));
+      holds = cleared ∙ ap stored_line (sym (last_piece-line read piece));
     }
 
 -- what waited before they came could not be sent
@@ -294,12 +294,12 @@ TakesIn-broken {S} Step old new held now x y b c bytes empty quiet fed = λ star
 
 -- ---- the end
 
-some-held : (piece : List ℕ) → stored piece ≢ Some [] → piece ∷ [] ≡ if_not_empty piece
+some-held : (piece : List ℕ) → stored_line piece ≢ Some [] → piece ∷ [] ≡ if_not_empty piece
 some-held [] h = absurd (h refl)
 some-held (b ∷ bs) h = refl
 
 -- a last piece is held
-all_lines-last : (read : List ℕ) → stored (last_piece read) ≢ Some [] → whole_lines read ++ last_piece read ∷ [] ≡ all_lines read
+all_lines-last : (read : List ℕ) → stored_line (last_piece read) ≢ Some [] → whole_lines read ++ last_piece read ∷ [] ≡ all_lines read
 all_lines-last read h = ap (λ lines. whole_lines read ++ lines) (some-held (last_piece read) h)
 
 -- the last piece is answered, and the reply waits

@@ -1,7 +1,7 @@
 -- How things stand between two lines of one read. Source: ours.
 use Rattle.std.specs.Prelude.{◌≡◌, ◌≢◌, ℕ, ◌≤◌, ◌++◌, List, [], length, Bool, true, false, Option, ◌⊎◌}
 use Rattle.std.specs.List.{concat}
-use Rattle.ctf_protocol.specs.lines.Lines.{whole_lines, last_piece, stored}
+use Rattle.ctf_protocol.specs.lines.Lines.{whole_lines, last_piece, stored_line}
 use Rattle.ctf_wire.specs.Served.{Answers, Sent, Sends, BrokenOff}
 use Rattle.ctf_wire.specs.Streams.{Pushed}
 use Rattle.ctf_wire.specs.declared.batch.Batch.{Batch}
@@ -25,7 +25,7 @@ pub record Gathers {S : Type 0} (Step : S → Option (List ℕ) → List ℕ →
     (before : Pushed) (sure : ℕ) (read : List ℕ) (machine : S) (held : Option (List ℕ))
     (batch : Batch) (after : Pushed) : Type 0 where
   pub lines : Gathered Step start sure (whole_lines read) machine batch before after
-  pub holds : held ≡ stored (last_piece read)
+  pub holds : held ≡ stored_line (last_piece read)
 
 -- more bytes came: all is as it is to be, or the sink failed; wherever the run began
 abbrev pub Feeds : {S : Type 0} → (S → Option (List ℕ) → List ℕ → S → Type 0) → S → Option (List ℕ)

@@ -2,7 +2,7 @@
 use Rattle.std.specs.Prelude.{◌≡◌, ℕ, ◌≤◌, List, [], ◌∷◌, ◌++◌, length, map, Bool, true, false, Option}
 use Rattle.std.specs.List.{concat}
 use Rattle.std.specs.Io.KnownBytes.{Appends}
-use Rattle.ctf_protocol.specs.lines.Lines.{stored}
+use Rattle.ctf_protocol.specs.lines.Lines.{stored_line}
 use Rattle.ctf_wire.specs.Flushes.{after_pieces}
 use Rattle.ctf_wire.specs.Streams.{Pushed}
 
@@ -13,7 +13,7 @@ Answers {S} Step old [] [] new = new ≡ old
 Answers {S} Step old [] (reply ∷ replies) new = ⊥
 Answers {S} Step old (line ∷ lines) [] new = ⊥
 Answers {S} Step old (line ∷ lines) (reply ∷ replies) new =
-    (mid : S) × Step old (stored line) reply mid × Answers Step mid lines replies new
+    (mid : S) × Step old (stored_line line) reply mid × Answers Step mid lines replies new
 
 -- a list begins with these
 abbrev pub BeginsWith : {X : Type 0} → List X → List X → Type 0

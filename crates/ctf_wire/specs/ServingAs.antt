@@ -3,7 +3,7 @@ use Rattle.std.specs.Prelude.{◌≡◌, ◌⊎◌, ℕ, List, Some, Result, Ok,
 use Rattle.ctf_lines.specs.Numbered.{ask_as}
 use Rattle.ctf_protocol.specs.answers.Answers.{Reply}
 use Rattle.ctf_protocol.specs.lines.ReplyLines.{fault_line, reply_line}
-use Rattle.ctf_protocol.specs.sessions.Runs.{IsGranted, Steps, addressed, no_memory}
+use Rattle.ctf_protocol.specs.sessions.Runs.{IsGranted, Steps, address_to, no_memory}
 use Rattle.ctf_protocol.specs.sessions.State.{State}
 use Rattle.ctf_model.specs.declared.faults.Fault.{Fault}
 use Rattle.ctf_protocol.specs.declared.requests.Request.{Request}
@@ -15,7 +15,7 @@ use Rattle.ctf_wire.specs.Serving.{AllStay, MayWant}
 pub record AnswersAs (old : ℕ → State) (s own : ℕ) (request : Request) (written : List ℕ)
     (new : ℕ → State) : Type 0 where
   pub reply : Reply
-  pub said : written ≡ reply_line (addressed own reply)
+  pub said : written ≡ reply_line (address_to own reply)
   pub steps : Steps old s request reply new
   pub granted : IsGranted old s request reply new ⊎ MayNeedMemory own (old s) request
 

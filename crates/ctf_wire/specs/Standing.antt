@@ -1,6 +1,6 @@
 -- How things stand between two reads. Source: ours.
 use Rattle.std.specs.Prelude.{◌≡◌, ℕ, ◌++◌, List, length, Bool, true, false, Option}
-use Rattle.ctf_protocol.specs.lines.Lines.{whole_lines, all_lines, last_piece, stored}
+use Rattle.ctf_protocol.specs.lines.Lines.{whole_lines, all_lines, last_piece, stored_line}
 use Rattle.ctf_wire.specs.Served.{Serves, BrokenOff}
 use Rattle.ctf_wire.specs.Streams.{Pushed}
 
@@ -9,7 +9,7 @@ pub record Stands {S : Type 0} (Step : S → Option (List ℕ) → List ℕ → 
     (before : Pushed) (read : List ℕ) (machine : S) (held : Option (List ℕ))
     (after : Pushed) : Type 0 where
   pub served : Serves Step start (whole_lines read) machine before after
-  pub holds : held ≡ stored (last_piece read)
+  pub holds : held ≡ stored_line (last_piece read)
 
 -- one read took these bytes: things stand as they are to, or the sink failed;
 -- wherever the run began

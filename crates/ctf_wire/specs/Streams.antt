@@ -20,13 +20,13 @@ meets_end None = false
 meets_end (Some n) = n == 0
 
 -- the bytes that a pull moved to the front of the buffer
-abbrev pub moved : Option ℕ → List ℕ → List ℕ
-moved None buffer = []
-moved (Some n) buffer = take n buffer
+abbrev pub moved_bytes : Option ℕ → List ℕ → List ℕ
+moved_bytes None buffer = []
+moved_bytes (Some n) buffer = take n buffer
 
 -- one pull: it moved some bytes to the front of the buffer, none only at the end, or it failed
 pub record Pulls (old : Pulled) (result : Option ℕ) (buffer : List ℕ) (new : Pulled) : Type 0 where
-  pub read : new.read ≡ old.read ++ moved result buffer
+  pub read : new.read ≡ old.read ++ moved_bytes result buffer
   pub bytes : MatchOption result (Keeps old.remaining new.remaining)
       (λ n. Consumes old.remaining new.remaining (take n buffer))
   pub at_end : IfSome result (λ n. n ≡ 0 → IsAtEnd new.remaining)

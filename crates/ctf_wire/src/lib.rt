@@ -2,7 +2,7 @@
 #![tactic(auto)]
 
 mod batch;
-mod counted;
+mod counting_reader;
 mod engine;
 mod feeding;
 mod history;

@@ -1,6 +1,6 @@
 //! The line so far.
 ghost use Rattle.std.specs.Prelude.{◌≡◌, ◌↔◌, ℕ, ◌++◌, [], List, IfOk, IsTrue, IsSome, Some, is_none};
-ghost use Rattle.ctf_protocol.specs.lines.Lines.{stored};
+ghost use Rattle.ctf_protocol.specs.lines.Lines.{stored_line};
 
 use ctf_lines::LONGEST_LINE;
 use std::alloc::{AllocError, Global};
@@ -46,7 +46,8 @@ impl Pending {
 
     /// One more piece of the line came.
     pub fn append(&mut self, piece: &[u8])
-        ensures { (held : List ℕ) → self.old ≡ stored held → self.new ≡ stored (held ++ piece.now) }
+        ensures { (held : List ℕ) → self.old ≡ stored_line held
+            → self.new ≡ stored_line (held ++ piece.now) }
     {
         if piece.len() <= LONGEST_LINE - self.bytes.len() {
             let _ = self.bytes.extend_from_slice(piece);

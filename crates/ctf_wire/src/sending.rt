@@ -1,4 +1,4 @@
-//! What waits out, and flushed.
+//! Writes and flushes the pending batch of replies.
 ghost use Rattle.std.specs.Prelude.{◌≡◌, ◌≤◌, ◌+◌, ◌<◌, [], true, false, vec_capacity, vec_len};
 ghost use Rattle.ctf_wire.specs.Served.{Sends};
 ghost use Rattle.ctf_wire.specs.Gathering.{MakesRoom, FlushesBatch};

@@ -5,7 +5,7 @@ use Rattle.std.proofs.lemmas.List.Folds.{flat_map-map}
 use Rattle.std.proofs.lemmas.List.Sums.{fold-append}
 use Rattle.ctf_model.specs.declared.faults.Fault.{Fault}
 use Rattle.ctf_model.specs.writing.WrittenNames.{strings_of, used_names, names_of}
-use Rattle.ctf_writer.specs.declared.lent.Held.{Held}
+use Rattle.ctf_writer.specs.declared.draft_view.Held.{Held}
 use Rattle.ctf_writer.specs.Offsets.{with_name}
 use Rattle.ctf_draft.specs.TypeView.{type_of}
 use Rattle.ctf_writer.specs.HeldView.{dictionary_of, uses}

@@ -22,7 +22,7 @@ use Rattle.ctf_model.specs.declared.faults.Fault.{Fault}
 use Rattle.ctf_model.specs.declared.faults.TheConstants.Fault.{DICT_TOO_BIG}
 use Rattle.ctf_writer.specs.HeldView.{dictionary_of, uses, written_type}
 use Rattle.ctf_writer.specs.Uses.{IsRefused}
-use Rattle.ctf_writer.specs.declared.lent.Held.{Held}
+use Rattle.ctf_writer.specs.declared.draft_view.Held.{Held}
 use Rattle.ctf_writer.proofs.Header.{four_joined}
 use Rattle.ctf_writer.proofs.Joining.{all_mapped}
 use Rattle.ctf_writer.proofs.Lengths.{bytes_len}

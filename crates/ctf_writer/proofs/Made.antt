@@ -5,12 +5,12 @@ use Rattle.ctf_model.proofs.Denoted.{denotes_said}
 use Rattle.ctf_model.proofs.WrittenDrafts.{draft_denoted, draft_imported}
 use Rattle.ctf_model.specs.format.Dictionary.{Label, said_by}
 use Rattle.ctf_model.specs.drafts.DraftLaws.{IsSound}
-use Rattle.ctf_model.specs.drafts.Drafts.{Contents, Draft, all_of, followed_by, held, no_contents, settled}
+use Rattle.ctf_model.specs.drafts.Drafts.{Contents, Draft, all_of, followed_by, content, no_contents, commit}
 use Rattle.ctf_model.specs.format.Term.{Term}
 use Rattle.ctf_model.specs.writing.Written.{lists_of, written}
 use Rattle.ctf_writer.specs.Updating.{StandsFor}
 
-pub stands_for : (d : Draft) (bytes : List ℕ) → IsSound d → written (held d) ≡ Ok bytes → StandsFor d bytes
+pub stands_for : (d : Draft) (bytes : List ℕ) → IsSound d → written (content d) ≡ Ok bytes → StandsFor d bytes
 stands_for d bytes sound is =
     let denotes = draft_denoted d bytes sound is in
     record {
@@ -22,7 +22,7 @@ stands_for d bytes sound is =
 none_behind : (all : Contents) → followed_by all no_contents ≡ all
 none_behind all = ap (λ (terms : List Term). record { terms = terms; labels = all.labels ++ no_contents.labels }) (append-nil all.terms) ∙ ap (λ (labels : List Label). record { terms = all.terms; labels = labels }) (append-nil all.labels)
 
-pub held_stays : (d : Draft) → held (settled d) ≡ held d
+pub held_stays : (d : Draft) → content (commit d) ≡ content d
 held_stays d = ap (λ (all : Contents). record {
   child = is_some d.parent;
   parname = d.parname;

@@ -7,7 +7,7 @@ use Rattle.std.specs.Map.{lookup}
 use Rattle.std.specs.Str.{bytes_eq}
 use Rattle.std.proofs.lemmas.List.{length-append, map-append, append_assoc}
 use Rattle.std.proofs.lemmas.Option.{same_Some}
-use Rattle.ctf_model.specs.writing.WrittenNames.{closed, string_bytes, name_reference, is_empty}
+use Rattle.ctf_model.specs.writing.WrittenNames.{closed_name, string_bytes, name_reference, is_empty}
 use Rattle.ctf_model.proofs.FoundAgain.{first_here, first_later}
 use Rattle.ctf_writer.specs.Offsets.{Entry, names_in, offsets_from, AreOffsets}
 
@@ -32,26 +32,26 @@ none_where n es h = at (lookup (is_name n) es) refl
     at (Some v) e = let f = found_where n es in let is : is_some (lookup (is_name n) es) ≡ true = ap is_some e in absurd cc
 
 -- the strings of one more name
-pub strings_more : (names : List (List ℕ)) (n : List ℕ) → length (flat_map closed (names ++ n ∷ [])) ≡ length (flat_map closed names) + (length n + 1)
-strings_more [] n = length-append (closed n) [] ∙ (let l = length-append n (0 ∷ []) in omega arith)
+pub strings_more : (names : List (List ℕ)) (n : List ℕ) → length (flat_map closed_name (names ++ n ∷ [])) ≡ length (flat_map closed_name names) + (length n + 1)
+strings_more [] n = length-append (closed_name n) [] ∙ (let l = length-append n (0 ∷ []) in omega arith)
 strings_more (m ∷ names) n =
     let more = strings_more names n in
-    omega (arith, length-append (closed m) (flat_map closed (names ++ n ∷ [])), length-append (closed m) (flat_map closed names))
+    omega (arith, length-append (closed_name m) (flat_map closed_name (names ++ n ∷ [])), length-append (closed_name m) (flat_map closed_name names))
 
 -- the offset of one more name
-pub offsets_more : (at : ℕ) (names : List (List ℕ)) (n : List ℕ) → offsets_from at (names ++ n ∷ []) ≡ offsets_from at names ++ (at + length (flat_map closed names)) ∷ []
+pub offsets_more : (at : ℕ) (names : List (List ℕ)) (n : List ℕ) → offsets_from at (names ++ n ∷ []) ≡ offsets_from at names ++ (at + length (flat_map closed_name names)) ∷ []
 offsets_more at [] n = let same : at ≡ at + 0 = omega arith in ap (λ (v : ℕ). v ∷ []) same
 offsets_more at (m ∷ names) n =
-    let front = length-append (closed m) (flat_map closed names) in
+    let front = length-append (closed_name m) (flat_map closed_name names) in
     let own = length-append m (0 ∷ []) in
-    let same : at + length m + 1 + length (flat_map closed names) ≡ at + length (flat_map closed (m ∷ names)) = omega arith in
+    let same : at + length m + 1 + length (flat_map closed_name names) ≡ at + length (flat_map closed_name (m ∷ names)) = omega arith in
     ap (λ (r : List ℕ). at ∷ r) (offsets_more (at + length m + 1) names n ∙ ap (λ (v : ℕ). offsets_from (at + length m + 1) names ++ v ∷ []) same)
 
 -- one more entry
 pub entry_more : (es : List Entry) (k : Bor (List ℕ)) (v : ℕ) → AreOffsets es → v ≡ length (string_bytes (names_in es)) → AreOffsets (es ++ (k, v) ∷ [])
 entry_more es k v h e =
     let names : names_in (es ++ (k, v) ∷ []) ≡ names_in es ++ k.now ∷ [] = map-append (λ (x : Entry). x.0.now) es ((k, v) ∷ []) in
-    let here : v ≡ 1 + length (flat_map closed (names_in es)) = omega arith in
+    let here : v ≡ 1 + length (flat_map closed_name (names_in es)) = omega arith in
     map-append (λ (x : Entry). x.1) es ((k, v) ∷ [])
     ∙ ap (λ (r : List ℕ). r ++ v ∷ []) h
     ∙ ap (λ (w : ℕ). offsets_from 1 (names_in es) ++ w ∷ []) here
@@ -63,20 +63,20 @@ pub names_more : (es : List Entry) (k : Bor (List ℕ)) (v : ℕ) → names_in (
 names_more es k v = map-append (λ (x : Entry). x.0.now) es ((k, v) ∷ [])
 
 -- what is found is where the names before it end
-pub offset_found : (at : ℕ) (n : List ℕ) (es : List Entry) (v : ℕ) → map (λ e. e.1) es ≡ offsets_from at (names_in es) → lookup (is_name n) es ≡ Some v → v ≡ at + length (flat_map closed (before_first (bytes_eq n) (names_in es)))
+pub offset_found : (at : ℕ) (n : List ℕ) (es : List Entry) (v : ℕ) → map (λ e. e.1) es ≡ offsets_from at (names_in es) → lookup (is_name n) es ≡ Some v → v ≡ at + length (flat_map closed_name (before_first (bytes_eq n) (names_in es)))
 offset_found at n [] v h f = absurd cc
 offset_found at n (e ∷ es) v h f = go (bytes_eq n e.0.now) refl f (λ g. offset_found (at + length e.0.now + 1) n es v (cc) g)
   where
     go : (b : Bool) → bytes_eq n e.0.now ≡ b → cond b (Some e.1) (lookup (is_name n) es) ≡ Some v
-        → (lookup (is_name n) es ≡ Some v → v ≡ at + length e.0.now + 1 + length (flat_map closed (before_first (bytes_eq n) (names_in es))))
-        → v ≡ at + length (flat_map closed (before_first (bytes_eq n) (names_in (e ∷ es))))
+        → (lookup (is_name n) es ≡ Some v → v ≡ at + length e.0.now + 1 + length (flat_map closed_name (before_first (bytes_eq n) (names_in es))))
+        → v ≡ at + length (flat_map closed_name (before_first (bytes_eq n) (names_in (e ∷ es))))
     go true same f more =
         let here : e.1 ≡ at = cc in
         let is : e.1 ≡ v = same_Some e.1 v f in
         rw (first_here (bytes_eq n) e.0.now (names_in es) same) (omega arith)
     go false other f more =
         let later = more f in
-        let front = length-append (closed e.0.now) (flat_map closed (before_first (bytes_eq n) (names_in es))) in
+        let front = length-append (closed_name e.0.now) (flat_map closed_name (before_first (bytes_eq n) (names_in es))) in
         let own = length-append e.0.now (0 ∷ []) in
         rw (first_later (bytes_eq n) e.0.now (names_in es) other) (omega arith)
 
@@ -91,13 +91,13 @@ keys_names [] = refl
 keys_names (e ∷ es) = ap (λ (ns : List (List ℕ)). e.0.now ∷ ns) (keys_names es)
 
 -- behind a zero byte, the names close the strings
-pub closing : (es : List Entry) (ks : List (Bor (List ℕ))) (o o1 : List ℕ) → ks ≡ map (λ e. e.0) es → o1 ≡ o ++ 0 ∷ [] → o1 ++ flat_map closed (map (λ k. k.now) ks) ≡ o ++ string_bytes (names_in es)
+pub closing : (es : List Entry) (ks : List (Bor (List ℕ))) (o o1 : List ℕ) → ks ≡ map (λ e. e.0) es → o1 ≡ o ++ 0 ∷ [] → o1 ++ flat_map closed_name (map (λ k. k.now) ks) ≡ o ++ string_bytes (names_in es)
 closing es ks o o1 e p =
-    ap (λ (b : List ℕ). b ++ flat_map closed (map (λ k. k.now) ks)) p ∙ append_assoc o (0 ∷ []) (flat_map closed (map (λ k. k.now) ks))
-    ∙ ap (λ (ks : List (Bor (List ℕ))). o ++ 0 ∷ flat_map closed (map (λ k. k.now) ks)) e ∙ ap (λ (ns : List (List ℕ)). o ++ 0 ∷ flat_map closed ns) (keys_names es)
+    ap (λ (b : List ℕ). b ++ flat_map closed_name (map (λ k. k.now) ks)) p ∙ append_assoc o (0 ∷ []) (flat_map closed_name (map (λ k. k.now) ks))
+    ∙ ap (λ (ks : List (Bor (List ℕ))). o ++ 0 ∷ flat_map closed_name (map (λ k. k.now) ks)) e ∙ ap (λ (ns : List (List ℕ)). o ++ 0 ∷ flat_map closed_name ns) (keys_names es)
 
-pub closing_len : (es : List Entry) (ks : List (Bor (List ℕ))) → ks ≡ map (λ e. e.0) es → length (flat_map closed (map (λ k. k.now) ks)) + 1 ≡ length (string_bytes (names_in es))
+pub closing_len : (es : List Entry) (ks : List (Bor (List ℕ))) → ks ≡ map (λ e. e.0) es → length (flat_map closed_name (map (λ k. k.now) ks)) + 1 ≡ length (string_bytes (names_in es))
 closing_len es ks e =
-    let same = ap (λ (ks : List (Bor (List ℕ))). length (flat_map closed (map (λ k. k.now) ks))) e in
-    let names = ap (λ (ns : List (List ℕ)). length (flat_map closed ns)) (keys_names es) in
+    let same = ap (λ (ks : List (Bor (List ℕ))). length (flat_map closed_name (map (λ k. k.now) ks))) e in
+    let names = ap (λ (ns : List (List ℕ)). length (flat_map closed_name ns)) (keys_names es) in
     omega (arith, same, names)

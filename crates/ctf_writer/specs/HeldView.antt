@@ -8,7 +8,7 @@ use Rattle.ctf_draft.specs.TypeView.{enumerator_of, member_of, type_of}
 use Rattle.ctf_draft.specs.declared.types.DraftType.{DraftType}
 use Rattle.ctf_draft.specs.declared.types.Enumerator.{Enumerator}
 use Rattle.ctf_draft.specs.declared.types.Member.{Member}
-use Rattle.ctf_writer.specs.declared.lent.Held.{Held}
+use Rattle.ctf_writer.specs.declared.draft_view.Held.{Held}
 
 -- the dictionary that is written
 abbrev pub dictionary_of : Held → Dictionary

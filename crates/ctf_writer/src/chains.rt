@@ -10,7 +10,7 @@ ghost use Rattle.ctf_model.specs.writing.Written.{deep_by};
 ghost use Rattle.ctf_writer.specs.HeldView.{dictionary_of};
 ghost use Rattle.ctf_writer.specs.Leading.{draft_places, type_places};
 
-use crate::lent::Held;
+use crate::draft_view::Held;
 use ctf_chains::{Chain, Graph, Ticks, first_deep};
 use ctf_draft::{Body, DraftType, ReferenceKind};
 use ctf_model::{Fault, Place, TypeNum, placeless};
@@ -92,7 +92,7 @@ impl<'a, L: Ledger> Graph<L> for Leading<'a> {
 }
 
 /// The number that a fault has for a type: counted from 1.
-fn counted(types: &[DraftType], i: usize) -> u64
+fn number_of(types: &[DraftType], i: usize) -> u64
     requires { i < length types.now }
     ensures { result ≡ i + 1 }
 {
@@ -118,7 +118,7 @@ fn deep_with<L: Ledger>(
     };
     let mut work = Ticks::<L>::new(blank);
     match first_deep(alloc, &graph, &mut work)? {
-        Some(i) => Ok(Some(counted(held.types, i))),
+        Some(i) => Ok(Some(number_of(held.types, i))),
         None => Ok(None),
     }
 }

@@ -2,10 +2,10 @@
 #![tactic(auto)]
 
 mod chains;
+mod draft_view;
 mod items;
 mod labels;
 mod laws;
-mod lent;
 mod numbers;
 mod records;
 mod sizes;

@@ -3,7 +3,7 @@ ghost use Rattle.std.specs.Prelude.{vec_len, vec_capacity, ◌≡◌, ◌<◌, �
 ghost use Rattle.std.specs.List.{list_any};
 ghost use Rattle.std.specs.Str.{bytes_eq};
 ghost use Rattle.ctf_model.specs.writing.WritingLaws.{IsKept};
-ghost use Rattle.ctf_model.specs.writing.WrittenNames.{closed, string_bytes, name_reference};
+ghost use Rattle.ctf_model.specs.writing.WrittenNames.{closed_name, string_bytes, name_reference};
 ghost use Rattle.ctf_writer.specs.Offsets.{names_in, AreOffsets, with_name};
 ghost use Rattle.ctf_writer.specs.Uses.{IsRefused};
 
@@ -115,9 +115,9 @@ impl<'a> Strings<'a> {
 
 /// Appends a name and the zero byte that ends it.
 fn put_closed(out: &mut Vec<u8>, name: &[u8])
-    requires { vec_len out.old + length (closed name.now) ≤ vec_capacity out.old }
-    ensures items { out.new.items ≡ out.old.items ++ closed name.now }
-    ensures len { vec_len out.new ≡ vec_len out.old + length (closed name.now) }
+    requires { vec_len out.old + length (closed_name name.now) ≤ vec_capacity out.old }
+    ensures items { out.new.items ≡ out.old.items ++ closed_name name.now }
+    ensures len { vec_len out.new ≡ vec_len out.old + length (closed_name name.now) }
     ensures capacity { vec_capacity out.new ≡ vec_capacity out.old }
 {
     put(out, name);

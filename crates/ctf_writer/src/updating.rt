@@ -1,6 +1,6 @@
 //! What was added to a draft becomes part of its dictionary.
 ghost use Rattle.std.specs.Prelude.{◌≡◌, ◌⊎◌, IfErr, IfOk, OnErr, OnOk, MatchOption, None, Err};
-ghost use Rattle.ctf_model.specs.drafts.Drafts.{held as held_by, settled};
+ghost use Rattle.ctf_model.specs.drafts.Drafts.{content as held_by, commit};
 ghost use Rattle.ctf_model.specs.rules.Faults.{first_fault};
 ghost use Rattle.ctf_model.specs.rules.Refusals.{out_of_memory};
 ghost use Rattle.ctf_model.specs.writing.Written.{lists_of, written};
@@ -14,7 +14,7 @@ use std::alloc::Global;
 use std::rc::Rc;
 
 /// The dictionary that bytes without a fault are.
-fn judged(alloc: Global, bytes: Vec<u8>, model: DataModel) -> Result<Rc<Judged<'static>>, Fault>
+fn judge(alloc: Global, bytes: Vec<u8>, model: DataModel) -> Result<Rc<Judged<'static>>, Fault>
     requires faultless { first_fault (lists_of bytes.items) ≡ None }
     ensures ok { IfOk result
         (λ d. d.value.kept ≡ record { lists = lists_of bytes.items; model = model }) }
@@ -40,7 +40,7 @@ fn judged(alloc: Global, bytes: Vec<u8>, model: DataModel) -> Result<Rc<Judged<'
 ///
 /// The bytes can be lent from `draft.dictionary()`.
 pub fn update(alloc: Global, draft: &mut Draft) -> Result<(), Fault>
-    ensures draft { OnOk result (draft.new.draft ≡ settled draft.old.draft) }
+    ensures draft { OnOk result (draft.new.draft ≡ commit draft.old.draft) }
     ensures dictionary { OnOk result
         (MatchOption draft.new.dictionary ⊥ (IsMadeOf draft.old.draft)) }
     ensures exact_err { IfErr result (λ f. (f ≡ out_of_memory)
@@ -48,7 +48,7 @@ pub fn update(alloc: Global, draft: &mut Draft) -> Result<(), Fault>
     ensures kept { OnErr result (draft.new ≡ draft.old) }
 {
     let bytes = write(alloc, draft)?;
-    let dictionary = judged(alloc, bytes, draft.model())?;
+    let dictionary = judge(alloc, bytes, draft.model())?;
     draft.settle(dictionary);
     Ok(())
 }

@@ -7,8 +7,8 @@ ghost use Rattle.ctf_writer.specs.HeldView.{dictionary_of, uses};
 ghost use Rattle.ctf_writer.specs.Tables.{names};
 ghost use Rattle.ctf_writer.specs.Uses.{with_names, IsRefused};
 
+use crate::draft_view::Held;
 use crate::labels::label_name;
-use crate::lent::Held;
 use crate::strings::Strings;
 use ctf_draft::{Body, DraftType, Enumerator, Labels, Member};
 use ctf_model::Fault;

@@ -2,7 +2,7 @@
 ghost use Rattle.std.specs.Prelude.{◌≡◌, ◌+◌, ◌<◌, ◌≤◌, ◌^◌, ◌⊎◌, ◌++◌, length, IfErr, IfOk, MatchOption, Err, Ok, vec_len, vec_capacity};
 ghost use Rattle.std.specs.List.{All, AllByRecursion, flat_map};
 ghost use Rattle.ctf_draft.specs.TypeView.{type_of};
-ghost use Rattle.ctf_model.specs.drafts.Drafts.{held as held_by};
+ghost use Rattle.ctf_model.specs.drafts.Drafts.{content as held_by};
 ghost use Rattle.ctf_model.specs.drafts.Fitting.{Fits};
 ghost use Rattle.ctf_model.specs.rules.Refusals.{out_of_memory};
 ghost use Rattle.ctf_model.specs.writing.WritingLaws.{IsKept};
@@ -13,8 +13,8 @@ ghost use Rattle.ctf_writer.specs.Tables.{names};
 ghost use Rattle.ctf_writer.specs.Updating.{StandsFor};
 
 use crate::chains::judge_chains;
+use crate::draft_view::Held;
 use crate::labels::put_labels;
-use crate::lent::Held;
 use crate::numbers::{put, put_u32};
 use crate::records::put_record;
 use crate::sizes::records_len;

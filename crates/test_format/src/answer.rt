@@ -44,7 +44,7 @@ impl Answer {
     }
 
     /// What was written, if memory was there.
-    fn written(&mut self, words: Result<String, AllocError>) {
+    fn push_words(&mut self, words: Result<String, AllocError>) {
         let pushed = match words {
             Ok(words) => self.text.push_str(&words),
             Err(fault) => Err(fault),
@@ -55,11 +55,11 @@ impl Answer {
     }
 
     pub fn word(&mut self, word: &str) {
-        self.written(format!(in self.alloc; " {word}"));
+        self.push_words(format!(in self.alloc; " {word}"));
     }
 
     pub fn say<T: Debug + Drop>(&mut self, value: T) {
-        self.written(format!(in self.alloc; " {value:?}"));
+        self.push_words(format!(in self.alloc; " {value:?}"));
     }
 
     /// Digits of bytes, or a dash where there are none.

@@ -6,7 +6,7 @@ mod model;
 mod parts;
 mod records;
 mod sections;
-mod spelled;
+mod spelling;
 mod views;
 
 use crate::answer::Answer;

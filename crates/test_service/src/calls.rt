@@ -10,8 +10,8 @@ mod requests;
 mod runs;
 mod shelves;
 
-use crate::said::Said;
-use crate::transcripts::told::Told;
+use crate::collected::Said;
+use crate::transcripts::outcomes::Told;
 
 /// Answers the calls that are about the lines of a run. Whether it knows the name.
 fn answers_run(said: &mut Said, told: &Told, name: &str, words: &str) -> bool {
@@ -19,7 +19,7 @@ fn answers_run(said: &mut Said, told: &Told, name: &str, words: &str) -> bool {
         "run" => runs::run(said, told, words),
         "again" => runs::again(said, told, words),
         "each" => each_call::each(said, told, words),
-        "shelf" => shelves::shelved(said, told, words),
+        "shelf" => shelves::put_shelf(said, told, words),
         "marks" => marks::marks(said, told),
         "library" => libraries::library(said, told),
         "broker" => libraries::broker(said, told),

@@ -2,8 +2,8 @@
 #![tactic(auto)]
 
 mod calls;
+mod collected;
 mod rows;
-mod said;
 mod serving;
 mod transcripts;
 

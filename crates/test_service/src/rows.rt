@@ -2,9 +2,9 @@
 //! begins with `? ` is a row: a call and what it is given, ` = `, and what it answers.
 
 use crate::calls::answer;
-use crate::said::Said;
+use crate::collected::Said;
+use crate::transcripts::outcomes::Told;
 use crate::transcripts::runs::{Others, told};
-use crate::transcripts::told::Told;
 use std::{fs, io};
 
 /// Whether a row's call answers what the row says; if not, prints what it answers.

@@ -12,7 +12,7 @@ use std::alloc::Global;
 pub type Ran = (Result<(), RunFault>, Vec<u8>);
 
 /// A run over all lines, where no call fails.
-pub fn served(alloc: Global, input: &[u8]) -> Ran {
+pub fn serve_all(alloc: Global, input: &[u8]) -> Ran {
     let case = Case::of(4096);
     let mut source = FromReader::new(Pieces::new(input, case));
     let mut notes = Notes::new(alloc, false, case);

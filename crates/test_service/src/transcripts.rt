@@ -3,8 +3,8 @@
 //! other sessions, where the replies have to be the same.
 
 mod marks;
+pub mod outcomes;
 pub mod runs;
-pub mod told;
 
 use crate::transcripts::runs::{Others, are_answered, runs_of};
 use std::{fs, io};

@@ -79,8 +79,8 @@ static void add_reference(struct pair *pair, struct added *it, unsigned kind)
     if (kind != 1)
         it->name = "";
     it->file = calls[kind].file(pair->file, it->flag, it->name, to);
-    status = calls[kind].draft(pair->draft, it->name, strlen(it->name), it->flag != 0,
-        (uint16_t)to, &t);
+    status = calls[kind].draft(
+        pair->draft, it->name, strlen(it->name), it->flag != 0, (uint16_t)to, &t);
     it->draft = drafted(status, t);
 }
 
@@ -128,8 +128,8 @@ static void add_tagged(struct pair *pair, struct added *it, unsigned kind)
         break;
     case CTFD_ENUM:
         it->file = ctf_add_enum(pair->file, it->flag, it->name, size);
-        status = ctfd_add_enum(pair->draft, it->name, it->len, it->flag != 0,
-            size != 0 ? size : 4, &t);
+        status = ctfd_add_enum(
+            pair->draft, it->name, it->len, it->flag != 0, size != 0 ? size : 4, &t);
         break;
     default:
         it->file = ctf_add_forward(pair->file, it->flag, it->name, tag);
@@ -157,8 +157,12 @@ static void add_type(struct pair *pair)
     else if (kind == CTFD_FUNCTION)
         add_function(pair, &it);
     else if (kind == CTFD_POINTER || kind >= CTFD_TYPEDEF)
-        add_reference(pair, &it, kind == CTFD_POINTER ? 0 : kind == CTFD_TYPEDEF ? 1
-                : kind == CTFD_CONST ? 2 : kind == CTFD_VOLATILE ? 3 : 4);
+        add_reference(pair, &it,
+            kind == CTFD_POINTER        ? 0
+                : kind == CTFD_TYPEDEF  ? 1
+                : kind == CTFD_CONST    ? 2
+                : kind == CTFD_VOLATILE ? 3
+                                        : 4);
     else
         add_tagged(pair, &it, kind);
     it.file = given(pair, it.file);
@@ -206,8 +210,8 @@ static void add_item(struct pair *pair)
             given(pair, ctf_add_enumerator(pair->file, in, name, value)));
         return;
     }
-    status = ctfd_add_member(pair->draft, (uint16_t)in, name, strlen(name), (uint16_t)to,
-        is_placed, is_placed ? offset : 0, &at);
+    status = ctfd_add_member(pair->draft, (uint16_t)in, name, strlen(name), (uint16_t)to, is_placed,
+        is_placed ? offset : 0, &at);
     same("an added member", in, drafted(status, 0),
         given(pair, ctf_add_member(pair->file, in, name, to, offset)));
 }
@@ -221,8 +225,8 @@ static void ask_numbers(const struct pair *pair, ctf_id_t t, uint32_t *kind)
     enum ctfd_status status = ctfd_kind(pair->draft, (uint16_t)t, kind);
     same("the kind", t, drafted(status, *kind), given(pair, ctf_type_kind(pair->file, t)));
     status = ctfd_resolve(pair->draft, (uint16_t)t, &to);
-    same("what it stands for", t, drafted(status, to),
-        given(pair, ctf_type_resolve(pair->file, t)));
+    same(
+        "what it stands for", t, drafted(status, to), given(pair, ctf_type_resolve(pair->file, t)));
     status = ctfd_reference(pair->draft, (uint16_t)t, &to);
     same("the reference", t, drafted(status, to), given(pair, ctf_type_reference(pair->file, t)));
     status = ctfd_size(pair->draft, (uint16_t)t, &bytes);
@@ -242,11 +246,13 @@ static void ask_members(const struct pair *pair, ctf_id_t t)
     struct ctfd_member member;
     char name[16];
     size_t i;
-    for (i = 0; ctfd_member(pair->draft, (uint16_t)t, i, name, sizeof name, &member) == CTFD_OK; i++) {
+    for (i = 0; ctfd_member(pair->draft, (uint16_t)t, i, name, sizeof name, &member) == CTFD_OK;
+         i++) {
         if (member.name_len == 0)
             return;
     }
-    for (i = 0; ctfd_member(pair->draft, (uint16_t)t, i, name, sizeof name, &member) == CTFD_OK; i++) {
+    for (i = 0; ctfd_member(pair->draft, (uint16_t)t, i, name, sizeof name, &member) == CTFD_OK;
+         i++) {
         ctf_membinfo_t seen = { 0, 0 };
         uint64_t at = 0;
         uint16_t type = 0;
@@ -266,15 +272,15 @@ static void look_up(const struct pair *pair, ctf_id_t t, uint32_t kind)
     uint64_t len = 0;
     uint32_t root = 0, tag = kind;
     uint16_t to = 0;
-    enum ctfd_status status =
-        ctfd_declared_name(pair->draft, (uint16_t)t, name, sizeof name - 1, &len);
-    if (status != CTFD_OK || len == 0 ||
-        ctfd_root(pair->draft, (uint16_t)t, &root) != CTFD_OK || root == 0)
+    enum ctfd_status status = ctfd_declared_name(
+        pair->draft, (uint16_t)t, name, sizeof name - 1, &len);
+    if (status != CTFD_OK || len == 0 || ctfd_root(pair->draft, (uint16_t)t, &root) != CTFD_OK ||
+        root == 0)
         return;
     if (kind == CTFD_FORWARD)
         (void)ctfd_tag(pair->draft, (uint16_t)t, &tag);
-    sprintf(text, "%s%s", tag >= CTFD_STRUCT && tag <= CTFD_ENUM ? words[tag - CTFD_STRUCT] : "",
-        name);
+    sprintf(
+        text, "%s%s", tag >= CTFD_STRUCT && tag <= CTFD_ENUM ? words[tag - CTFD_STRUCT] : "", name);
     status = ctfd_find(pair->draft, text, strlen(text), &to);
     same("a look-up", t, drafted(status, to), given(pair, ctf_lookup_by_name(pair->file, text)));
 }
@@ -289,8 +295,7 @@ static void ask_pointer(const struct pair *pair, ctf_id_t t)
     if (seen <= 0)
         return;
     leads = ctf_type_reference(pair->file, seen);
-    same("what the pointer leads to", t, 1,
-        leads == t || leads == ctf_type_resolve(pair->file, t));
+    same("what the pointer leads to", t, 1, leads == t || leads == ctf_type_resolve(pair->file, t));
 }
 
 /* The bytes, and the names that they have once they are opened. */

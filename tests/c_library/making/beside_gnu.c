@@ -12,7 +12,12 @@
 #include <stdbool.h>
 #include <string.h>
 
-enum { PARENT, CHILD, BOTH, MOST = 4000 };
+enum {
+    PARENT,
+    CHILD,
+    BOTH,
+    MOST = 4000
+};
 
 static ctf_dict_t *made[BOTH];
 static ctf_id_t types[BOTH][MOST];
@@ -122,14 +127,10 @@ static ctf_id_t add_tagged(ctf_dict_t *to, unsigned kind, const char *name)
 {
     switch (kind) {
     case 0:
-    case 1:
-        return ctf_add_struct(to, CTF_ADD_ROOT, below(5) != 0 ? name : NULL);
-    case 2:
-        return ctf_add_union(to, CTF_ADD_ROOT, below(5) != 0 ? name : NULL);
-    case 3:
-        return ctf_add_enum(to, CTF_ADD_ROOT, name);
-    default:
-        return ctf_add_forward(to, CTF_ADD_ROOT, name, CTF_K_STRUCT + below(3));
+    case 1: return ctf_add_struct(to, CTF_ADD_ROOT, below(5) != 0 ? name : NULL);
+    case 2: return ctf_add_union(to, CTF_ADD_ROOT, below(5) != 0 ? name : NULL);
+    case 3: return ctf_add_enum(to, CTF_ADD_ROOT, name);
+    default: return ctf_add_forward(to, CTF_ADD_ROOT, name, CTF_K_STRUCT + below(3));
     }
 }
 
@@ -146,18 +147,12 @@ static ctf_id_t add_type(int which)
     if (choice != 0 && choice < 5 && type == 0)
         return 0;
     switch (choice) {
-    case 0:
-        return ctf_add_integer(to, flag, name, &encoding);
-    case 1:
-        return ctf_add_typedef(to, flag, name, type);
-    case 2:
-        return ctf_add_pointer(to, flag, type);
-    case 3:
-        return ctf_add_const(to, flag, type);
-    case 4:
-        return ctf_add_array(to, flag, &array);
-    default:
-        return add_tagged(to, choice - 5, name);
+    case 0: return ctf_add_integer(to, flag, name, &encoding);
+    case 1: return ctf_add_typedef(to, flag, name, type);
+    case 2: return ctf_add_pointer(to, flag, type);
+    case 3: return ctf_add_const(to, flag, type);
+    case 4: return ctf_add_array(to, flag, &array);
+    default: return add_tagged(to, choice - 5, name);
     }
 }
 
@@ -168,8 +163,7 @@ static int may_be_member(ctf_dict_t *of, ctf_id_t type, ctf_id_t in)
     int stands_for = ctf_type_kind(of, ctf_type_resolve(of, type));
     if (type == 0 || (type >= in && ctf_type_kind(of, type) != CTF_K_POINTER))
         return 0;
-    return ctf_type_size(of, type) >= 0 && stands_for != CTF_K_FUNCTION &&
-        stands_for != CTF_K_ENUM;
+    return ctf_type_size(of, type) >= 0 && stands_for != CTF_K_FUNCTION && stands_for != CTF_K_ENUM;
 }
 
 static void add_item(void)
@@ -193,8 +187,7 @@ static void add_item(void)
     } else {
         return;
     }
-    printf("item %d %ld %s %d %d\n", which, number_of(in), name, got,
-        got == 0 ? 0 : ctf_errno(to));
+    printf("item %d %ld %s %d %d\n", which, number_of(in), name, got, got == 0 ? 0 : ctf_errno(to));
 }
 
 static void keep(int which, ctf_id_t type)

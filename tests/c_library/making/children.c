@@ -25,8 +25,8 @@ static struct parent new_parent(void)
 }
 
 /* A child as its bytes say it, over the parent. */
-static ctf_file_t *reopened(ctf_file_t *child, const struct parent *parent, char *block,
-    size_t room)
+static ctf_file_t *reopened(
+    ctf_file_t *child, const struct parent *parent, char *block, size_t room)
 {
     ctf_file_t *opened;
     const void *data = NULL;
@@ -44,8 +44,8 @@ static ctf_file_t *reopened(ctf_file_t *child, const struct parent *parent, char
 }
 
 /* A child with an array of the parent's struct, written and opened. */
-static ctf_file_t *open_child(const struct parent *parent, ctf_id_t *array, char *block,
-    size_t room)
+static ctf_file_t *open_child(
+    const struct parent *parent, ctf_id_t *array, char *block, size_t room)
 {
     ctf_file_t *child = ctf_create(NULL), *opened;
     ctf_arinfo_t info = { parent->holder, parent->number, 5 };
@@ -90,8 +90,8 @@ static void opened_children(void)
     CHECK(ctf_type_name(child, array, text, sizeof text) != NULL);
     CHECK(strcmp(text, "struct holder [5]") == 0);
     other = ctf_dup(child);
-    CHECK(other != NULL && ctf_add_member(parent.file, parent.holder, "c", parent.number,
-                               ULONG_MAX) == 0);
+    CHECK(other != NULL &&
+        ctf_add_member(parent.file, parent.holder, "c", parent.number, ULONG_MAX) == 0);
     CHECK(ctf_update(parent.file) == 0);
     CHECK(ctf_type_size(other, array) == 80 && ctf_type_size(child, array) == 80);
     ctf_close(parent.file);
@@ -104,8 +104,8 @@ static void opened_children(void)
 static int same_member(const char *name, ctf_id_t type, ulong_t offset, void *arg)
 {
     const ctf_membinfo_t *wanted = (const ctf_membinfo_t *)arg;
-    CHECK(strcmp(name, "second") != 0 ||
-          (wanted->ctm_type == type && wanted->ctm_offset == offset));
+    CHECK(
+        strcmp(name, "second") != 0 || (wanted->ctm_type == type && wanted->ctm_offset == offset));
     return 0;
 }
 
@@ -133,8 +133,8 @@ static void grown_parents(void)
         CHECK(ctf_type_size(child, parent.holder) == (round == 0 ? 4 : 8));
         CHECK(ctf_type_size(child, own) == (round == 2 ? 12 : 4));
         CHECK(ctf_type_size(child, whole) == 4);
-        CHECK(round < 2 || (ctf_member_info(child, own, "second", &answered) == 0 &&
-                               answered.ctm_offset == 64));
+        CHECK(round < 2 ||
+            (ctf_member_info(child, own, "second", &answered) == 0 && answered.ctm_offset == 64));
         opened = reopened(child, &parent, block, sizeof block);
         CHECK(ctf_type_size(opened, own) == ctf_type_size(child, own));
         CHECK(ctf_type_size(opened, whole) == 4);

@@ -28,8 +28,8 @@ static inline void same(const char *what, long type, long long wanted, long long
 {
     compared++;
     if (wanted != seen && differing++ < 20)
-        printf("round %u, type %ld: %s is %lld, not %lld\n", round_number, type, what, seen,
-            wanted);
+        printf(
+            "round %u, type %ld: %s is %lld, not %lld\n", round_number, type, what, seen, wanted);
 }
 
 static inline int told(const char *test)

@@ -38,18 +38,18 @@ void *__wrap_realloc(void *block, size_t size)
 }
 
 /* Makes a call, and once more where memory was refused to it. */
-#define TRY(file, call)                                                                 \
-    __extension__({                                                                     \
-        long before_ = refusals, got_ = (long)(call);                                   \
-        if (refusals != before_ && got_ == -1) {                                        \
-            if (ctf_fault(file) != CTFD_MEMORY) {                                       \
-                bad++;                                                                  \
-                printf("%s: %s\n", #call, ctf_errmsg(ctf_errno(file)));                 \
-            }                                                                           \
-            got_ = (long)(call);                                                        \
-        }                                                                               \
-        sum = sum * 31 + (unsigned long)got_;                                           \
-        got_;                                                                           \
+#define TRY(file, call) \
+    __extension__({ \
+        long before_ = refusals, got_ = (long)(call); \
+        if (refusals != before_ && got_ == -1) { \
+            if (ctf_fault(file) != CTFD_MEMORY) { \
+                bad++; \
+                printf("%s: %s\n", #call, ctf_errmsg(ctf_errno(file))); \
+            } \
+            got_ = (long)(call); \
+        } \
+        sum = sum * 31 + (unsigned long)got_; \
+        got_; \
     })
 
 static int on_member(const char *name, ctf_id_t type, ulong_t offset, void *arg)

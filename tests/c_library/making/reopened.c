@@ -8,7 +8,11 @@
 #include <limits.h>
 #include <string.h>
 
-enum { PARENT, CHILD, BOTH };
+enum {
+    PARENT,
+    CHILD,
+    BOTH
+};
 
 static ctf_file_t *made[BOTH];
 static unsigned count[BOTH], visible[BOTH];
@@ -130,7 +134,8 @@ static ctf_file_t *reopened(int which, char **copy)
 static void compare_all(void)
 {
     char *copies[BOTH];
-    ctf_file_t *parent = reopened(PARENT, &copies[PARENT]), *child = reopened(CHILD, &copies[CHILD]);
+    ctf_file_t *parent = reopened(PARENT, &copies[PARENT]),
+               *child = reopened(CHILD, &copies[CHILD]);
     unsigned i;
     if (parent != NULL && child != NULL) {
         same("the import", 0, 0, ctf_import(child, parent));
@@ -166,28 +171,18 @@ static ctf_id_t add_type(int which)
     char name[16];
     sprintf(name, "n%u", below(20));
     switch (below(13)) {
-    case 0:
-        return ctf_add_integer(to, flag, name, &encoding);
+    case 0: return ctf_add_integer(to, flag, name, &encoding);
     case 1:
-    case 2:
-        return ctf_add_pointer(to, flag, "", type);
-    case 3:
-        return ctf_add_typedef(to, flag, name, type);
-    case 4:
-        return ctf_add_volatile(to, flag, "", type);
-    case 5:
-        return ctf_add_array(to, flag, &array);
-    case 6:
-        return ctf_add_function(to, flag, name, &info, &argument);
+    case 2: return ctf_add_pointer(to, flag, "", type);
+    case 3: return ctf_add_typedef(to, flag, name, type);
+    case 4: return ctf_add_volatile(to, flag, "", type);
+    case 5: return ctf_add_array(to, flag, &array);
+    case 6: return ctf_add_function(to, flag, name, &info, &argument);
     case 7:
-    case 8:
-        return ctf_add_struct(to, flag, below(5) != 0 ? name : NULL);
-    case 9:
-        return ctf_add_union(to, flag, name);
-    case 10:
-        return ctf_add_enum(to, flag, name, below(2) * 2);
-    default:
-        return ctf_add_forward(to, flag, name, CTF_K_STRUCT + below(3));
+    case 8: return ctf_add_struct(to, flag, below(5) != 0 ? name : NULL);
+    case 9: return ctf_add_union(to, flag, name);
+    case 10: return ctf_add_enum(to, flag, name, below(2) * 2);
+    default: return ctf_add_forward(to, flag, name, CTF_K_STRUCT + below(3));
     }
 }
 

@@ -6,7 +6,11 @@
 #include <stdio.h>
 #include <string.h>
 
-enum { THREADS = 8, LIVES = 40, TYPES = 200 };
+enum {
+    THREADS = 8,
+    LIVES = 40,
+    TYPES = 200
+};
 
 static bool live(long thread)
 {
@@ -26,8 +30,8 @@ static bool live(long thread)
             (void)ctf_update(parent);
             (void)ctf_update(child);
         }
-        (void)ctf_add_member(holder > CTF_MAX_PTYPE ? child : parent, holder, name, number,
-            ULONG_MAX);
+        (void)ctf_add_member(
+            holder > CTF_MAX_PTYPE ? child : parent, holder, name, number, ULONG_MAX);
         (void)ctf_add_pointer(child, CTF_ADD_ROOT, "", holder);
         (void)ctf_lookup_by_name(child, name);
     }

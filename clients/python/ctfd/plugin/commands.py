@@ -13,7 +13,7 @@ from ..values.operands import BadExpression, Code, Located, Number, Operand, Ste
 from ..view.declare import declaration, declarator, function
 
 from . import native
-from .debug_files import with_types
+from .debug_files import described
 from .inferior import Inferior, has_program
 from .loaded import Loaded
 from .state import STATE, bounds, style
@@ -124,12 +124,13 @@ class Load(Command):
 
     FILE is an ELF file with a section .SUNW_ctf or .ctf, or the bytes of such a section; of an ELF
     file without one the types are made of its debug information, where that is in it or in a debug
-    file of its own. PARENT is the file of the dictionary of which FILE's is a child. A file that is
+    file of its own. If there is none, the stores that CTFD_STORE in the environment names are asked
+    for its build-id. PARENT is the file of the dictionary of which FILE's is a child. A file that is
     loaded already is read anew.
 
     Of a program or library that gdb has read, gdb itself is given the types too, so that print,
     ptype/o, conditions, finish and call work, unless "set ctf-debuginfo off" was said. With --auto
-    so is each file with CTF that gdb reads from then on."""
+    so is each file with CTF that gdb reads from then on; stores are not asked for these."""
 
     word = "load"
 
@@ -177,7 +178,10 @@ class Load(Command):
             gdb.events.new_objfile.connect(lambda event: self.follow_one(event.new_objfile))
 
     def follow_one(self, one: gdb.Objfile) -> None:
-        if one.owner is None and one.filename and with_types(one.filename):
+        if one.owner is not None or not one.filename:
+            return
+        image = described(one.filename)
+        if image and image.has_ctf:
             self.give(one.filename)
 
 

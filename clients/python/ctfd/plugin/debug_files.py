@@ -2,6 +2,7 @@
 `ctfd-debuginfo` writes."""
 from __future__ import annotations
 
+import os
 import subprocess
 import tempfile
 from pathlib import Path
@@ -14,6 +15,7 @@ from ..text import printable
 from . import debug_cache
 
 NAME = "ctfd-debuginfo"
+STORES = "CTFD_STORE"  # the variable that names those which the command asks
 
 
 class Writer:
@@ -25,12 +27,13 @@ class Writer:
         self._folder: Optional[tempfile.TemporaryDirectory[str]] = None
 
     def debug_file(self, path: str, parent: Optional[str] = None) -> Path:
-        """The debug file of a program. What is to be known of a new one is said. Raises Error."""
+        """The debug file of a program. What is to be known of a new one is said. What a store has
+        may be another the next time, so it is asked again. Raises Error."""
         image = compiled.description(path)
         name = debug_cache.key(image.build_id if image else "",
                                [one for one in (path, parent) if one])
         place = self._place()
-        if debug_cache.known(place, name):
+        if not (image and is_elsewhere(image)) and debug_cache.known(place, name):
             return place / name
         data = self._new(path, parent)
         try:
@@ -76,10 +79,16 @@ def _notes(errors: bytes) -> List[str]:
     return [line[len(front):] if line.startswith(front) else line for line in lines]
 
 
-def with_types(path: str) -> Optional[Description]:
-    """An ELF file with CTF; None where a file is none."""
+def described(path: str) -> Optional[Description]:
+    """An ELF file; None where a file is none, or can't be read."""
     try:
-        image = compiled.description(path)
+        return compiled.description(path)
     except Unreadable:
         return None
-    return image if image and image.has_ctf else None
+
+
+def is_elsewhere(image: Description) -> bool:
+    """Whether the types of a file are asked for by its build-id: it has none, and a store is
+    named."""
+    has_stores = bool(os.environ.get(STORES, "").strip())
+    return has_stores and bool(image.build_id) and not image.has_ctf and not image.has_debug

@@ -10,7 +10,7 @@ from typing import Optional
 import gdb
 
 import ctfd
-from .debug_files import Writer, with_types
+from .debug_files import Writer, described, is_elsewhere
 
 
 class Given(gdb.Parameter):
@@ -55,10 +55,12 @@ def knows(expression: str) -> bool:
 
 def give(path: str, parent: Optional[str] = None) -> str:
     """Gives gdb the types of a file that it has read; a line on what it has of them, "" where it
-    has no such file, or the file has no CTF. Raises Error."""
+    has no such file, or the file has no CTF and no store is asked for it. gdb reads none of what a
+    store sends: the debug file is made here, of the dictionary that the library has accepted.
+    Raises Error."""
     one = objfile_of(path)
-    image = with_types(path) if one else None
-    if one is None or image is None:
+    image = described(path) if one else None
+    if one is None or image is None or not (image.has_ctf or is_elsewhere(image)):
         return ""
     made = WRITER.debug_file(path, parent)
     try:

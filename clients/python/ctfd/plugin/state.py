@@ -18,6 +18,7 @@ from ..values import formats, program, reading
 from ..values.operands import BadExpression
 from ..values.program import Program
 
+from .debug_files import is_elsewhere
 from .inferior import Inferior, NO_TYPES, model_of_program
 from .loaded import Loaded
 
@@ -81,7 +82,8 @@ class State:
 def _read(path: str, image: Optional[Description]) -> Bundle:
     """What is handed in for a file; where its types are made of debug information, that is said."""
     if image is not None and not image.has_ctf:
-        print(f"Reading types from the debug information of {printable(path)}...")
+        place = " or from CTFD_STORE" if is_elsewhere(image) else ""
+        print(f"Reading types from the debug information of {printable(path)}{place}...")
         gdb.flush()
     found = anyfile.read(path, Asked(cache=user_cache, tells_losses=False, with_addresses=True))
     if found.losses:

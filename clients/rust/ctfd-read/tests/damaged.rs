@@ -49,7 +49,8 @@ fn nothing_is_read_behind_the_end() {
         assert!(image.data().read_bytes_at(place, size).is_err(), "{size} bytes at {place}");
     }
     assert_eq!(image.data().read_bytes_at(8, 8), Ok(&[7u8; 8][..]));
-    assert!(image.data().read_bytes_at_until(9..8, 0).is_err());
+    let backwards = std::ops::Range { start: 9, end: 8 };
+    assert!(image.data().read_bytes_at_until(backwards, 0).is_err());
 }
 
 /// BTF of `int` and of `struct node { struct node *next; int value : 3; }`.

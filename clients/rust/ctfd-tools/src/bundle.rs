@@ -114,7 +114,7 @@ pub fn description(image: &Image) -> Result<String> {
         .field("text", text_at)
         .text("build_id", build_id.as_bytes())
         .field("has_ctf", SECTIONS.iter().any(|name| section(name).is_some()))
-        .field("has_debug", DEBUG.iter().any(|name| has_debug(&name)));
+        .field("has_debug", DEBUG.iter().any(has_debug));
     Ok(made.end() + "\n")
 }
 

@@ -14,7 +14,7 @@ use Rattle.ctf_records.specs.RecordView.{bytes_of}
 use Rattle.ctf_records.specs.declared.record.Record.{Record}
 use Rattle.ctf_model.specs.format.Spelling.{term_of}
 use Rattle.ctf_c.specs.names.Holders.{lists_at}
-use Rattle.ctf_c.specs.names.Visits.{Visited, inside, members_of, or_nothing, outermost, placed, placed_with, stands_for}
+use Rattle.ctf_c.specs.names.Visits.{Visited, inside, members_of, or_nothing, outermost, visit_of, placed_with, stands_for}
 use Rattle.ctf_model.specs.declared.faults.Fault.{Fault}
 use Rattle.ctf_model.specs.declared.faults.TheConstants.Fault.{WRONG_KIND}
 use Rattle.ctf_model.specs.format.Lists.{Lists}
@@ -83,22 +83,22 @@ inside_nothing left s offset depth t holder some h m = inside_members left s off
 pub told_one : (lists : Option Lists) (place : Member → Visited) (row : GivenVisitRow) (o : Option Member) (m : Member) → o ≡ Some m → IfSome o (λ x. TellsVisited lists (place x) row) → TellsVisited lists (place m) row
 told_one lists place row o m e h = rw e at h
 
-pub row_deeper : (lists : Option Lists) (holder offset depth : ℕ) (row : GivenVisitRow) (ms : List Member) (i : ℕ) → i < length ms → IfSome (slice_get ms i) (λ m. TellsVisited lists (placed holder offset depth m) row) → row.depth ≡ depth + 1
+pub row_deeper : (lists : Option Lists) (holder offset depth : ℕ) (row : GivenVisitRow) (ms : List Member) (i : ℕ) → i < length ms → IfSome (slice_get ms i) (λ m. TellsVisited lists (visit_of holder offset depth m) row) → row.depth ≡ depth + 1
 row_deeper lists holder offset depth row ms i lt h =
     let one = one_there ms i lt in
-    (told_one lists (placed holder offset depth) row (slice_get ms i) one.0 one.1 h).4
+    (told_one lists (visit_of holder offset depth) row (slice_get ms i) one.0 one.1 h).4
 
 same_inside : (k : ℕ) (s : spaces.Space) (v : Visited) (row : GivenVisitRow) → row.offset ≡ v.offset → row.depth ≡ v.depth → row.tnum ≡ v.tnum → inside k s row.offset row.depth row.tnum ≡ inside k s v.offset v.depth v.tnum
 same_inside k s v row a b c = rw (a, b, c) refl
 
 module _ (d : Open) (k holder offset depth : ℕ) (row : GivenVisitRow) (lists : Lists) (known : lists_with (Some d) holder ≡ Some lists) where
   -- a member and what lies in it
-  pub filled_with : (m : Member) (c e : ℕ) (now new : List GivenVisitRow) → c ≤ length now → TellsVisited (Some lists) (placed holder offset depth m) row
+  pub filled_with : (m : Member) (c e : ℕ) (now new : List GivenVisitRow) → c ≤ length now → TellsVisited (Some lists) (visit_of holder offset depth m) row
       → row.stands_for ≡ stands_for (space_in d) row.tnum
       → FillsOn (TellsIn (Some d)) (inside k (space_in d) row.offset row.depth row.tnum) (c + 1) e (set now c row) new
       → FillsOn (TellsIn (Some d)) (placed_with (inside k (space_in d)) holder offset depth m) c e now new
   filled_with m c e now new room tells stands rest =
-      let v = placed holder offset depth m in
+      let v = visit_of holder offset depth m in
       let told : TellsIn (Some d) v row = (subst (λ l. TellsVisited l v row) (sym known) tells, stands ∙ ap (stands_for (space_in d)) tells.2) in
       let same = same_inside k (space_in d) v row tells.1 tells.4 tells.2 in
       filled_member (TellsIn (Some d)) v (inside k (space_in d) v.offset v.depth v.tnum) row c e now new room told (subst (λ items. FillsOn (TellsIn (Some d)) items (c + 1) e (set now c row) new) same rest)

@@ -18,7 +18,7 @@ use Rattle.ctf_check.specs.CheckedView.{IsOwn, tables_of}
 use Rattle.ctf_check.specs.declared.checked.Checked.{Checked}
 use Rattle.ctf_records.specs.RecordView.{bytes_of}
 use Rattle.ctf_records.specs.declared.record.Record.{Record}
-use Rattle.ctf_records.specs.ByKind.{listed, len_behind}
+use Rattle.ctf_records.specs.ByKind.{list_length, len_behind}
 use Rattle.ctf_views.proofs.Items.{row, items_in_is, items_in_by, items_in_length}
 use Rattle.ctf_views.proofs.Shows.{MemberParts, members_good, members_view, enumerators_good, enumerators_view, shown_at, shown_by}
 use Rattle.ctf_views.specs.Lists.{AreGood, items_in}
@@ -73,7 +73,7 @@ names_by t b s h = lifted (term_of t b) h
     lifted None e = absurd cc
     lifted (Some x) e = ap (option_map shown_names) e
 
-pub enum_good : (t : Tables) (b rest : List ℕ) (count : ℕ) → kind b ≡ Some KEnum → IsSome (term_of t b) → rest ≡ behind_head b → length rest ≡ len_behind b → count ≡ listed b → AreGood (name_at t) 8 count rest
+pub enum_good : (t : Tables) (b rest : List ℕ) (count : ℕ) → kind b ≡ Some KEnum → IsSome (term_of t b) → rest ≡ behind_head b → length rest ≡ len_behind b → count ≡ list_length b → AreGood (name_at t) 8 count rest
 enum_good t b rest count k h r l n =
     let good = enumerators_good t b rest count k h r l n in
     record {
@@ -81,7 +81,7 @@ enum_good t b rest count k h r l n =
       good = rw (items_named t (enumerator_of t) (λ (e : Enumerator). e.name) (enumerator_names t) 8 count rest _ (items_in_is (enumerator_of t) 8 count rest good)) refl;
     }
 
-pub enum_named : (t : Tables) (b rest : List ℕ) (count : ℕ) → kind b ≡ Some KEnum → IsSome (term_of t b) → rest ≡ behind_head b → length rest ≡ len_behind b → count ≡ listed b
+pub enum_named : (t : Tables) (b rest : List ℕ) (count : ℕ) → kind b ≡ Some KEnum → IsSome (term_of t b) → rest ≡ behind_head b → length rest ≡ len_behind b → count ≡ list_length b
     → option_map (λ (x : Term). shown_names (shown x.body)) (term_of t b) ≡ Some (Some (items_in (name_at t) 8 count rest))
 enum_named t b rest count k h r l n =
     let good = enumerators_good t b rest count k h r l n in

@@ -14,4 +14,5 @@ tables_behind r = tables r.strings
 
 -- the members of all rows
 abbrev pub members_at : MemberRows → List Member
-members_at r = items_in (member_of r.size (tables r.strings)) (member_len r.size) r.count r.bytes.now
+members_at r =
+    items_in (member_of r.size (tables r.strings)) (member_len r.size) r.count r.bytes.now

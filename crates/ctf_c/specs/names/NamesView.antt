@@ -4,7 +4,7 @@ use Rattle.ctf_model.specs.format.Name.{Tables}
 use Rattle.ctf_sections.specs.StringsView.{tables}
 use Rattle.ctf_views.specs.Lists.{items_in}
 use Rattle.ctf_c.specs.names.Names.{name_at}
-use Rattle.ctf_c.specs.declared.names.named.NameRows.{NameRows}
+use Rattle.ctf_c.specs.declared.names.named_rows.NameRows.{NameRows}
 
 -- the tables in which their names stand
 abbrev pub tables_for : NameRows → Tables

@@ -46,8 +46,8 @@ abbrev pub offset_within : ℕ → Member → ℕ
 offset_within offset m = min (offset + m.offset) (2 ^ 64 - 1)
 
 -- a member of a type that begins at an offset, and lies in so many others
-abbrev pub placed : ℕ → ℕ → ℕ → Member → Visited
-placed holder offset depth m =
+abbrev pub visit_of : ℕ → ℕ → ℕ → Member → Visited
+visit_of holder offset depth m =
     record {
       holder = holder;
       name = m.name;
@@ -59,7 +59,7 @@ placed holder offset depth m =
 -- the same, followed by what lies in it, which is said of an offset, a depth and a type
 abbrev pub placed_with : (ℕ → ℕ → ℕ → List Visited) → ℕ → ℕ → ℕ → Member → List Visited
 placed_with inside holder offset depth m =
-    placed holder offset depth m ∷ inside (offset_within offset m) (depth + 1) m.tnum
+    visit_of holder offset depth m ∷ inside (offset_within offset m) (depth + 1) m.tnum
 
 -- what lies in a type that begins at an offset and lies in so many others, where at most so many
 -- lie in each other
@@ -70,5 +70,5 @@ inside (suc k) s offset depth t =
     (members_of s (stands_for s t))
 
 -- a type and what lies in it: so many types as can follow on each other at most
-abbrev pub visited : Space → ℕ → List Visited
-visited s t = outermost t ∷ inside most_values s 0 0 t
+abbrev pub visits_of : Space → ℕ → List Visited
+visits_of s t = outermost t ∷ inside most_values s 0 0 t

@@ -14,9 +14,9 @@ pub record Told : Type 0 where
   pub text : List ℕ
   pub len : ℕ
 
--- as much of a text as fits, and its whole length
-abbrev pub told : List ℕ → Told → Told
-told text old = record { text = written_over text old.text; len = length text }
+-- a text truncated to the caller's room, and its full length, as snprintf returns it
+abbrev pub fit_text : List ℕ → Told → Told
+fit_text text old = record { text = written_over text old.text; len = length text }
 
 -- nothing is open: the status says so, and nothing is written
 abbrev pub IsNotOpen : ℕ → Told → Told → Type 0
@@ -38,9 +38,9 @@ Serves None line status old new (Some s) = ⊥
 Serves (Some s) line status old new None = ⊥
 Serves (Some s) line status old new (Some after) =
     BrokerStep s.libraries (Some line) after.reply after.libraries
-    × (status ≡ 0) × (new ≡ told after.reply old)
+    × (status ≡ 0) × (new ≡ fit_text after.reply old)
 
 -- the last reply is given again
 abbrev pub Repeats : Option Served → ℕ → Told → Told → Type 0
 Repeats None status old new = IsNotOpen status old new
-Repeats (Some s) status old new = (status ≡ 0) × (new ≡ told s.reply old)
+Repeats (Some s) status old new = (status ≡ 0) × (new ≡ fit_text s.reply old)

@@ -10,7 +10,7 @@ use Rattle.ctf_protocol.specs.sessions.Outcomes.{Outcome}
 use Rattle.ctf_protocol.specs.sessions.Publications.{is_publication_name}
 use Rattle.ctf_protocol.specs.sessions.State.{empty_state}
 use Rattle.ctf_wire.specs.ServingAs.{LineStepsAs}
-use Rattle.ctf_c.specs.service.Given.{IsNotOpen, Told, told}
+use Rattle.ctf_c.specs.service.Given.{IsNotOpen, Told, fit_text}
 use Rattle.ctf_c.specs.service.Served.{Served}
 
 -- the status of what is said: 0, or 1 and the number of the fault
@@ -57,7 +57,7 @@ abbrev pub AnswersAs : ℕ → List ℕ → ℕ → Told → Told → Served →
 AnswersAs session line status old new s after =
     ((session ≡ 0) × (status ≡ BAD_REQUEST + 1) × (new ≡ old) × (after ≡ s))
     ⊎ ((session ≢ 0) × LineStepsAs s.libraries session line after.reply after.libraries
-    × (status ≡ 0) × (new ≡ told after.reply old))
+    × (status ≡ 0) × (new ≡ fit_text after.reply old))
 
 abbrev pub ServesAs : ℕ → Option Served → List ℕ → ℕ → Told → Told → Option Served → Type 0
 ServesAs session None line status old new None = IsNotOpen status old new

@@ -4,13 +4,13 @@ ghost use Rattle.ctf_c.specs.names.Filling.{Fills, FillsFrom, TellsEnumerator, T
 ghost use Rattle.ctf_c.specs.names.MembersView.{members_at, tables_behind};
 ghost use Rattle.ctf_c.specs.names.NamesView.{names_in, tables_for};
 ghost use Rattle.ctf_check.specs.CheckedView.{lists_of, tables_of};
-ghost use Rattle.ctf_check.specs.TypedView.{dictionary_in, spelled};
+ghost use Rattle.ctf_check.specs.TypedView.{dictionary_in, term_in};
 ghost use Rattle.ctf_model.specs.opened.Questions.{enumerators_answered, members_answered, on_shape, shape_of};
 ghost use Rattle.ctf_model.specs.spaces.TypeNumbers.{or_no_type};
 
-use crate::names::found::{member_rows, name_rows};
 use crate::names::members::MemberRows;
-use crate::names::named::NameRows;
+use crate::names::name_search::{member_rows, name_rows};
+use crate::names::named_rows::NameRows;
 use crate::names::places::name_position;
 use crate::rows::{GivenEnumeratorRow, GivenMemberRow};
 use ctf_check::{Checked, Typed};
@@ -104,7 +104,7 @@ pub fn enumerators_into(
     rows: &mut [GivenEnumeratorRow],
 ) -> Result<u64, Fault>
     ensures { FillsFrom (TellsEnumerator (Some (lists_of (dictionary_in found.now))))
-        (on_shape enumerators_answered (shape_of (or_no_type (spelled found.now)))) from result
+        (on_shape enumerators_answered (shape_of (or_no_type (term_in found.now)))) from result
         rows.old rows.new }
 {
     let Some(names) = name_rows(found) else {
@@ -126,7 +126,7 @@ pub fn members_into(
     rows: &mut [GivenMemberRow],
 ) -> Result<u64, Fault>
     ensures { FillsFrom (TellsMember (Some (lists_of (dictionary_in found.now))))
-        (on_shape members_answered (shape_of (or_no_type (spelled found.now)))) from result
+        (on_shape members_answered (shape_of (or_no_type (term_in found.now)))) from result
         rows.old rows.new }
 {
     let Some(members) = member_rows(found) else {

@@ -6,7 +6,7 @@ ghost use Rattle.ctf_sections.specs.StringsView.{tables};
 ghost use Rattle.ctf_views.specs.Lists.{AreGood, items_in};
 ghost use Rattle.ctf_c.specs.names.MemberPlaces.{IsMember, bits_in};
 
-use crate::names::named::row_at;
+use crate::names::named_rows::row_at;
 use ctf_model::TypeNum;
 use ctf_records::{WIDE_MEMBERS, member_len};
 use ctf_sections::Strings;

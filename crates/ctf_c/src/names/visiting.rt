@@ -5,12 +5,12 @@ ghost use Rattle.ctf_model.specs.opened.Open.{space_in};
 ghost use Rattle.ctf_c.specs.Rowed.{lists_with};
 ghost use Rattle.ctf_c.specs.Visiting.{FillsOn, TellsIn, TellsVisited};
 ghost use Rattle.ctf_c.specs.names.MembersView.{members_at, tables_behind};
-ghost use Rattle.ctf_c.specs.names.Visits.{inside, placed, placed_with, stands_for as standing_for};
+ghost use Rattle.ctf_c.specs.names.Visits.{inside, visit_of, placed_with, stands_for as standing_for};
 
 use crate::names::filling::member_row;
-use crate::names::found::member_rows;
-use crate::names::held::held_type;
 use crate::names::members::MemberRows;
+use crate::names::name_search::member_rows;
+use crate::names::type_home::held_type;
 use crate::visits::GivenVisitRow;
 use ctf_check::Checked;
 use ctf_model::TypeNum;
@@ -60,7 +60,7 @@ fn visit_row(
     requires tables { tables_behind members.now ≡ tables_of of.now }
     requires deep { at.depth + 1 < 2 ^ 32 }
     ensures told { IfSome (slice_get (members_at members.now) index)
-        (λ m. TellsVisited (Some (lists_of of.now)) (placed holder.0 at.offset at.depth m)
+        (λ m. TellsVisited (Some (lists_of of.now)) (visit_of holder.0 at.offset at.depth m)
         result) }
     ensures stands { result.stands_for ≡ standing_for (space_in dictionary.now) result.tnum }
 {

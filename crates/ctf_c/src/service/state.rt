@@ -6,7 +6,7 @@ ghost use Rattle.ctf_protocol.specs.sessions.State.{empty_state};
 ghost use Rattle.ctf_wire.specs.Serving.{BrokerStep};
 ghost use Rattle.ctf_wire.specs.ServingAs.{LineStepsAs};
 
-use crate::given::status;
+use crate::out_pointers::status;
 use ctf_lines::{SHORT_PASS, Scratch};
 use ctf_protocol::PublicationName;
 use ctf_wire::{Broker, Machine, step_as};

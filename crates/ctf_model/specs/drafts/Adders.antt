@@ -5,10 +5,10 @@ use Rattle.std.specs.List.{list_any}
 use Rattle.std.specs.Str.{bytes_eq}
 use Rattle.ctf_model.specs.rules.Chains.{by_value, edges, longest_chain, own_index, within}
 use Rattle.ctf_model.specs.format.Dictionary.{Dictionary, Label}
-use Rattle.ctf_model.specs.drafts.Drafts.{Draft, count_of, has_zero, held, is_absent, is_settled, is_unknown, next_number, pending_place, space_of}
+use Rattle.ctf_model.specs.drafts.Drafts.{Draft, count_of, has_zero, content, is_absent, is_settled, is_unknown, next_number, pending_place, space_of}
 use Rattle.ctf_model.specs.rules.Judgements.{Row, first_met, unless, ◌then◌}
 use Rattle.ctf_model.specs.drafts.NewTypes.{NewType, new_term}
-use Rattle.ctf_model.specs.drafts.Placement.{bits_filled, grown, is_too_far, member_place}
+use Rattle.ctf_model.specs.drafts.Placement.{bits_filled, grown_size, is_too_far, member_place}
 use Rattle.ctf_model.specs.rules.References.{references}
 use Rattle.ctf_model.specs.format.Shown.{enumerators_in, list_length, members_in, shown, size_of}
 use Rattle.ctf_model.specs.spaces.Space.{space_type}
@@ -71,8 +71,8 @@ abbrev pub replaced_at : Draft → Option ℕ → Result Term Fault → Body →
 replaced_at d (Some i) (Ok x) body = with_pending d (set d.pending.terms i (with_body body x))
 replaced_at d _ _ body = d
 
-abbrev pub replaced : Draft → ℕ → Body → Draft
-replaced d n body = replaced_at d (pending_place d n) (space_type (space_of d) n) body
+abbrev pub replace_body : Draft → ℕ → Body → Draft
+replace_body d n body = replaced_at d (pending_place d n) (space_type (space_of d) n) body
 
 -- a name is there already; those without a name are not compared
 abbrev pub is_taken : List ℕ → List (List ℕ) → Bool
@@ -93,7 +93,7 @@ is_deep_from d None = false
 is_deep_from d (Some i) = not (within (edges by_value d.child d.terms) longest_chain i)
 
 abbrev pub is_deep : Draft → ℕ → Bool
-is_deep d n = is_deep_from (held d) (own_index (held d).child (count_of d) n)
+is_deep d n = is_deep_from (content d) (own_index (content d).child (count_of d) n)
 
 -- why a member is not added to the struct or union of a number
 abbrev pub against_member : Draft → ℕ → List ℕ → ℕ → List Row
@@ -120,13 +120,13 @@ with_member m size body = body
 
 -- the size that a struct or union has once a member stands in it
 abbrev pub size_with : Draft → ℕ → ℕ → ℕ → ℕ
-size_with d n offset bits = grown (unwrap_or (size_of (body_at d n)) 0) offset bits
+size_with d n offset bits = grown_size (unwrap_or (size_of (body_at d n)) 0) offset bits
 
 abbrev pub put_member : Draft → ℕ → Member → ℕ → Result Added Fault
 put_member d n m bits =
     unless (first_met (against_place m.offset (size_with d n m.offset bits)))
     (Ok (record {
-      draft = replaced d n (with_member m (size_with d n m.offset bits) (body_at d n));
+      draft = replace_body d n (with_member m (size_with d n m.offset bits) (body_at d n));
       answer = m.offset;
     }))
 
@@ -171,7 +171,7 @@ with_enumerator e body = body
 unfoldable pub add_enumerator : Draft → ℕ → Enumerator → Result Draft Fault
 add_enumerator d n e =
     unless (first_met (against_enumerator d n e.name))
-    (Ok (replaced d n (with_enumerator e (body_at d n))))
+    (Ok (replace_body d n (with_enumerator e (body_at d n))))
 
 -- ---- labels
 
@@ -181,7 +181,7 @@ against_label d name =
     record { code = NAME_HAS_ZERO; met = has_zero name }
     ∷ record {
       code = DUPLICATE;
-      met = list_any (bytes_eq name) (map (λ label. label.name) (held d).labels);
+      met = list_any (bytes_eq name) (map (λ label. label.name) (content d).labels);
     }
     ∷ []
 

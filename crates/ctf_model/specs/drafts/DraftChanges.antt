@@ -3,7 +3,7 @@
 use Rattle.std.specs.Prelude.{ℕ, List, [], ◌∷◌, Option, Result, Ok, Err}
 use Rattle.ctf_model.specs.drafts.Adders.{Added, add_enumerator, add_label, add_member, add_type}
 use Rattle.ctf_model.specs.format.Dictionary.{Label}
-use Rattle.ctf_model.specs.drafts.Drafts.{Draft, discarded, settled}
+use Rattle.ctf_model.specs.drafts.Drafts.{Draft, rollback, commit}
 use Rattle.ctf_model.specs.drafts.NewTypes.{NewType}
 use Rattle.ctf_model.specs.format.Term.{Enumerator}
 use Rattle.ctf_model.specs.declared.faults.Fault.{Fault}
@@ -27,16 +27,16 @@ abbrev pub draft_of : Result Added Fault → Result Draft Fault
 draft_of (Err f) = Err f
 draft_of (Ok added) = Ok added.draft
 
-abbrev pub changed : Draft → DraftChange → Draft
-changed d (adds_type new) = or_as_before d (draft_of (add_type d new))
-changed d (adds_member n name tnum offset) =
+abbrev pub apply_change : Draft → DraftChange → Draft
+apply_change d (adds_type new) = or_as_before d (draft_of (add_type d new))
+apply_change d (adds_member n name tnum offset) =
     or_as_before d (draft_of (add_member d n name tnum offset))
-changed d (adds_enumerator n e) = or_as_before d (add_enumerator d n e)
-changed d (adds_label label) = or_as_before d (add_label d label)
-changed d discards = discarded d
-changed d settles = settled d
+apply_change d (adds_enumerator n e) = or_as_before d (add_enumerator d n e)
+apply_change d (adds_label label) = or_as_before d (add_label d label)
+apply_change d discards = rollback d
+apply_change d settles = commit d
 
 -- after such changes, the first of the list first
 unfoldable pub after : Draft → List DraftChange → Draft
 after d [] = d
-after d (change ∷ changes) = after (changed d change) changes
+after d (change ∷ changes) = after (apply_change d change) changes

@@ -6,7 +6,7 @@ use Rattle.ctf_model.specs.drafts.Adders.{Added, add_enumerator, add_label, add_
 use Rattle.ctf_model.specs.format.Dictionary.{Dictionary, Label}
 use Rattle.ctf_model.specs.drafts.DraftChanges.{DraftChange, after}
 use Rattle.ctf_model.specs.drafts.DraftChanges as does
-use Rattle.ctf_model.specs.drafts.Drafts.{Draft, all_of, count_of, discarded, held, is_absent, is_childs, new_draft, settled}
+use Rattle.ctf_model.specs.drafts.Drafts.{Draft, all_of, count_of, rollback, content, is_absent, is_childs, new_draft, commit}
 use Rattle.ctf_model.specs.drafts.Fitting.{Fits, FitsLabel, FitsNew, IsName}
 use Rattle.ctf_model.specs.drafts.NewTypes.{NewType}
 use Rattle.ctf_model.specs.drafts.Placement.{aligned_from}
@@ -35,7 +35,7 @@ pub record HoldsTogether (d : Draft) : Type 0 where
 -- so it can without what is pending
 pub record IsSound (d : Draft) : Type 0 where
   pub all : HoldsTogether d
-  pub updated : HoldsTogether (discarded d)
+  pub updated : HoldsTogether (rollback d)
 
 -- ---- drafts are sound
 
@@ -66,7 +66,7 @@ LabelsKeepSound =
     → add_label d label ≡ Ok a → IsSound a
 
 abbrev pub LifeKeepsSound : Type 0
-LifeKeepsSound = (d : Draft) → IsSound d → IsSound (discarded d) × IsSound (settled d)
+LifeKeepsSound = (d : Draft) → IsSound d → IsSound (rollback d) × IsSound (commit d)
 
 -- the numbers of a change have their fields' widths
 abbrev pub FitsChange : DraftChange → Type 0
@@ -89,21 +89,21 @@ abbrev pub SoundDraftsMissNone : Type 0
 SoundDraftsMissNone =
     (d : Draft) → IsSound d
     → AllByRecursion
-    (λ x. list_any (is_missing (held d).child (length (held d).terms)) (references x.body)
+    (λ x. list_any (is_missing (content d).child (length (content d).terms)) (references x.body)
     ≡ false)
-    (held d).terms
+    (content d).terms
 
 -- no number that a type names is the mark of the long form
 abbrev pub SoundDraftsNameShort : Type 0
 SoundDraftsNameShort =
     (d : Draft) → IsSound d
-    → AllByRecursion (λ x. AllByRecursion (λ n. n < 0xffff) (references x.body)) (held d).terms
+    → AllByRecursion (λ x. AllByRecursion (λ n. n < 0xffff) (references x.body)) (content d).terms
 
 -- a draft stays under its parent: its dictionary could be imported over it at any time
 abbrev pub SoundDraftsStayUnder : Type 0
 SoundDraftsStayUnder =
     (d : Draft) (parent : Dictionary) → IsSound d → d.parent ≡ Some parent
-    → import_fault (of_one_model d.model (held d) parent) ≡ None
+    → import_fault (of_one_model d.model (content d) parent) ≡ None
 
 -- ---- placement
 

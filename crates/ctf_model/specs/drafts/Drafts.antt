@@ -43,8 +43,8 @@ abbrev pub all_of : Draft → Contents
 all_of d = followed_by d.updated d.pending
 
 -- the dictionary that its terms and labels make, which tells of no symbols
-abbrev pub held : Draft → Dictionary
-held d = record {
+abbrev pub content : Draft → Dictionary
+content d = record {
   child = is_some d.parent;
   parname = d.parname;
   parlabel = d.parlabel;
@@ -56,7 +56,7 @@ held d = record {
 
 -- that dictionary over the parent: sizes, alignments and steps of a draft are those of this space
 abbrev pub space_of : Draft → Space
-space_of d = record { own = held d; parent = d.parent; model = d.model }
+space_of d = record { own = content d; parent = d.parent; model = d.model }
 
 -- how many types it has
 abbrev pub count_of : Draft → ℕ
@@ -131,12 +131,12 @@ new_draft parent parname parlabel model =
     (Ok (empty_draft (above parent) parname parlabel model))
 
 -- what was added since the last update is dropped, and its numbers are used again
-abbrev pub discarded : Draft → Draft
-discarded d = record d { pending = no_contents }
+abbrev pub rollback : Draft → Draft
+rollback d = record d { pending = no_contents }
 
 -- all that was added is part of the dictionary
-abbrev pub settled : Draft → Draft
-settled d = record d { updated = all_of d; pending = no_contents }
+abbrev pub commit : Draft → Draft
+commit d = record d { updated = all_of d; pending = no_contents }
 
 -- how many types and labels were added since the last update
 abbrev pub pending_count : Draft → ℕ

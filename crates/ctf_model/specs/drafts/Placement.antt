@@ -4,7 +4,7 @@
 -- for their members. libctf(3LIB), ctf_add_member. That no padding follows the last member is ours.
 use Rattle.std.specs.Prelude.{ℕ, ◌+◌, ◌-◌, ◌*◌, ◌^◌, max, nat_le, Bool, List, length, Option, Some, None, Result, Ok, Err, slice_get}
 use Rattle.std.specs.Int.{div_ceil, next_multiple_of}
-use Rattle.ctf_model.specs.figures.Figures.{align, resolved, size}
+use Rattle.ctf_model.specs.figures.Figures.{align, resolved_type, size}
 use Rattle.ctf_model.specs.rules.Judgements.{◌then◌}
 use Rattle.ctf_model.specs.spaces.Space.{Space, space_type}
 use Rattle.ctf_model.specs.format.Term.{Body, Member, Term}
@@ -29,7 +29,7 @@ bits_found size (Ok x) = Ok (bits_by size x.body)
 
 -- how many bits a value of a type fills
 abbrev pub bits_filled : Space → ℕ → Result ℕ Fault
-bits_filled s n = size s n then λ size. resolved s n then λ t. bits_found size (space_type s t)
+bits_filled s n = size s n then λ size. resolved_type s n then λ t. bits_found size (space_type s t)
 
 -- ---- where a member stands
 
@@ -61,8 +61,8 @@ member_place s body tnum None = own_place s body tnum
 -- ---- growth
 
 -- large enough for a member that fills bits from a place on
-abbrev pub grown : ℕ → ℕ → ℕ → ℕ
-grown size offset bits = max size (bytes_holding (offset + bits))
+abbrev pub grown_size : ℕ → ℕ → ℕ → ℕ
+grown_size size offset bits = max size (bytes_holding (offset + bits))
 
 -- 64 bits do not hold it
 abbrev pub is_too_far : ℕ → Bool

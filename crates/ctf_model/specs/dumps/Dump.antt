@@ -21,11 +21,11 @@ use Rattle.ctf_model.specs.declared.faults.Fault.{Fault}
 -- ---- words of a line
 
 -- a plain byte as itself, any other as a backslash, an x and two digits
-abbrev pub escaped : ℕ → List ℕ
-escaped b = if is_plain b then b ∷ [] else 0x5c ∷ 0x78 ∷ hex_of_byte b
+abbrev pub escape : ℕ → List ℕ
+escape b = if is_plain b then b ∷ [] else 0x5c ∷ 0x78 ∷ hex_of_byte b
 
 abbrev pub in_quotes : List ℕ → List ℕ
-in_quotes name = codes "\"" ++ (flat_map escaped name ++ codes "\"")
+in_quotes name = codes "\"" ++ (flat_map escape name ++ codes "\"")
 
 -- a word, an equality sign and a text
 abbrev pub with_value : List ℕ → List ℕ → List ℕ

@@ -5,8 +5,8 @@ use Rattle.ctf_model.specs.format.Dictionary.{Dictionary}
 use Rattle.ctf_model.specs.dumps.Dump.{dump, in_quotes}
 use Rattle.ctf_model.specs.symbols.Entries.{Entry, Told}
 use Rattle.ctf_model.specs.symbols.Entries as told
-use Rattle.ctf_model.specs.figures.FigureRows.{array_of, by_itself, dictionary, member, unnamed}
-use Rattle.ctf_model.specs.names.NameRows.{called}
+use Rattle.ctf_model.specs.figures.FigureRows.{array_of, by_itself, dictionary, member, bare_term}
+use Rattle.ctf_model.specs.names.NameRows.{with_name}
 use Rattle.ctf_model.specs.format.Term.{Term, Body}
 use Rattle.ctf_model.specs.format.Term as term
 use Rattle.ctf_model.specs.values.ValueRows.{enumerator}
@@ -15,7 +15,8 @@ use Rattle.ctf_model.specs.declared.data_model.DataModel.TheVariants.{Ilp32, Lp6
 -- ---- inputs
 
 abbrev pub int : Term
-int = called (codes "int") (term.integer (record { size = 4; encoding = 1; offset = 0; bits = 32 }))
+int =
+    with_name (codes "int") (term.integer (record { size = 4; encoding = 1; offset = 0; bits = 32 }))
 
 abbrev pub hidden : Body → Term
 hidden body = record { name = []; root = false; body = body }
@@ -27,18 +28,18 @@ functions = hidden (term.function 3 (3 ∷ [])) ∷ hidden (term.function 3 (3 �
 -- int, and a struct with two members
 abbrev pub structs : List Term
 structs =
-    int ∷ unnamed (term.struct 8191 (member (codes "a") 1 0 ∷ member (codes "b") 1 32 ∷ [])) ∷ []
+    int ∷ bare_term (term.struct 8191 (member (codes "a") 1 0 ∷ member (codes "b") 1 32 ∷ [])) ∷ []
 
 -- int, an array of ten, an enum, a forward, an unknown type, a typedef, a union
 abbrev pub others : List Term
 others =
     int ∷ array_of 0 1 10
-    ∷ called (codes "e")
+    ∷ with_name (codes "e")
     (term.enum 4 (enumerator (codes "A") (pos 1) ∷ enumerator (codes "B") (negsuc 1) ∷ []))
-    ∷ called (codes "f") (term.forward term.union_tag)
+    ∷ with_name (codes "f") (term.forward term.union_tag)
     ∷ hidden term.unknown
-    ∷ called (codes "t") (term.typedef 4)
-    ∷ called (codes "u") (term.union 4 (member [] 1 0 ∷ []))
+    ∷ with_name (codes "t") (term.typedef 4)
+    ∷ with_name (codes "u") (term.union 4 (member [] 1 0 ∷ []))
     ∷ []
 
 abbrev pub pointing : Dictionary
@@ -48,8 +49,8 @@ abbrev pub entry : ℕ → List ℕ → Told → Entry
 entry number name x = record { number = number; name = name; told = x }
 
 -- int, with a label and symbols, of some of which nothing is told
-abbrev pub labelled : Dictionary
-labelled = record (dictionary false (int ∷ [])) {
+abbrev pub labelled_int : Dictionary
+labelled_int = record (dictionary false (int ∷ [])) {
   labels = record { name = codes "a"; last = 5 } ∷ [];
   entries =
       entry 4 (codes "b") (told.object (Some 1)) ∷ entry 5 (codes "c") (told.object None)
@@ -57,8 +58,8 @@ labelled = record (dictionary false (int ∷ [])) {
       ∷ entry 7 (codes "g") (told.function None) ∷ [];
 }
 
-abbrev pub dumped : List Term → List ℕ
-dumped types = dump (by_itself Lp64 types)
+abbrev pub dump_of_terms : List Term → List ℕ
+dump_of_terms types = dump (by_itself Lp64 types)
 
 -- lines, each with its newline
 abbrev pub lines : List (List ℕ) → List ℕ
@@ -74,21 +75,21 @@ int_line n =
 -- ---- dumps
 
 pub record DumpsAre : Type 0 where
-  pub empty : dumped [] ≡ codes "ctf types=0 child=no parname=\"\" parlabel=\"\"\n"
-  pub integer : dumped (int ∷ [])
+  pub empty : dump_of_terms [] ≡ codes "ctf types=0 child=no parname=\"\" parlabel=\"\"\n"
+  pub integer : dump_of_terms (int ∷ [])
       ≡ lines (codes "ctf types=1 child=no parname=\"\" parlabel=\"\"\n"
       ∷ int_line (codes "1") ∷ [])
-  pub of_functions : dumped functions
+  pub of_functions : dump_of_terms functions
       ≡ lines (codes "ctf types=3 child=no parname=\"\" parlabel=\"\"\n"
       ∷ codes "type 1 function \"\" hidden return=3 args=3 : \"int ()\" bytes=0 align=8\n"
       ∷ codes "type 2 function \"\" hidden return=3 args=3,0 : \"int ()\" bytes=0 align=8\n"
       ∷ int_line (codes "3") ∷ [])
-  pub of_structs : dumped structs
+  pub of_structs : dump_of_terms structs
       ≡ lines (codes "ctf types=2 child=no parname=\"\" parlabel=\"\"\n" ∷ int_line (codes "1")
       ∷ codes "type 2 struct \"\" root size=8191 : \"struct (anon)\" bytes=8191 align=4\n"
       ∷ codes "  member \"a\" offset=0 type=1\n"
       ∷ codes "  member \"b\" offset=32 type=1\n" ∷ [])
-  pub of_others : dumped others
+  pub of_others : dump_of_terms others
       ≡ lines (codes "ctf types=7 child=no parname=\"\" parlabel=\"\"\n" ∷ int_line (codes "1")
       ∷ codes
       "type 2 array \"\" root contents=1 index=1 count=10 size=0 : \"int [10]\" bytes=40 align=4\n"
@@ -111,7 +112,7 @@ pub record DumpsAre : Type 0 where
   pub of_short_pointers : dump (record { own = pointing; parent = None; model = Ilp32 })
       ≡ lines (codes "ctf types=1 child=yes parname=\"p\" parlabel=\"\"\n"
       ∷ codes "type 32769 pointer \"\" hidden to=3 : NoParent bytes=4 align=4\n" ∷ [])
-  pub of_symbols : dump (record { own = labelled; parent = None; model = Lp64 })
+  pub of_symbols : dump (record { own = labelled_int; parent = None; model = Lp64 })
       ≡ lines (codes "ctf types=1 child=no parname=\"\" parlabel=\"\"\n" ∷ codes "label \"a\" 5\n"
       ∷ codes "object 4 \"b\" 1\n" ∷ codes "function 6 \"f\" return=1 args=0\n"
       ∷ int_line (codes "1") ∷ [])

@@ -1,7 +1,7 @@
 -- Worked rows of figures and paths. The values were worked out by hand.
 use Rattle.std.specs.Prelude.{◌≡◌, ℕ, ◌*◌, ◌^◌, true, false, Bool, List, [], ◌∷◌, Some, None, Result, Ok, Err, codes}
 use Rattle.ctf_model.specs.format.Dictionary.{Dictionary}
-use Rattle.ctf_model.specs.figures.Figures.{size, align, resolved, reference}
+use Rattle.ctf_model.specs.figures.Figures.{size, align, resolved_type, reference}
 use Rattle.ctf_model.specs.figures.Paths.{Position, path}
 use Rattle.ctf_model.specs.spaces.Space.{Space}
 use Rattle.ctf_model.specs.format.Term.{Term, Body, Member}
@@ -15,20 +15,20 @@ use Rattle.ctf_model.specs.declared.faults.Fault.{Fault}
 abbrev pub fault : ℕ → ℕ → Fault
 fault code place = record { code = code; place = place }
 
-abbrev pub unnamed : Body → Term
-unnamed body = record { name = []; root = true; body = body }
+abbrev pub bare_term : Body → Term
+bare_term body = record { name = []; root = true; body = body }
 
 abbrev pub member : List ℕ → ℕ → ℕ → Member
 member name tnum offset = record { name = name; tnum = tnum; offset = offset }
 
 abbrev pub integer_of : ℕ → Term
 integer_of size =
-    unnamed (term.integer (record { size = size; encoding = 1; offset = 0; bits = 0 }))
+    bare_term (term.integer (record { size = size; encoding = 1; offset = 0; bits = 0 }))
 
 -- an array: the size that it says, its contents, and how many
 abbrev pub array_of : ℕ → ℕ → ℕ → Term
 array_of size contents count =
-    unnamed (term.array (record { size = size; contents = contents; index = 1; count = count }))
+    bare_term (term.array (record { size = size; contents = contents; index = 1; count = count }))
 
 abbrev pub dictionary : Bool → List Term → Dictionary
 dictionary child types =
@@ -53,10 +53,10 @@ by_itself model types = record { own = dictionary false types; parent = None; mo
 abbrev pub pairs : List Term
 pairs =
     integer_of 4 ∷ integer_of 1
-    ∷ unnamed (term.struct 8 (member (codes "c") 2 0 ∷ member (codes "i") 1 32 ∷ []))
-    ∷ unnamed (term.struct 16 (member (codes "a") 3 0 ∷ member (codes "b") 3 64 ∷ []))
-    ∷ unnamed (term.typedef 4)
-    ∷ unnamed (term.union 16 (member (codes "x") 3 8 ∷ member (codes "x") 4 16 ∷ member [] 5 24
+    ∷ bare_term (term.struct 8 (member (codes "c") 2 0 ∷ member (codes "i") 1 32 ∷ []))
+    ∷ bare_term (term.struct 16 (member (codes "a") 3 0 ∷ member (codes "b") 3 64 ∷ []))
+    ∷ bare_term (term.typedef 4)
+    ∷ bare_term (term.union 16 (member (codes "x") 3 8 ∷ member (codes "x") 4 16 ∷ member [] 5 24
     ∷ member (codes "n") 99 0 ∷ member (codes "o") 0 0 ∷ []))
     ∷ []
 
@@ -68,7 +68,7 @@ lies offset tnum = Ok (record { offset = offset; tnum = tnum })
 
 -- a struct whose one member is itself, far out; no dictionary without a fault holds one
 abbrev pub far_out : List Term
-far_out = unnamed (term.struct 9 (member (codes "a") 1 (2 ^ 63) ∷ [])) ∷ []
+far_out = bare_term (term.struct 9 (member (codes "a") 1 (2 ^ 63) ∷ [])) ∷ []
 
 pub record PathsLead : Type 0 where
   pub inner : in_pairs 4 (codes "b" ∷ codes "i" ∷ []) ≡ lies 96 1
@@ -97,16 +97,16 @@ pub record PathsLead : Type 0 where
 -- 15 times and 16 times that, an array of no forwards
 abbrev pub many : List Term
 many =
-    integer_of 4 ∷ unnamed (term.pointer 0) ∷ unnamed (term.function 0 [])
-    ∷ unnamed (term.forward term.enum_tag)
+    integer_of 4 ∷ bare_term (term.pointer 0) ∷ bare_term (term.function 0 [])
+    ∷ bare_term (term.forward term.enum_tag)
     ∷ array_of 0 2 10 ∷ array_of 7 4 3
-    ∷ unnamed (term.typedef 8) ∷ unnamed (term.const 5) ∷ unnamed (term.typedef 0)
-    ∷ unnamed (term.enum 0 [])
-    ∷ unnamed (term.struct 3 (member [] 2 0 ∷ member [] 4 0 ∷ []))
-    ∷ unnamed (term.union 99 (member [] 1 0 ∷ member [] 5 0 ∷ member [] 11 0 ∷ []))
-    ∷ unnamed (term.union 5 [])
-    ∷ unnamed term.unknown
-    ∷ unnamed (term.union 6 (member [] 1 0 ∷ member [] 99 0 ∷ member [] 4 0 ∷ []))
+    ∷ bare_term (term.typedef 8) ∷ bare_term (term.const 5) ∷ bare_term (term.typedef 0)
+    ∷ bare_term (term.enum 0 [])
+    ∷ bare_term (term.struct 3 (member [] 2 0 ∷ member [] 4 0 ∷ []))
+    ∷ bare_term (term.union 99 (member [] 1 0 ∷ member [] 5 0 ∷ member [] 11 0 ∷ []))
+    ∷ bare_term (term.union 5 [])
+    ∷ bare_term term.unknown
+    ∷ bare_term (term.union 6 (member [] 1 0 ∷ member [] 99 0 ∷ member [] 4 0 ∷ []))
     ∷ array_of (2 ^ 60) 4 1 ∷ array_of 0 16 15 ∷ array_of 0 16 16 ∷ array_of 0 4 0
     ∷ []
 
@@ -130,12 +130,12 @@ pub record FiguresAre : Type 0 where
   pub said_array : size here 6 ≡ Ok 7
   pub said_array_align : align here 6 ≡ Err (fault 26 0)
   pub typedef : size here 7 ≡ Ok 80
-  pub typedef_resolved : resolved here 7 ≡ Ok 5
+  pub typedef_resolved : resolved_type here 7 ≡ Ok 5
   pub typedef_reference : reference here 7 ≡ Ok 8
   pub array_reference : reference here 5 ≡ Err (fault 25 0)
   pub function_reference : reference here 3 ≡ Err (fault 25 0)
   pub nothing : size here 9 ≡ Err (fault 26 0)
-  pub nothing_resolved : resolved here 9 ≡ Ok 0
+  pub nothing_resolved : resolved_type here 9 ≡ Ok 0
   pub enum : size here 10 ≡ Ok 4
   pub enum_align : align here 10 ≡ Ok 4
   pub struct : size here 11 ≡ Ok 3
@@ -150,7 +150,7 @@ pub record FiguresAre : Type 0 where
   -- whatever the count
   pub contents_first : size here 19 ≡ Err (fault 26 0)
   pub no_number : size here 0 ≡ Err (fault 26 0)
-  pub zero_resolved : resolved here 0 ≡ Ok 0
+  pub zero_resolved : resolved_type here 0 ≡ Ok 0
   pub zero_reference : reference here 0 ≡ Err (fault 24 0)
   pub past : size here 20 ≡ Err (fault 24 0)
 
@@ -160,8 +160,8 @@ pub record FiguresAre : Type 0 where
 -- a typedef of a type that no parent has, and a typedef of the number between
 abbrev pub child : Dictionary
 child =
-    dictionary true (array_of 0 5 3 ∷ unnamed (term.typedef 0x8001) ∷ unnamed (term.typedef 30)
-    ∷ unnamed (term.typedef 0x8000) ∷ [])
+    dictionary true (array_of 0 5 3 ∷ bare_term (term.typedef 0x8001) ∷ bare_term (term.typedef 30)
+    ∷ bare_term (term.typedef 0x8000) ∷ [])
 
 abbrev pub over : Space
 over = record { own = child; parent = Some (dictionary false many); model = Lp64 }
@@ -176,6 +176,6 @@ pub record FiguresOverParents : Type 0 where
   pub past_parent : size over 0x8003 ≡ Err (fault 24 0)
   pub between : size over 0x8004 ≡ Err (fault 24 0)
   pub no_parent : size without_parent 0x8002 ≡ Err (fault 23 0)
-  pub no_parents_resolved : resolved without_parent 0x8003 ≡ Err (fault 23 0)
-  pub own_resolved : resolved over 0x8002 ≡ Ok 0x8001
-  pub parents_resolved : resolved over 7 ≡ Ok 5
+  pub no_parents_resolved : resolved_type without_parent 0x8003 ≡ Err (fault 23 0)
+  pub own_resolved : resolved_type over 0x8002 ≡ Ok 0x8001
+  pub parents_resolved : resolved_type over 7 ≡ Ok 5

@@ -73,18 +73,18 @@ figure_in figure s n = comes_to figure (parents_figure figure s.parent) s.own mo
 
 -- typedefs and qualifiers stand for their type, all others for themselves
 abbrev pub resolved_body : (ℕ → Result ℕ Fault) → ℕ → Body → Result ℕ Fault
-resolved_body resolved n (term.typedef t) = resolved t
-resolved_body resolved n (term.volatile t) = resolved t
-resolved_body resolved n (term.const t) = resolved t
-resolved_body resolved n (term.restrict t) = resolved t
-resolved_body resolved n _ = Ok n
+resolved_body resolved_type n (term.typedef t) = resolved_type t
+resolved_body resolved_type n (term.volatile t) = resolved_type t
+resolved_body resolved_type n (term.const t) = resolved_type t
+resolved_body resolved_type n (term.restrict t) = resolved_type t
+resolved_body resolved_type n _ = Ok n
 
 abbrev pub resolving : Figure
 resolving = record { of_none = Ok 0; of_type = resolved_body }
 
 -- the number of the type that a number stands for; 0 where that is no type
-abbrev pub resolved : Space → ℕ → Result ℕ Fault
-resolved = figure_in resolving
+abbrev pub resolved_type : Space → ℕ → Result ℕ Fault
+resolved_type = figure_in resolving
 
 -- ---- the type that a type refers to
 
@@ -93,14 +93,14 @@ or_not_reference None = Err (placeless NOT_REFERENCE)
 or_not_reference (Some t) = Ok t
 
 -- that of a pointer, typedef or qualifier; what a function returns isn't referred to
-abbrev pub referred : Shape → Result ℕ Fault
-referred x =
+abbrev pub referred_type : Shape → Result ℕ Fault
+referred_type x =
     if is_none (arguments_in x.behind) then or_not_reference x.reference
     else Err (placeless NOT_REFERENCE)
 
 abbrev pub referred_by : Result Term Fault → Result ℕ Fault
 referred_by (Err f) = Err f
-referred_by (Ok x) = referred (shape x.body)
+referred_by (Ok x) = referred_type (shape x.body)
 
 abbrev pub reference : Space → ℕ → Result ℕ Fault
 reference s n = referred_by (space_type s n)

@@ -1,7 +1,7 @@
 -- Where a member of a member lies. Source: libctf(3LIB), ctf_member_info; the path is ours.
 use Rattle.std.specs.Prelude.{ℕ, ◌+◌, ◌^◌, nat_lt, List, [], ◌∷◌, Option, Some, None, Result, Ok, Err, if◌then◌else◌}
 use Rattle.std.specs.Str.{bytes_eq}
-use Rattle.ctf_model.specs.figures.Figures.{resolved, too_big}
+use Rattle.ctf_model.specs.figures.Figures.{resolved_type, too_big}
 use Rattle.ctf_model.specs.format.Shown.{members_in, shown}
 use Rattle.ctf_model.specs.spaces.Space.{Space, space_type}
 use Rattle.ctf_model.specs.format.Term.{Term, Member}
@@ -46,7 +46,7 @@ position_within s step name offset (Ok n) =
 
 -- the path's step with a number: to the first member with a name, in the value at a position
 abbrev pub step_to : Space → ℕ → List ℕ → Position → Result Position Fault
-step_to s step name at = position_within s step name at.offset (resolved s at.tnum)
+step_to s step name at = position_within s step name at.offset (resolved_type s at.tnum)
 
 abbrev pub and_on : Result Position Fault → (Position → Result Position Fault)
     → Result Position Fault

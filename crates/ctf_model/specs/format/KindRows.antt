@@ -5,7 +5,7 @@ use Rattle.ctf_model.specs.rules.Faults.{first_fault}
 use Rattle.ctf_model.specs.format.Record.{kinds}
 use Rattle.ctf_model.specs.format.Shown.{is_variadic, named_arguments}
 use Rattle.ctf_model.specs.format.SpelledTypes.{is_short_kind}
-use Rattle.ctf_model.specs.format.Rows.{word, header, integer_record, alone, fault, int, of_types}
+use Rattle.ctf_model.specs.format.Rows.{word, header, integer_record, ctf_alone, fault, int, of_types}
 use Rattle.ctf_model.specs.format.Term.{Scalar, Elements, Member, Enumerator, Body, Term}
 use Rattle.ctf_model.specs.format.Term as term
 
@@ -77,72 +77,72 @@ pub record KindsDenote : Type 0 where
   pub short_alone : map is_short_kind kinds
       ≡ false ∷ false ∷ false ∷ true ∷ false ∷ true ∷ false ∷ false ∷ false ∷ true ∷ true ∷ true
       ∷ true ∷ true ∷ []
-  pub function : denoted (alone functions)
+  pub function : denoted (ctf_alone functions)
       ≡ Some (of_types (hidden [] (term.function 3 (3 ∷ []))
       ∷ hidden [] (term.function 3 (3 ∷ 0 ∷ [])) ∷ int ∷ []))
-  pub struct : denoted (alone structs)
+  pub struct : denoted (ctf_alone structs)
       ≡ Some (of_types (int ∷ hidden [] (term.struct 8191 (members 32))
       ∷ hidden [] (term.struct 8192 (members (2 ^ 32 + 32))) ∷ []))
-  pub other : denoted (alone others) ≡ Some (of_types other_types)
-  pub long_unknown : denoted (alone (header 0 0 0 0 16 0 ++ long_head 0 0 0 0))
+  pub other : denoted (ctf_alone others) ≡ Some (of_types other_types)
+  pub long_unknown : denoted (ctf_alone (header 0 0 0 0 16 0 ++ long_head 0 0 0 0))
       ≡ Some (of_types (hidden [] term.unknown ∷ []))
   -- the long form of a small struct has members of 8 bytes
   pub long_struct :
-      denoted (alone (header 0 0 0 0 24 0 ++ long_head 6 1 0 4 ++ word 0 ++ half 0 ++ half 3))
+      denoted (ctf_alone (header 0 0 0 0 24 0 ++ long_head 6 1 0 4 ++ word 0 ++ half 0 ++ half 3))
       ≡ Some (of_types (hidden [] (term.struct 4 (record { name = []; tnum = 0; offset = 3 } ∷ []))
       ∷ []))
 
 -- ---- what is wrong with others
 
 pub record KindsHaveFaults : Type 0 where
-  pub no_pad : first_fault (alone (header 0 0 0 0 10 0 ++ head 0 5 1 0 ++ half 0))
+  pub no_pad : first_fault (ctf_alone (header 0 0 0 0 10 0 ++ head 0 5 1 0 ++ half 0))
       ≡ Some (fault 10 1)
-  pub next_kind : first_fault (alone (header 0 0 0 0 8 0 ++ head 0 14 0 0)) ≡ Some (fault 11 1)
-  pub cut_long_form : first_fault (alone (header 0 0 0 0 8 0 ++ head 0 3 0 0xffff))
+  pub next_kind : first_fault (ctf_alone (header 0 0 0 0 8 0 ++ head 0 14 0 0)) ≡ Some (fault 11 1)
+  pub cut_long_form : first_fault (ctf_alone (header 0 0 0 0 8 0 ++ head 0 3 0 0xffff))
       ≡ Some (fault 10 1)
-  pub long_pointer : first_fault (alone (header 0 0 0 0 16 0 ++ long_head 3 0 0 0))
+  pub long_pointer : first_fault (ctf_alone (header 0 0 0 0 16 0 ++ long_head 3 0 0 0))
       ≡ Some (fault 14 1)
-  pub long_forward : first_fault (alone (header 0 0 0 0 16 0 ++ long_head 9 0 0 0))
+  pub long_forward : first_fault (ctf_alone (header 0 0 0 0 16 0 ++ long_head 9 0 0 0))
       ≡ Some (fault 14 1)
-  pub name : first_fault (alone (header 0 0 0 0 8 0 ++ head 9 0 0 0)) ≡ Some (fault 13 36)
+  pub name : first_fault (ctf_alone (header 0 0 0 0 8 0 ++ head 9 0 0 0)) ≡ Some (fault 13 36)
   pub member_name :
-      first_fault (alone (header 0 0 0 0 16 0 ++ head 0 6 1 4 ++ word 9 ++ half 0 ++ half 0))
+      first_fault (ctf_alone (header 0 0 0 0 16 0 ++ head 0 6 1 4 ++ word 9 ++ half 0 ++ half 0))
       ≡ Some (fault 13 44)
   pub second_enumerator :
-      first_fault (alone (header 0 0 0 0 24 0 ++ head 0 8 2 4 ++ word 0 ++ word 0
+      first_fault (ctf_alone (header 0 0 0 0 24 0 ++ head 0 8 2 4 ++ word 0 ++ word 0
       ++ word 9 ++ word 0))
       ≡ Some (fault 13 52)
   -- a record that is cut off comes before a bad name of one in front of it
-  pub least_rule : first_fault (alone (header 0 0 0 0 12 0 ++ head 9 0 0 0 ++ word 0))
+  pub least_rule : first_fault (ctf_alone (header 0 0 0 0 12 0 ++ head 9 0 0 0 ++ word 0))
       ≡ Some (fault 10 2)
-  pub past_the_count : first_fault (alone (header 0 0 0 0 16 0 ++ head 0 0 0 0 ++ head 0 3 0 3))
+  pub past_the_count : first_fault (ctf_alone (header 0 0 0 0 16 0 ++ head 0 0 0 0 ++ head 0 3 0 3))
       ≡ Some (fault 14 2)
-  pub argument : first_fault (alone (header 0 0 0 0 12 0 ++ head 0 5 1 0 ++ half 2 ++ half 0))
+  pub argument : first_fault (ctf_alone (header 0 0 0 0 12 0 ++ head 0 5 1 0 ++ half 2 ++ half 0))
       ≡ Some (fault 14 1)
   pub array_index :
-      first_fault (alone (header 0 0 0 0 16 0 ++ head 0 4 0 0 ++ half 0 ++ half 2 ++ word 1))
+      first_fault (ctf_alone (header 0 0 0 0 16 0 ++ head 0 4 0 0 ++ half 0 ++ half 2 ++ word 1))
       ≡ Some (fault 14 1)
-  pub child_of_parent : first_fault (alone (header 1 0 0 0 8 3 ++ head 0 3 0 3 ++ 0 ∷ 112 ∷ 0 ∷ []))
-      ≡ None
+  pub child_of_parent :
+      first_fault (ctf_alone (header 1 0 0 0 8 3 ++ head 0 3 0 3 ++ 0 ∷ 112 ∷ 0 ∷ [])) ≡ None
   pub child_between :
-      first_fault (alone (header 1 0 0 0 8 3 ++ head 0 3 0 0x8000 ++ 0 ∷ 112 ∷ 0 ∷ []))
+      first_fault (ctf_alone (header 1 0 0 0 8 3 ++ head 0 3 0 0x8000 ++ 0 ∷ 112 ∷ 0 ∷ []))
       ≡ Some (fault 14 1)
   pub child_past_the_count :
-      first_fault (alone (header 1 0 0 0 8 3 ++ head 0 3 0 0x8002 ++ 0 ∷ 112 ∷ 0 ∷ []))
+      first_fault (ctf_alone (header 1 0 0 0 8 3 ++ head 0 3 0 0x8002 ++ 0 ∷ 112 ∷ 0 ∷ []))
       ≡ Some (fault 14 1)
   pub own_of_child :
-      first_fault (alone (header 1 0 0 0 8 3 ++ head 0 3 0 0x8001 ++ 0 ∷ 112 ∷ 0 ∷ []))
+      first_fault (ctf_alone (header 1 0 0 0 8 3 ++ head 0 3 0 0x8001 ++ 0 ∷ 112 ∷ 0 ∷ []))
       ≡ Some (fault 16 1)
-  pub pointer_to_itself : first_fault (alone (header 0 0 0 0 8 0 ++ head 0 3 0 1))
+  pub pointer_to_itself : first_fault (ctf_alone (header 0 0 0 0 8 0 ++ head 0 3 0 1))
       ≡ Some (fault 16 1)
   pub struct_in_itself :
-      first_fault (alone (header 0 0 0 0 16 0 ++ head 0 6 1 4 ++ word 0 ++ half 1 ++ half 0))
+      first_fault (ctf_alone (header 0 0 0 0 16 0 ++ head 0 6 1 4 ++ word 0 ++ half 1 ++ half 0))
       ≡ Some (fault 15 1)
   pub array_of_itself :
-      first_fault (alone (header 0 0 0 0 16 0 ++ head 0 4 0 0 ++ half 1 ++ half 0 ++ word 1))
+      first_fault (ctf_alone (header 0 0 0 0 16 0 ++ head 0 4 0 0 ++ half 1 ++ half 0 ++ word 1))
       ≡ Some (fault 15 1)
   pub list_cell :
-      first_fault (alone (header 0 0 0 0 24 0 ++ (head 0 6 1 8 ++ word 0 ++ half 2 ++ half 0)
+      first_fault (ctf_alone (header 0 0 0 0 24 0 ++ (head 0 6 1 8 ++ word 0 ++ half 2 ++ half 0)
       ++ head 0 3 0 1))
       ≡ None
 

@@ -50,8 +50,8 @@ long_bytes =
     ∷ 3 ∷ 2 ∷ []
 
 -- lists without a symbol table
-abbrev pub alone : List ℕ → Lists
-alone ctf = record { ctf = ctf; sym = None; strs = None }
+abbrev pub ctf_alone : List ℕ → Lists
+ctf_alone ctf = record { ctf = ctf; sym = None; strs = None }
 
 abbrev pub fault : ℕ → ℕ → Fault
 fault code place = record { code = code; place = place }
@@ -104,39 +104,39 @@ long_integer =
     }
 
 pub record BytesDenote : Type 0 where
-  pub one_int : denoted (alone int_bytes) ≡ Some (of_types (int ∷ []))
-  pub byte_more : denoted (alone (int_bytes ++ 7 ∷ [])) ≡ Some (of_types (int ∷ []))
+  pub one_int : denoted (ctf_alone int_bytes) ≡ Some (of_types (int ∷ []))
+  pub byte_more : denoted (ctf_alone (int_bytes ++ 7 ∷ [])) ≡ Some (of_types (int ∷ []))
   pub outer_name :
       denoted (record { ctf = outer_bytes; sym = None; strs = Some (0 ∷ 120 ∷ 110 ∷ 0 ∷ []) })
       ≡ Some (of_types (four_bytes (codes "xn") ∷ []))
-  pub empty : denoted (alone (header 0 0 0 0 0 0)) ≡ Some (of_types [])
-  pub a_child : denoted (alone child_bytes) ≡ Some child
-  pub long_form : denoted (alone long_bytes) ≡ Some (of_types (long_integer ∷ []))
+  pub empty : denoted (ctf_alone (header 0 0 0 0 0 0)) ≡ Some (of_types [])
+  pub a_child : denoted (ctf_alone child_bytes) ≡ Some child
+  pub long_form : denoted (ctf_alone long_bytes) ≡ Some (of_types (long_integer ∷ []))
 
 -- ---- what is wrong with others
 
 pub record BytesHaveFaults : Type 0 where
-  pub no_byte : first_fault (alone []) ≡ Some (fault 1 0)
-  pub three_bytes : first_fault (alone (take 3 int_bytes)) ≡ Some (fault 1 0)
-  pub magic : first_fault (alone (slice_set int_bytes 0 0xf2)) ≡ Some (fault 2 0)
-  pub version : first_fault (alone (slice_set int_bytes 2 3)) ≡ Some (fault 3 0)
-  pub compressed : first_fault (alone (slice_set int_bytes 3 1)) ≡ Some (fault 4 0)
-  pub version_before_flags : first_fault (alone (slice_set (slice_set int_bytes 3 1) 2 3))
+  pub no_byte : first_fault (ctf_alone []) ≡ Some (fault 1 0)
+  pub three_bytes : first_fault (ctf_alone (take 3 int_bytes)) ≡ Some (fault 1 0)
+  pub magic : first_fault (ctf_alone (slice_set int_bytes 0 0xf2)) ≡ Some (fault 2 0)
+  pub version : first_fault (ctf_alone (slice_set int_bytes 2 3)) ≡ Some (fault 3 0)
+  pub compressed : first_fault (ctf_alone (slice_set int_bytes 3 1)) ≡ Some (fault 4 0)
+  pub version_before_flags : first_fault (ctf_alone (slice_set (slice_set int_bytes 3 1) 2 3))
       ≡ Some (fault 3 0)
-  pub no_header : first_fault (alone (take 4 int_bytes)) ≡ Some (fault 5 0)
-  pub short_header : first_fault (alone (take 35 int_bytes)) ≡ Some (fault 5 0)
-  pub order : first_fault (alone (header 0 4 0 8 12 0)) ≡ Some (fault 6 0)
-  pub align : first_fault (alone (header 0 0 0 2 12 0)) ≡ Some (fault 7 0)
-  pub no_sections : first_fault (alone (take 36 int_bytes)) ≡ Some (fault 8 0)
-  pub cut_strings : first_fault (alone (take 52 int_bytes)) ≡ Some (fault 8 0)
-  pub strings : first_fault (alone (header 0 0 0 0 0 1 ++ 105 ∷ [])) ≡ Some (fault 9 0)
-  pub cut_record : first_fault (alone (header 0 0 0 0 8 0 ++ take 8 (integer_record 0)))
+  pub no_header : first_fault (ctf_alone (take 4 int_bytes)) ≡ Some (fault 5 0)
+  pub short_header : first_fault (ctf_alone (take 35 int_bytes)) ≡ Some (fault 5 0)
+  pub order : first_fault (ctf_alone (header 0 4 0 8 12 0)) ≡ Some (fault 6 0)
+  pub align : first_fault (ctf_alone (header 0 0 0 2 12 0)) ≡ Some (fault 7 0)
+  pub no_sections : first_fault (ctf_alone (take 36 int_bytes)) ≡ Some (fault 8 0)
+  pub cut_strings : first_fault (ctf_alone (take 52 int_bytes)) ≡ Some (fault 8 0)
+  pub strings : first_fault (ctf_alone (header 0 0 0 0 0 1 ++ 105 ∷ [])) ≡ Some (fault 9 0)
+  pub cut_record : first_fault (ctf_alone (header 0 0 0 0 8 0 ++ take 8 (integer_record 0)))
       ≡ Some (fault 10 1)
   pub cut_second :
-      first_fault (alone (header 0 0 0 0 16 0 ++ integer_record 0 ++ 0 ∷ 0 ∷ 0 ∷ 0 ∷ []))
+      first_fault (ctf_alone (header 0 0 0 0 16 0 ++ integer_record 0 ++ 0 ∷ 0 ∷ 0 ∷ 0 ∷ []))
       ≡ Some (fault 10 2)
-  pub no_table : first_fault (alone outer_bytes) ≡ Some (fault 13 36)
-  pub parent_name : first_fault (alone (header 1 0 0 0 0 0)) ≡ Some (fault 13 8)
+  pub no_table : first_fault (ctf_alone outer_bytes) ≡ Some (fault 13 36)
+  pub parent_name : first_fault (ctf_alone (header 1 0 0 0 0 0)) ≡ Some (fault 13 8)
 
 -- ---- how long the lists behind heads are
 

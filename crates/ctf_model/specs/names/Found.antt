@@ -6,7 +6,7 @@ use Rattle.std.specs.List.{list_all, count_by}
 use Rattle.std.specs.Option.{option_map, option_or}
 use Rattle.std.specs.Str.{bytes_eq}
 use Rattle.ctf_model.specs.format.Dictionary.{Dictionary}
-use Rattle.ctf_model.specs.figures.Figures.{resolved}
+use Rattle.ctf_model.specs.figures.Figures.{resolved_type}
 use Rattle.ctf_model.specs.rules.Refusals.{placeless}
 use Rattle.ctf_model.specs.spaces.Space.{Space}
 use Rattle.ctf_model.specs.format.Term.{Term, Body, Tag}
@@ -121,7 +121,7 @@ pointer_behind s (Ok u) = or_not_found (if u == 0 then None else least (is_point
 
 abbrev pub pointer_or_behind : Space → ℕ → Option ℕ → Result ℕ Fault
 pointer_or_behind s t (Some n) = Ok n
-pointer_or_behind s t None = pointer_behind s (resolved s t)
+pointer_or_behind s t None = pointer_behind s (resolved_type s t)
 
 -- the least pointer to a type, or else to what that stands for
 abbrev pub pointer_to : Space → ℕ → Result ℕ Fault
@@ -130,13 +130,13 @@ pointer_to s t = pointer_or_behind s t (least (is_pointer_to t) s)
 -- ---- what a text finds
 
 -- so many pointers further
-abbrev pub pointed : Space → ℕ → Result ℕ Fault → Result ℕ Fault
-pointed s zero from = from
-pointed s (suc k) (Err fault) = Err fault
-pointed s (suc k) (Ok t) = pointed s k (pointer_to s t)
+abbrev pub pointers_on : Space → ℕ → Result ℕ Fault → Result ℕ Fault
+pointers_on s zero from = from
+pointers_on s (suc k) (Err fault) = Err fault
+pointers_on s (suc k) (Ok t) = pointers_on s k (pointer_to s t)
 
 -- the type of a name with stars behind it, as in `struct node **`
-abbrev pub found : Space → List ℕ → Result ℕ Fault
-found s text =
+abbrev pub lookup : Space → List ℕ → Result ℕ Fault
+lookup s text =
     if is_no_name (base text) then Err (placeless BAD_SYNTAX)
-    else pointed s (stars text) (or_not_found (least (is_called (written_name (base text))) s))
+    else pointers_on s (stars text) (or_not_found (least (is_called (written_name (base text))) s))

@@ -3,7 +3,7 @@ use Rattle.std.specs.Prelude.{◌≡◌, ◌<◌, ℕ, ◌*◌, ◌+◌, ◌==�
 use Rattle.std.specs.List.{AllByRecursion}
 use Rattle.ctf_model.specs.rules.ChainLaws.{HasShortChainsIn}
 use Rattle.ctf_model.specs.rules.Chains.{declarator, longest_chain}
-use Rattle.ctf_model.specs.names.TypeNames.{Declaration, bare, declaration, declaration_by, declaration_of, declaration_within, spelled_name, text_of_declaration}
+use Rattle.ctf_model.specs.names.TypeNames.{Declaration, bare_name, declaration, declaration_by, declaration_of, declaration_within, spelled_name, text_of_declaration}
 use Rattle.ctf_model.specs.spaces.Space.{Space, space_type}
 use Rattle.ctf_model.specs.format.Term.{Body}
 use Rattle.ctf_model.specs.declared.faults.Fault.{Fault}
@@ -19,7 +19,7 @@ NamesAskByDeclarator =
 -- the rule of declarations: that of a number's type, where others have these
 abbrev pub declaration_rule : Space → (ℕ → Result Declaration Fault) → ℕ → Result Declaration Fault
 declaration_rule s others n =
-    if n == 0 then bare (codes "void") else declaration_of others (space_type s n)
+    if n == 0 then bare_name (codes "void") else declaration_of others (space_type s n)
 
 -- what is declared is what the rule says of what others declare, and the name is its text;
 -- any greater bound on layers gives the same, so that none is seen

@@ -1,7 +1,7 @@
 -- Worked rows of the names of types, as C spells them. The values were worked out by hand.
 use Rattle.std.specs.Prelude.{◌≡◌, ℕ, true, false, List, [], ◌∷◌, Some, None, Result, Ok, Err, codes}
 use Rattle.ctf_model.specs.format.Dictionary.{Dictionary}
-use Rattle.ctf_model.specs.figures.FigureRows.{array_of, by_itself, dictionary, fault, integer_of, unnamed}
+use Rattle.ctf_model.specs.figures.FigureRows.{array_of, by_itself, dictionary, fault, integer_of, bare_term}
 use Rattle.ctf_model.specs.format.Term.{Term, Body}
 use Rattle.ctf_model.specs.format.Term as term
 use Rattle.ctf_model.specs.names.TypeNames.{spelled_name}
@@ -10,8 +10,8 @@ use Rattle.ctf_model.specs.declared.faults.Fault.{Fault}
 
 -- ---- inputs
 
-abbrev pub called : List ℕ → Body → Term
-called name body = record { name = name; root = true; body = body }
+abbrev pub with_name : List ℕ → Body → Term
+with_name name body = record { name = name; root = true; body = body }
 
 abbrev pub an_integer : List ℕ → Term
 an_integer name = record (integer_of 4) { name = name }
@@ -22,14 +22,14 @@ an_integer name = record (integer_of 4) { name = name }
 -- a pointer to that, a const pointer to the function
 abbrev pub ten : List Term
 ten =
-    an_integer (codes "int") ∷ array_of 0 1 10 ∷ unnamed (term.pointer 2)
-    ∷ unnamed (term.pointer 1) ∷ array_of 0 4 10
-    ∷ an_integer (codes "char") ∷ unnamed (term.pointer 6) ∷ unnamed (term.const 7)
-    ∷ unnamed (term.pointer 8)
-    ∷ unnamed (term.volatile 1) ∷ unnamed (term.const 10)
-    ∷ unnamed (term.struct 0 []) ∷ unnamed (term.pointer 12)
-    ∷ unnamed (term.function 1 []) ∷ unnamed (term.pointer 14)
-    ∷ unnamed (term.const 2) ∷ unnamed (term.pointer 16) ∷ unnamed (term.const 15)
+    an_integer (codes "int") ∷ array_of 0 1 10 ∷ bare_term (term.pointer 2)
+    ∷ bare_term (term.pointer 1) ∷ array_of 0 4 10
+    ∷ an_integer (codes "char") ∷ bare_term (term.pointer 6) ∷ bare_term (term.const 7)
+    ∷ bare_term (term.pointer 8)
+    ∷ bare_term (term.volatile 1) ∷ bare_term (term.const 10)
+    ∷ bare_term (term.struct 0 []) ∷ bare_term (term.pointer 12)
+    ∷ bare_term (term.function 1 []) ∷ bare_term (term.pointer 14)
+    ∷ bare_term (term.const 2) ∷ bare_term (term.pointer 16) ∷ bare_term (term.const 15)
     ∷ []
 
 abbrev pub in_ten : ℕ → Result (List ℕ) Fault
@@ -45,21 +45,22 @@ in_ten n = spelled_name (by_itself Lp64 ten) n
 -- an unnamed float, a volatile pointer to const char
 abbrev pub more : List Term
 more =
-    an_integer (codes "int") ∷ unnamed (term.pointer 1) ∷ unnamed (term.volatile 2)
-    ∷ unnamed (term.restrict 3)
+    an_integer (codes "int") ∷ bare_term (term.pointer 1) ∷ bare_term (term.volatile 2)
+    ∷ bare_term (term.restrict 3)
     ∷ array_of 0 4 3 ∷ array_of 0 5 4
-    ∷ unnamed (term.function 2 []) ∷ unnamed (term.pointer 7)
-    ∷ unnamed (term.function 8 (1 ∷ 0 ∷ [])) ∷ array_of 0 8 2
-    ∷ called (codes "s") (term.forward term.struct_tag)
-    ∷ called (codes "u") (term.forward term.union_tag) ∷ unnamed (term.forward term.enum_tag)
-    ∷ called (codes "v") (term.union 8 []) ∷ called (codes "e") (term.enum 4 [])
-    ∷ unnamed term.unknown ∷ called (codes "size_t") (term.typedef 2) ∷ unnamed (term.const 17)
-    ∷ unnamed (term.const 0) ∷ unnamed (term.pointer 19)
-    ∷ unnamed (term.pointer 99) ∷ unnamed (term.const 98)
-    ∷ unnamed (term.function 0 []) ∷ unnamed (term.const 23) ∷ unnamed (term.pointer 24)
-    ∷ unnamed (term.float (record { size = 4; encoding = 1; offset = 0; bits = 32 }))
-    ∷ unnamed (term.const 26) ∷ unnamed (term.pointer 27) ∷ unnamed (term.volatile 28)
-    ∷ unnamed (term.pointer 11)
+    ∷ bare_term (term.function 2 []) ∷ bare_term (term.pointer 7)
+    ∷ bare_term (term.function 8 (1 ∷ 0 ∷ [])) ∷ array_of 0 8 2
+    ∷ with_name (codes "s") (term.forward term.struct_tag)
+    ∷ with_name (codes "u") (term.forward term.union_tag) ∷ bare_term (term.forward term.enum_tag)
+    ∷ with_name (codes "v") (term.union 8 []) ∷ with_name (codes "e") (term.enum 4 [])
+    ∷ bare_term term.unknown ∷ with_name (codes "size_t") (term.typedef 2)
+    ∷ bare_term (term.const 17)
+    ∷ bare_term (term.const 0) ∷ bare_term (term.pointer 19)
+    ∷ bare_term (term.pointer 99) ∷ bare_term (term.const 98)
+    ∷ bare_term (term.function 0 []) ∷ bare_term (term.const 23) ∷ bare_term (term.pointer 24)
+    ∷ bare_term (term.float (record { size = 4; encoding = 1; offset = 0; bits = 32 }))
+    ∷ bare_term (term.const 26) ∷ bare_term (term.pointer 27) ∷ bare_term (term.volatile 28)
+    ∷ bare_term (term.pointer 11)
     ∷ []
 
 abbrev pub in_more : ℕ → Result (List ℕ) Fault
@@ -114,13 +115,14 @@ pub record NamesAreSpelled : Type 0 where
 -- and a pointer to the number between
 abbrev pub pointers : Dictionary
 pointers =
-    dictionary true (unnamed (term.pointer 3) ∷ unnamed (term.pointer 0x8001)
-    ∷ unnamed (term.pointer 0x8000) ∷ [])
+    dictionary true (bare_term (term.pointer 3) ∷ bare_term (term.pointer 0x8001)
+    ∷ bare_term (term.pointer 0x8000) ∷ [])
 
 -- a parent whose third type is an unnamed struct
 abbrev pub structs : List Term
 structs =
-    an_integer (codes "int") ∷ unnamed (term.struct 8191 []) ∷ unnamed (term.struct 8192 []) ∷ []
+    an_integer (codes "int") ∷ bare_term (term.struct 8191 [])
+    ∷ bare_term (term.struct 8192 []) ∷ []
 
 abbrev pub over : List Term → ℕ → Result (List ℕ) Fault
 over parent n =

@@ -25,9 +25,9 @@ word_of_qualifier Const = codes "const"
 word_of_qualifier Restrict = codes "restrict"
 
 -- two texts, with a blank between them if the second isn't empty
-abbrev pub joined : List ℕ → List ℕ → List ℕ
-joined b [] = b
-joined b (x ∷ d) = b ++ 32 ∷ x ∷ d
+abbrev pub join_texts : List ℕ → List ℕ → List ℕ
+join_texts b [] = b
+join_texts b (x ∷ d) = b ++ 32 ∷ x ∷ d
 
 -- what qualifiers stand round, if that is no name
 abbrev pub past : List Layer → Option Layer
@@ -50,7 +50,7 @@ is_behind _ = false
 -- The declarator d, of what these layers, the outermost first, make of the type with a name.
 -- A qualifier of a pointer stands behind its star, any other in front of the name.
 unfoldable pub declared : List Layer → List ℕ → List ℕ → List ℕ
-declared [] name d = joined name d
+declared [] name d = join_texts name d
 declared (Pointer ∷ layers) name d =
     declared layers name (if is_behind (past layers) then codes "(*" ++ (d ++ codes ")")
     else codes "*" ++ d)
@@ -58,7 +58,7 @@ declared (Array count ∷ layers) name d =
     declared layers name (d ++ (codes "[" ++ (decimal count ++ codes "]")))
 declared (Function ∷ layers) name d = declared layers name (d ++ codes "()")
 declared (Qualified q ∷ layers) name d =
-    if is_pointer (past layers) then declared layers name (joined (word_of_qualifier q) d)
+    if is_pointer (past layers) then declared layers name (join_texts (word_of_qualifier q) d)
     else word_of_qualifier q ++ (codes " " ++ declared layers name d)
 
 -- ---- the declaration of a type
@@ -73,12 +73,12 @@ or_anon [] = codes "(anon)"
 or_anon (x ∷ name) = x ∷ name
 
 -- a name without any layer
-abbrev pub bare : List ℕ → Result Declaration Fault
-bare name = Ok (record { layers = []; name = name })
+abbrev pub bare_name : List ℕ → Result Declaration Fault
+bare_name name = Ok (record { layers = []; name = name })
 
 -- that of a struct, a union or an enum
-abbrev pub tagged : Tag → List ℕ → Result Declaration Fault
-tagged tag name = bare (name_of_tag tag ++ (codes " " ++ or_anon name))
+abbrev pub tagged_name : Tag → List ℕ → Result Declaration Fault
+tagged_name tag name = bare_name (name_of_tag tag ++ (codes " " ++ or_anon name))
 
 -- a layer round a declaration, if there is one
 abbrev pub around : Layer → Result Declaration Fault → Result Declaration Fault
@@ -88,14 +88,14 @@ around layer (Err fault) = Err fault
 -- the declaration of a type with a name, where others have these
 abbrev pub declaration_by : (ℕ → Result Declaration Fault) → List ℕ → Body
     → Result Declaration Fault
-declaration_by others name term.unknown = bare (or_anon name)
-declaration_by others name (term.integer scalar) = bare (or_anon name)
-declaration_by others name (term.float scalar) = bare (or_anon name)
-declaration_by others name (term.typedef t) = bare (or_anon name)
-declaration_by others name (term.struct size members) = tagged term.struct_tag name
-declaration_by others name (term.union size members) = tagged term.union_tag name
-declaration_by others name (term.enum size enumerators) = tagged term.enum_tag name
-declaration_by others name (term.forward tag) = tagged tag name
+declaration_by others name term.unknown = bare_name (or_anon name)
+declaration_by others name (term.integer scalar) = bare_name (or_anon name)
+declaration_by others name (term.float scalar) = bare_name (or_anon name)
+declaration_by others name (term.typedef t) = bare_name (or_anon name)
+declaration_by others name (term.struct size members) = tagged_name term.struct_tag name
+declaration_by others name (term.union size members) = tagged_name term.union_tag name
+declaration_by others name (term.enum size enumerators) = tagged_name term.enum_tag name
+declaration_by others name (term.forward tag) = tagged_name tag name
 declaration_by others name (term.pointer t) = around Pointer (others t)
 declaration_by others name (term.array elements) =
     around (Array elements.count) (others elements.contents)
@@ -113,7 +113,8 @@ declaration_of others (Err fault) = Err fault
 unfoldable pub declaration_within : Space → ℕ → ℕ → Result Declaration Fault
 declaration_within s zero n = Err too_long
 declaration_within s (suc k) n =
-    if n == 0 then bare (codes "void") else declaration_of (declaration_within s k) (space_type s n)
+    if n == 0 then bare_name (codes "void")
+    else declaration_of (declaration_within s k) (space_type s n)
 
 -- ---- names
 

@@ -6,7 +6,7 @@ use Rattle.std.specs.Prelude.{ℕ, Bool, List, length, Result, Ok, Err, slice_ge
 use Rattle.ctf_model.specs.declared.faults.Fault.{Fault}
 use Rattle.ctf_model.specs.declared.faults.TheConstants.Fault.{NO_LABEL, NO_MEMBER, NO_PARENT, WRONG_KIND}
 use Rattle.ctf_model.specs.declared.kinds.Kind.{Kind}
-use Rattle.ctf_model.specs.figures.Figures.{align, resolved, size}
+use Rattle.ctf_model.specs.figures.Figures.{align, resolved_type, size}
 use Rattle.ctf_model.specs.figures.Paths.{Position, path}
 use Rattle.ctf_model.specs.format.Dictionary.{Label}
 use Rattle.ctf_model.specs.format.Shown.{ArrayParts, EncodingParts, Shape, arguments_in, array_in, encoding_in, enumerators_in, list_length, members_in, named_arguments, shape}
@@ -105,7 +105,7 @@ align_answered s t = if_there (align s t) (space_type s t)
 
 -- the type that it stands for
 abbrev pub resolved_answered : Space → ℕ → Result ℕ Fault
-resolved_answered s t = if_there (resolved s t) (space_type s t)
+resolved_answered s t = if_there (resolved_type s t) (space_type s t)
 
 -- the least pointer to it, or to what it stands for
 abbrev pub pointer_answered : Space → ℕ → Result ℕ Fault

@@ -4,7 +4,7 @@
 use Rattle.std.specs.Prelude.{◌≡◌, ◌⊎◌, ℕ, List, length, is_some, Option, None, Some, Result, Ok, Err, if◌then◌else◌}
 use Rattle.std.specs.Option.{option_map}
 use Rattle.ctf_model.specs.drafts.Adders.{Added, add_enumerator, add_label, add_member, add_type}
-use Rattle.ctf_model.specs.drafts.Drafts.{Draft, discarded, held, new_draft, settled}
+use Rattle.ctf_model.specs.drafts.Drafts.{Draft, rollback, content, new_draft, commit}
 use Rattle.ctf_model.specs.drafts.NewTypes.{NewType}
 use Rattle.ctf_model.specs.format.Dictionary.{Label}
 use Rattle.ctf_model.specs.format.Term.{Enumerator}
@@ -35,13 +35,13 @@ settled_as parent d (Ok bytes) =
     Ok (record {
       own = record { lists = lists_of bytes; model = d.model };
       parent = parent;
-      draft = Some (settled d);
+      draft = Some (commit d);
     })
 settled_as parent d (Err fault) = Err fault
 
 -- a draft, updated over its parent
 abbrev pub updated_over : Option Kept → Result Draft Fault → Result Open Fault
-updated_over parent (Ok d) = settled_as parent d (written (held d))
+updated_over parent (Ok d) = settled_as parent d (written (content d))
 updated_over parent (Err fault) = Err fault
 
 -- a new draft is updated at once, with nothing in it
@@ -69,8 +69,8 @@ abbrev pub enlarged_if : Open → (Draft → Result Added Fault) → Option Draf
 enlarged_if s adds None = Err (placeless READ_ONLY)
 enlarged_if s adds (Some d) = enlarged_as s (adds d)
 
-abbrev pub enlarged : (Draft → Result Added Fault) → Open → Result Stepped Fault
-enlarged adds s = enlarged_if s adds s.draft
+abbrev pub enlarge : (Draft → Result Added Fault) → Open → Result Stepped Fault
+enlarge adds s = enlarged_if s adds s.draft
 
 -- nothing is answered of what is added
 abbrev pub silent : Result Draft Fault → Result Added Fault
@@ -78,34 +78,34 @@ silent (Ok d) = Ok (record { draft = d; answer = 0 })
 silent (Err fault) = Err fault
 
 abbrev pub type_added : NewType → Open → Result Stepped Fault
-type_added x = enlarged (λ d. add_type d x)
+type_added x = enlarge (λ d. add_type d x)
 
 abbrev pub member_added : ℕ → List ℕ → ℕ → Option ℕ → Open → Result Stepped Fault
-member_added t name tnum offset = enlarged (λ d. add_member d t name tnum offset)
+member_added t name tnum offset = enlarge (λ d. add_member d t name tnum offset)
 
 abbrev pub enumerator_added : ℕ → Enumerator → Open → Result Stepped Fault
-enumerator_added t x = enlarged (λ d. silent (add_enumerator d t x))
+enumerator_added t x = enlarge (λ d. silent (add_enumerator d t x))
 
 abbrev pub label_added : Label → Open → Result Stepped Fault
-label_added x = enlarged (λ d. silent (add_label d x))
+label_added x = enlarge (λ d. silent (add_label d x))
 
 -- how many types the dictionary has then is answered
-abbrev pub counted : Result Open Fault → Result Stepped Fault
-counted (Ok s) = Ok (record { served = s; answer = length (own_in s).terms })
-counted (Err fault) = Err fault
+abbrev pub with_count : Result Open Fault → Result Stepped Fault
+with_count (Ok s) = Ok (record { served = s; answer = length (own_in s).terms })
+with_count (Err fault) = Err fault
 
 abbrev pub updated_if : Option Kept → Option Draft → Result Stepped Fault
 updated_if parent None = Err (placeless READ_ONLY)
-updated_if parent (Some d) = counted (settled_as parent d (written (held d)))
+updated_if parent (Some d) = with_count (settled_as parent d (written (content d)))
 
 -- its draft is updated
-abbrev pub updated : Open → Result Stepped Fault
-updated s = updated_if s.parent s.draft
+abbrev pub step_update : Open → Result Stepped Fault
+step_update s = updated_if s.parent s.draft
 
 abbrev pub discarded_if : Open → Option Draft → Result Stepped Fault
 discarded_if s None = Err (placeless READ_ONLY)
-discarded_if s (Some d) = counted (Ok (with_draft s (discarded d)))
+discarded_if s (Some d) = with_count (Ok (with_draft s (rollback d)))
 
 -- what was added since the last update is dropped
-abbrev pub dropped : Open → Result Stepped Fault
-dropped s = discarded_if s s.draft
+abbrev pub discard_step : Open → Result Stepped Fault
+discard_step s = discarded_if s s.draft

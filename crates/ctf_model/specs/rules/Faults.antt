@@ -38,8 +38,8 @@ abbrev pub bad_version : List ℕ → Option ℕ
 bad_version ctf = if_broken (not (slice_index ctf 2 == 2))
 
 -- the flag CTF_F_COMPRESS
-abbrev pub compressed : List ℕ → Option ℕ
-compressed ctf = if_broken (slice_index ctf 3 % 2 == 1)
+abbrev pub compression : List ℕ → Option ℕ
+compression ctf = if_broken (slice_index ctf 3 % 2 == 1)
 
 -- fewer bytes than a header has
 abbrev pub short_header : List ℕ → Option ℕ
@@ -91,8 +91,8 @@ place_of code None = None
 place_of code (Some f) = if f.code == code then Some f.place else None
 
 -- a record is cut off
-abbrev pub truncated : Lists → Option ℕ
-truncated s = place_of TRUNCATED (walk_fault (types s.ctf))
+abbrev pub cut_record : Lists → Option ℕ
+cut_record s = place_of TRUNCATED (walk_fault (types s.ctf))
 
 -- a record's kind isn't known
 abbrev pub bad_kind : Lists → Option ℕ
@@ -219,7 +219,7 @@ bad_symtab s = if_broken (nat_lt 0 (length (unwrap_or s.sym []) % 24))
 -- the rules of the header, numbered from 1
 abbrev pub header_rules : List (List ℕ → Option ℕ)
 header_rules =
-    too_short ∷ bad_magic ∷ bad_version ∷ compressed ∷ short_header ∷ bad_order ∷ bad_align
+    too_short ∷ bad_magic ∷ bad_version ∷ compression ∷ short_header ∷ bad_order ∷ bad_align
     ∷ past_end ∷ bad_strings ∷ []
 
 abbrev pub on_ctf : (List ℕ → Option ℕ) → Lists → Option ℕ
@@ -228,7 +228,7 @@ on_ctf rule s = rule s.ctf
 -- all rules, numbered from 1
 unfoldable pub rules : List (Lists → Option ℕ)
 rules =
-    map on_ctf header_rules ++ truncated ∷ bad_kind ∷ too_many ∷ bad_name ∷ bad_reference
+    map on_ctf header_rules ++ cut_record ∷ bad_kind ∷ too_many ∷ bad_name ∷ bad_reference
     ∷ value_deep ∷ decl_deep ∷ bad_funcs ∷ bad_symbol_type ∷ bad_symtab ∷ []
 
 -- a fault at the place, if there is one, else what comes later

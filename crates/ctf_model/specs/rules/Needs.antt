@@ -30,5 +30,5 @@ named_by d =
     flat_map (λ x. references x.body) d.terms ++ flat_map (λ e. types_named e.told) d.entries
 
 -- the greatest number of a parent's type that a dictionary names; 0 where it is no child
-abbrev pub needed : Dictionary → ℕ
-needed d = if d.child then greatest_in_parent (named_by d) else 0
+abbrev pub greatest_needed : Dictionary → ℕ
+greatest_needed d = if d.child then greatest_in_parent (named_by d) else 0

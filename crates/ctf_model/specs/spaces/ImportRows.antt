@@ -1,7 +1,7 @@
 -- Worked rows of imports. The values were worked out by hand.
 use Rattle.std.specs.Prelude.{◌≡◌, true, false, [], ◌∷◌, Option, Some, None}
 use Rattle.ctf_model.specs.format.Dictionary.{Dictionary}
-use Rattle.ctf_model.specs.figures.FigureRows.{dictionary, fault, integer_of, unnamed}
+use Rattle.ctf_model.specs.figures.FigureRows.{dictionary, fault, integer_of, bare_term}
 use Rattle.ctf_model.specs.spaces.Imports.{Modelled, import_fault}
 use Rattle.ctf_model.specs.format.Term as term
 use Rattle.ctf_model.specs.declared.data_model.DataModel.{DataModel}
@@ -13,7 +13,7 @@ of model said = record { dictionary = said; model = model }
 
 -- a child with a pointer to type 3 of its parent
 abbrev pub pointing : Dictionary
-pointing = dictionary true (unnamed (term.pointer 3) ∷ [])
+pointing = dictionary true (bare_term (term.pointer 3) ∷ [])
 
 -- a dictionary that is no child, of three types
 abbrev pub three : Dictionary

@@ -4,7 +4,7 @@
 use Rattle.std.specs.Prelude.{ℕ, not, nat_lt, Bool, true, false, List, [], ◌∷◌, length, Option, Some, None, if◌then◌else◌}
 use Rattle.ctf_model.specs.format.Dictionary.{Dictionary}
 use Rattle.ctf_model.specs.rules.Faults.{if_broken, or_later}
-use Rattle.ctf_model.specs.rules.Needs.{needed}
+use Rattle.ctf_model.specs.rules.Needs.{greatest_needed}
 use Rattle.ctf_model.specs.declared.data_model.DataModel.{DataModel}
 use Rattle.ctf_model.specs.declared.data_model.DataModel.TheVariants.{Lp64, Ilp32}
 use Rattle.ctf_model.specs.declared.faults.Fault.{Fault}
@@ -49,8 +49,8 @@ model_differs i = if_broken (not (same_model i.child.model i.parent.model))
 -- it names a number that is above the parent's count: the greatest one is the place
 abbrev pub parent_short : Import → Option ℕ
 parent_short i =
-    if nat_lt (length i.parent.dictionary.terms) (needed i.child.dictionary)
-    then Some (needed i.child.dictionary) else None
+    if nat_lt (length i.parent.dictionary.terms) (greatest_needed i.child.dictionary)
+    then Some (greatest_needed i.child.dictionary) else None
 
 -- ---- their order
 

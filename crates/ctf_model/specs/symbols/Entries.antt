@@ -7,7 +7,7 @@ use Rattle.ctf_model.specs.format.Bytes.{u16_at}
 use Rattle.ctf_model.specs.format.Header.{section}
 use Rattle.ctf_model.specs.format.Lists.{Lists}
 use Rattle.ctf_model.specs.format.Spelling.{items, argument_of}
-use Rattle.ctf_model.specs.symbols.Symbols.{Symbol, symbols, considered, is_object, class_of}
+use Rattle.ctf_model.specs.symbols.Symbols.{Symbol, symbols, with_types, is_object, class_of}
 use Rattle.ctf_model.specs.declared.sections.Section.TheVariants.{SObjects, SFunctions}
 use Rattle.ctf_model.specs.declared.symbols.SymbolClass.{SymbolClass}
 use Rattle.ctf_model.specs.declared.symbols.SymbolClass.TheVariants.{Object, Function}
@@ -114,7 +114,7 @@ owner x = record { number = x.0; name = x.1.name; class = class_of x.1 }
 -- tell of objects and of functions
 pub record AreEntries (xs : List Symbol) (objects functions : List ℕ)
     (es : List Entry) : Type 0 where
-  pub owners : map owner_of es ≡ map owner (considered xs)
+  pub owners : map owner_of es ≡ map owner (with_types xs)
   pub types : AreObjects objects (objects_in es)
   pub signatures : AreFunctions functions (functions_in es)
 
@@ -131,7 +131,7 @@ entries_of (x ∷ xs) objects functions =
     ∷ entries_of xs objects (drop (entry_len functions) functions)
 
 unfoldable pub entries : Lists → List Entry
-entries s = entries_of (considered (symbols s)) (section s.ctf SObjects) (section s.ctf SFunctions)
+entries s = entries_of (with_types (symbols s)) (section s.ctf SObjects) (section s.ctf SFunctions)
 
 -- ---- where entries begin
 
@@ -147,7 +147,7 @@ function_sites_of (x ∷ xs) b =
     else record { number = x.0; left = b } ∷ function_sites_of xs (drop (entry_len b) b)
 
 unfoldable pub function_sites : Lists → List FunctionSite
-function_sites s = function_sites_of (considered (symbols s)) (section s.ctf SFunctions)
+function_sites s = function_sites_of (with_types (symbols s)) (section s.ctf SFunctions)
 
 -- the types that are named of a symbol
 abbrev pub types_named : Told → List ℕ

@@ -6,7 +6,7 @@ use Rattle.ctf_model.specs.symbols.Entries as told
 use Rattle.ctf_model.specs.rules.Faults.{first_fault}
 use Rattle.ctf_model.specs.format.KindRows.{half}
 use Rattle.ctf_model.specs.format.Lists.{Lists}
-use Rattle.ctf_model.specs.rules.Needs.{needed}
+use Rattle.ctf_model.specs.rules.Needs.{greatest_needed}
 use Rattle.ctf_model.specs.format.Rows.{word, header, integer_record, fault}
 use Rattle.ctf_model.specs.symbols.SymbolQuestions.{object_of, function_of, by_name, name_of_symbol, label_of}
 use Rattle.ctf_model.specs.declared.faults.Fault.{Fault}
@@ -40,8 +40,8 @@ over parname objects functions funcoff typeoff = record {
   strs = Some program_strings;
 }
 
-abbrev pub plain : Lists
-plain = over 0 (half 1) (half 0) 2 4
+abbrev pub plain_lists : Lists
+plain_lists = over 0 (half 1) (half 0) 2 4
 
 -- a function that takes type 1 and returns it, and one that takes any number of arguments
 abbrev pub one_argument : Lists
@@ -55,8 +55,8 @@ abbrev pub child_object : Lists
 child_object = over 1 (half 9) (half 0) 2 4
 
 -- a label a that covers 5 types
-abbrev pub labelled : Lists
-labelled =
+abbrev pub labelled_lists : Lists
+labelled_lists =
     record {
       ctf = 0xf1 ∷ 0xcf ∷ 2 ∷ 0
           ∷ (word 0 ++ word 0 ++ word 0 ++ word 12 ++ word 12 ++ word 12 ++ word 12 ++ word 3)
@@ -74,36 +74,36 @@ abbrev refused : {A : Type 0} → ℕ → Result A Fault
 refused code = Err (fault code 0)
 
 pub record SymbolsTell : Type 0 where
-  pub entries : (said_by plain).entries
+  pub entries : (said_by plain_lists).entries
       ≡ entry 4 (codes "b") (told.object (Some 1)) ∷ entry 5 (codes "c") (told.object None)
       ∷ entry 6 (codes "f") (told.function None) ∷ []
-  pub accepted : first_fault plain ≡ None
-  pub object_0 : object_of (said_by plain) 0 ≡ refused 35
-  pub object_1 : object_of (said_by plain) 1 ≡ refused 37
-  pub object_2 : object_of (said_by plain) 2 ≡ refused 37
-  pub object_3 : object_of (said_by plain) 3 ≡ refused 37
-  pub object_4 : object_of (said_by plain) 4 ≡ Ok 1
-  pub object_5 : object_of (said_by plain) 5 ≡ refused 37
-  pub object_6 : object_of (said_by plain) 6 ≡ refused 35
-  pub object_7 : object_of (said_by plain) 7 ≡ refused 34
-  pub function_4 : function_of (said_by plain) 4 ≡ refused 36
-  pub function_6 : function_of (said_by plain) 6 ≡ refused 37
-  pub symbol_b : by_name (said_by plain) (codes "b") ≡ Ok 4
-  pub symbol_x : by_name (said_by plain) (codes "x") ≡ refused 34
-  pub name_2 : name_of_symbol (said_by plain) 2 ≡ Ok (codes "x")
+  pub accepted : first_fault plain_lists ≡ None
+  pub object_0 : object_of (said_by plain_lists) 0 ≡ refused 35
+  pub object_1 : object_of (said_by plain_lists) 1 ≡ refused 37
+  pub object_2 : object_of (said_by plain_lists) 2 ≡ refused 37
+  pub object_3 : object_of (said_by plain_lists) 3 ≡ refused 37
+  pub object_4 : object_of (said_by plain_lists) 4 ≡ Ok 1
+  pub object_5 : object_of (said_by plain_lists) 5 ≡ refused 37
+  pub object_6 : object_of (said_by plain_lists) 6 ≡ refused 35
+  pub object_7 : object_of (said_by plain_lists) 7 ≡ refused 34
+  pub function_4 : function_of (said_by plain_lists) 4 ≡ refused 36
+  pub function_6 : function_of (said_by plain_lists) 6 ≡ refused 37
+  pub symbol_b : by_name (said_by plain_lists) (codes "b") ≡ Ok 4
+  pub symbol_x : by_name (said_by plain_lists) (codes "x") ≡ refused 34
+  pub name_2 : name_of_symbol (said_by plain_lists) 2 ≡ Ok (codes "x")
   pub takes_one : function_of (said_by one_argument) 6 ≡ Ok (record { ret = 1; args = 1 ∷ [] })
   pub takes_any : function_of (said_by any_arguments) 6 ≡ Ok (record { ret = 1; args = 0 ∷ [] })
   pub in_a_child : object_of (said_by child_object) 4 ≡ Ok 9
-  pub child_needs : needed (said_by child_object) ≡ 9
-  pub label_a : label_of (said_by labelled) (codes "a") ≡ Ok 5
-  pub label_b : label_of (said_by labelled) (codes "b") ≡ refused 38
+  pub child_needs : greatest_needed (said_by child_object) ≡ 9
+  pub label_a : label_of (said_by labelled_lists) (codes "a") ≡ Ok 5
+  pub label_b : label_of (said_by labelled_lists) (codes "b") ≡ refused 38
 
 pub record SymbolsHaveFaults : Type 0 where
   pub cut_entry : first_fault (over 0 (half 1) (half 0x0800) 2 4) ≡ Some (fault 17 6)
   pub cut_function : first_fault (over 0 (half 1) (half 0x2800) 2 4) ≡ Some (fault 17 6)
   pub no_type : first_fault (over 0 (half 2) (half 0) 2 4) ≡ Some (fault 18 4)
   pub least_rule : first_fault (over 0 (half 2) (half 0x0800) 2 4) ≡ Some (fault 17 6)
-  pub byte_more : first_fault (record plain { sym = Some (program_symbols ++ 0 ∷ []) })
+  pub byte_more : first_fault (record plain_lists { sym = Some (program_symbols ++ 0 ∷ []) })
       ≡ Some (fault 19 0)
   pub child : first_fault child_object ≡ None
   pub kind : first_fault (over 0 (half 1) (half 0x3801 ++ half 1 ++ half 1) 2 8) ≡ Some (fault 17 6)

@@ -78,8 +78,8 @@ is_considered x =
 abbrev pub considered_from : ℕ → List Symbol → List (ℕ × Symbol)
 considered_from n xs = filter is_considered (enumerate_from n xs)
 
-abbrev pub considered : List Symbol → List (ℕ × Symbol)
-considered xs = considered_from 0 xs
+abbrev pub with_types : List Symbol → List (ℕ × Symbol)
+with_types xs = considered_from 0 xs
 
 abbrev pub class_of : Symbol → SymbolClass
 class_of x = if is_object x then Object else Function

@@ -33,9 +33,9 @@ each_behind_comma [] = no_pieces
 each_behind_comma (x ∷ xs) = then_pieces (piece (codes ", ")) (then_pieces x (each_behind_comma xs))
 
 -- one after the other, with commas between them
-abbrev pub separated : List Pieces → Pieces
-separated [] = no_pieces
-separated (x ∷ xs) = then_pieces x (each_behind_comma xs)
+abbrev pub separate : List Pieces → Pieces
+separate [] = no_pieces
+separate (x ∷ xs) = then_pieces x (each_behind_comma xs)
 
 abbrev pub between : List ℕ → List ℕ → Pieces → Pieces
 between first last inside = then_pieces (piece first) (then_pieces inside (piece last))
@@ -47,7 +47,7 @@ ended_by None text = Ok text
 ended_by (Some fault) text = Err fault
 
 -- a text that is too long is refused, however it ends; else the fault is answered, or the text
-abbrev pub answered : Pieces → Result (List ℕ) Fault
-answered pieces =
+abbrev pub text_or_fault : Pieces → Result (List ℕ) Fault
+text_or_fault pieces =
     if nat_lt longest_text (length pieces.text) then Err too_long
     else ended_by pieces.fault pieces.text

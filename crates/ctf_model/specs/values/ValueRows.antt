@@ -1,6 +1,6 @@
 -- Worked rows of shown values. The values were worked out by hand.
 use Rattle.std.specs.Prelude.{◌≡◌, ℕ, ℤ, pos, negsuc, true, false, List, [], ◌∷◌, Some, None, Result, Ok, Err, codes}
-use Rattle.ctf_model.specs.figures.FigureRows.{array_of, by_itself, dictionary, fault, member, unnamed}
+use Rattle.ctf_model.specs.figures.FigureRows.{array_of, by_itself, dictionary, fault, member, bare_term}
 use Rattle.ctf_model.specs.format.Term.{Term, Body, Enumerator}
 use Rattle.ctf_model.specs.format.Term as term
 use Rattle.ctf_model.specs.values.Values.{value_text}
@@ -12,11 +12,12 @@ use Rattle.ctf_model.specs.declared.faults.Fault.{Fault}
 -- an integer: its encoding, its offset and its width
 abbrev pub integer_at : ℕ → ℕ → ℕ → Term
 integer_at encoding offset bits =
-    unnamed (term.integer (record { size = 4; encoding = encoding; offset = offset; bits = bits }))
+    bare_term
+    (term.integer (record { size = 4; encoding = encoding; offset = offset; bits = bits }))
 
 abbrev pub float_at : ℕ → ℕ → Term
 float_at offset bits =
-    unnamed (term.float (record { size = 8; encoding = 2; offset = offset; bits = bits }))
+    bare_term (term.float (record { size = 8; encoding = 2; offset = offset; bits = bits }))
 
 abbrev pub enumerator : List ℕ → ℤ → Enumerator
 enumerator name value = record { name = name; value = value }
@@ -36,25 +37,25 @@ enumerator name value = record { name = name; value = value }
 abbrev pub types : List Term
 types =
     integer_at 1 0 32 ∷ integer_at 3 0 8
-    ∷ unnamed (term.struct 8 (member (codes "c") 2 0 ∷ member (codes "i") 1 32 ∷ []))
+    ∷ bare_term (term.struct 8 (member (codes "c") 2 0 ∷ member (codes "i") 1 32 ∷ []))
     ∷ integer_at 1 6 3
-    ∷ unnamed (term.enum 4 (enumerator (codes "A") (pos 1) ∷ []))
+    ∷ bare_term (term.enum 4 (enumerator (codes "A") (pos 1) ∷ []))
     ∷ float_at 0 64
-    ∷ unnamed (term.forward term.struct_tag)
-    ∷ unnamed (term.pointer 1)
-    ∷ array_of 0 3 2 ∷ unnamed (term.typedef 3) ∷ unnamed (term.const 10)
+    ∷ bare_term (term.forward term.struct_tag)
+    ∷ bare_term (term.pointer 1)
+    ∷ array_of 0 3 2 ∷ bare_term (term.typedef 3) ∷ bare_term (term.const 10)
     ∷ array_of 0 7 0 ∷ array_of 0 7 2
-    ∷ unnamed (term.union 4 (member [] 1 0 ∷ member (codes "d") 2 8 ∷ []))
+    ∷ bare_term (term.union 4 (member [] 1 0 ∷ member (codes "d") 2 8 ∷ []))
     ∷ integer_at 1 0 0 ∷ integer_at 1 0 65 ∷ integer_at 1 0 64 ∷ integer_at 0 0 32
-    ∷ unnamed (term.enum 16 [])
-    ∷ unnamed (term.enum 1 (enumerator (codes "A") (negsuc 0) ∷ enumerator [] (pos 0)
+    ∷ bare_term (term.enum 16 [])
+    ∷ bare_term (term.enum 1 (enumerator (codes "A") (negsuc 0) ∷ enumerator [] (pos 0)
     ∷ enumerator (codes "B") (negsuc 0) ∷ enumerator (codes "C") (pos 128) ∷ []))
-    ∷ unnamed (term.enum 0 [])
-    ∷ unnamed (term.struct 8 (member (codes "c") 2 0 ∷ member (codes "f") 7 8
+    ∷ bare_term (term.enum 0 [])
+    ∷ bare_term (term.struct 8 (member (codes "c") 2 0 ∷ member (codes "f") 7 8
     ∷ member (codes "d") 2 0 ∷ []))
-    ∷ unnamed term.unknown ∷ unnamed (term.function 1 []) ∷ unnamed (term.typedef 0)
-    ∷ unnamed (term.struct 8 (member [] 99 0 ∷ []))
-    ∷ unnamed (term.struct 0 []) ∷ array_of 0 27 3
+    ∷ bare_term term.unknown ∷ bare_term (term.function 1 []) ∷ bare_term (term.typedef 0)
+    ∷ bare_term (term.struct 8 (member [] 99 0 ∷ []))
+    ∷ bare_term (term.struct 0 []) ∷ array_of 0 27 3
     ∷ float_at 0 0 ∷ float_at 4 12 ∷ integer_at 2 255 9
     ∷ []
 
@@ -120,7 +121,7 @@ pub record ValuesShow : Type 0 where
 
 -- a child with an array of two of its parent's type 3, and with a typedef of that type
 abbrev pub childs : List Term
-childs = array_of 0 3 2 ∷ unnamed (term.typedef 3) ∷ []
+childs = array_of 0 3 2 ∷ bare_term (term.typedef 3) ∷ []
 
 abbrev pub in_child : List ℕ → ℕ → Result (List ℕ) Fault
 in_child memory n =

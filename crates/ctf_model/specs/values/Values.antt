@@ -6,7 +6,7 @@ use Rattle.std.specs.Ordering.{int_eq}
 use Rattle.ctf_model.specs.rules.Chains.{longest_chain}
 use Rattle.ctf_model.specs.figures.Figures.{enum_size, incomplete, size}
 use Rattle.ctf_model.specs.values.MemoryBits.{bit_field, hexadecimal, signed_value, started_bytes}
-use Rattle.ctf_model.specs.values.Pieces.{Pieces, piece, no_pieces, ends, then_pieces, separated, between, answered}
+use Rattle.ctf_model.specs.values.Pieces.{Pieces, piece, no_pieces, ends, then_pieces, separate, between, text_or_fault}
 use Rattle.ctf_model.specs.dumps.Texts.{signed_decimal}
 use Rattle.ctf_model.specs.format.Shown.{EncodingParts, encoding_parts}
 use Rattle.ctf_model.specs.spaces.Space.{Space, pointer_size, space_type}
@@ -77,7 +77,7 @@ abbrev pub member_shown : Shows → ℕ → Member → Pieces
 member_shown show p m = then_pieces (label m.name) (show m.tnum (p + m.offset))
 
 abbrev pub members_shown : Shows → ℕ → List Member → Pieces
-members_shown show p ms = between (codes "{") (codes "}") (separated (map (member_shown show p) ms))
+members_shown show p ms = between (codes "{") (codes "}") (separate (map (member_shown show p) ms))
 
 -- elements of a size in bytes, one behind the other
 abbrev pub each_element : Shows → ℕ → ℕ → ℕ → Result ℕ Fault → List Pieces
@@ -88,7 +88,7 @@ each_element show p contents count (Err fault) = ends fault ∷ []
 -- the size of the contents matters where there are any
 abbrev pub elements_shown : Shows → ℕ → ℕ → ℕ → Result ℕ Fault → Pieces
 elements_shown show p contents count size =
-    if count == 0 then no_pieces else separated (each_element show p contents count size)
+    if count == 0 then no_pieces else separate (each_element show p contents count size)
 
 abbrev pub array_shown : Shows → ℕ → ℕ → ℕ → Result ℕ Fault → Pieces
 array_shown show p contents count size =
@@ -141,4 +141,4 @@ shown_value s memory n p = shown_within s memory most_values n p
 
 -- what is answered of it
 abbrev pub value_text : Space → List ℕ → ℕ → ℕ → Result (List ℕ) Fault
-value_text s memory n p = answered (shown_value s memory n p)
+value_text s memory n p = text_or_fault (shown_value s memory n p)

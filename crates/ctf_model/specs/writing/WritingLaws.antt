@@ -4,7 +4,7 @@ use Rattle.std.specs.List.{AllByRecursion, list_any}
 use Rattle.std.specs.Str.{bytes_eq}
 use Rattle.ctf_model.specs.format.Dictionary.{Dictionary, Denotes}
 use Rattle.ctf_model.specs.drafts.DraftLaws.{IsSound}
-use Rattle.ctf_model.specs.drafts.Drafts.{Draft, held}
+use Rattle.ctf_model.specs.drafts.Drafts.{Draft, content}
 use Rattle.ctf_model.specs.rules.Faults.{first_fault}
 use Rattle.ctf_model.specs.drafts.Fitting.{Fits, IsName}
 use Rattle.ctf_model.specs.format.Header.{fields, is_child}
@@ -55,24 +55,24 @@ RecordsSpell =
 -- its parent's name and label, and no symbols
 abbrev pub WrittenDenotes : Type 0
 WrittenDenotes =
-    (d : Draft) (bytes : List ℕ) → IsSound d → written (held d) ≡ Ok bytes
-    → Denotes (lists_of bytes) (held d)
+    (d : Draft) (bytes : List ℕ) → IsSound d → written (content d) ≡ Ok bytes
+    → Denotes (lists_of bytes) (content d)
 
 -- they are those of a child just where the draft has a parent
 abbrev pub WrittenIsChild : Type 0
 WrittenIsChild =
-    (d : Draft) (bytes : List ℕ) → IsSound d → written (held d) ≡ Ok bytes
+    (d : Draft) (bytes : List ℕ) → IsSound d → written (content d) ≡ Ok bytes
     → is_child (fields bytes) ≡ is_some d.parent
 
 -- what they denote can be imported over that parent
 abbrev pub WrittenIsImported : Type 0
 WrittenIsImported =
     (d : Draft) (parent : Dictionary) (bytes : List ℕ) (child : Dictionary) → IsSound d
-    → d.parent ≡ Some parent → written (held d) ≡ Ok bytes → Denotes (lists_of bytes) child
+    → d.parent ≡ Some parent → written (content d) ≡ Ok bytes → Denotes (lists_of bytes) child
     → import_fault (of_one_model d.model child parent) ≡ None
 
 -- bytes that are not too many have just the fault for which they are not written
 abbrev pub BytesAreJudgedAlike : Type 0
 BytesAreJudgedAlike =
-    (d : Draft) → IsSound d → length (bytes_of (held d)) ≤ most_written
-    → first_fault (lists_of (bytes_of (held d))) ≡ unwritten (held d)
+    (d : Draft) → IsSound d → length (bytes_of (content d)) ≤ most_written
+    → first_fault (lists_of (bytes_of (content d))) ≡ unwritten (content d)

@@ -3,9 +3,9 @@ use Rattle.std.specs.Prelude.{◌≡◌, ℕ, ◌+◌, ◌^◌, ◌++◌, true, 
 use Rattle.ctf_model.specs.format.Dictionary.{Dictionary}
 use Rattle.ctf_model.specs.drafts.DraftChanges.{after}
 use Rattle.ctf_model.specs.drafts.DraftChanges as does
-use Rattle.ctf_model.specs.drafts.DraftRows.{adds, fresh, in_itself, int_updated, new_int, over_two, puts}
-use Rattle.ctf_model.specs.drafts.Drafts.{Draft, held}
-use Rattle.ctf_model.specs.figures.FigureRows.{fault, member, unnamed}
+use Rattle.ctf_model.specs.drafts.DraftRows.{adds, fresh_draft, in_itself, int_updated, new_int, over_two, puts}
+use Rattle.ctf_model.specs.drafts.Drafts.{Draft, content}
+use Rattle.ctf_model.specs.figures.FigureRows.{fault, member, bare_term}
 use Rattle.ctf_model.specs.drafts.NewTypes as new
 use Rattle.ctf_model.specs.format.Rows.{child, header, int_bytes, integer_record, of_types, word}
 use Rattle.ctf_model.specs.format.Term.{Body, Term}
@@ -19,12 +19,12 @@ use Rattle.ctf_model.specs.declared.faults.Fault.{Fault}
 
 -- what is written of a draft
 abbrev pub written_of : Draft → Result (List ℕ) Fault
-written_of d = written (held d)
+written_of d = written (content d)
 
 -- int and char, s with a char c and an int i, and a struct without a name of two of these, a and b
 abbrev pub structs : Draft
 structs =
-    after fresh (does.adds_type new_int
+    after fresh_draft (does.adds_type new_int
     ∷ does.adds_type (record {
       name = codes "char";
       root = true;
@@ -59,18 +59,19 @@ labelled_bytes =
     ++ 0 ∷ (codes "q" ++ 0 ∷ [] ++ codes "p" ++ 0 ∷ [] ++ codes "r" ++ 0 ∷ [])
 
 pub record DictionariesAreWritten : Type 0 where
-  pub empty : written_of fresh ≡ Ok (header 0 0 0 0 0 1 ++ 0 ∷ [])
+  pub empty : written_of fresh_draft ≡ Ok (header 0 0 0 0 0 1 ++ 0 ∷ [])
   pub one_int : written_of int_updated ≡ Ok int_bytes
-  pub pending_too : written_of (after fresh (does.adds_type new_int ∷ [])) ≡ Ok int_bytes
+  pub pending_too : written_of (after fresh_draft (does.adds_type new_int ∷ [])) ≡ Ok int_bytes
   pub structs : written_of structs ≡ Ok structs_bytes
   pub over_parent : written_of (after over_two (adds (new.pointer 1) ∷ [])) ≡ Ok linked_bytes
   pub labelled : written child ≡ Ok labelled_bytes
   pub in_itself : written_of in_itself ≡ Err (fault 15 1)
-  pub values_first : written (of_types (unnamed (term.pointer 1) ∷ unnamed (term.typedef 2) ∷ []))
+  pub values_first :
+      written (of_types (bare_term (term.pointer 1) ∷ bare_term (term.typedef 2) ∷ []))
       ≡ Err (fault 15 2)
   pub pointers_in_circles :
-      written (of_types (unnamed (term.pointer 0) ∷ unnamed (term.pointer 3)
-      ∷ unnamed (term.pointer 2) ∷ []))
+      written (of_types (bare_term (term.pointer 0) ∷ bare_term (term.pointer 3)
+      ∷ bare_term (term.pointer 2) ∷ []))
       ≡ Err (fault 16 2)
 
 -- ---- names
@@ -110,12 +111,12 @@ pub record NamesAreWritten : Type 0 where
 -- ---- records
 
 -- with the names a and b, which stand at 1 and 3
-abbrev pub recorded : Term → List ℕ
-recorded x = record_bytes (codes "a" ∷ codes "b" ∷ []) x
+abbrev pub bytes_of_term : Term → List ℕ
+bytes_of_term x = record_bytes (codes "a" ∷ codes "b" ∷ []) x
 
 -- a hidden type without a name
 abbrev pub hidden : Body → List ℕ
-hidden body = recorded (record { name = []; root = false; body = body })
+hidden body = bytes_of_term (record { name = []; root = false; body = body })
 
 -- a struct of this size with a member b of type 5
 abbrev pub struct_of : ℕ → ℕ → List ℕ
@@ -124,7 +125,7 @@ struct_of size offset = hidden (term.struct size (member (codes "b") 5 offset �
 pub record RecordsAreWritten : Type 0 where
   pub unknown : hidden term.unknown ≡ word 0 ++ 0 ∷ 0 ∷ 0 ∷ 0 ∷ []
   pub integer :
-      recorded (record {
+      bytes_of_term (record {
         name = codes "b";
         root = true;
         body = term.integer (record { size = 4; encoding = 1; offset = 2; bits = 0x0304 });
@@ -161,7 +162,7 @@ pub record RecordsAreWritten : Type 0 where
   pub forward_struct : hidden (term.forward term.struct_tag) ≡ word 0 ++ 0 ∷ 0x48 ∷ 6 ∷ 0 ∷ []
   pub forward_union : hidden (term.forward term.union_tag) ≡ word 0 ++ 0 ∷ 0x48 ∷ 7 ∷ 0 ∷ []
   pub forward_enum : hidden (term.forward term.enum_tag) ≡ word 0 ++ 0 ∷ 0x48 ∷ 8 ∷ 0 ∷ []
-  pub typedef : recorded (record { name = codes "a"; root = true; body = term.typedef 5 })
+  pub typedef : bytes_of_term (record { name = codes "a"; root = true; body = term.typedef 5 })
       ≡ word 1 ++ 0 ∷ 0x54 ∷ 5 ∷ 0 ∷ []
   pub volatile : hidden (term.volatile 5) ≡ word 0 ++ 0 ∷ 0x58 ∷ 5 ∷ 0 ∷ []
   pub const : hidden (term.const 5) ≡ word 0 ++ 0 ∷ 0x60 ∷ 5 ∷ 0 ∷ []

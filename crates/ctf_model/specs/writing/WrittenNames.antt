@@ -40,12 +40,12 @@ unfoldable pub strings_of : Dictionary → List (List ℕ)
 strings_of d = distinct (filter (λ name. not (is_empty name)) (used_names d))
 
 -- a name and the zero byte that ends it
-abbrev pub closed : List ℕ → List ℕ
-closed name = name ++ 0 ∷ []
+abbrev pub closed_name : List ℕ → List ℕ
+closed_name name = name ++ 0 ∷ []
 
 -- the string section of these names: a zero byte, and then each with its own
 abbrev pub string_bytes : List (List ℕ) → List ℕ
-string_bytes names = 0 ∷ flat_map closed names
+string_bytes names = 0 ∷ flat_map closed_name names
 
 -- the reference to one of them: it stands where the section of the names before it ends.
 -- The empty name is 0

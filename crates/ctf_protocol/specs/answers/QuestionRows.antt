@@ -6,7 +6,7 @@ use Rattle.ctf_protocol.specs.lines.Ask.{ask}
 use Rattle.ctf_model.specs.format.KindRows.{functions, structs, others}
 use Rattle.ctf_protocol.specs.answers.Questions.{enumerator_item, record_fields, type_fields, size_fields, align_fields, position_fields}
 use Rattle.ctf_protocol.specs.lines.ReplyLines.{reply_line}
-use Rattle.ctf_model.specs.format.Rows.{alone, fault, int_bytes}
+use Rattle.ctf_model.specs.format.Rows.{ctf_alone, fault, int_bytes}
 use Rattle.ctf_model.specs.format.Shown.{facts}
 use Rattle.ctf_protocol.specs.sessions.State.{State, empty_state}
 use Rattle.ctf_protocol.specs.sessions.Steps.{step}
@@ -30,14 +30,14 @@ use Rattle.ctf_protocol.specs.declared.requests.Request.TheVariants.{Changes, As
 abbrev pub holding : List ℕ → State
 holding ctf =
     record empty_state {
-      slots = record { number = 1; kept = kept_unsaid (alone ctf); parent = None; draft = None }
+      slots = record { number = 1; kept = kept_unsaid (ctf_alone ctf); parent = None; draft = None }
           ∷ [];
       next = 2;
     }
 
 -- the line of what it is answered, session 0
-abbrev pub answered : List ℕ → Request → List ℕ
-answered ctf request = reply_line (step (holding ctf) request None).reply
+abbrev pub answer_line : List ℕ → Request → List ℕ
+answer_line ctf request = reply_line (step (holding ctf) request None).reply
 
 -- a question on a type of slot 1
 abbrev pub on : ℕ → TypeQuestion → Request
@@ -55,77 +55,77 @@ abbrev pub items_from : ℕ → ℕ → Window
 items_from from count = record { from = from; count = Some count }
 
 pub record QuestionsAreAnswered : Type 0 where
-  pub kind : answered structs (on 2 (about.Plain simple.Kind))
+  pub kind : answer_line structs (on 2 (about.Plain simple.Kind))
       ≡ codes "{\"ok\":{\"kind\":\"struct\"},\"s\":0}\n"
-  pub one_argument : answered functions (on 1 (about.Plain simple.Args))
+  pub one_argument : answer_line functions (on 1 (about.Plain simple.Args))
       ≡ codes "{\"ok\":{\"args\":[3],\"return\":3,\"varargs\":false},\"s\":0}\n"
-  pub more_may_follow : answered functions (on 2 (about.Plain simple.Args))
+  pub more_may_follow : answer_line functions (on 2 (about.Plain simple.Args))
       ≡ codes "{\"ok\":{\"args\":[3],\"return\":3,\"varargs\":true},\"s\":0}\n"
-  pub no_function : answered functions (on 3 (about.Plain simple.Args))
+  pub no_function : answer_line functions (on 3 (about.Plain simple.Args))
       ≡ codes "{\"fault\":{\"code\":30,\"name\":\"WrongKind\",\"place\":0},\"s\":0}\n"
-  pub no_type : answered functions (on 4 (about.Plain simple.Args))
+  pub no_type : answer_line functions (on 4 (about.Plain simple.Args))
       ≡ codes "{\"fault\":{\"code\":24,\"name\":\"NoType\",\"place\":0},\"s\":0}\n"
-  pub no_slot : answered functions (Asks 2 (OfType (record { 0 = 4 }) (about.Plain simple.Args)))
+  pub no_slot : answer_line functions (Asks 2 (OfType (record { 0 = 4 }) (about.Plain simple.Args)))
       ≡ codes "{\"fault\":{\"code\":49,\"name\":\"NoSlot\",\"place\":0},\"s\":0}\n"
-  pub all_members : answered structs (on 2 (about.Members all_items))
+  pub all_members : answer_line structs (on 2 (about.Members all_items))
       ≡ codes "{\"ok\":{\"members\":[{\"name\":\"a\",\"offset\":0,\"type\":1},{\"name\":\"b\",\"offset\":32,\"type\":1}],\"total\":2},\"s\":0}\n"
-  pub second_member : answered structs (on 2 (about.Members (items_from 1 9)))
+  pub second_member : answer_line structs (on 2 (about.Members (items_from 1 9)))
       ≡ codes
       "{\"ok\":{\"members\":[{\"name\":\"b\",\"offset\":32,\"type\":1}],\"total\":2},\"s\":0}\n"
-  pub no_members : answered structs (on 2 (about.Members (items_from 2 1)))
+  pub no_members : answer_line structs (on 2 (about.Members (items_from 2 1)))
       ≡ codes "{\"ok\":{\"members\":[],\"total\":2},\"s\":0}\n"
-  pub negative : answered others (on 6 (about.Enumerators all_items))
+  pub negative : answer_line others (on 6 (about.Enumerators all_items))
       ≡ codes "{\"ok\":{\"enumerators\":[{\"name\":\"A\",\"value\":-1}],\"total\":1},\"s\":0}\n"
-  pub an_array : answered others (on 4 (about.Plain simple.Array))
+  pub an_array : answer_line others (on 4 (about.Plain simple.Array))
       ≡ codes "{\"ok\":{\"contents\":2,\"count\":10,\"index\":1},\"s\":0}\n"
-  pub a_float : answered others (on 2 (about.Plain simple.Encoding))
+  pub a_float : answer_line others (on 2 (about.Plain simple.Encoding))
       ≡ codes "{\"ok\":{\"bits\":64,\"encoding\":2,\"offset\":0},\"s\":0}\n"
-  pub a_struct : answered structs (on 2 (about.Plain simple.Record))
+  pub a_struct : answer_line structs (on 2 (about.Plain simple.Record))
       ≡ codes "{\"ok\":{\"kind\":\"struct\",\"name\":\"\",\"root\":false,\"size\":8191,\"vlen\":2},\"s\":0}\n"
-  pub a_pointer : answered others (on 3 (about.Plain simple.Reference))
+  pub a_pointer : answer_line others (on 3 (about.Plain simple.Reference))
       ≡ codes "{\"ok\":{\"t\":2},\"s\":0}\n"
-  pub a_return : answered functions (on 1 (about.Plain simple.Reference))
+  pub a_return : answer_line functions (on 1 (about.Plain simple.Reference))
       ≡ codes "{\"fault\":{\"code\":25,\"name\":\"NotReference\",\"place\":0},\"s\":0}\n"
-  pub resolved : answered others (on 10 (about.Plain simple.Resolve))
+  pub resolved : answer_line others (on 10 (about.Plain simple.Resolve))
       ≡ codes "{\"ok\":{\"t\":2},\"s\":0}\n"
-  pub size : answered structs (on 2 (about.Plain simple.Size))
+  pub size : answer_line structs (on 2 (about.Plain simple.Size))
       ≡ codes "{\"ok\":{\"size\":8191},\"s\":0}\n"
-  pub align : answered structs (on 2 (about.Plain simple.Align))
+  pub align : answer_line structs (on 2 (about.Plain simple.Align))
       ≡ codes "{\"ok\":{\"align\":4},\"s\":0}\n"
-  pub incomplete : answered others (on 7 (about.Plain simple.Size))
+  pub incomplete : answer_line others (on 7 (about.Plain simple.Size))
       ≡ codes "{\"fault\":{\"code\":26,\"name\":\"Incomplete\",\"place\":0},\"s\":0}\n"
-  pub no_size : answered structs (on 0 (about.Plain simple.Size))
+  pub no_size : answer_line structs (on 0 (about.Plain simple.Size))
       ≡ codes "{\"fault\":{\"code\":24,\"name\":\"NoType\",\"place\":0},\"s\":0}\n"
-  pub name : answered others (on 10 (about.Plain simple.Name))
+  pub name : answer_line others (on 10 (about.Plain simple.Name))
       ≡ codes "{\"ok\":{\"name\":\"const volatile A\"},\"s\":0}\n"
-  pub no_name : answered structs (on 0 (about.Plain simple.Name))
+  pub no_name : answer_line structs (on 0 (about.Plain simple.Name))
       ≡ codes "{\"fault\":{\"code\":24,\"name\":\"NoType\",\"place\":0},\"s\":0}\n"
-  pub pointer : answered others (on 2 (about.Plain simple.Pointer))
+  pub pointer : answer_line others (on 2 (about.Plain simple.Pointer))
       ≡ codes "{\"ok\":{\"t\":3},\"s\":0}\n"
-  pub pointer_behind : answered others (on 10 (about.Plain simple.Pointer))
+  pub pointer_behind : answer_line others (on 10 (about.Plain simple.Pointer))
       ≡ codes "{\"ok\":{\"t\":3},\"s\":0}\n"
-  pub no_pointer : answered others (on 3 (about.Plain simple.Pointer))
+  pub no_pointer : answer_line others (on 3 (about.Plain simple.Pointer))
       ≡ codes "{\"fault\":{\"code\":32,\"name\":\"NotFound\",\"place\":0},\"s\":0}\n"
-  pub pointer_to_nothing : answered others (on 0 (about.Plain simple.Pointer))
+  pub pointer_to_nothing : answer_line others (on 0 (about.Plain simple.Pointer))
       ≡ codes "{\"fault\":{\"code\":24,\"name\":\"NoType\",\"place\":0},\"s\":0}\n"
-  pub found : answered structs (looked_up (codes "int")) ≡ codes "{\"ok\":{\"t\":1},\"s\":0}\n"
-  pub not_found : answered structs (looked_up (codes "int *"))
+  pub found : answer_line structs (looked_up (codes "int")) ≡ codes "{\"ok\":{\"t\":1},\"s\":0}\n"
+  pub not_found : answer_line structs (looked_up (codes "int *"))
       ≡ codes "{\"fault\":{\"code\":32,\"name\":\"NotFound\",\"place\":0},\"s\":0}\n"
-  pub hidden : answered others (looked_up (codes "A"))
+  pub hidden : answer_line others (looked_up (codes "A"))
       ≡ codes "{\"fault\":{\"code\":32,\"name\":\"NotFound\",\"place\":0},\"s\":0}\n"
-  pub no_name_at_all : answered structs (looked_up (codes " *"))
+  pub no_name_at_all : answer_line structs (looked_up (codes " *"))
       ≡ codes "{\"fault\":{\"code\":33,\"name\":\"BadSyntax\",\"place\":0},\"s\":0}\n"
-  pub found_nowhere : answered structs (Asks 2 (OfSlot (whole.Find [])))
+  pub found_nowhere : answer_line structs (Asks 2 (OfSlot (whole.Find [])))
       ≡ codes "{\"fault\":{\"code\":49,\"name\":\"NoSlot\",\"place\":0},\"s\":0}\n"
-  pub path : answered structs (on 3 (about.Path (codes "b" ∷ [])))
+  pub path : answer_line structs (on 3 (about.Path (codes "b" ∷ [])))
       ≡ codes "{\"ok\":{\"offset\":4294967328,\"t\":1},\"s\":0}\n"
-  pub no_step : answered structs (on 3 (about.Path []))
+  pub no_step : answer_line structs (on 3 (about.Path []))
       ≡ codes "{\"ok\":{\"offset\":0,\"t\":3},\"s\":0}\n"
-  pub no_member : answered structs (on 3 (about.Path (codes "z" ∷ [])))
+  pub no_member : answer_line structs (on 3 (about.Path (codes "z" ∷ [])))
       ≡ codes "{\"fault\":{\"code\":28,\"name\":\"NoMember\",\"place\":0},\"s\":0}\n"
-  pub not_aggregate : answered structs (on 3 (about.Path (codes "b" ∷ codes "a" ∷ [])))
+  pub not_aggregate : answer_line structs (on 3 (about.Path (codes "b" ∷ codes "a" ∷ [])))
       ≡ codes "{\"fault\":{\"code\":29,\"name\":\"NotAggregate\",\"place\":1},\"s\":0}\n"
-  pub nothing_staged : answered int_bytes (Changes change.Check)
+  pub nothing_staged : answer_line int_bytes (Changes change.Check)
       ≡ codes "{\"fault\":{\"code\":1,\"name\":\"TooShort\",\"place\":0},\"s\":0}\n"
 
 -- ---- what is asked and written

@@ -4,7 +4,7 @@
 use Rattle.std.specs.Prelude.{ℕ, ◌++◌, List, [], ◌∷◌, length, map, take, drop, Option, Some, None, Result, Ok, Err, codes}
 use Rattle.std.specs.Option.{option_map}
 use Rattle.ctf_protocol.specs.answers.Answers.{Answer, Item, says, may_say, lists, entry, number, signed, truth, word, text, bare, object}
-use Rattle.ctf_model.specs.figures.Figures.{align, referred, resolved, size}
+use Rattle.ctf_model.specs.figures.Figures.{align, referred_type, resolved_type, size}
 use Rattle.ctf_model.specs.names.Found.{pointer_to}
 use Rattle.ctf_model.specs.names.KindNames.{name_of_kind, name_of_tag}
 use Rattle.ctf_model.specs.figures.Paths.{Position, path}
@@ -45,13 +45,13 @@ at_most None xs = xs
 at_most (Some count) xs = take count xs
 
 -- the items from one on
-abbrev pub windowed : {A : Type 0} → Window → List A → List A
-windowed window xs = at_most window.count (drop window.from xs)
+abbrev pub window_of : {A : Type 0} → Window → List A → List A
+window_of window xs = at_most window.count (drop window.from xs)
 
 -- some items of a list, and how many there are in all
 abbrev pub list_fields : List ℕ → Window → List Item → Answer
 list_fields key window items =
-    lists key (windowed window items) ∷ says (codes "total") (number (length items)) ∷ []
+    lists key (window_of window items) ∷ says (codes "total") (number (length items)) ∷ []
 
 abbrev pub member_item : Member → Item
 member_item m =
@@ -130,8 +130,8 @@ plain_answered plain.Record s t x = Ok (record_fields x)
 plain_answered plain.Args s t x = as_fields signature_fields (signature_answered x.shape)
 plain_answered plain.Array s t x = as_fields array_fields (array_answered x.shape)
 plain_answered plain.Encoding s t x = as_fields encoding_fields (encoding_answered x.shape)
-plain_answered plain.Reference s t x = as_fields type_fields (referred x.shape)
-plain_answered plain.Resolve s t x = as_fields type_fields (resolved s t)
+plain_answered plain.Reference s t x = as_fields type_fields (referred_type x.shape)
+plain_answered plain.Resolve s t x = as_fields type_fields (resolved_type s t)
 plain_answered plain.Size s t x = as_fields size_fields (size s t)
 plain_answered plain.Align s t x = as_fields align_fields (align s t)
 plain_answered plain.Name s t x = as_fields name_fields (spelled_name s t)

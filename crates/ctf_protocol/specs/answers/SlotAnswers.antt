@@ -5,7 +5,7 @@ use Rattle.std.specs.Prelude.{ℕ, List, [], ◌∷◌, map, Result, Ok, codes}
 use Rattle.ctf_protocol.specs.answers.Answers.{Answer, Item, says, entry, number, word, text, object}
 use Rattle.ctf_model.specs.format.Dictionary.{Label}
 use Rattle.ctf_model.specs.symbols.Entries.{Owner}
-use Rattle.ctf_model.specs.names.Found.{found}
+use Rattle.ctf_model.specs.names.Found.{lookup}
 use Rattle.ctf_model.specs.names.KindNames.{name_of_class}
 use Rattle.ctf_protocol.specs.answers.Questions.{as_fields, list_fields, signature_fields, type_fields}
 use Rattle.ctf_model.specs.spaces.Space.{Space}
@@ -37,7 +37,7 @@ last_fields last = says (codes "last") (number last) ∷ []
 
 -- what a question on a slot is answered, from what the slot sees
 abbrev pub whole_answered : SlotQuestion → Space → Result Answer Fault
-whole_answered (whole.Find written) s = as_fields type_fields (found s written)
+whole_answered (whole.Find written) s = as_fields type_fields (lookup s written)
 whole_answered (whole.Symbol name) s = as_fields symbol_fields (symbol_found s.own name)
 whole_answered (whole.Object n) s = as_fields type_fields (object_of s.own n)
 whole_answered (whole.Function n) s = as_fields signature_fields (function_of s.own n)

@@ -36,5 +36,5 @@ abbrev pub longest_line : ℕ
 longest_line = 1048576
 
 -- a line, or none in its place where it is too long to be read
-abbrev pub stored : List ℕ → Option (List ℕ)
-stored line = if nat_le (length line) longest_line then Some line else None
+abbrev pub stored_line : List ℕ → Option (List ℕ)
+stored_line line = if nat_le (length line) longest_line then Some line else None

@@ -3,7 +3,7 @@ use Rattle.std.specs.Prelude.{ℕ, List, [], ◌∷◌, Result, Ok, Err}
 use Rattle.ctf_protocol.specs.answers.Answers.{Reply}
 use Rattle.ctf_protocol.specs.lines.Ask.{ask}
 use Rattle.ctf_protocol.specs.lines.ReplyLines.{fault_line, reply_line}
-use Rattle.ctf_protocol.specs.sessions.Runs.{Call, own_state, found_in, addressed, no_memory}
+use Rattle.ctf_protocol.specs.sessions.Runs.{Call, own_state, found_in, address_to, no_memory}
 use Rattle.ctf_protocol.specs.sessions.State.{State}
 use Rattle.ctf_protocol.specs.sessions.Steps.{step}
 use Rattle.ctf_model.specs.declared.faults.Fault.{Fault}
@@ -18,7 +18,7 @@ pub data Mark : Type 0 where
 -- the reply to a request after a history: that of the session's own run
 abbrev pub own_reply : (ℕ → State) → List Call → ℕ → Request → Reply
 own_reply start calls s request =
-    addressed s
+    address_to s
     (step (own_state start calls s) request (found_in (own_state start calls) request)).reply
 
 -- the session of a line, 0 where none can be read

@@ -16,16 +16,16 @@ truth false = codes "false"
 
 -- ---- values and fields
 
-abbrev pub quoted : List ℕ → List ℕ
-quoted w = concat (codes "\"" ∷ w ∷ codes "\"" ∷ [])
+abbrev pub quote : List ℕ → List ℕ
+quote w = concat (codes "\"" ∷ w ∷ codes "\"" ∷ [])
 
 abbrev pub single_text : Single → List ℕ
 single_text (answers.number n) = decimal n
 single_text (answers.signed i) = signed_decimal i
 single_text (answers.truth b) = truth b
-single_text (answers.word w) = quoted w
-single_text (answers.text name) = quoted (text_of name)
-single_text (answers.bytes bs) = quoted (hex_of bs)
+single_text (answers.word w) = quote w
+single_text (answers.text name) = quote (text_of name)
+single_text (answers.bytes bs) = quote (hex_of bs)
 
 abbrev pub key_text : List ℕ → List ℕ
 key_text key = concat (codes "\"" ∷ key ∷ codes "\":" ∷ [])

@@ -24,4 +24,5 @@ LinesHaveTheText = (bytes : List ℕ) → flat_map in_json (bytes_escaped bytes)
 -- and that text spells the bytes
 abbrev pub TextsAreReadBack : Type 0
 TextsAreReadBack =
-    (bytes : List ℕ) → All (λ b. b < 256) bytes → bytes_spelled_by (bytes_escaped bytes) ≡ Some bytes
+    (bytes : List ℕ) → All (λ b. b < 256) bytes
+    → bytes_spelled_by (bytes_escaped bytes) ≡ Some bytes

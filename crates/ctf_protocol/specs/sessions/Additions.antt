@@ -51,12 +51,13 @@ asked_body (kind.Restrict t) = new.restrict t.0
 -- ---- additions
 
 -- what is added, to an open dictionary
-abbrev pub added : Addition → Open → Result Stepped Fault
-added (add.Type name root kind) =
+abbrev pub apply_addition : Addition → Open → Result Stepped Fault
+apply_addition (add.Type name root kind) =
     type_added (record { name = name; root = root; body = asked_body kind })
-added (add.Member t name tnum offset) = member_added t.0 name tnum.0 offset
-added (add.Enumerator t name value) = enumerator_added t.0 (record { name = name; value = value })
-added (add.Label name last) = label_added (record { name = name; last = last })
+apply_addition (add.Member t name tnum offset) = member_added t.0 name tnum.0 offset
+apply_addition (add.Enumerator t name value) =
+    enumerator_added t.0 (record { name = name; value = value })
+apply_addition (add.Label name last) = label_added (record { name = name; last = last })
 
 -- the number of a type or an offset is answered
 abbrev pub addition_answered : Addition → ℕ → Answer

@@ -1,6 +1,6 @@
 -- Worked rows of drafts in slots. The values were worked out by hand.
 use Rattle.std.specs.Prelude.{◌≡◌, ℕ, true, List, [], ◌∷◌, Option, None, Some, codes}
-use Rattle.ctf_model.specs.format.Rows.{alone, int_bytes}
+use Rattle.ctf_model.specs.format.Rows.{ctf_alone, int_bytes}
 use Rattle.ctf_protocol.specs.lines.ReplyLines.{reply_line}
 use Rattle.ctf_protocol.specs.sessions.State.{State, empty_state}
 use Rattle.ctf_protocol.specs.sessions.Steps.{step}
@@ -22,8 +22,8 @@ use Rattle.ctf_protocol.specs.declared.requests.Request.TheVariants.{Asks, Chang
 abbrev pub after : State → Request → State
 after state request = (step state request None).state
 
-abbrev pub replied : State → Request → List ℕ
-replied state request = reply_line (step state request None).reply
+abbrev pub reply_to : State → Request → List ℕ
+reply_to state request = reply_line (step state request None).reply
 
 -- a session with the integer int in slot 1, of a program with pointers of 4 bytes
 abbrev pub with_int : State
@@ -31,7 +31,7 @@ with_int =
     record empty_state {
       slots = record {
         number = 1;
-        kept = record { lists = alone int_bytes; model = Ilp32 };
+        kept = record { lists = ctf_alone int_bytes; model = Ilp32 };
         parent = None;
         draft = None;
       }
@@ -61,14 +61,14 @@ abbrev pub tells : ℕ → HeldQuestion → Request
 tells d question = Asks d (OfHeld question)
 
 -- a draft without a parent in slot 1, and with a struct that is pending
-abbrev pub drafted : State
-drafted = after empty_state (alone_of None)
+abbrev pub draft_state : State
+draft_state = after empty_state (alone_of None)
 
-abbrev pub enlarged : State
-enlarged = after drafted (does 1 adds_struct)
+abbrev pub enlarged_state : State
+enlarged_state = after draft_state (does 1 adds_struct)
 
-abbrev pub updated : State
-updated = after enlarged (does 1 Update)
+abbrev pub updated_state : State
+updated_state = after enlarged_state (does 1 Update)
 
 abbrev pub name : List ℕ
 name = codes "base"
@@ -76,52 +76,52 @@ name = codes "base"
 -- ---- data models
 
 pub record ModelsAreThoseStated : Type 0 where
-  pub made : replied with_int (over_int None) ≡ codes "{\"ok\":{\"d\":2},\"s\":0}\n"
-  pub parents : replied (after with_int (over_int None)) (tells 2 held.Model)
+  pub made : reply_to with_int (over_int None) ≡ codes "{\"ok\":{\"d\":2},\"s\":0}\n"
+  pub parents : reply_to (after with_int (over_int None)) (tells 2 held.Model)
       ≡ codes "{\"ok\":{\"model\":\"ilp32\"},\"s\":0}\n"
-  pub same : replied with_int (over_int (Some Ilp32)) ≡ codes "{\"ok\":{\"d\":2},\"s\":0}\n"
-  pub other : replied with_int (over_int (Some Lp64))
+  pub same : reply_to with_int (over_int (Some Ilp32)) ≡ codes "{\"ok\":{\"d\":2},\"s\":0}\n"
+  pub other : reply_to with_int (over_int (Some Lp64))
       ≡ codes "{\"fault\":{\"code\":60,\"name\":\"ModelDiffers\",\"place\":0},\"s\":0}\n"
-  pub unstated : replied drafted (tells 1 held.Model)
+  pub unstated : reply_to draft_state (tells 1 held.Model)
       ≡ codes "{\"ok\":{\"model\":\"lp64\"},\"s\":0}\n"
-  pub stated : replied (after empty_state (alone_of (Some Ilp32))) (tells 1 held.Model)
+  pub stated : reply_to (after empty_state (alone_of (Some Ilp32))) (tells 1 held.Model)
       ≡ codes "{\"ok\":{\"model\":\"ilp32\"},\"s\":0}\n"
 
 -- ---- steps
 
 pub record DraftsAreStepped : Type 0 where
-  pub fresh : replied drafted (tells 1 held.Info)
+  pub fresh : reply_to draft_state (tells 1 held.Info)
       ≡ codes "{\"ok\":{\"child\":false,\"draft\":true,\"imported\":false,\"labels\":0,\"parlabel\":\"\",\"parname\":\"\",\"pending\":0,\"types\":0},\"s\":0}\n"
-  pub over : replied (after with_int (over_int None)) (tells 2 held.Info)
+  pub over : reply_to (after with_int (over_int None)) (tells 2 held.Info)
       ≡ codes "{\"ok\":{\"child\":true,\"draft\":true,\"imported\":true,\"labels\":0,\"parlabel\":\"\",\"parname\":\"base\",\"pending\":0,\"types\":0},\"s\":0}\n"
-  pub first_type : replied drafted (does 1 adds_struct) ≡ codes "{\"ok\":{\"t\":1},\"s\":0}\n"
-  pub pending : replied enlarged (tells 1 held.Info)
+  pub first_type : reply_to draft_state (does 1 adds_struct) ≡ codes "{\"ok\":{\"t\":1},\"s\":0}\n"
+  pub pending : reply_to enlarged_state (tells 1 held.Info)
       ≡ codes "{\"ok\":{\"child\":false,\"draft\":true,\"imported\":false,\"labels\":0,\"parlabel\":\"\",\"parname\":\"\",\"pending\":1,\"types\":0},\"s\":0}\n"
-  pub update : replied enlarged (does 1 Update) ≡ codes "{\"ok\":{\"types\":1},\"s\":0}\n"
-  pub none_pending : replied updated (tells 1 held.Info)
+  pub update : reply_to enlarged_state (does 1 Update) ≡ codes "{\"ok\":{\"types\":1},\"s\":0}\n"
+  pub none_pending : reply_to updated_state (tells 1 held.Info)
       ≡ codes "{\"ok\":{\"child\":false,\"draft\":true,\"imported\":false,\"labels\":0,\"parlabel\":\"\",\"parname\":\"\",\"pending\":0,\"types\":1},\"s\":0}\n"
-  pub discard : replied enlarged (does 1 Discard) ≡ codes "{\"ok\":{\"types\":0},\"s\":0}\n"
-  pub discarded : after enlarged (does 1 Discard) ≡ drafted
-  pub updated_stays : after updated (does 1 Discard) ≡ updated
-  pub no_draft : replied with_int (does 1 adds_struct)
+  pub discard : reply_to enlarged_state (does 1 Discard) ≡ codes "{\"ok\":{\"types\":0},\"s\":0}\n"
+  pub discarded : after enlarged_state (does 1 Discard) ≡ draft_state
+  pub updated_stays : after updated_state (does 1 Discard) ≡ updated_state
+  pub no_draft : reply_to with_int (does 1 adds_struct)
       ≡ codes "{\"fault\":{\"code\":52,\"name\":\"ReadOnly\",\"place\":0},\"s\":0}\n"
-  pub no_update : replied with_int (does 1 Update)
+  pub no_update : reply_to with_int (does 1 Update)
       ≡ codes "{\"fault\":{\"code\":52,\"name\":\"ReadOnly\",\"place\":0},\"s\":0}\n"
-  pub no_slot : replied with_int (does 2 Discard)
+  pub no_slot : reply_to with_int (does 2 Discard)
       ≡ codes "{\"fault\":{\"code\":49,\"name\":\"NoSlot\",\"place\":0},\"s\":0}\n"
 
 -- ---- among other slots
 
 pub record DraftsAreAmongSlots : Type 0 where
-  pub no_import : replied (after with_int (over_int None)) (Changes (change.Import 2 1))
+  pub no_import : reply_to (after with_int (over_int None)) (Changes (change.Import 2 1))
       ≡ codes "{\"fault\":{\"code\":62,\"name\":\"FixedParent\",\"place\":0},\"s\":0}\n"
-  pub not_updated : replied enlarged (Changes (change.Publish 1 name))
+  pub not_updated : reply_to enlarged_state (Changes (change.Publish 1 name))
       ≡ codes "{\"fault\":{\"code\":55,\"name\":\"NotUpdated\",\"place\":0},\"s\":0}\n"
-  pub published : replied updated (Changes (change.Publish 1 name))
+  pub published : reply_to updated_state (Changes (change.Publish 1 name))
       ≡ codes "{\"ok\":{},\"s\":0}\n"
-  pub no_parent_slot : replied empty_state (over_int None)
+  pub no_parent_slot : reply_to empty_state (over_int None)
       ≡ codes "{\"fault\":{\"code\":49,\"name\":\"NoSlot\",\"place\":0},\"s\":0}\n"
-  pub parent_is_child : replied (after with_int (over_int None))
+  pub parent_is_child : reply_to (after with_int (over_int None))
       (Changes
       (change.Create (record { parent = Some 2; parname = name; parlabel = []; model = None })))
       ≡ codes "{\"fault\":{\"code\":21,\"name\":\"ParentIsChild\",\"place\":0},\"s\":0}\n"

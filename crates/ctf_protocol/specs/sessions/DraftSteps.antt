@@ -1,11 +1,11 @@
 -- Drafts in slots: how they are made and what is done to them, as to the open dictionary there.
 -- Source: libctf(3LIB), ctf_create, ctf_update, ctf_discard; the form of answers is ours.
 use Rattle.std.specs.Prelude.{unwrap_or, ℕ, Option, Result, codes}
-use Rattle.ctf_protocol.specs.sessions.Additions.{added, addition_answered}
+use Rattle.ctf_protocol.specs.sessions.Additions.{apply_addition, addition_answered}
 use Rattle.ctf_protocol.specs.sessions.Creations.{Created}
 use Rattle.ctf_protocol.specs.sessions.Opened.{SlotOutcome, open_of, slot_made, slot_stepped, under}
 use Rattle.ctf_protocol.specs.sessions.State.{Slot}
-use Rattle.ctf_model.specs.opened.Steps.{created, dropped, updated}
+use Rattle.ctf_model.specs.opened.Steps.{created, discard_step, step_update}
 use Rattle.ctf_model.specs.spaces.Kept.{Kept, model_over}
 use Rattle.ctf_model.specs.declared.data_model.DataModel.{DataModel}
 use Rattle.ctf_model.specs.declared.faults.Fault.{Fault}
@@ -24,6 +24,6 @@ created_slot number parent asked =
 -- the step of the draft in a slot; an update and a discard answer how many types there are then
 unfoldable pub slot_step : DraftStep → Slot → SlotOutcome
 slot_step (Add addition) slot =
-    slot_stepped (addition_answered addition) slot (added addition (open_of slot))
-slot_step Update slot = slot_stepped (under (codes "types")) slot (updated (open_of slot))
-slot_step Discard slot = slot_stepped (under (codes "types")) slot (dropped (open_of slot))
+    slot_stepped (addition_answered addition) slot (apply_addition addition (open_of slot))
+slot_step Update slot = slot_stepped (under (codes "types")) slot (step_update (open_of slot))
+slot_step Discard slot = slot_stepped (under (codes "types")) slot (discard_step (open_of slot))

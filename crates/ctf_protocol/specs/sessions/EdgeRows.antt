@@ -1,7 +1,7 @@
 -- Worked rows of limits, each at its edge, of refusals in their order, and of what counts.
 -- The values were worked out by hand.
 use Rattle.std.specs.Prelude.{◌≡◌, ℕ, List, [], ◌∷◌, length, true, false, Option, None, Some, Err, codes}
-use Rattle.ctf_model.specs.format.Rows.{alone, int_bytes}
+use Rattle.ctf_model.specs.format.Rows.{ctf_alone, int_bytes}
 use Rattle.ctf_model.specs.rules.Refusals.{placeless}
 use Rattle.ctf_model.specs.spaces.Kept.{Kept, kept_unsaid}
 use Rattle.ctf_protocol.specs.answers.Answers.{Answer, says}
@@ -23,7 +23,7 @@ use Rattle.ctf_protocol.specs.declared.requests.ListName.TheVariants.{Ctf}
 
 -- a library with this many staged bytes
 abbrev pub staging : List ℕ → State
-staging bytes = record empty_state { stage = alone bytes }
+staging bytes = record empty_state { stage = ctf_alone bytes }
 
 pub record LimitsHold : Type 0 where
   -- 64 MiB of a staged list
@@ -89,7 +89,7 @@ pub record RefusalsAreInOrder : Type 0 where
 -- ---- what counts
 
 abbrev pub int : Kept
-int = kept_unsaid (alone int_bytes)
+int = kept_unsaid (ctf_alone int_bytes)
 
 -- the integer int, over itself as a parent
 abbrev pub over_int : Slot

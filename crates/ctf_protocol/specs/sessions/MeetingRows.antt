@@ -4,8 +4,8 @@ use Rattle.ctf_model.specs.spaces.Kept.{kept_unsaid}
 use Rattle.ctf_protocol.specs.lines.Ask.{ask}
 use Rattle.ctf_protocol.specs.lines.Output.{own_reply}
 use Rattle.ctf_protocol.specs.lines.ReplyLines.{reply_line}
-use Rattle.ctf_model.specs.format.Rows.{alone, fault, int_bytes}
-use Rattle.ctf_protocol.specs.sessions.Runs.{Call, given, own_state}
+use Rattle.ctf_model.specs.format.Rows.{ctf_alone, fault, int_bytes}
+use Rattle.ctf_protocol.specs.sessions.Runs.{Call, own_inputs, own_state}
 use Rattle.ctf_protocol.specs.sessions.SessionLaws.{calls_among}
 use Rattle.ctf_protocol.specs.sessions.State.{State, Slot, empty_state}
 use Rattle.ctf_protocol.specs.declared.requests.Change.{Change}
@@ -17,7 +17,8 @@ use Rattle.ctf_protocol.specs.declared.requests.Request.TheVariants.{Changes}
 -- the integer int, in a slot
 abbrev pub int_in : ℕ → Slot
 int_in number =
-    record { number = number; kept = kept_unsaid (alone int_bytes); parent = None; draft = None }
+    record
+    { number = number; kept = kept_unsaid (ctf_alone int_bytes); parent = None; draft = None }
 
 -- a session that has it in slot 1
 abbrev pub holder : State
@@ -36,54 +37,55 @@ base = codes "base"
 -- ---- what is answered
 
 -- the newest call first: session 1 publishes, and then session 2 takes
-abbrev pub published : List Call
-published = call 1 (Publish 1 base) ∷ []
+abbrev pub publish_all : List Call
+publish_all = call 1 (Publish 1 base) ∷ []
 
-abbrev pub taken : List Call
-taken = call 2 (Take 1 base) ∷ published
+abbrev pub take_calls : List Call
+take_calls = call 2 (Take 1 base) ∷ publish_all
 
 -- session 1 resets
 abbrev pub then_reset : List Call
-then_reset = call 1 Reset ∷ taken
+then_reset = call 1 Reset ∷ take_calls
 
 -- session 1 withdraws what it published
 abbrev pub withdrawn : List Call
-withdrawn = call 1 (Withdraw base) ∷ taken
+withdrawn = call 1 (Withdraw base) ∷ take_calls
 
 -- what a session is replied then
-abbrev pub replied : List Call → ℕ → Change → List ℕ
-replied calls s change = reply_line (own_reply world calls s (Changes change))
+abbrev pub reply_in : List Call → ℕ → Change → List ℕ
+reply_in calls s change = reply_line (own_reply world calls s (Changes change))
 
 pub record SessionsMeet : Type 0 where
-  pub done : replied [] 1 (Publish 1 base) ≡ codes "{\"ok\":{},\"s\":1}\n"
-  pub no_slot : replied [] 1 (Publish 2 base)
+  pub done : reply_in [] 1 (Publish 1 base) ≡ codes "{\"ok\":{},\"s\":1}\n"
+  pub no_slot : reply_in [] 1 (Publish 2 base)
       ≡ codes "{\"fault\":{\"code\":49,\"name\":\"NoSlot\",\"place\":0},\"s\":1}\n"
-  pub found : replied published 2 (Take 1 base) ≡ codes "{\"ok\":{\"d\":1,\"types\":1},\"s\":2}\n"
-  pub same_dictionary : own_state world taken 2
+  pub found : reply_in publish_all 2 (Take 1 base)
+      ≡ codes "{\"ok\":{\"d\":1,\"types\":1},\"s\":2}\n"
+  pub same_dictionary : own_state world take_calls 2
       ≡ record empty_state { slots = int_in 1 ∷ []; next = 2 }
-  pub other_name : replied published 2 (Take 1 (codes "none"))
+  pub other_name : reply_in publish_all 2 (Take 1 (codes "none"))
       ≡ codes "{\"fault\":{\"code\":54,\"name\":\"NotPublished\",\"place\":0},\"s\":2}\n"
-  pub other_owner : replied published 2 (Take 3 base)
+  pub other_owner : reply_in publish_all 2 (Take 3 base)
       ≡ codes "{\"fault\":{\"code\":54,\"name\":\"NotPublished\",\"place\":0},\"s\":2}\n"
-  pub too_early : replied [] 2 (Take 1 base)
+  pub too_early : reply_in [] 2 (Take 1 base)
       ≡ codes "{\"fault\":{\"code\":54,\"name\":\"NotPublished\",\"place\":0},\"s\":2}\n"
-  pub twice : replied published 1 (Publish 1 base)
+  pub twice : reply_in publish_all 1 (Publish 1 base)
       ≡ codes "{\"fault\":{\"code\":53,\"name\":\"NameTaken\",\"place\":0},\"s\":1}\n"
-  pub reset_stays : replied then_reset 4 (Take 1 base)
+  pub reset_stays : reply_in then_reset 4 (Take 1 base)
       ≡ codes "{\"ok\":{\"d\":1,\"types\":1},\"s\":4}\n"
-  pub taker_keeps : own_state world then_reset 2 ≡ own_state world taken 2
-  pub withdraws : replied taken 1 (Withdraw base) ≡ codes "{\"ok\":{},\"s\":1}\n"
-  pub published_no_more : replied withdrawn 3 (Take 1 base)
+  pub taker_keeps : own_state world then_reset 2 ≡ own_state world take_calls 2
+  pub withdraws : reply_in take_calls 1 (Withdraw base) ≡ codes "{\"ok\":{},\"s\":1}\n"
+  pub published_no_more : reply_in withdrawn 3 (Take 1 base)
       ≡ codes "{\"fault\":{\"code\":54,\"name\":\"NotPublished\",\"place\":0},\"s\":3}\n"
-  pub once : replied withdrawn 1 (Withdraw base)
+  pub once : reply_in withdrawn 1 (Withdraw base)
       ≡ codes "{\"fault\":{\"code\":54,\"name\":\"NotPublished\",\"place\":0},\"s\":1}\n"
-  pub owners_alone : replied taken 2 (Withdraw base)
+  pub owners_alone : reply_in take_calls 2 (Withdraw base)
       ≡ codes "{\"fault\":{\"code\":54,\"name\":\"NotPublished\",\"place\":0},\"s\":2}\n"
-  pub again : replied withdrawn 1 (Publish 1 base) ≡ codes "{\"ok\":{},\"s\":1}\n"
-  pub earlier_takers_keep : own_state world withdrawn 2 ≡ own_state world taken 2
+  pub again : reply_in withdrawn 1 (Publish 1 base) ≡ codes "{\"ok\":{},\"s\":1}\n"
+  pub earlier_takers_keep : own_state world withdrawn 2 ≡ own_state world take_calls 2
   pub left_out :
-      given world (calls_among (1 ∷ 2 ∷ []) (call 2 (Take 1 base) ∷ call 3 Clear ∷ published)) 2
-      ≡ given world taken 2
+      own_inputs world (calls_among (1 ∷ 2 ∷ []) (call 2 (Take 1 base) ∷ call 3 Clear ∷ publish_all)) 2
+      ≡ own_inputs world take_calls 2
 
 -- ---- what lines ask
 

@@ -5,10 +5,10 @@ use Rattle.ctf_model.specs.declared.faults.Fault.{Fault}
 use Rattle.ctf_model.specs.declared.numbers.TypeNum.{TypeNum}
 use Rattle.ctf_model.specs.figures.Figures.{reference}
 use Rattle.ctf_model.specs.format.Shown.{Shape}
-use Rattle.ctf_model.specs.names.Found.{found}
+use Rattle.ctf_model.specs.names.Found.{lookup}
 use Rattle.ctf_model.specs.opened.Open.{own_in, space_in}
 use Rattle.ctf_model.specs.opened.Questions.{align_answered, array_answered, encoding_answered, enumerators_answered, kind_answered, members_answered, name_answered, path_answered, pointer_answered, resolved_answered, on_shape, shape_of, signature_answered, size_answered, value_answered}
-use Rattle.ctf_model.specs.opened.Steps.{created, dropped, enumerator_added, import_refusal, label_added, member_added, type_added, updated}
+use Rattle.ctf_model.specs.opened.Steps.{created, discard_step, enumerator_added, import_refusal, label_added, member_added, type_added, step_update}
 use Rattle.ctf_model.specs.spaces.Kept.{Kept}
 use Rattle.ctf_model.specs.spaces.Space.{space_type}
 use Rattle.ctf_model.specs.symbols.SymbolQuestions.{function_of, label_of, object_of, symbol_found}
@@ -82,7 +82,7 @@ pub record FiguresAreAsked : Type 0 where
 -- look-ups, symbols and labels
 pub record WholesAreAsked : Type 0 where
   pub find : (s : Slot) (text : List ℕ) → slot_answered (OfSlot (whole.Find text)) s
-      ≡ as_fields type_fields (found (space_in (open_of s)) text)
+      ≡ as_fields type_fields (lookup (space_in (open_of s)) text)
   pub symbol : (s : Slot) (name : List ℕ) → slot_answered (OfSlot (whole.Symbol name)) s
       ≡ as_fields symbol_fields (symbol_found (own_in (open_of s)) name)
   pub object : (s : Slot) (n : ℕ) → slot_answered (OfSlot (whole.Object n)) s
@@ -106,9 +106,9 @@ pub record StepsAreMade : Type 0 where
   pub label : (s : Slot) (name : List ℕ) (last : ℕ) → slot_step (Add (add.Label name last)) s
       ≡ slot_stepped unsaid s (label_added (record { name = name; last = last }) (open_of s))
   pub update : (s : Slot) → slot_step Update s
-      ≡ slot_stepped (under (codes "types")) s (updated (open_of s))
+      ≡ slot_stepped (under (codes "types")) s (step_update (open_of s))
   pub discard : (s : Slot) → slot_step Discard s
-      ≡ slot_stepped (under (codes "types")) s (dropped (open_of s))
+      ≡ slot_stepped (under (codes "types")) s (discard_step (open_of s))
   pub create : (n : ℕ) (above : Option Kept) (asked : Created) → created_slot n above asked
       ≡ slot_made n (created above asked.parname asked.parlabel (model_made above asked))
   pub import : (child parent : Slot) (d p : ℕ) (state : State) → slot_at d state.slots ≡ Some child

@@ -4,7 +4,7 @@ use Rattle.ctf_model.specs.format.KindRows.{half, head, structs}
 use Rattle.ctf_model.specs.spaces.Kept.{kept_unsaid}
 use Rattle.ctf_protocol.specs.answers.QuestionRows.{on}
 use Rattle.ctf_protocol.specs.lines.ReplyLines.{reply_line}
-use Rattle.ctf_model.specs.format.Rows.{alone, header, word}
+use Rattle.ctf_model.specs.format.Rows.{ctf_alone, header, word}
 use Rattle.ctf_protocol.specs.sessions.State.{State, Slot, empty_state, empty_stage}
 use Rattle.ctf_protocol.specs.sessions.Steps.{step}
 use Rattle.ctf_protocol.specs.declared.questions.PlainQuestion.TheVariants as simple
@@ -20,19 +20,19 @@ abbrev pub pointing : List ℕ
 pointing = header 1 0 0 0 8 3 ++ head 0 3 0 3 ++ 0 ∷ codes "p" ++ 0 ∷ []
 
 -- a struct that holds a pointer to itself, and that pointer
-abbrev pub linked : List ℕ
-linked = header 0 0 0 0 24 0 ++ (head 0 6 1 8 ++ word 0 ++ half 2 ++ half 0) ++ head 0 3 0 1
+abbrev pub linked_struct : List ℕ
+linked_struct = header 0 0 0 0 24 0 ++ (head 0 6 1 8 ++ word 0 ++ half 2 ++ half 0) ++ head 0 3 0 1
 
 abbrev pub slot : ℕ → List ℕ → Slot
 slot number ctf =
-    record { number = number; kept = kept_unsaid (alone ctf); parent = None; draft = None }
+    record { number = number; kept = kept_unsaid (ctf_alone ctf); parent = None; draft = None }
 
 -- a session with a child in slot 1, three types in slot 2, two types in slot 3,
 -- and a child in slot 4; some bytes are staged
 abbrev pub four_slots : State
 four_slots =
     record empty_state {
-      slots = slot 1 pointing ∷ slot 2 structs ∷ slot 3 linked ∷ slot 4 pointing ∷ [];
+      slots = slot 1 pointing ∷ slot 2 structs ∷ slot 3 linked_struct ∷ slot 4 pointing ∷ [];
       next = 5;
       stage = record { ctf = 0xf1 ∷ []; sym = None; strs = Some [] };
     }
@@ -40,8 +40,8 @@ four_slots =
 abbrev pub after : State → Request → State
 after state request = (step state request None).state
 
-abbrev pub replied : State → Request → List ℕ
-replied state request = reply_line (step state request None).reply
+abbrev pub reply_to : State → Request → List ℕ
+reply_to state request = reply_line (step state request None).reply
 
 abbrev pub imports_into : ℕ → ℕ → Request
 imports_into d parent = Changes (Import d parent)
@@ -52,8 +52,8 @@ over_structs = after four_slots (imports_into 1 2)
 
 -- ---- what is answered
 
-abbrev pub done : List ℕ
-done = codes "{\"ok\":{},\"s\":0}\n"
+abbrev pub done_line : List ℕ
+done_line = codes "{\"ok\":{},\"s\":0}\n"
 
 abbrev pub no_slot : List ℕ
 no_slot = codes "{\"fault\":{\"code\":49,\"name\":\"NoSlot\",\"place\":0},\"s\":0}\n"
@@ -62,30 +62,30 @@ abbrev pub kind_is_struct : List ℕ
 kind_is_struct = codes "{\"ok\":{\"kind\":\"struct\"},\"s\":0}\n"
 
 pub record ParentsAreImported : Type 0 where
-  pub alone_first : replied four_slots (on 3 (about.Plain simple.Kind))
+  pub alone_first : reply_to four_slots (on 3 (about.Plain simple.Kind))
       ≡ codes "{\"fault\":{\"code\":23,\"name\":\"NoParent\",\"place\":0},\"s\":0}\n"
-  pub own : replied four_slots (on 32769 (about.Plain simple.Reference))
+  pub own : reply_to four_slots (on 32769 (about.Plain simple.Reference))
       ≡ codes "{\"ok\":{\"t\":3},\"s\":0}\n"
-  pub imported : replied four_slots (imports_into 1 2) ≡ done
-  pub then_found : replied over_structs (on 3 (about.Plain simple.Kind)) ≡ kind_is_struct
-  pub past_parent : replied over_structs (on 4 (about.Plain simple.Kind))
+  pub imported : reply_to four_slots (imports_into 1 2) ≡ done_line
+  pub then_found : reply_to over_structs (on 3 (about.Plain simple.Kind)) ≡ kind_is_struct
+  pub past_parent : reply_to over_structs (on 4 (about.Plain simple.Kind))
       ≡ codes "{\"fault\":{\"code\":24,\"name\":\"NoType\",\"place\":0},\"s\":0}\n"
-  pub no_child : replied four_slots (imports_into 2 1)
+  pub no_child : reply_to four_slots (imports_into 2 1)
       ≡ codes "{\"fault\":{\"code\":20,\"name\":\"NotChild\",\"place\":0},\"s\":0}\n"
-  pub child_for_parent : replied four_slots (imports_into 1 4)
+  pub child_for_parent : reply_to four_slots (imports_into 1 4)
       ≡ codes "{\"fault\":{\"code\":21,\"name\":\"ParentIsChild\",\"place\":0},\"s\":0}\n"
-  pub short : replied four_slots (imports_into 1 3)
+  pub short : reply_to four_slots (imports_into 1 3)
       ≡ codes "{\"fault\":{\"code\":22,\"name\":\"ParentShort\",\"place\":3},\"s\":0}\n"
-  pub no_child_slot : replied four_slots (imports_into 5 2) ≡ no_slot
-  pub no_parent_slot : replied four_slots (imports_into 1 5) ≡ no_slot
+  pub no_child_slot : reply_to four_slots (imports_into 5 2) ≡ no_slot
+  pub no_parent_slot : reply_to four_slots (imports_into 1 5) ≡ no_slot
   pub refused_stays : after four_slots (imports_into 1 3) ≡ four_slots
 
 pub record SlotsAreClosed : Type 0 where
-  pub closed : replied over_structs (Changes (Close 2)) ≡ done
-  pub gone : replied (after over_structs (Changes (Close 2))) (Changes (Close 2)) ≡ no_slot
+  pub closed : reply_to over_structs (Changes (Close 2)) ≡ done_line
+  pub gone : reply_to (after over_structs (Changes (Close 2))) (Changes (Close 2)) ≡ no_slot
   pub child_keeps_it :
-      replied (after over_structs (Changes (Close 2))) (on 3 (about.Plain simple.Kind))
+      reply_to (after over_structs (Changes (Close 2))) (on 3 (about.Plain simple.Kind))
       ≡ kind_is_struct
   pub number_stays : (after four_slots (Changes (Close 4))).next ≡ 5
-  pub cleared : replied four_slots (Changes Clear) ≡ done
+  pub cleared : reply_to four_slots (Changes Clear) ≡ done_line
   pub stage_is_empty : after four_slots (Changes Clear) ≡ record four_slots { stage = empty_stage }

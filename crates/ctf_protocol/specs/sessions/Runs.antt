@@ -51,29 +51,29 @@ found_in libraries request =
 
 -- what a session was given by a history of all sessions: its own requests,
 -- each with what the owner's own run had published
-abbrev pub given : (ℕ → State) → List Call → ℕ → List Given
-given start [] s = []
-given start (call ∷ earlier) s =
+abbrev pub own_inputs : (ℕ → State) → List Call → ℕ → List Given
+own_inputs start [] s = []
+own_inputs start (call ∷ earlier) s =
     if call.session == s
     then record {
       request = call.request;
-      found = found_in (λ q. private_state (start q) (given start earlier q)) call.request;
+      found = found_in (λ q. private_state (start q) (own_inputs start earlier q)) call.request;
     }
-    ∷ given start earlier s
-    else given start earlier s
+    ∷ own_inputs start earlier s
+    else own_inputs start earlier s
 
 -- the library of a session's own run after a history of all sessions
 abbrev pub own_state : (ℕ → State) → List Call → ℕ → State
-own_state start calls s = private_state (start s) (given start calls s)
+own_state start calls s = private_state (start s) (own_inputs start calls s)
 
 -- the replies of a session's own run after a history of all sessions, the newest first
 abbrev pub own_replies : (ℕ → State) → List Call → ℕ → List Reply
-own_replies start calls s = private_replies (start s) (given start calls s)
+own_replies start calls s = private_replies (start s) (own_inputs start calls s)
 
 -- ---- one call among many libraries
 
-abbrev pub addressed : ℕ → Reply → Reply
-addressed s reply = record reply { session = s }
+abbrev pub address_to : ℕ → Reply → Reply
+address_to s reply = record reply { session = s }
 
 -- memory was refused to a request of a session
 abbrev pub no_memory : ℕ → Reply
@@ -88,7 +88,7 @@ Answered old outcome reply new =
 -- the step of the caller's own library was made
 abbrev pub IsGranted : (ℕ → State) → ℕ → Request → Reply → (ℕ → State) → Type 0
 IsGranted old s request reply new =
-    (reply ≡ addressed s (step (old s) request (found_in old request)).reply)
+    (reply ≡ address_to s (step (old s) request (found_in old request)).reply)
     × (new s ≡ (step (old s) request (found_in old request)).state)
 
 -- memory was refused, and the caller's library stays

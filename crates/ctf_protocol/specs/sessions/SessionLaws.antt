@@ -3,7 +3,7 @@ use Rattle.std.specs.Prelude.{◌≡◌, ◌≢◌, ℕ, ◌==◌, not, List, []
 use Rattle.std.specs.List.{list_any}
 use Rattle.std.specs.Option.{ForSome}
 use Rattle.ctf_protocol.specs.answers.Answers.{Reply}
-use Rattle.ctf_protocol.specs.sessions.Runs.{Call, Steps, IsGranted, IsRefused, given, own_state, own_replies, addressed, taken_by}
+use Rattle.ctf_protocol.specs.sessions.Runs.{Call, Steps, IsGranted, IsRefused, own_inputs, own_state, own_replies, address_to, taken_by}
 use Rattle.ctf_protocol.specs.sessions.State.{State}
 use Rattle.ctf_protocol.specs.declared.requests.Request.{Request}
 
@@ -14,7 +14,7 @@ use Rattle.ctf_protocol.specs.declared.requests.Request.{Request}
 abbrev pub SameGiven : Type 0
 SameGiven =
     (start other_start : ℕ → State) (calls other_calls : List Call) (s : ℕ)
-    → start s ≡ other_start s → given start calls s ≡ given other_start other_calls s
+    → start s ≡ other_start s → own_inputs start calls s ≡ own_inputs other_start other_calls s
     → (own_replies start calls s ≡ own_replies other_start other_calls s)
     × (own_state start calls s ≡ own_state other_start other_calls s)
 
@@ -44,7 +44,7 @@ abbrev pub UnreachedDoNotMatter : Type 0
 UnreachedDoNotMatter =
     (start : ℕ → State) (calls : List Call) (sessions : List ℕ) → IsClosed sessions calls
     → (s : ℕ) → is_among sessions s ≡ true
-    → given start (calls_among sessions calls) s ≡ given start calls s
+    → own_inputs start (calls_among sessions calls) s ≡ own_inputs start calls s
 
 -- ---- each session by itself
 
@@ -81,8 +81,8 @@ Run start (event ∷ earlier) new =
     (between : ℕ → State) × Run start earlier between × Happens between event new
 
 -- those to which memory was not refused
-abbrev pub granted : List Event → List Event
-granted events = filter (λ event. not event.refused) events
+abbrev pub granted_events : List Event → List Event
+granted_events events = filter (λ event. not event.refused) events
 
 abbrev pub calls_of : List Event → List Call
 calls_of events = map (λ event. record { session = event.session; request = event.request }) events
@@ -95,6 +95,6 @@ replies_to s events = map (λ event. event.reply) (filter (λ event. event.sessi
 -- to which memory was never refused
 abbrev pub EachRunsAlone : Type 0
 EachRunsAlone = (start new : ℕ → State) (events : List Event) → Run start events new → (s : ℕ)
-    → (replies_to s (granted events)
-    ≡ map (addressed s) (own_replies start (calls_of (granted events)) s))
-    × (new s ≡ own_state start (calls_of (granted events)) s)
+    → (replies_to s (granted_events events)
+    ≡ map (address_to s) (own_replies start (calls_of (granted_events events)) s))
+    × (new s ≡ own_state start (calls_of (granted_events events)) s)

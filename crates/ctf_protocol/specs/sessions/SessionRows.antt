@@ -20,12 +20,12 @@ use Rattle.ctf_protocol.specs.declared.requests.Change.TheVariants.{Part, Open, 
 use Rattle.ctf_protocol.specs.declared.questions.Question.TheVariants.{OfType}
 use Rattle.ctf_protocol.specs.declared.questions.PlainQuestion.TheVariants as simple
 use Rattle.ctf_protocol.specs.declared.questions.TypeQuestion.TheVariants as about
-use Rattle.ctf_model.specs.format.Rows.{alone, fault, int_bytes}
+use Rattle.ctf_model.specs.format.Rows.{ctf_alone, fault, int_bytes}
 
 -- ---- a session
 
-abbrev pub asked : Request → Given
-asked request = record { request = request; found = None }
+abbrev pub given_request : Request → Given
+given_request request = record { request = request; found = None }
 
 -- the kind of a type of a slot
 abbrev pub kind_asked : ℕ → ℕ → Request
@@ -35,36 +35,36 @@ kind_asked d t = Asks d (OfType (record { 0 = t }) (about.Plain simple.Kind))
 -- asks for types, and lets it go
 abbrev pub questions : List Given
 questions =
-    asked (kind_asked 1 2) ∷ asked (kind_asked 2 1) ∷ asked (kind_asked 1 1)
-    ∷ asked (Changes (Open Lp64))
-    ∷ asked (Changes (Part Ctf (drop 40 int_bytes)))
-    ∷ asked (Changes (Part Ctf (take 40 int_bytes))) ∷ []
+    given_request (kind_asked 1 2) ∷ given_request (kind_asked 2 1) ∷ given_request (kind_asked 1 1)
+    ∷ given_request (Changes (Open Lp64))
+    ∷ given_request (Changes (Part Ctf (drop 40 int_bytes)))
+    ∷ given_request (Changes (Part Ctf (take 40 int_bytes))) ∷ []
 
-abbrev pub replied : Result Answer Fault → Reply
-replied outcome = record { session = 0; outcome = outcome }
+abbrev pub reply_of : Result Answer Fault → Reply
+reply_of outcome = record { session = 0; outcome = outcome }
 
 pub record SessionRuns : Type 0 where
-  pub replies : private_replies empty_state (asked (Changes Reset) ∷ questions)
-      ≡ replied (Ok []) ∷ replied (Err (fault 24 0)) ∷ replied (Err (fault 49 0))
-      ∷ replied (Ok (says (codes "kind") (answers.word (codes "integer")) ∷ []))
-      ∷ replied (Ok (says (codes "d") (answers.number 1)
+  pub replies : private_replies empty_state (given_request (Changes Reset) ∷ questions)
+      ≡ reply_of (Ok []) ∷ reply_of (Err (fault 24 0)) ∷ reply_of (Err (fault 49 0))
+      ∷ reply_of (Ok (says (codes "kind") (answers.word (codes "integer")) ∷ []))
+      ∷ reply_of (Ok (says (codes "d") (answers.number 1)
       ∷ says (codes "types") (answers.number 1) ∷ []))
-      ∷ replied (Ok (says (codes "length") (answers.number 53) ∷ []))
-      ∷ replied (Ok (says (codes "length") (answers.number 40) ∷ [])) ∷ []
+      ∷ reply_of (Ok (says (codes "length") (answers.number 53) ∷ []))
+      ∷ reply_of (Ok (says (codes "length") (answers.number 40) ∷ [])) ∷ []
   pub opened : private_state empty_state questions
       ≡ record empty_state {
         slots = record {
           number = 1;
-          kept = kept_unsaid (alone int_bytes);
+          kept = kept_unsaid (ctf_alone int_bytes);
           parent = None;
           draft = None;
         }
             ∷ [];
         next = 2;
       }
-  pub reset : private_state empty_state (asked (Changes Reset) ∷ questions) ≡ empty_state
-  pub refused : private_replies empty_state (asked (Changes (Open Lp64)) ∷ [])
-      ≡ replied (Err (fault 1 0)) ∷ []
+  pub reset : private_state empty_state (given_request (Changes Reset) ∷ questions) ≡ empty_state
+  pub refused : private_replies empty_state (given_request (Changes (Open Lp64)) ∷ [])
+      ≡ reply_of (Err (fault 1 0)) ∷ []
 
 -- ---- lines
 

@@ -36,10 +36,10 @@ abbrev pub longest_list : ℕ
 longest_list = 67108864
 
 -- a list that no part named is empty
-abbrev pub staged : ListName → Lists → List ℕ
-staged Ctf stage = stage.ctf
-staged Sym stage = unwrap_or stage.sym []
-staged Str stage = unwrap_or stage.strs []
+abbrev pub list_in : ListName → Lists → List ℕ
+list_in Ctf stage = stage.ctf
+list_in Sym stage = unwrap_or stage.sym []
+list_in Str stage = unwrap_or stage.strs []
 
 -- a list is staged from the first part that names it on, even where that has no bytes
 abbrev pub with_staged : ListName → List ℕ → Lists → Lists
@@ -57,7 +57,7 @@ stages list bytes state =
 
 -- a piece goes to the end of a list
 abbrev pub parts : ListName → List ℕ → State → Outcome
-parts list piece state = stages list (staged list state.stage ++ piece) state
+parts list piece state = stages list (list_in list state.stage ++ piece) state
 
 -- the staged lists are judged
 abbrev pub checks : State → Outcome

@@ -4,7 +4,7 @@ ghost use Rattle.ctf_model.specs.rules.Faults.{walk_fault};
 ghost use Rattle.ctf_model.specs.format.Section.{records};
 
 use crate::answer::Answer;
-use crate::format::graph::searched;
+use crate::format::graph::search_rows;
 use crate::words::Words;
 use ctf_chains::{
     Chain, Ticks, Types, first_deep_counted, first_deep_type, record_started, record_starts,
@@ -30,7 +30,7 @@ fn whole_count(types: &[u8]) -> Option<usize>
 }
 
 /// The same search, with the number of its ticks, in a ledger that no type stands for before.
-fn counted<L: Ledger>(
+fn count_ticks<L: Ledger>(
     alloc: Global,
     types: &Types<'_>,
     blank: Blank,
@@ -60,7 +60,7 @@ fn first(
     }
     let starts = record_starts(alloc, types, count)?;
     let graph = Types::new(types, &starts, child, chain);
-    let found = counted::<Brand>(alloc, &graph, Blank::new(1))?;
+    let found = count_ticks::<Brand>(alloc, &graph, Blank::new(1))?;
     let alike = first_deep_type(alloc, types, &starts, child, chain)? == found.0;
     Ok(if alike { Some(found) } else { None })
 }
@@ -101,7 +101,7 @@ fn put_first(answer: &mut Answer, counts: bool, words: &mut Words<'_>) {
 
 /// Searches rows of numbers, with what that takes.
 fn put_searched(answer: &mut Answer, words: &mut Words<'_>) {
-    match searched(answer.alloc(), words) {
+    match search_rows(answer.alloc(), words) {
         Ok((found, ticks)) => {
             put_found(answer, found);
             answer.say(ticks);

@@ -68,7 +68,10 @@ fn searched_in<L: Ledger>(
 
 /// The first row that leads too far, and what it took to find it. Of each row the last of its 100
 /// numbers is given, and the others lead nowhere.
-pub fn searched(alloc: Global, words: &mut Words<'_>) -> Result<(Option<usize>, u64), AllocError> {
+pub fn search_rows(
+    alloc: Global,
+    words: &mut Words<'_>,
+) -> Result<(Option<usize>, u64), AllocError> {
     let mut rows = Vec::new(alloc);
     for _ in 0..words.number::<u16>() {
         rows.push(vec![in alloc; 99, words.number()]?)?;

@@ -1,13 +1,13 @@
 //! The calls of ctf_model.
 
 use crate::answer::Answer;
-use crate::format::parts::joined;
+use crate::format::parts::join_bytes;
 use crate::words::Words;
 use ctf_model::{Bytes, Fault, LONGEST_PIECE, Piece, TypeNum, fault_name, placeless};
 use std::alloc::AllocError;
 
 /// What bytes say of themselves, and as vectors and as a piece.
-fn owned(answer: &mut Answer, bytes: Bytes) {
+fn put_owned(answer: &mut Answer, bytes: Bytes) {
     answer.say(bytes.len());
     answer.say(bytes.is_empty());
     answer.bytes(bytes.as_slice());
@@ -28,7 +28,7 @@ fn put(answer: &mut Answer, bytes: Result<Bytes, AllocError>) {
 }
 
 /// Appends three lists of bytes.
-fn appended(answer: &mut Answer, words: &mut Words<'_>) {
+fn put_appended(answer: &mut Answer, words: &mut Words<'_>) {
     let mut bytes = Bytes::new(answer.alloc());
     for _ in 0..3 {
         if bytes.append(&words.bytes()).is_err() {
@@ -40,7 +40,7 @@ fn appended(answer: &mut Answer, words: &mut Words<'_>) {
 }
 
 /// Where a number's type stands where there is no parent, and in a child.
-fn placed(answer: &mut Answer, number: TypeNum) {
+fn put_place(answer: &mut Answer, number: TypeNum) {
     answer.say(number.place(false));
     answer.say(number.place(true));
 }
@@ -52,15 +52,15 @@ pub fn answer_call(answer: &mut Answer, words: &mut Words<'_>) {
         "BAD_NAME" => answer.say(fault_name(Fault::BAD_NAME)),
         "QUOTA_FULL" => answer.say(fault_name(Fault::QUOTA_FULL)),
         "NO_SLOT" => answer.say(placeless(Fault::NO_SLOT)),
-        "new" => owned(answer, Bytes::new(answer.alloc())),
-        "owned" => owned(answer, Bytes::from(words.bytes())),
+        "new" => put_owned(answer, Bytes::new(answer.alloc())),
+        "owned" => put_owned(answer, Bytes::from(words.bytes())),
         "copied" => put(answer, Bytes::from_slice(answer.alloc(), &words.bytes())),
-        "appended" => appended(answer, words),
+        "appended" => put_appended(answer, words),
         "joined" => {
             let (front, back) = (words.bytes(), words.bytes());
-            put(answer, joined(answer.alloc(), &front, &back));
+            put(answer, join_bytes(answer.alloc(), &front, &back));
         }
-        "place" => placed(answer, TypeNum(words.number())),
+        "place" => put_place(answer, TypeNum(words.number())),
         _ => answer.fail(),
     }
 }

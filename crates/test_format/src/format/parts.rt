@@ -5,7 +5,7 @@ use ctf_model::Bytes;
 use std::alloc::{AllocError, Global};
 
 /// A list of bytes: a front, and what stands behind it.
-pub fn joined(alloc: Global, front: &[u8], back: &[u8]) -> Result<Bytes, AllocError>
+pub fn join_bytes(alloc: Global, front: &[u8], back: &[u8]) -> Result<Bytes, AllocError>
     ensures { IfOk result (λ bytes. bytes ≡ front.now ++ back.now) }
 {
     let mut bytes = Bytes::from_slice(alloc, front)?;

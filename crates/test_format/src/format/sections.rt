@@ -15,7 +15,7 @@ const INT: [u8; 53] = *b"\xf1\xcf\x02\x00\
     \x00int\x00";
 
 /// `INT` with bytes changed as words such as `3:2` say: the byte at 3 becomes 2.
-fn changed(answer: &mut Answer, changes: &str) -> [u8; 53] {
+fn change_bytes(answer: &mut Answer, changes: &str) -> [u8; 53] {
     let mut ctf = INT;
     for change in changes.split_terminator(' ') {
         let (at, byte) = change.split_once(':').unwrap_or(("", ""));
@@ -104,12 +104,12 @@ fn numbers(answer: &mut Answer, bytes: &[u8]) {
 pub fn answer_call(answer: &mut Answer, words: &mut Words<'_>) {
     match words.word() {
         "header" => {
-            let ctf = changed(answer, words.rest());
+            let ctf = change_bytes(answer, words.rest());
             read(answer, &ctf);
         }
         "header_bytes" => read(answer, &words.bytes()),
         "ranges" => {
-            let ctf = changed(answer, words.rest());
+            let ctf = change_bytes(answer, words.rest());
             ranges(answer, &ctf);
         }
         "are_texts" => are_texts(answer, words),

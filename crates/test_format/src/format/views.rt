@@ -2,7 +2,7 @@
 //! same view.
 
 use crate::answer::Answer;
-use crate::format::spelled::shown;
+use crate::format::spelling::variant_of;
 use crate::words::Words;
 use ctf_model::TypeNum;
 use ctf_sections::{Differences, Strings};
@@ -64,7 +64,7 @@ fn ask_members(answer: &mut Answer, members: &mut Members<'_>, word: &str) {
     match word.strip_prefix("named:") {
         Some(name) => tell(
             answer,
-            members.named(name.as_bytes(), &mut Differences::none()),
+            members.member_named(name.as_bytes(), &mut Differences::none()),
         ),
         None => ask(answer, members, word),
     }
@@ -128,7 +128,7 @@ pub fn answer_call(answer: &mut Answer, words: &mut Words<'_>) {
     let own = words.bytes();
     let elf = words.bytes();
     let strings = Strings::new(&own, if elf.is_empty() { None } else { Some(&elf) });
-    match shown(&types, strings) {
+    match variant_of(&types, strings) {
         Some(view) => ask_all(answer, view, words.rest()),
         None => answer.fail(),
     }

@@ -1,9 +1,9 @@
 //! Runs of which each call of a sort fails in turn, or that end at each bound on reads.
 
-use crate::said::Said;
+use crate::collected::Said;
 use crate::serving::cases::Case;
 use crate::serving::{Ran, served_in};
-use crate::transcripts::told::Told;
+use crate::transcripts::outcomes::Told;
 use ctf_wire::{Broker, RunFault};
 
 /// More calls of each sort than any of the runs makes.

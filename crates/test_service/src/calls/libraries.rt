@@ -1,7 +1,7 @@
 //! The calls below `serve` that answer a request: of a library, and of a broker.
 
-use crate::said::Said;
-use crate::transcripts::told::Told;
+use crate::collected::Said;
+use crate::transcripts::outcomes::Told;
 use ctf_answers::Reply;
 use ctf_lines::{FromLine, Scratch, ToLine, write_change};
 use ctf_protocol::Request;

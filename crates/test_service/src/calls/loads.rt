@@ -1,14 +1,14 @@
 //! What the operator publishes before any line is read.
 
 use crate::calls::runs::{case_of, put_run};
-use crate::said::Said;
-use crate::transcripts::told::Told;
+use crate::collected::Said;
+use crate::transcripts::outcomes::Told;
 use ctf_protocol::{Bytes, DataModel, Fault, Parts, PublicationName, fault_name};
 use ctf_wire::{Broker, Counts, Loaded};
 use std::alloc::Global;
 
 /// The dictionary of a list.
-fn opened(alloc: Global, ctf: &[u8]) -> Option<Loaded> {
+fn open_list(alloc: Global, ctf: &[u8]) -> Option<Loaded> {
     let parts = Parts {
         ctf: Bytes::from_slice(alloc, ctf).ok()?,
         sym: None,
@@ -33,7 +33,7 @@ fn put_outcome(said: &mut Said, outcome: Result<Counts, Fault>) {
 }
 
 fn load_dictionary(said: &mut Said, broker: &mut Broker, name: &PublicationName, ctf: &[u8]) {
-    match opened(said.alloc(), ctf) {
+    match open_list(said.alloc(), ctf) {
         Some(dictionary) => put_outcome(said, broker.load(name, dictionary)),
         None => said.word("no dictionary"),
     }

@@ -1,8 +1,8 @@
 //! What a source and a sink say after a run, names of its faults, and numbers of slots.
 
 use crate::calls::runs::put_end;
-use crate::said::Said;
-use crate::transcripts::told::Told;
+use crate::collected::Said;
+use crate::transcripts::outcomes::Told;
 use ctf_protocol::SlotNumber;
 use ctf_wire::{Broker, FromReader, RunFault, Sink, Source, ToWriter, serve_bounded};
 

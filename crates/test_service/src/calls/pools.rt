@@ -1,6 +1,6 @@
 //! Dictionaries that are opened again while a pool holds them, or when it holds them no more.
 
-use crate::said::Said;
+use crate::collected::Said;
 use ctf_protocol::{Bytes, DataModel, Parts, fault_name};
 use ctf_wire::Pool;
 use std::alloc::{AllocError, Global};

@@ -1,6 +1,6 @@
 //! Lines of replies: values of each sort, changes, refusals, and replies that are too long.
 
-use crate::said::Said;
+use crate::collected::Said;
 use ctf_answers::{Answer, Counts, Reply, Single};
 use ctf_lines::{ToLine, memory_line, write_change};
 use ctf_protocol::{Fault, placeless};
@@ -79,7 +79,7 @@ fn reply_line(alloc: Global, session: u32, sort: &str, words: &str) -> Result<Ve
 fn counts(sort: &str, words: &str) -> Result<Counts, Fault> {
     let (first, second) = numbers(words);
     match sort {
-        "done" => Ok(Counts::done()),
+        "done" => Ok(Counts::of_success()),
         "length" => Ok(Counts::one("length", first)),
         "types" => Ok(Counts::two("d", first, "types", second)),
         _ => Err(placeless(words.parse::<u16>().unwrap_or(0))),

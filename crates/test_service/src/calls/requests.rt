@@ -1,6 +1,6 @@
 //! Lines that are read as requests, word by word.
 
-use crate::said::Said;
+use crate::collected::Said;
 use ctf_lines::{FromLine, Scratch};
 use ctf_protocol::{
     Change, HeldQuestion, ListName, Names, PlainQuestion, Question, Request, SlotQuestion,

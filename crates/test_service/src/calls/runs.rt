@@ -1,9 +1,9 @@
 //! Runs in which a call fails, or that end at a bound on reads.
 
-use crate::said::Said;
+use crate::collected::Said;
 use crate::serving::cases::Case;
 use crate::serving::served_in;
-use crate::transcripts::told::Told;
+use crate::transcripts::outcomes::Told;
 use ctf_wire::{Broker, RunFault};
 
 /// The case of words such as `7, reads 9, read 2`.
@@ -22,7 +22,7 @@ pub fn case_of(words: &str) -> Case {
 pub fn put_end(said: &mut Said, end: Result<(), RunFault>) {
     match end {
         Ok(()) => said.word("Ok"),
-        Err(fault) => said.made(format!(in said.alloc(); "{fault}")),
+        Err(fault) => said.push_word(format!(in said.alloc(); "{fault}")),
     }
 }
 

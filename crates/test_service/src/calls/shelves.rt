@@ -3,8 +3,8 @@ ghost use Rattle.std.specs.Prelude.{◌≡◌, Some, None, map};
 ghost use Rattle.ctf_wire.specs.Flushes.{Flushes};
 ghost use Rattle.ctf_wire.specs.Streams.{Pushed};
 
-use crate::said::Said;
-use crate::transcripts::told::Told;
+use crate::collected::Said;
+use crate::transcripts::outcomes::Told;
 use ctf_wire::{Broker, FromReader, Sink, serve};
 use std::alloc::{AllocError, Global};
 
@@ -74,7 +74,7 @@ fn on_shelf(alloc: Global, before: &[u8], input: &[u8]) -> Result<Vec<u8>, Alloc
 }
 
 /// What is on the shelf after a run, behind a text that waited there.
-pub fn shelved(said: &mut Said, told: &Told, before: &str) {
+pub fn put_shelf(said: &mut Said, told: &Told, before: &str) {
     let Ok(shelf) = on_shelf(said.alloc(), before.as_bytes(), &told.input) else {
         return said.word("no memory");
     };

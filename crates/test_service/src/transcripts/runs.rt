@@ -5,7 +5,7 @@
 //! a reply and a bar behind it; `>| ` is a request that no newline ends.
 
 use crate::transcripts::marks::put_marked;
-use crate::transcripts::told::Told;
+use crate::transcripts::outcomes::Told;
 use std::alloc::{AllocError, Global};
 use std::iter::Skip;
 use std::ops::RangeInclusive;

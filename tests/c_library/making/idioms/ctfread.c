@@ -72,7 +72,7 @@ static int on_type(ctf_id_t type, void *arg)
 static void make(ctf_dict_t *fp)
 {
     ctf_encoding_t of_int = { CTF_INT_SIGNED, 0, 32 }, of_char = { CTF_INT_CHAR, 0, 8 },
-        of_double = { CTF_FP_DOUBLE, 0, 64 };
+                   of_double = { CTF_FP_DOUBLE, 0, 64 };
     ctf_id_t number = ctf_add_integer(fp, CTF_ADD_ROOT, "int", &of_int);
     ctf_id_t character = ctf_add_integer(fp, CTF_ADD_ROOT, "char", &of_char);
     ctf_id_t real = ctf_add_float(fp, CTF_ADD_ROOT, "double", &of_double);

@@ -94,8 +94,8 @@ static void begin(void)
 static ctf_id_t add_string(void)
 {
     ctf_id_t character = must(of_d, ctf_lookup_by_name(of_d, "char"), "char");
-    ctf_id_t t = must(of_d,
-        ctf_add_typedef(of_d, CTF_ADD_ROOT, "string_t", pointer(of_d, character)), "typedef");
+    ctf_id_t t = must(
+        of_d, ctf_add_typedef(of_d, CTF_ADD_ROOT, "string_t", pointer(of_d, character)), "typedef");
     ctf_update(of_d);
     show(of_d, "string_t");
     show(of_d, "char *");
@@ -130,8 +130,7 @@ static ctf_id_t declare_structs(ctf_id_t number, ctf_id_t character)
     printf("%d\n", add_member(of_c, later, "n", node));
     ctf_update(of_c);
     show(of_d, "struct later");
-    printf("pointer leads to kind %d\n",
-        ctf_type_kind(of_d, ctf_type_reference(of_d, to_later)));
+    printf("pointer leads to kind %d\n", ctf_type_kind(of_d, ctf_type_reference(of_d, to_later)));
     printf("member n: %d", ctf_member_info(of_d, later, "n", &member));
     printf(" %lu\n", member.ctm_offset);
     return later;

@@ -72,7 +72,8 @@ static ctf_dict_t *types(void)
     c = integer(fp, "char", 8, CTF_INT_SIGNED | CTF_INT_CHAR);
     f = ctf_add_float(fp, CTF_ADD_ROOT, "double", &real);
     point = ctf_add_struct(fp, CTF_ADD_ROOT, "point");
-    check(ctf_add_member(fp, point, "x", i) == 0 && ctf_add_member(fp, point, "y", f) == 0, "point");
+    check(
+        ctf_add_member(fp, point, "x", i) == 0 && ctf_add_member(fp, point, "y", f) == 0, "point");
     pair = ctf_add_union(fp, CTF_ADD_NONROOT, NULL);
     check(ctf_add_member(fp, pair, "a", i) == 0 && ctf_add_member(fp, pair, "b", c) == 0, "pair");
     named = ctf_add_struct(fp, CTF_ADD_ROOT, "named");
@@ -87,7 +88,8 @@ static ctf_dict_t *types(void)
     no_arguments.ctc_return = i;
     check(ctf_add_function(fp, CTF_ADD_ROOT, &no_arguments, NULL) != CTF_ERR, "function");
     check(enumeration(fp, "few", 3) != CTF_ERR && enumeration(fp, "ten", 10) != CTF_ERR &&
-        enumeration(fp, "many", 23) != CTF_ERR, "enums");
+            enumeration(fp, "many", 23) != CTF_ERR,
+        "enums");
     check(ctf_add_variable(fp, "counter", i) == 0 && ctf_add_variable(fp, "rows", way) == 0,
         "variables");
     check(ctf_update(fp) == 0, "ctf_update");

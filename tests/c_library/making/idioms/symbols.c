@@ -22,8 +22,8 @@ static void check(int is_right, const char *what)
     }
 }
 
-static ctf_id_t function(ctf_dict_t *fp, ctf_id_t result, unsigned count, ctf_id_t *arguments,
-    unsigned flags)
+static ctf_id_t function(
+    ctf_dict_t *fp, ctf_id_t result, unsigned count, ctf_id_t *arguments, unsigned flags)
 {
     ctf_funcinfo_t info = { result, count, flags };
     return ctf_add_function(fp, CTF_ADD_ROOT, &info, arguments);
@@ -62,7 +62,8 @@ static void tell(ctf_dict_t *fp, unsigned long symbol)
     unsigned i;
     printf("%lu: %s\n", symbol,
         type == CTF_ERR ? "no type"
-            : ctf_type_kind(fp, type) == CTF_K_FUNCTION ? "a function"
+            : ctf_type_kind(fp, type) == CTF_K_FUNCTION
+            ? "a function"
             : ctf_type_name(fp, type, text, sizeof text));
     if (ctf_func_info(fp, symbol, &info) != 0 || ctf_func_args(fp, symbol, 4, arguments) != 0)
         return;

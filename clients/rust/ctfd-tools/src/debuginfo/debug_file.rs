@@ -4,6 +4,7 @@
 //! sections have the names, order, addresses and sizes of the program's, its notes (the build id)
 //! are there, and its symbols.
 
+use super::numbering::{local_count, section_and_address, WrittenSections};
 use super::sections::{DebugSection, RelocationKind};
 use ctfd::Model;
 use ctfd_read::debuggee::{Debuggee, Head, Section, Segment};
@@ -17,9 +18,6 @@ use object::Endianness;
 use std::borrow::Cow;
 use std::collections::HashMap;
 
-/// Bytes in front of the fields of a symbol that say its section.
-const SECTION_IN_64: usize = 6;
-const SECTION_IN_32: usize = 14;
 const LONGEST_ALIGN: u64 = 16;
 const DICTIONARY: &[u8] = b".SUNW_ctf";
 const ALIGN_OF_DICTIONARY: u64 = 4;
@@ -155,9 +153,11 @@ pub fn of_dictionary_alone(
     if let Some((table, strings)) = symbols {
         let bytes = Bytes::Some(table.into());
         let mut made = OutputSection::new(&b".symtab"[..], elf::SHT_SYMTAB, bytes);
+        let size = if model == Model::Lp64 { 24 } else { 16 };
         made.header.sh_link = 2;
+        made.header.sh_info = local_count(table, size, model);
         made.header.sh_addralign = word_of(model);
-        made.header.sh_entsize = if model == Model::Lp64 { 24 } else { 16 };
+        made.header.sh_entsize = size as u64;
         let strings = Bytes::Some(strings.into());
         listed.extend([made, OutputSection::new(&b".strtab"[..], elf::SHT_STRTAB, strings)]);
     }
@@ -181,8 +181,7 @@ fn program_section<'a>(program: &Debuggee<'a>, section: &Section<'a>) -> Result<
     Ok(made)
 }
 
-/// The symbols with the sections' new numbers, and their names. Sections of another copy are known
-/// by name.
+/// The symbols with the sections' new numbers, and their names.
 fn symbol_table<'a>(
     program: &Debuggee<'_>,
     symbols: &Debuggee<'a>,
@@ -190,26 +189,17 @@ fn symbol_table<'a>(
     place: usize,
     numbers: &HashMap<usize, usize>,
 ) -> Result<[OutputSection<'a>; 2]> {
-    let number_of = |(number, section): (usize, &Section<'_>)| {
-        numbers.get(&number).map(|&new| (section.name.to_vec(), new as u16))
-    };
-    let by_name: HashMap<Vec<u8>, u16> =
-        program.sections.iter().enumerate().filter_map(number_of).collect();
-    // A symbol of a section that is not written has no address: it goes to the table itself, which
-    // is not in memory either.
-    let new_number = |old: u16| match symbols.sections.get(usize::from(old)) {
-        _ if old == 0 || old >= SHN_LORESERVE => old,
-        Some(section) => by_name.get(section.name).copied().unwrap_or(place as u16),
-        None => place as u16,
-    };
-    let at = match symbols.model {
-        Model::Lp64 => SECTION_IN_64,
-        Model::Ilp32 => SECTION_IN_32,
-    };
+    let written = WrittenSections::new(program, symbols, numbers);
     let mut bytes = symbols.bytes(table)?.to_vec();
     for entry in bytes.chunks_exact_mut(symbols.entry_size()) {
-        let old = u16::from_le_bytes([entry[at], entry[at + 1]]);
-        entry[at..at + 2].copy_from_slice(&new_number(old).to_le_bytes());
+        let (at, old, address) = section_and_address(entry, symbols.model);
+        let new = match old {
+            0 | SHN_LORESERVE.. => old,
+            // A symbol of a section that is not written has no address: it goes to the table itself,
+            // which is not in memory either.
+            _ => written.number_of(old, address).unwrap_or(place as u16),
+        };
+        entry[at..at + 2].copy_from_slice(&new.to_le_bytes());
     }
     let mut made = OutputSection::new(&b".symtab"[..], elf::SHT_SYMTAB, Bytes::Some(bytes.into()));
     made.header.sh_link = place as u32 + 1;

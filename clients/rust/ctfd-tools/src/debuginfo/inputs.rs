@@ -1,10 +1,12 @@
 //! The files that a debug file is made of, and how they go together.
 
+use super::debug_file;
 use super::options::Words;
 use crate::types::failure::{Failure, Outcome};
 use crate::types::open::{judge_model, shown};
 use ctfd::Model;
 use ctfd_read::debuggee::{Debuggee, Section};
+use ctfd_read::elsewhere::Elsewhere;
 use ctfd_read::entry_symbols::{identity_of, likeness, own_symbols, Likeness};
 use ctfd_read::foreign::why_no_dictionary;
 use ctfd_read::image::Image;
@@ -22,10 +24,17 @@ pub struct Files {
 }
 
 impl Files {
-    /// Opens them, and refuses those that do not go together.
+    /// Opens them, and refuses those that do not go together. A program without types is asked for
+    /// in stores, where some are named.
     pub fn open(words: &Words) -> Outcome<Files> {
         let open = |path: &Option<std::path::PathBuf>| path.as_deref().map(Image::open).transpose();
         let file = Image::open(&words.file)?;
+        let is_alone = words.program.is_none() && words.symbols.is_none();
+        if is_alone && words.elsewhere.is_there() && file.is_elf() && !has_dictionary(&file)? {
+            if let Some((dictionary, symbols)) = of_stores(&file, &words.elsewhere)? {
+                return Ok(Files::of_images(dictionary, file, symbols));
+            }
+        }
         let made = Files { program: open(&words.program)?, symbols: open(&words.symbols)?, file };
         made.judge()?;
         Ok(made)
@@ -146,6 +155,34 @@ impl Files {
         };
         Ok(Numbers::None(without_symbols(program, &why)))
     }
+}
+
+/// Whether an ELF file has a section for a dictionary.
+fn has_dictionary(file: &Image) -> Outcome<bool> {
+    let file = Debuggee::of(file)?;
+    Ok(SECTIONS.iter().any(|name| file.section_of(name).is_some()))
+}
+
+/// The dictionary that a store has of a program, and a copy of the program with the symbols that go
+/// with it, where it has some.
+fn of_stores(program: &Image, stores: &Elsewhere) -> Outcome<Option<(Image, Option<Image>)>> {
+    let program = Debuggee::of(program)?;
+    let Some(found) = stores.find(program.build_id())? else { return Ok(None) };
+    let path = found.path().to_owned();
+    let Some(handed) = dictionary_of(&found, None)? else {
+        return Err(Failure::Refused(format!(
+            "{}: more types than a dictionary holds: let the debugger ask for its debug file, by \
+             DEBUGINFOD_URLS",
+            shown(&path)
+        )));
+    };
+    let symbols = Debuggee::of(&found)?;
+    let copy = match symbols.section_of(SymbolTable::Symtab.word()) {
+        Some(_) => Some(debug_file::beside(&program, &symbols, &[], None)?),
+        None => None,
+    };
+    let image = |bytes| Image::of_bytes(path.clone(), bytes);
+    Ok(Some((image(handed.ctf.into_owned()), copy.map(image))))
 }
 
 /// By what the entries of a dictionary know the symbols of a program.

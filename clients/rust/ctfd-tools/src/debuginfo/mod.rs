@@ -5,6 +5,7 @@ mod arguments;
 pub mod debug_file;
 mod entries;
 mod inputs;
+mod numbering;
 mod options;
 mod passing;
 mod sections;

@@ -4,6 +4,7 @@ use crate::arguments;
 use crate::wrong_words;
 use clap::{value_parser, Arg, Command};
 use ctfd::Model;
+use ctfd_read::elsewhere::Elsewhere;
 use std::ffi::OsString;
 use std::path::{Path, PathBuf};
 
@@ -12,8 +13,9 @@ pub const NAME: &str = "ctfd-debuginfo";
 const ABOUT: &str = "\
 Writes a program's CTF as a debug file, from which gdb, lldb, drgn and pahole read its types.
 
-FILE is a program or library with CTF of version 2, or the bytes of such a section; OUT is what
-objcopy would keep of the program if it had debug information. Arguments are called arg0, arg1, ..,
+FILE is a program or library with CTF of version 2, or the bytes of such a section; one without is
+asked for by its build-id if CTFD_STORE or --store names a store. OUT is what objcopy would keep of
+the program if it had debug information. Arguments are called arg0, arg1, ..,
 and have places where a function begins.";
 
 /// What a command line says.
@@ -38,6 +40,8 @@ pub struct Words {
     pub model: Option<Model>,
     /// Whether the dictionary stands in the debug file.
     pub has_dictionary: bool,
+    /// Who is asked for the types of a program that has none.
+    pub elsewhere: Elsewhere,
 }
 
 impl Words {
@@ -54,6 +58,7 @@ impl Words {
             is_compressed: true,
             model: None,
             has_dictionary,
+            elsewhere: Elsewhere::default(),
         }
     }
 
@@ -76,6 +81,7 @@ impl Words {
                 _ => Model::Lp64,
             }),
             has_dictionary: false,
+            elsewhere: arguments::stores(&matches),
         }
     }
 
@@ -96,6 +102,7 @@ fn options() -> Command {
              debuggers look",
         ))
         .args([
+            arguments::store(),
             arguments::flag("folder", "OUT is a folder of debug files"),
             arguments::file(
                 "symbols",

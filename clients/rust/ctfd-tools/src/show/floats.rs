@@ -203,6 +203,7 @@ mod tests {
     }
 
     #[test]
+    #[allow(clippy::excessive_precision)]
     fn doubles_are_those_of_c() {
         for (number, text) in [
             (0.0, "0"),

@@ -6,6 +6,7 @@ mod build_id;
 mod builds;
 mod check;
 mod entry;
+mod fetch;
 mod folder;
 mod index;
 mod inputs;
@@ -42,6 +43,7 @@ pub fn main(words: Vec<OsString>) -> ExitCode {
     let done = match &words {
         Words::Add(words) => add::run(words),
         Words::Check(store) => check::run(store),
+        Words::Fetch(words) => fetch::run(words),
         Words::List(store, is_json) => listing::list(store, *is_json),
         Words::Missing(store) => missing::run(store),
         Words::Remove(words) => remove::run(words),

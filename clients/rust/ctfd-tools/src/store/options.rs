@@ -18,6 +18,8 @@ pub enum Words {
     Add(Adding),
     /// All files of a store are judged.
     Check(PathBuf),
+    /// Stores are asked for the types of a build.
+    Fetch(Fetching),
     /// Its builds are listed, as JSON or for a reader.
     List(PathBuf, bool),
     /// What a log says is not there is listed.
@@ -40,6 +42,16 @@ pub struct Adding {
     pub folders: Vec<PathBuf>,
 }
 
+/// What is fetched.
+pub struct Fetching {
+    /// A build-id, or a program that has one.
+    pub build: PathBuf,
+    /// Where its types go.
+    pub output: PathBuf,
+    /// The stores that are asked, in place of those of the environment.
+    pub stores: Option<String>,
+}
+
 /// What is removed.
 pub struct Removing {
     /// The store.
@@ -55,10 +67,12 @@ impl Words {
     pub fn parsed(words: Vec<OsString>) -> Words {
         let matches = wrong_words::matched(options(), words);
         let (word, matches) = matches.subcommand().unwrap_or(("", &matches));
-        let store = matches.get_one::<PathBuf>("DIR").cloned().unwrap_or_default();
+        let store =
+            matches.try_get_one::<PathBuf>("DIR").ok().flatten().cloned().unwrap_or_default();
         match word {
             "add" => Words::Add(adding(store, matches)),
             "check" => Words::Check(store),
+            "fetch" => Words::Fetch(fetching(matches)),
             "list" => Words::List(store, matches.get_flag("json")),
             "missing" => Words::Missing(store),
             "remove" => Words::Remove(removing(store, matches)),
@@ -77,6 +91,15 @@ fn adding(store: PathBuf, matches: &ArgMatches) -> Adding {
     }
 }
 
+fn fetching(matches: &ArgMatches) -> Fetching {
+    let path = |name: &str| matches.get_one::<PathBuf>(name).cloned().unwrap_or_default();
+    Fetching {
+        build: path("BUILD"),
+        output: path("OUT"),
+        stores: matches.get_one::<String>("store").cloned(),
+    }
+}
+
 fn removing(store: PathBuf, matches: &ArgMatches) -> Removing {
     Removing {
         store,
@@ -89,6 +112,7 @@ fn options() -> Command {
     arguments::command(NAME, ABOUT).subcommand_required(true).subcommands([
         add(),
         check(),
+        fetch(),
         list(),
         missing(),
         remove(),
@@ -121,6 +145,16 @@ fn add() -> Command {
 
 fn check() -> Command {
     action("check", "Judges all files of a store, by the library and by its index.")
+}
+
+fn fetch() -> Command {
+    let path =
+        |name: &'static str| Arg::new(name).required(true).value_parser(value_parser!(PathBuf));
+    Command::new("fetch")
+        .about("Asks stores for the types of a build, and writes an ELF file with them.")
+        .arg(path("BUILD").help("a build-id, or a program that has one"))
+        .arg(path("OUT").help("the file to write; - is standard output"))
+        .arg(arguments::store())
 }
 
 fn list() -> Command {

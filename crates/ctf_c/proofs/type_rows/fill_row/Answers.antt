@@ -1,6 +1,6 @@
 use Rattle.std.proofs.Common.{Bool, ap, ◌∙◌, arith}
 use Rattle.ctf_check.specs.CheckedView.{lists_of}
-use Rattle.ctf_check.specs.TypedView.{dictionary_in, spelled}
+use Rattle.ctf_check.specs.TypedView.{dictionary_in, term_in}
 use Rattle.ctf_model.specs.opened.Open.{space_in}
 use Rattle.ctf_model.specs.spaces.TypeNumbers.{or_no_type}
 use Rattle.ctf_model.specs.spaces.TypePlaces.{own_number}
@@ -26,4 +26,4 @@ returns c = λ d asked.
     let number = t.ensures ∙ ap (λ (child : Bool). own_number child c.args.index) c.requires.child in
     let figures = c.put_figures.ensures (space_in d) asked.fits (own_some c.args.child c.args.index t.result.0 t.ensures) in
     let numbers = c.numbers_of-numbers.ensures in
-    tells d (space_of c.args.space.now) (lists_of (dictionary_in x)) c.args.index (or_no_type (spelled x)) _ asked.space (c.own_type-found.ensures.lists ∙ asked.lists) c.own_type-found.ensures.found number numbers.kind numbers.root numbers.length numbers.reference figures.size figures.align figures.resolved c.name_place-place.ensures
+    tells d (space_of c.args.space.now) (lists_of (dictionary_in x)) c.args.index (or_no_type (term_in x)) _ asked.space (c.own_type-found.ensures.lists ∙ asked.lists) c.own_type-found.ensures.found number numbers.kind numbers.root numbers.length numbers.reference figures.size figures.align figures.resolved c.name_place-place.ensures

@@ -1,5 +1,4 @@
 use Rattle.std.proofs.Common.{ℕ, List, [], ◌∷◌, drop, sym, ap, ◌∙◌}
-use Rattle.ctf_model.specs.format.Record.{kind}
 use Rattle.ctf_records.specs.ListedTypes.{numbers_in}
 use Rattle.ctf_records.specs.RecordView.{bytes_of}
 use Rattle.ctf_records.proofs.ListedNumbers.{none_listed, one_listed, u16_behind}

@@ -4,14 +4,18 @@ use Rattle.std.proofs.Math.ListN.{length-set}
 use Rattle.ctf_chains.specs.Places.{places_at, led_to, steps_between}
 use Rattle.ctf_chains.specs.Search.{IsDepth, busy, work_left}
 use Rattle.ctf_chains.proofs.Depths.{none_yet, one_more, led_more, led_same, is_depth, deep_target}
-use Rattle.ctf_chains.proofs.Visits.{knows_more, busy_is, cycle_is_deep, on_way_more, none_more, begun, ended}
+use Rattle.ctf_chains.proofs.Visits.{knows_more, known_deep, known_depth, on_way_more, none_more, begun, ended}
 use Rattle.ctf_chains.proofs.WorkLeft.{work_opened, work_closed}
 use Rattle.ctf_chains.proofs.search.+deep.Goals as goal
 use Rattle.ctf_chains.proofs.search.+deep.Goals.{visit-in-Some+else-budget-eq0+in-Some-depth, visit-in_default}
 
-pub depth-returns-in-Busy-clause-answer : goal.depth-returns-in-Busy-clause-answer
-depth-returns-in-Busy-clause-answer g t c =
-    cycle_is_deep (steps_between (g.G.Graph.places c.args.graph.now)) c.args.known.now c.args.i c.args.budget c.requires.on_way (busy_is (slice_index_or c.args.known.now c.args.i 0) (search rules))
+pub depth-returns-in-Depth-clause-answer : goal.depth-returns-in-Depth-clause-answer
+depth-returns-in-Depth-clause-answer g t c =
+    known_depth (steps_between (g.G.Graph.places c.args.graph.now)) c.args.known.now c.args.i c.args.budget c.in-Depth.depth c.requires.knows c.requires.budget (search rules)
+
+pub depth-returns-in-TooDeep-clause-answer : goal.depth-returns-in-TooDeep-clause-answer
+depth-returns-in-TooDeep-clause-answer g t c =
+    known_deep (steps_between (g.G.Graph.places c.args.graph.now)) c.args.known.now c.args.i c.args.budget c.requires.knows c.requires.on_way (omega arith) (search rules)
 
 pub visit-loop-k-init : goal.visit-loop-k-init
 visit-loop-k-init g t c =

@@ -4,10 +4,13 @@ use Rattle.ctf_chains.specs.Search.{IsLongest, Knows, GoesOn, work_left}
 use Rattle.ctf_chains.proofs.search.+deep.Given as goal
 
 abbrev pub decreases-depth : goal.decreases-depth
-decreases-depth g l = 2 * l.budget + 1
+decreases-depth g l = 3 * l.budget + 2
 
 abbrev pub decreases-visit : goal.decreases-visit
-decreases-visit g l = 2 * l.budget
+decreases-visit g l = 3 * l.budget
+
+abbrev pub decreases-visit_below : goal.decreases-visit_below
+decreases-visit_below g l = 3 * l.budget + 1
 
 abbrev pub invariant-visit-loop-k : goal.invariant-visit-loop-k
 invariant-visit-loop-k g l = record {

@@ -8,14 +8,14 @@ use Rattle.ctf_chains.proofs.search.first_of.Goals as goal
 
 pub loop-i-preserved : goal.loop-i-preserved
 loop-i-preserved g c =
-    let f : IsWithin (steps_between (g.G.Graph.places c.args.graph.now)) 512 c.loop-i.i × GoesOn c.loop-i.known c.depth.new.known × (1 ≤ slice_index_or c.depth.new.known c.loop-i.i 0) =
-    found (steps_between (g.G.Graph.places c.args.graph.now)) 512 c.loop-i.i c.loop-i.known c.depth.new.known c.depth.result c.if-is_none.ensures c.depth.ensures.answer in
+    let f : IsWithin (steps_between (g.G.Graph.places c.args.graph.now)) 512 c.loop-i.i × GoesOn c.loop-i.known c.depth_first.new.known × (1 ≤ slice_index_or c.depth_first.new.known c.loop-i.i 0) =
+    found (steps_between (g.G.Graph.places c.args.graph.now)) 512 c.loop-i.i c.loop-i.known c.depth_first.new.known c.depth_first.result c.if-is_none.ensures c.depth_first.ensures.answer in
     record {
       before = one_more_before (steps_between (g.G.Graph.places c.args.graph.now)) 512 c.loop-i.i c.loop-i.invariant.before f.0;
-      knows = c.depth.ensures.knows;
+      knows = c.depth_first.ensures.knows;
       none_busy = λ j h. c.loop-i.invariant.none_busy j (f.1.was j h);
-      entered = one_more_entered c.loop-i.known c.depth.new.known c.loop-i.i c.loop-i.invariant.entered f.1 f.2;
-      once = omega (arith, c.depth.ensures.once c.if-is_none.ensures);
+      entered = one_more_entered c.loop-i.known c.depth_first.new.known c.loop-i.i c.loop-i.invariant.entered f.1 f.2;
+      once = omega (arith, c.depth_first.ensures.once c.if-is_none.ensures);
       work = omega arith;
     }
 
@@ -32,8 +32,8 @@ loop-i-init g c =
       work = omega arith;
     }
 
-pub depth-requires-clause-on_way : goal.depth-requires-clause-on_way
-depth-requires-clause-on_way g c = on_way_none (steps_between (g.G.Graph.places c.args.graph.now)) c.loop-i.known c.loop-i.i c.loop-i.invariant.none_busy
+pub depth_first-requires-clause-on_way : goal.depth_first-requires-clause-on_way
+depth_first-requires-clause-on_way g c = on_way_none (steps_between (g.G.Graph.places c.args.graph.now)) c.loop-i.known c.loop-i.i c.loop-i.invariant.none_busy
 
 pub returns-clause-once : goal.returns-clause-once
 returns-clause-once g c = λ none.

@@ -1,9 +1,8 @@
-use Rattle.std.proofs.Common.{◌≡◌, ◌-◌, ◌+◌, drop, length, Option, Result, Ok, Some, sym, ap, ◌∙◌, arith}
+use Rattle.std.proofs.Common.{Result, Ok, Some, sym, ap, ◌∙◌, arith}
 use Rattle.std.specs.Prelude.{slice_index_or}
 use Rattle.std.proofs.lemmas.Option.{same_Some}
 use Rattle.std.proofs.lemmas.Grind.{get_or_default_zero}
-use Rattle.std.proofs.lemmas.List.{length-drop}
-use Rattle.ctf_model.specs.format.Section.{Piece, front_len}
+use Rattle.ctf_model.specs.format.Section.{Piece}
 use Rattle.ctf_model.specs.declared.faults.Fault.{Fault}
 use Rattle.ctf_model.proofs.Walk.{front_len_range}
 use Rattle.ctf_chains.proofs.Begins.{len_found, record_found}

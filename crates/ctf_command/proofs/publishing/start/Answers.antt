@@ -1,6 +1,6 @@
 use Rattle.std.proofs.Common.{List, map, Some, ap, ◌∙◌}
 use Rattle.std.proofs.lemmas.Result.{err_from_is_err_and}
-use Rattle.ctf_command.specs.declared.wanted.Wanted.{Wanted}
+use Rattle.ctf_command.specs.declared.publications.Wanted.{Wanted}
 use Rattle.ctf_command.specs.Asked.{asked_of}
 use Rattle.ctf_command.proofs.PublishedFiles.{published_next, unstarted_at}
 use Rattle.ctf_command.proofs.publishing.start.Goals as goal

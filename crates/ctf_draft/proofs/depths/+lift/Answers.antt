@@ -10,7 +10,7 @@ use Rattle.ctf_draft.proofs.depths.+lift.Goals.{then-not-lift_alone+else-not-lif
 pub loop-k-init : goal.loop-k-init
 loop-k-init t c = record {
   len = refl;
-  lifted = not_lifted c.args.first (above_of c.args.above.now) (slice_set c.args.bounds.now c.args.i c.raised-value.result);
+  lifted = not_lifted c.args.first (above_of c.args.above.now) (slice_set c.args.bounds.now c.args.i c.raised_bound-value.result);
   done = tt;
 }
 
@@ -18,8 +18,8 @@ pub loop-k-preserved : goal.loop-k-preserved
 loop-k-preserved t c =
     let first = c.args.first in
     let above = above_of c.args.above.now in
-    let start = slice_set c.args.bounds.now c.args.i c.raised-value.result in
-    let value = c.raised-value.result in
+    let start = slice_set c.args.bounds.now c.args.i c.raised_bound-value.result in
+    let value = c.raised_bound-value.result in
     let holders = c.as_slice-holders.result.now in
     let alone = lifted_more first above start c.loop-k.bounds c.lift_alone.new.bounds c.loop-k.invariant.lifted c.lift_alone.ensures.lifted in
     elim c.if-not-lift_alone.branch [
@@ -43,16 +43,16 @@ loop-k-preserved t c =
 
 pub returns-then-i-above-clause-lifted : goal.returns-then-i-above-clause-lifted
 returns-then-i-above-clause-lifted t c = λ yes.
-    let value = c.raised-value.result in
-    one_lifted c.args.first (above_of c.args.above.now) c.args.bounds.now (slice_set c.args.bounds.now c.args.i value) c.args.i value (omega arith) (omega arith) (omega (arith, bound_is c.args.bounds.now c.args.i (omega arith), c.raised-value.ensures))
+    let value = c.raised_bound-value.result in
+    one_lifted c.args.first (above_of c.args.above.now) c.args.bounds.now (slice_set c.args.bounds.now c.args.i value) c.args.i value (omega arith) (omega arith) (omega (arith, bound_is c.args.bounds.now c.args.i (omega arith), c.raised_bound-value.ensures))
     (not_lifted c.args.first (above_of c.args.above.now) (slice_set c.args.bounds.now c.args.i value))
     (subst (AllByRecursion (λ p. min 513 (value + 1) ≤ bound (slice_set c.args.bounds.now c.args.i value) p)) (sym (none_above c.args.above.now c.args.i (omega arith))) tt)
 
 pub returns-clause-lifted : goal.returns-clause-lifted
 returns-clause-lifted t c = λ yes.
-    let value = c.raised-value.result in
+    let value = c.raised_bound-value.result in
     let holders = c.as_slice-holders.result.now in
     let whole = take_all c.loop-k.k holders (omega arith) in
     let here = those_above c.args.above.now c.args.i c.index-above-i.result (omega arith) c.index-above-i.is in
-    one_lifted c.args.first (above_of c.args.above.now) c.args.bounds.now c.loop-k.bounds c.args.i value (omega arith) (omega arith) (omega (arith, bound_is c.args.bounds.now c.args.i (omega arith), c.raised-value.ensures)) c.loop-k.invariant.lifted
+    one_lifted c.args.first (above_of c.args.above.now) c.args.bounds.now c.loop-k.bounds c.args.i value (omega arith) (omega arith) (omega (arith, bound_is c.args.bounds.now c.args.i (omega arith), c.raised_bound-value.ensures)) c.loop-k.invariant.lifted
     (subst (AllByRecursion (λ p. min 513 (value + 1) ≤ bound c.loop-k.bounds p)) (whole ∙ c.as_slice-holders.ensures.value ∙ sym here) c.loop-k.invariant.done)

@@ -12,8 +12,8 @@ use Rattle.ctf_dump.specs.Words.{lines_of_type}
 use Rattle.ctf_dump.proofs.AllLines.{all_types, own_at, own_found, type_more, types_begun}
 use Rattle.ctf_dump.proofs.dumping.all_type_lines.Goals as goal
 
-pub numbered-number-requires : goal.numbered-number-requires
-numbered-number-requires g c =
+pub number_of-number-requires : goal.number_of-number-requires
+number_of-number-requires g c =
     let few = few_terms (own_lists c.args.space.now) c.args.space.now.own.faultless in
     let count = c.count-place-end.ensures ∙ ap (λ (d : Dictionary). length d.terms) c.dictionary-dictionary.ensures.own in
     let test = c.loop-place-test.true in
@@ -29,7 +29,7 @@ loop-place-preserved g c =
     let count = c.count-place-end.ensures ∙ ap (λ (d : Dictionary). length d.terms) c.dictionary-dictionary.ensures.own in
     let test = c.loop-place-test.true in
     let below : i < length s.own.terms = omega (arith, count, test) in
-    let number = c.numbered-number.ensures ∙ ap (λ b. own_number b i) (c.child.ensures ∙ ap (λ (d : Dictionary). d.child) c.dictionary-dictionary.ensures.own) in
+    let number = c.number_of-number.ensures ∙ ap (λ b. own_number b i) (c.child.ensures ∙ ap (λ (d : Dictionary). d.child) c.dictionary-dictionary.ensures.own) in
     let found = ap (space_type s) number ∙ own_found s i below in
     record {
       known = c.type_lines.ensures.kept ∙ c.loop-place.invariant.known;
@@ -57,6 +57,6 @@ returns-in_err-type_lines-clause-begun g c fits =
     let count = c.count-place-end.ensures ∙ ap (λ (d : Dictionary). length d.terms) c.dictionary-dictionary.ensures.own in
     let test = c.loop-place-test.true in
     let below : i < length s.own.terms = omega (arith, count, test) in
-    let number = c.numbered-number.ensures ∙ ap (λ b. own_number b i) (c.child.ensures ∙ ap (λ (d : Dictionary). d.child) c.dictionary-dictionary.ensures.own) in
+    let number = c.number_of-number.ensures ∙ ap (λ b. own_number b i) (c.child.ensures ∙ ap (λ (d : Dictionary). d.child) c.dictionary-dictionary.ensures.own) in
     let found = ap (space_type s) number ∙ own_found s i below in
     rw (p.1, p.2) (λ memory. types_begun s i before now after (types_from s 0 s.own.terms) below (c.loop-place.invariant.written fits) (subst (λ (n : ℕ). HasBegun now after (lines_of_type s n (own_at s i))) number (c.in_err-type_lines.ensures.begun fits (own_at s i) found memory)))

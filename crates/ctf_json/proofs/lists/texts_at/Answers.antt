@@ -4,7 +4,7 @@ use Rattle.json.specs.Reads.{token_of}
 use Rattle.json.proofs.Grammar.{value_is}
 use Rattle.serde_json.specs.Data.{array, null}
 use Rattle.ctf_joined.specs.Joined.{texts}
-use Rattle.ctf_json.specs.Passed.{begun, passed, passed_value}
+use Rattle.ctf_json.specs.Passed.{begun, tokens_behind, passed_value}
 use Rattle.ctf_json.specs.Told.{in_range, told, told_items}
 use Rattle.ctf_json.specs.Values.{is_text, text_said}
 use Rattle.ctf_json.proofs.Listed.{SoFar, text_is, text_test, all_read, nothing_yet, one_more_read, other, refused_here, refused_later}
@@ -18,7 +18,7 @@ returns-in_err-token-clause-refused c is =
     let l = c.loop-reader in
     let going : (after_end_array l.reader ≡ None) × (c.take_end_array.new.self ≡ l.reader) = grind arith in
     let empty : c.take_end_array.new.self ≡ [] = grind arith in
-    let none : passed_value c.args.depth l.reader ≡ None = ap (passed_value c.args.depth) (sym going.1 ∙ empty) ∙ ap (passed in_range) (value_is c.args.depth []) in
+    let none : passed_value c.args.depth l.reader ≡ None = ap (passed_value c.args.depth) (sym going.1 ∙ empty) ∙ ap (tokens_behind in_range) (value_is c.args.depth []) in
     refused_here is_text text_test text_said c.args.depth c.args.reader.now l.reader (texts l.texts) l.invariant going.0 none
 
 pub returns-in_err-pass_from-clause-refused : goal.returns-in_err-pass_from-clause-refused

@@ -13,4 +13,4 @@ returns-then-has_minus c =
 pub returns-else-has_minus : goal.returns-else-has_minus
 returns-else-has_minus c =
     let s = c.as_bytes-bytes.result.now in
-    c.unsigned.ensures ∙ sym (by_sign s false c.if-has_minus.ensures.value) ∙ ap number_of c.as_bytes-bytes.ensures.value
+    c.unsigned_number.ensures ∙ sym (by_sign s false c.if-has_minus.ensures.value) ∙ ap number_of c.as_bytes-bytes.ensures.value

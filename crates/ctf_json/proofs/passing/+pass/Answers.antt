@@ -5,7 +5,7 @@ use Rattle.json.specs.Reads.{token_of}
 use Rattle.json.proofs.Grammar.{value_is, value-begin_array, value-begin_object, read_key-shorter, items_end, members_end, members_no_key}
 use Rattle.serde_json.specs.Read.{number_of}
 use Rattle.ctf_json.specs.Told.{in_range, items_in_range, members_in_range}
-use Rattle.ctf_json.specs.Passed.{passed, passed_items, passed_members, passed_value}
+use Rattle.ctf_json.specs.Passed.{tokens_behind, passed_items, passed_members, passed_value}
 use Rattle.ctf_json.proofs.Left.{left_key}
 use Rattle.ctf_json.proofs.Turns.{passed-array, passed-object, pass_item, pass_member, refuse_item, refuse_member}
 use Rattle.ctf_json.proofs.passing.+pass.Goals as goal
@@ -32,13 +32,13 @@ pub pass_items-returns-clause-passed : goal.pass_items-returns-clause-passed
 pass_items-returns-clause-passed t c =
     let p = value c.args.depth in
     let l = c.loop-reader in
-    l.invariant.2 ∙ ap (passed items_in_range) (items_end p l.invariant.0 l.reader c.take_end_array.new.self l.invariant.1 (grind arith))
+    l.invariant.2 ∙ ap (tokens_behind items_in_range) (items_end p l.invariant.0 l.reader c.take_end_array.new.self l.invariant.1 (grind arith))
 
 pub pass_members-returns-in_err-next_key-clause-passed : goal.pass_members-returns-in_err-next_key-clause-passed
 pass_members-returns-in_err-next_key-clause-passed t c =
     let p = value c.args.depth in
     let l = c.loop-reader in
-    let none = l.invariant.2 ∙ ap (passed members_in_range) (members_no_key p l.invariant.0 l.reader c.in_err-next_key.ensures.value) in
+    let none = l.invariant.2 ∙ ap (tokens_behind members_in_range) (members_no_key p l.invariant.0 l.reader c.in_err-next_key.ensures.value) in
     grind (arith, none)
 
 pub pass_members-loop-reader-preserved : goal.pass_members-loop-reader-preserved
@@ -72,7 +72,7 @@ pub pass_members-returns-clause-passed : goal.pass_members-returns-clause-passed
 pass_members-returns-clause-passed t c =
     let p = value c.args.depth in
     let l = c.loop-reader in
-    l.invariant.2 ∙ ap (passed members_in_range) (members_end p l.invariant.0 l.reader c.next_key.new.self l.invariant.1 (grind arith))
+    l.invariant.2 ∙ ap (tokens_behind members_in_range) (members_end p l.invariant.0 l.reader c.next_key.new.self l.invariant.1 (grind arith))
 
 pub pass-returns-then-take_array-clause-passed : goal.pass-returns-then-take_array-clause-passed
 pass-returns-then-take_array-clause-passed t c =
@@ -82,7 +82,7 @@ pass-returns-then-take_array-clause-passed t c =
 pub pass-returns-in_err-token-clause-passed : goal.pass-returns-in_err-token-clause-passed
 pass-returns-in_err-token-clause-passed t c =
     let empty : c.args.reader.now ≡ [] = grind arith in
-    let none : passed_value c.args.depth c.args.reader.now ≡ None = ap (passed_value c.args.depth) empty ∙ ap (passed in_range) (value_is c.args.depth []) in
+    let none : passed_value c.args.depth c.args.reader.now ≡ None = ap (passed_value c.args.depth) empty ∙ ap (tokens_behind in_range) (value_is c.args.depth []) in
     grind (arith, none)
 
 pub pass_from-returns-in-Null-clause-passed : goal.pass_from-returns-in-Null-clause-passed
@@ -92,13 +92,13 @@ pub pass_from-returns-then-has_value-clause-passed : goal.pass_from-returns-then
 pass_from-returns-then-has_value-clause-passed t c =
     let r = c.args.reader.now in
     let has : is_some (number_of c.in-Number.text.now) ≡ true = sym c.has_value.ensures ∙ c.if-has_value.true in
-    ap (λ k. passed_value c.args.depth (token_of k ∷ r)) c.in-Number.is ∙ ap (passed in_range) (value_is c.args.depth (Token.number c.in-Number.text.now ∷ r)) ∙ ap (λ b. cond b (Some r) None) has
+    ap (λ k. passed_value c.args.depth (token_of k ∷ r)) c.in-Number.is ∙ ap (tokens_behind in_range) (value_is c.args.depth (Token.number c.in-Number.text.now ∷ r)) ∙ ap (λ b. cond b (Some r) None) has
 
 pub pass_from-returns-else-has_value-clause-passed : goal.pass_from-returns-else-has_value-clause-passed
 pass_from-returns-else-has_value-clause-passed t c =
     let r = c.args.reader.now in
     let has : is_some (number_of c.in-Number.text.now) ≡ false = sym c.has_value.ensures ∙ c.if-has_value.false in
-    ap (λ k. passed_value c.args.depth (token_of k ∷ r)) c.in-Number.is ∙ ap (passed in_range) (value_is c.args.depth (Token.number c.in-Number.text.now ∷ r)) ∙ ap (λ b. cond b (Some r) None) has
+    ap (λ k. passed_value c.args.depth (token_of k ∷ r)) c.in-Number.is ∙ ap (tokens_behind in_range) (value_is c.args.depth (Token.number c.in-Number.text.now ∷ r)) ∙ ap (λ b. cond b (Some r) None) has
 
 pub pass_from-returns-then-depth-eq0-clause-passed : goal.pass_from-returns-then-depth-eq0-clause-passed
 unfolding value
@@ -110,7 +110,7 @@ pub pass_from-returns-else-depth-eq0-clause-passed : goal.pass_from-returns-else
 pass_from-returns-else-depth-eq0-clause-passed t c =
     let r = c.args.reader.now in
     let same : passed_value c.args.depth (token_of c.args.token ∷ r) ≡ passed_items (c.args.depth - 1) r =
-    ap (λ k. passed_value c.args.depth (token_of k ∷ r)) c.in-BeginArray.is ∙ ap (passed in_range) (value-begin_array c.args.depth r (omega arith)) ∙ passed-array (items (value (c.args.depth - 1)) (length r) r) in
+    ap (λ k. passed_value c.args.depth (token_of k ∷ r)) c.in-BeginArray.is ∙ ap (tokens_behind in_range) (value-begin_array c.args.depth r (omega arith)) ∙ passed-array (items (value (c.args.depth - 1)) (length r) r) in
     rw same c.pass_items.ensures.passed
 
 pub pass_from-returns-then-depth-eq0-2-clause-passed : goal.pass_from-returns-then-depth-eq0-2-clause-passed
@@ -123,7 +123,7 @@ pub pass_from-returns-else-depth-eq0-2-clause-passed : goal.pass_from-returns-el
 pass_from-returns-else-depth-eq0-2-clause-passed t c =
     let r = c.args.reader.now in
     let same : passed_value c.args.depth (token_of c.args.token ∷ r) ≡ passed_members (c.args.depth - 1) r =
-    ap (λ k. passed_value c.args.depth (token_of k ∷ r)) c.in-BeginObject.is ∙ ap (passed in_range) (value-begin_object c.args.depth r (omega arith)) ∙ passed-object (members (value (c.args.depth - 1)) (length r) r) in
+    ap (λ k. passed_value c.args.depth (token_of k ∷ r)) c.in-BeginObject.is ∙ ap (tokens_behind in_range) (value-begin_object c.args.depth r (omega arith)) ∙ passed-object (members (value (c.args.depth - 1)) (length r) r) in
     rw same c.pass_members.ensures.passed
 
 pub pass_from-returns-in-EndObject-clause-passed : goal.pass_from-returns-in-EndObject-clause-passed

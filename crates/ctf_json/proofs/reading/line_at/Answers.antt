@@ -3,7 +3,7 @@ use Rattle.json.specs.Json.{Json, members, value}
 use Rattle.json.specs.Token.{Token}
 use Rattle.json.specs.Reads.{token_of}
 use Rattle.json.proofs.Grammar.{value_is, value-begin_object}
-use Rattle.ctf_json.specs.Passed.{passed, passed_members, passed_value}
+use Rattle.ctf_json.specs.Passed.{tokens_behind, passed_members, passed_value}
 use Rattle.ctf_json.specs.Told.{in_range}
 use Rattle.ctf_json.specs.Kept.{AreKept}
 use Rattle.ctf_json.specs.Values.{IsNew, line_said}
@@ -21,19 +21,19 @@ returns-then-take_object-clause-ok c =
 pub returns-then-take_object-clause-refused : goal.returns-then-take_object-clause-refused
 returns-then-take_object-clause-refused c is =
     let ts = c.take_object.new.self in
-    ap (passed_value 127) c.if-take_object.ensures ∙ ap (passed in_range) (value-begin_object 127 ts (omega arith)) ∙ passed-object (members (value 126) (length ts) ts) ∙ c.members_at.ensures.refused is
+    ap (passed_value 127) c.if-take_object.ensures ∙ ap (tokens_behind in_range) (value-begin_object 127 ts (omega arith)) ∙ passed-object (members (value 126) (length ts) ts) ∙ c.members_at.ensures.refused is
 
 pub returns-in_err-token-clause-refused : goal.returns-in_err-token-clause-refused
 returns-in_err-token-clause-refused c is =
     let empty : c.args.reader.now ≡ [] = grind arith in
-    ap (passed_value 127) empty ∙ ap (passed in_range) (value_is 127 [])
+    ap (passed_value 127) empty ∙ ap (tokens_behind in_range) (value_is 127 [])
 
 pub returns-in_err-members_at-clause-refused : goal.returns-in_err-members_at-clause-refused
 returns-in_err-members_at-clause-refused c is =
     let ts = c.next.new.self in
     let first : c.args.reader.now ≡ token_of c.in_ok-token.token ∷ ts = grind arith in
     let failed : passed_members 126 ts ≡ None = grind arith in
-    ap (passed_value 127) (first ∙ ap (λ k. token_of k ∷ ts) c.in-BeginObject.is) ∙ ap (passed in_range) (value-begin_object 127 ts (omega arith)) ∙ passed-object (members (value 126) (length ts) ts) ∙ failed
+    ap (passed_value 127) (first ∙ ap (λ k. token_of k ∷ ts) c.in-BeginObject.is) ∙ ap (tokens_behind in_range) (value-begin_object 127 ts (omega arith)) ∙ passed-object (members (value 126) (length ts) ts) ∙ failed
 
 pub returns-in-BeginObject-clause-ok : goal.returns-in-BeginObject-clause-ok
 returns-in-BeginObject-clause-ok c =

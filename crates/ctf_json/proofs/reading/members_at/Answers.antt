@@ -3,8 +3,8 @@ use Rattle.json.specs.Json.{member, no_members, object, read_key, members, value
 use Rattle.json.proofs.Grammar.{read_key-shorter, members_end, members_no_key, members_more}
 use Rattle.serde_json.specs.Find.{get}
 use Rattle.ctf_json.specs.Keys.{place_in, wanted_at}
-use Rattle.ctf_json.specs.Kept.{kept}
-use Rattle.ctf_json.specs.Passed.{passed}
+use Rattle.ctf_json.specs.Kept.{kept_data}
+use Rattle.ctf_json.specs.Passed.{tokens_behind}
 use Rattle.ctf_json.specs.Told.{in_range, members_in_range, told}
 use Rattle.ctf_json.specs.Values.{keys, line_said}
 use Rattle.ctf_json.proofs.Fronts.{mapped, none_before, one_member_more, then_last, unmoved}
@@ -26,7 +26,7 @@ returns-in_err-key-clause-refused c is =
     let l = c.loop-key in
     let s = l.invariant in
     let old = c.args.reader.now in
-    refused_behind members_in_range s.2 s.5.good (members p (length old) old) (members p s.0 l.reader) s.4 (ap (passed members_in_range) (members_no_key p s.0 l.reader c.in_err-key.ensures.value))
+    refused_behind members_in_range s.2 s.5.good (members p (length old) old) (members p s.0 l.reader) s.4 (ap (tokens_behind members_in_range) (members_no_key p s.0 l.reader c.in_err-key.ensures.value))
 
 pub returns-in_err-keep_next-clause-refused : goal.returns-in_err-keep_next-clause-refused
 returns-in_err-keep_next-clause-refused c is =
@@ -129,5 +129,5 @@ returns-clause-ok c =
       object ms,
       ap (parse_map object) (s.4 ∙ ap (parse_map s.2) (members_end p s.0 l.reader r s.1 (grind arith))),
       s.5.good no_members,
-      λ new q one. s.8 new q one ∙ ap (option_map (kept (wanted_at q))) (ap (option_map told) (sym (s.5.last q no_members)) ∙ get-told q (object ms)),
+      λ new q one. s.8 new q one ∙ ap (option_map (kept_data (wanted_at q))) (ap (option_map told) (sym (s.5.last q no_members)) ∙ get-told q (object ms)),
     )

@@ -2,7 +2,7 @@ use Rattle.std.proofs.Common.{◌≡◌, ℕ, ◌+◌, sym, ap, ◌∙◌, arith
 use Rattle.std.specs.Prelude.{option_map}
 use Rattle.std.proofs.lemmas.Result.{err_from_is_err_and}
 use Rattle.ctf_check.specs.FactsView.{shape_view}
-use Rattle.ctf_check.specs.TypedView.{spelled}
+use Rattle.ctf_check.specs.TypedView.{term_in}
 use Rattle.ctf_model.specs.figures.Figures.{of_found, resolving}
 use Rattle.ctf_model.specs.spaces.TypePlaces.{place}
 use Rattle.ctf_model.specs.declared.numbers.Place.TheVariants.{Parents}
@@ -36,9 +36,9 @@ returns-in-None c =
     let not_parents : (i : ℕ) → place s.own.child c.loop-step.at.0 ≡ Parents i → ⊥ = λ i at. c.in_default.not-Parents i ((rw c.child.ensures at c.place.ensures) ∙ at) in
     let next = left_found s c.loop-step._step c.loop-step.at.0 (omega arith) (omega arith) not_parents in
     let f = left s.own (c.loop-step._step + 1) in
-    let found = found_shape f c.loop-step.at.0 (spelled c.in_ok-found.found) (shape_view c.shape.result) c.shape.ensures in
+    let found = found_shape f c.loop-step.at.0 (term_in c.in_ok-found.found) (shape_view c.shape.result) c.shape.ensures in
     let here = ap (of_found resolving f c.loop-step.at.0) (sym (rw c.in_ok-found.was at c.term.ensures)) in
-    sym (left_all s.own c.args.number.0 ∙ c.loop-step.invariant ∙ next ∙ here ∙ found ∙ ap (by_renamed f c.loop-step.at.0) (sym c.renamed.ensures ∙ ap (option_map (λ t. t.0)) c.in-None.is))
+    sym (left_all s.own c.args.number.0 ∙ c.loop-step.invariant ∙ next ∙ here ∙ found ∙ ap (by_renamed f c.loop-step.at.0) (sym c.alias_target.ensures ∙ ap (option_map (λ t. t.0)) c.in-None.is))
 
 pub loop-step-preserved : goal.loop-step-preserved
 loop-step-preserved c =
@@ -46,9 +46,9 @@ loop-step-preserved c =
     let not_parents : (i : ℕ) → place s.own.child c.loop-step.at.0 ≡ Parents i → ⊥ = λ i at. c.in_default.not-Parents i ((rw c.child.ensures at c.place.ensures) ∙ at) in
     let next = left_found s c.loop-step._step c.loop-step.at.0 (omega arith) (omega arith) not_parents in
     let f = left s.own (c.loop-step._step + 1) in
-    let found = found_shape f c.loop-step.at.0 (spelled c.in_ok-found.found) (shape_view c.shape.result) c.shape.ensures in
+    let found = found_shape f c.loop-step.at.0 (term_in c.in_ok-found.found) (shape_view c.shape.result) c.shape.ensures in
     let here = ap (of_found resolving f c.loop-step.at.0) (sym (rw c.in_ok-found.was at c.term.ensures)) in
-    c.loop-step.invariant ∙ next ∙ here ∙ found ∙ ap (by_renamed f c.loop-step.at.0) (sym c.renamed.ensures ∙ ap (option_map (λ t. t.0)) c.in-Some.is)
+    c.loop-step.invariant ∙ next ∙ here ∙ found ∙ ap (by_renamed f c.loop-step.at.0) (sym c.alias_target.ensures ∙ ap (option_map (λ t. t.0)) c.in-Some.is)
 
 pub returns : goal.returns
 returns c =

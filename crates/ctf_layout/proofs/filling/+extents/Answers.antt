@@ -1,9 +1,9 @@
-use Rattle.std.proofs.Common.{◌≡◌, ◌≤◌, ◌+◌, ap, sym, refl, ◌∙◌, arith}
+use Rattle.std.proofs.Common.{◌≡◌, ℕ, ◌≤◌, ◌+◌, ap, sym, subst, refl, ◌∙◌, arith}
 use Rattle.std.specs.Prelude.{slice_index_or, None, Ok, slice_index}
-use Rattle.ctf_layout.specs.Bases.{members_read, row_target}
-use Rattle.ctf_layout.specs.Extents.{IsExtent, amount, target}
+use Rattle.ctf_layout.specs.Bases.{IsByOne, members_read}
+use Rattle.ctf_layout.specs.Extents.{amount}
 use Rattle.std.proofs.lemmas.List.{length-map}
-use Rattle.ctf_layout.specs.Kept.{extent_kept, table_kept}
+use Rattle.ctf_layout.specs.Kept.{IsByKept, IsKept, extent_kept, table_kept}
 use Rattle.ctf_layout.specs.Table.{IsUnderway}
 use Rattle.ctf_layout.specs.declared.bases.Basis.TheVariants.{Itself, One, Members}
 use Rattle.ctf_layout.specs.declared.extents.Amount.TheVariants.{Known}
@@ -13,14 +13,16 @@ use Rattle.ctf_model.specs.spaces.TypePlaces.{own_number}
 use Rattle.ctf_model.specs.rules.Chains.{by_value}
 use Rattle.ctf_model.specs.figures.FigureLaws.{own_body, value_edges}
 use Rattle.ctf_model.specs.figures.Figures.{align}
-use Rattle.ctf_layout.proofs.HangsOn.{IsByOne, IsOwnAt, basis_read, itself_extent, one_extent, members_extent, greatest_step}
+use Rattle.ctf_layout.proofs.HangsOn.{IsOwnAt, basis_read, itself_extent, one_extent, members_extent, greatest_step}
 use Rattle.ctf_layout.proofs.Leading.{leads_within, one_found, step_found}
-use Rattle.ctf_layout.proofs.Visits.{none_from, visited_before, begun, more_steps, visited_one, visited, at_number}
+use Rattle.ctf_layout.proofs.Visits.{visited_before, begun, more_steps, visited_one, visited, kept_at_number}
 use Rattle.ctf_layout.proofs.filling.+extents.Goals as goal
 use Rattle.ctf_layout.proofs.filling.+extents.Goals.{visit-in-Some, visit-in-None, visit-in-Some-own_index, visit-in-None-own_index}
 
-pub extent-returns-in-Some : goal.extent-returns-in-Some
-extent-returns-in-Some g t c = visited_before (g.T.Types.space c.args.types.now) c.args.i (table_kept c.args.table.now) c.args.work.now c.in-Some.extent c.requires.knows (c.found.ensures ∙ c.in-Some.is)
+pub extent-returns-in-Some-clause-filled : goal.extent-returns-in-Some-clause-filled
+extent-returns-in-Some-clause-filled g t c =
+    visited_before (g.T.Types.space c.args.types.now) c.args.i (table_kept c.args.table.now) c.args.work.now c.requires.knows
+    (rw c.in-Some.ensures.0 c.in-Some.ensures.1)
 
 -- ---- nothing else
 
@@ -32,7 +34,7 @@ visit-returns-in-Itself g t c =
     let e : Extent = record { size = c.in-Itself.size; align = c.in-Itself.align; target = stands_for.Known c.number.result } in
     let none : slice_index_or (table_kept c.args.table.now) c.args.i None ≡ None = c.requires.open in
     let cost : c.args.work.now + 1 ≡ c.args.work.now + (1 + members_read (own_body s.own c.args.i)) = rw b.0 refl in
-    rw (c.keep.ensures.same, c.keep.ensures.kept, c.of_itself.ensures)
+    rw (c.keep.ensures, c.kept_itself.ensures)
     (visited s c.args.budget c.args.i (table_kept c.args.table.now) (table_kept c.args.table.now) c.args.work.now (c.args.work.now + 1) c.basis.new.work e
     c.requires.within c.requires.own (omega (arith, length-map c.args.table.now extent_kept)) none cost (itself_extent s c.args.budget c.args.i e at b (ap Ok c.number.ensures))
     (begun s c.args.i (table_kept c.args.table.now) (c.args.work.now + 1) c.basis.new.work c.requires.knows c.basis.ensures.tick))
@@ -63,18 +65,20 @@ visit-returns-after-own_index g t c =
     let none : slice_index_or (table_kept c.args.table.now) c.args.i None ≡ None = c.requires.open in
     let cost : c.args.work.now + 1 ≡ c.args.work.now + (1 + members_read (own_body s.own c.args.i)) = rw b.0 refl in
     let start : IsUnderway s c.args.i (table_kept c.args.table.now) (table_kept c.args.table.now) (c.args.work.now + 1) c.basis.new.work = begun s c.args.i (table_kept c.args.table.now) (c.args.work.now + 1) c.basis.new.work c.requires.knows c.basis.ensures.tick in
-    let both : IsExtent s c.in-One.number.0 c.match-own_index.one × IsUnderway s c.args.i (table_kept c.args.table.now) (table_kept c.match-own_index.table) (c.args.work.now + 1) c.match-own_index.work = elim c.match-own_index.branch [
+    let both : IsKept s c.in-One.number.0 c.match-own_index.one × IsUnderway s c.args.i (table_kept c.args.table.now) (table_kept c.match-own_index.table) (c.args.work.now + 1) c.match-own_index.work = elim c.match-own_index.branch [
       | visit-in-Some w ↦
           let found = one_found s.own c.args.i c.in-One.number.0 w.in-Some.j b.1 (sym w.in-Some.is ∙ c.own_index.ensures) in (
-            rw w.one-is (at_number s c.in-One.number.0 w.in-Some.j w.extent-one.result found.2 w.extent-one.ensures.right),
-            rw (w.table-is, w.work-is) (visited_one s c.args.i w.in-Some.j (table_kept c.args.table.now) (table_kept c.args.table.now) (table_kept w.extent-one.new.table) (c.args.work.now + 1) c.basis.new.work w.extent-one.new.work w.extent-one.result start found.0 w.extent-one.ensures),
+            rw w.one-is (kept_at_number s c.in-One.number.0 w.in-Some.j (table_kept c.args.table.now) (table_kept w.extent-one.new.table) c.basis.new.work w.extent-one.new.work w.extent-one.result found.2 w.extent-one.ensures.filled w.extent-one.ensures.kept),
+            rw (w.table-is, w.work-is) (visited_one s c.args.i w.in-Some.j (table_kept c.args.table.now) (table_kept c.args.table.now) (table_kept w.extent-one.new.table) (c.args.work.now + 1) c.basis.new.work w.extent-one.new.work start found.0 w.extent-one.ensures.filled),
           )
-      | visit-in-None w ↦ (rw w.one-is w.elsewhere-one.ensures, rw (w.table-is, w.work-is) start)
+      | visit-in-None w ↦ (rw w.one-is w.kept_elsewhere-one.ensures, rw (w.table-is, w.work-is) start)
     ] in
-    let by : IsByOne (own_number s.own.child c.args.i) c.in-One.row c.match-own_index.one c.by_one.result = record { size = c.by_one.ensures.size; align = c.by_one.ensures.align; target = c.by_one.ensures.target ∙ ap (row_target c.in-One.row (target c.match-own_index.one.target)) c.number-in-One.ensures } in
-    rw (c.keep-in-One.ensures.same, c.keep-in-One.ensures.kept)
-    (visited s c.args.budget c.args.i (table_kept c.args.table.now) (table_kept c.match-own_index.table) c.args.work.now (c.args.work.now + 1) c.match-own_index.work c.by_one.result
-    c.requires.within c.requires.own (omega (arith, length-map c.match-own_index.table extent_kept)) none cost (one_extent s c.args.budget c.args.i c.in-One.number c.in-One.row c.match-own_index.one c.by_one.result at b both.0 by) both.1)
+    let is : IsByKept c.number-in-One.result.0 c.in-One.row both.0.extent c.kept_by_one.result = c.kept_by_one.ensures both.0.extent both.0.kept in
+    let P : ℕ → Type 0 = λ n. IsByOne n c.in-One.row both.0.extent is.extent in
+    let by : IsByOne (own_number s.own.child c.args.i) c.in-One.row both.0.extent is.extent = subst P c.number-in-One.ensures is.by in
+    rw (c.keep-in-One.ensures, is.kept)
+    (visited s c.args.budget c.args.i (table_kept c.args.table.now) (table_kept c.match-own_index.table) c.args.work.now (c.args.work.now + 1) c.match-own_index.work is.extent
+    c.requires.within c.requires.own (omega (arith, length-map c.match-own_index.table extent_kept)) none cost (one_extent s c.args.budget c.args.i c.in-One.number c.in-One.row both.0.extent is.extent at b both.0.right by) both.1)
 
 -- ---- members
 
@@ -120,16 +124,16 @@ visit-loop-k-preserved g t c =
     let inside = b.1 in
     let start : IsUnderway s c.args.i (table_kept c.args.table.now) (table_kept c.loop-k.table) (from + 1) c.member_type-number.new.work =
     more_steps s c.args.i (table_kept c.args.table.now) (table_kept c.loop-k.table) from c.loop-k.work c.member_type-number.new.work c.loop-k.invariant.underway c.member_type-number.ensures.tick in
-    let both : IsExtent s number c.match-own_index-2.member × IsUnderway s c.args.i (table_kept c.args.table.now) (table_kept c.match-own_index-2.table) (from + 1) c.match-own_index-2.work = elim c.match-own_index-2.branch [
+    let both : IsKept s number c.match-own_index-2.member × IsUnderway s c.args.i (table_kept c.args.table.now) (table_kept c.match-own_index-2.table) (from + 1) c.match-own_index-2.work = elim c.match-own_index-2.branch [
       | visit-in-Some-own_index w ↦
           let found = step_found s.own c.args.i c.loop-k.k number w.in-Some-own_index.j (omega arith) c.member_type-number.ensures.named (sym w.in-Some-own_index.is ∙ c.own_index-in-loop-k.ensures) in (
-            rw w.member-is (at_number s number w.in-Some-own_index.j w.extent-member.result found.2 w.extent-member.ensures.right),
-            rw (w.table-is, w.work-is) (visited_one s c.args.i w.in-Some-own_index.j (table_kept c.args.table.now) (table_kept c.loop-k.table) (table_kept w.extent-member.new.table) (from + 1) c.member_type-number.new.work w.extent-member.new.work w.extent-member.result start found.0 w.extent-member.ensures),
+            rw w.member-is (kept_at_number s number w.in-Some-own_index.j (table_kept c.loop-k.table) (table_kept w.extent-member.new.table) c.member_type-number.new.work w.extent-member.new.work w.extent-member.result found.2 w.extent-member.ensures.filled w.extent-member.ensures.kept),
+            rw (w.table-is, w.work-is) (visited_one s c.args.i w.in-Some-own_index.j (table_kept c.args.table.now) (table_kept c.loop-k.table) (table_kept w.extent-member.new.table) (from + 1) c.member_type-number.new.work w.extent-member.new.work start found.0 w.extent-member.ensures.filled),
           )
-      | visit-in-None-own_index w ↦ (rw w.member-is w.elsewhere-member.ensures, rw (w.table-is, w.work-is) start)
+      | visit-in-None-own_index w ↦ (rw w.member-is w.kept_elsewhere-member.ensures, rw (w.table-is, w.work-is) start)
     ] in
     let same : from + 1 ≡ c.args.work.now + 1 + (c.loop-k.k + 1) = omega arith in
-    let aligned : amount c.match-own_index-2.member.align ≡ align s (slice_index (by_value (own_body s.own c.args.i)) c.loop-k.k) = both.0.aligned ∙ ap (align s) c.member_type-number.ensures.named in
+    let aligned : amount c.alignment.result ≡ align s (slice_index (by_value (own_body s.own c.args.i)) c.loop-k.k) = ap amount (c.alignment.ensures both.0.extent both.0.kept) ∙ both.0.right.aligned ∙ ap (align s) c.member_type-number.ensures.named in
     record {
       greatest = c.greater-align.ensures ∙ rw (c.loop-k.invariant.greatest, aligned) (sym (greatest_step (align s) (by_value (own_body s.own c.args.i)) c.loop-k.k (omega arith)));
       underway = rw (sym same) both.1;
@@ -144,6 +148,6 @@ visit-returns-after-loop-k g t c =
     let end : c.loop-k.k ≡ c.in-Members.read = omega arith in
     let cost : c.args.work.now + 1 + c.loop-k.k ≡ c.args.work.now + (1 + members_read (own_body s.own c.args.i)) = rw (b.0, end) (omega arith) in
     let e : Extent = record { size = Known c.in-Members.size; align = c.loop-k.align; target = stands_for.Known c.number-in-Members.result } in
-    rw (c.keep-in-Members.ensures.same, c.keep-in-Members.ensures.kept, c.of_itself-in-Members.ensures)
+    rw (c.keep-in-Members.ensures, c.kept_itself-in-Members.ensures)
     (visited s c.args.budget c.args.i (table_kept c.args.table.now) (table_kept c.loop-k.table) c.args.work.now (c.args.work.now + 1 + c.loop-k.k) c.loop-k.work e
     c.requires.within c.requires.own (omega (arith, length-map c.loop-k.table extent_kept)) none cost (members_extent s c.args.budget c.args.i c.in-Members.size c.in-Members.read c.loop-k.align (stands_for.Known c.number-in-Members.result) at b (rw (sym end) c.loop-k.invariant.greatest) (ap Ok c.number-in-Members.ensures)) c.loop-k.invariant.underway)

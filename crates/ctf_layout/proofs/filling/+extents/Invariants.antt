@@ -9,10 +9,13 @@ use Rattle.ctf_model.specs.figures.Figures.{align}
 use Rattle.ctf_layout.proofs.filling.+extents.Given as goal
 
 abbrev pub decreases-extent : goal.decreases-extent
-decreases-extent g l = 2 * l.budget + 1
+decreases-extent g l = 3 * l.budget + 2
 
 abbrev pub decreases-visit : goal.decreases-visit
-decreases-visit g l = 2 * l.budget
+decreases-visit g l = 3 * l.budget
+
+abbrev pub decreases-visit_below : goal.decreases-visit_below
+decreases-visit_below g l = 3 * l.budget + 1
 
 abbrev pub invariant-visit-loop-k : goal.invariant-visit-loop-k
 invariant-visit-loop-k g l = record {

@@ -3,7 +3,7 @@ use Rattle.std.specs.Prelude.{option_map}
 use Rattle.std.proofs.lemmas.Grind.{common_steps}
 use Rattle.std.proofs.lemmas.Result.{err_from_is_err_and}
 use Rattle.ctf_check.specs.FactsView.{shape_view}
-use Rattle.ctf_check.specs.TypedView.{spelled}
+use Rattle.ctf_check.specs.TypedView.{term_in}
 use Rattle.ctf_model.specs.names.TypeNames.{declaration_of, declaration_within, longest_text}
 use Rattle.ctf_records.specs.RecordView.{tag_of}
 use Rattle.ctf_space.specs.SpaceView.{space_of}
@@ -27,7 +27,7 @@ pub returns-in-Name-clause-ok : goal.returns-in-Name-clause-ok
 returns-in-Name-clause-ok c =
     let s = space_of c.args.space.now in
     let f = declaration_within s (longest_text - (c.loop-step._step + 1)) in
-    let found = name_found f (spelled c.in_ok-found.found) (shape_view c.shape.result) (option_map tag_of c.in-Name.tag) c.name.result.now c.shape.ensures c.name.ensures (sym (rw c.in-Name.is at c.found_inside.ensures)) in
+    let found = name_found f (term_in c.in_ok-found.found) (shape_view c.shape.result) (option_map tag_of c.in-Name.tag) c.name.result.now c.shape.ensures c.name.ensures (sym (rw c.in-Name.is at c.found_inside.ensures)) in
     let here = at_type s (longest_text - c.loop-step._step) (longest_text - (c.loop-step._step + 1)) c.loop-step.at.0 (omega arith) c.if-at-eq0.false ∙ ap (declaration_of f) (sym (rw c.in_ok-found.was at c.term.ensures)) ∙ found in
     rw c.or_anon-name.ensures (ended _ _ c.loop-step.layers.items _ c.loop-step.invariant.unrolled here)
 
@@ -36,7 +36,7 @@ loop-step-preserved c = record {
   unrolled =
       let s = space_of c.args.space.now in
       let f = declaration_within s (longest_text - (c.loop-step._step + 1)) in
-      let found = layer_found f (spelled c.in_ok-found.found) (shape_view c.shape.result) c.in-Layer.layer c.in-Layer.next.0 c.shape.ensures (sym (rw c.in-Layer.is at c.found_inside.ensures)) in
+      let found = layer_found f (term_in c.in_ok-found.found) (shape_view c.shape.result) c.in-Layer.layer c.in-Layer.next.0 c.shape.ensures (sym (rw c.in-Layer.is at c.found_inside.ensures)) in
       let here = at_type s (longest_text - c.loop-step._step) (longest_text - (c.loop-step._step + 1)) c.loop-step.at.0 (omega arith) c.if-at-eq0.false ∙ ap (declaration_of f) (sym (rw c.in_ok-found.was at c.term.ensures)) ∙ found in
       goes_on _ _ _ c.loop-step.layers.items _ c.in-Layer.layer c.loop-step.invariant.unrolled here (rw (c.is_err.ensures.negation, c.if-is_err.false) at c.push.ensures.items);
   few = grind (arith, common_steps);

@@ -2,7 +2,7 @@ use Rattle.std.proofs.Common.{◌≡◌, ◌^◌, ◌*◌, ◌+◌, ◌-◌, map
 use Rattle.std.proofs.lemmas.Bool.{ne_eqb}
 use Rattle.std.proofs.lemmas.Result.{err_from_is_err_and}
 use Rattle.ctf_model.specs.figures.Figures.{size as size_of}
-use Rattle.ctf_model.specs.values.Pieces.{piece, separated}
+use Rattle.ctf_model.specs.values.Pieces.{piece, separate}
 use Rattle.ctf_model.specs.values.Values.{each_element, elements_shown, label, member_shown}
 use Rattle.ctf_print.specs.ImageView.{memory_of, shows, types_of}
 use Rattle.ctf_print.specs.Written.{written}
@@ -161,10 +161,10 @@ show_members-returns-in_err-show_each_member-clause-err t c =
 
 pub show_members-returns-clause-ok : goal.show_members-returns-clause-ok
 show_members-returns-clause-ok t c =
-    let all = two_ok c.args.pen.now.out c.args.pen.now.out _ (piece (codes "{")) (separated (map (member_shown (shows c.args.image.now c.args.nesting) c.args.at) c.args.members.now)) (piece (codes "}")) refl c.put_short.new.self.out c.in_ok-put_short.ensures.ok c.show_each_member.new.pen.out c.in_ok-show_each_member.ensures.ok in
+    let all = two_ok c.args.pen.now.out c.args.pen.now.out _ (piece (codes "{")) (separate (map (member_shown (shows c.args.image.now c.args.nesting) c.args.at) c.args.members.now)) (piece (codes "}")) refl c.put_short.new.self.out c.in_ok-put_short.ensures.ok c.show_each_member.new.pen.out c.in_ok-show_each_member.ensures.ok in
     rw all c.put_short-2.ensures.ok
 
 pub show_members-returns-clause-err : goal.show_members-returns-clause-err
 show_members-returns-clause-err t c =
-    let all = two_ok c.args.pen.now.out c.args.pen.now.out _ (piece (codes "{")) (separated (map (member_shown (shows c.args.image.now c.args.nesting) c.args.at) c.args.members.now)) (piece (codes "}")) refl c.put_short.new.self.out c.in_ok-put_short.ensures.ok c.show_each_member.new.pen.out c.in_ok-show_each_member.ensures.ok in
+    let all = two_ok c.args.pen.now.out c.args.pen.now.out _ (piece (codes "{")) (separate (map (member_shown (shows c.args.image.now c.args.nesting) c.args.at) c.args.members.now)) (piece (codes "}")) refl c.put_short.new.self.out c.in_ok-put_short.ensures.ok c.show_each_member.new.pen.out c.in_ok-show_each_member.ensures.ok in
     later_ended c.put_short-2.result _ _ _ _ _ all c.put_short-2.ensures.err

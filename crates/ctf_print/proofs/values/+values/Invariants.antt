@@ -1,6 +1,6 @@
 use Rattle.std.proofs.Common.{◌≡◌, ◌^◌, ◌*◌, ◌+◌, ◌-◌, min, drop, length, map}
 use Rattle.ctf_model.specs.figures.Figures.{size as size_of}
-use Rattle.ctf_model.specs.values.Pieces.{separated}
+use Rattle.ctf_model.specs.values.Pieces.{separate}
 use Rattle.ctf_model.specs.values.Values.{each_element, elements_shown, member_shown}
 use Rattle.ctf_print.specs.ImageView.{shows, types_of}
 use Rattle.ctf_print.specs.Written.{separated_from, written}
@@ -40,7 +40,7 @@ invariant-show_elements-loop-i l = record {
 
 abbrev pub invariant-show_each_member-loop-i : goal.invariant-show_each_member-loop-i
 invariant-show_each_member-loop-i l = record {
-  rest : written l.fn.pen.out (separated (map (member_shown (shows l.image l.nesting) l.at) l.members))
+  rest : written l.fn.pen.out (separate (map (member_shown (shows l.image l.nesting) l.at) l.members))
       ≡ written l.pen.out (separated_from l.i (drop l.i (map (member_shown (shows l.image l.nesting) l.at) l.members)));
   known : l.pen.known ≡ l.fn.pen.known;
 }

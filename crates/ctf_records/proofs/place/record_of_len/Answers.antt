@@ -8,7 +8,7 @@ split_at-requires c =
     let range = front_len_range (drop c.args.at c.args.types.now) c.args.len c.requires in
     omega (arith, range.0, range.1, length-drop c.args.at c.args.types.now)
 
-pub taken-requires-clause-near : goal.taken-requires-clause-near
-taken-requires-clause-near c =
+pub take_record-requires-clause-near : goal.take_record-requires-clause-near
+take_record-requires-clause-near c =
     let range = front_len_range (drop c.args.at c.args.types.now) c.args.len c.requires in
     omega (arith, range.0, range.1, length-drop c.args.at c.args.types.now)

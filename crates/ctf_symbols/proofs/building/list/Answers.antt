@@ -1,7 +1,7 @@
 use Rattle.std.proofs.Common.{rules, ◌+◌, ◌≤◌, ◌^◌, refl, ap, arith, length}
 use Rattle.std.proofs.lemmas.List.{length-drop}
 use Rattle.ctf_model.specs.symbols.Entries.{entry_len}
-use Rattle.ctf_model.specs.symbols.Symbols.{considered, symbols_of}
+use Rattle.ctf_model.specs.symbols.Symbols.{with_types, symbols_of}
 use Rattle.ctf_entries.proofs.Considering.{considered_end, considered_less, considered_more}
 use Rattle.ctf_entries.specs.NamesView.{strings_of}
 use Rattle.ctf_entries.specs.SymbolView.{symbol}
@@ -21,7 +21,7 @@ symbols-preserved c =
     let x = symbol c.read-symbol.result in
     let b = c.symbols.rest.now in
     let behind = c.behind_symbol-rest.result.now in
-    let all = considered (symbols_of strs c.args.sym.now) in
+    let all = with_types (symbols_of strs c.args.sym.now) in
     let left : n + 1 + length behind ≤ 2 ^ 63 = omega (arith, ap length c.behind_symbol-rest.ensures, length-drop 24 b, c.symbols.invariant.2, c.symbols-test.true) in
     elim c.if-not-is_considered.branch [
       | then-not-is_considered+in_ok-push w ↦ (
@@ -53,4 +53,4 @@ returns-clause-lefts c = at_end (strings_of c.args.names) _ _ c.symbols.number _
 pub returns-clause-items : goal.returns-clause-items
 returns-clause-items c =
     let strs = strings_of c.args.names in
-    all_there (program_names strs) called_symbol (considered (symbols_of strs c.args.sym.now)) _ _ (considered_end strs c.symbols.number c.symbols.rest.now c.symbols-test.false) c.symbols.invariant.1
+    all_there (program_names strs) called_symbol (with_types (symbols_of strs c.args.sym.now)) _ _ (considered_end strs c.symbols.number c.symbols.rest.now c.symbols-test.false) c.symbols.invariant.1

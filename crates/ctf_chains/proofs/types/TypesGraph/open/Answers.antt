@@ -1,4 +1,4 @@
-use Rattle.std.proofs.Common.{ℕ, List, length, map, sym, ap, ◌∙◌, arith}
+use Rattle.std.proofs.Common.{length, map, sym, ap, ◌∙◌, arith}
 use Rattle.ctf_model.specs.format.Section.{records}
 use Rattle.ctf_model.specs.rules.Chains.{own_index}
 use Rattle.ctf_records.specs.RecordView.{piece}

@@ -8,4 +8,4 @@ pub returns : goal.returns
 returns c =
     let d = c.args.self.now in
     let x = numbered_spelled (tables_of d) _ _ (piece c.args.term.now) (all_spelled (lists_of d) d.faultless) c.requires.own in
-    rw (c.named.ensures, c.name_ref.ensures, x.says, x.named) refl
+    rw (c.name_at.ensures, c.name_ref.ensures, x.says, x.named) refl

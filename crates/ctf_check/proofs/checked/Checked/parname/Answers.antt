@@ -5,4 +5,4 @@ use Rattle.ctf_check.proofs.checked.Checked.parname.Goals as goal
 
 pub returns : goal.returns
 unfolding said_by
-returns c = rw (c.header.ensures) at (c.named.ensures ∙ ap (text_or_empty (tables_of c.args.self.now)) c.parname.ensures)
+returns c = rw (c.header.ensures) at (c.name_at.ensures ∙ ap (text_or_empty (tables_of c.args.self.now)) c.parname.ensures)

@@ -5,7 +5,7 @@ use Rattle.std.specs.Prelude.{max}
 use Rattle.ctf_chains.specs.Places.{steps_between}
 use Rattle.ctf_chains.proofs.Depths.{none_yet}
 use Rattle.ctf_model.specs.rules.Chains.{by_value}
-use Rattle.ctf_model.specs.drafts.Drafts.{count_of, held, space_of}
+use Rattle.ctf_model.specs.drafts.Drafts.{count_of, content, space_of}
 use Rattle.ctf_model.specs.figures.FigureLaws.{own_body}
 use Rattle.ctf_model.specs.figures.Figures.{align}
 use Rattle.ctf_draft.specs.Reaching.{IsKnown, IsKnownAt, IsReach, Knows, value_places}
@@ -23,13 +23,13 @@ returns-in-Some-clause-answer t c =
 pub loop-k-init : goal.loop-k-init
 loop-k-init t c =
     let d = c.args.self.now.draft in
-    let body = own_body (held d) c.args.i in
+    let body = own_body (content d) c.args.i in
     record {
       room = c.requires.room;
       knows = c.requires.knows;
       grows = λ j k. k;
       below = tt;
-      longest = none_yet (steps_between (value_places (held d)));
+      longest = none_yet (steps_between (value_places (content d)));
       affordable = omega arith;
       aligned =
           base_is d c.args.i (body_of c.own_body-body.result.now) c.own_body-body.ensures c.self.inside.model c.own_align-align.result (ap (λ o. o.draft.model) c.self.view_is) c.own_align-align.ensures
@@ -46,7 +46,7 @@ returns-clause-knows t c =
     let d = c.args.self.now.draft in
     let end = read_count d c.args.i (body_of c.own_body-body.result.now) c.own_body-body.ensures c.value_count-k-end.result c.value_count-k-end.ensures in
     let is : IsReach d c.args.i (record { depth = c.loop-k.depth; align = c.loop-k.align }) = reach_is d c.args.i c.loop-k.k c.loop-k.depth c.loop-k.align (record { depth = c.loop-k.depth; align = c.loop-k.align }) c.requires.own (omega (arith, c.loop-k.invariant.affordable)) (omega (arith, end)) c.loop-k.invariant.longest c.loop-k.invariant.aligned refl refl in
-    let body = own_body (held d) c.args.i in
+    let body = own_body (content d) c.args.i in
     let below = subst (AllByRecursion (IsKnownAt d c.loop-k.marks)) (take_all c.loop-k.k (by_value body) (omega (arith, end))) c.loop-k.invariant.below in
     rw c.set.ensures (one_kept d c.loop-k.marks c.args.i (record { depth = c.loop-k.depth; align = c.loop-k.align }) (omega (arith, c.requires.own, c.loop-k.invariant.room)) c.loop-k.invariant.knows is below)
 
@@ -126,7 +126,7 @@ loop-k-preserved t c =
             room = rw w.marks-is room;
             knows = rw w.marks-is knows;
             grows = rw w.marks-is (λ k h. grows k (c.loop-k.invariant.grows k h));
-            below = rw w.marks-is (below_named d c.args.i (body_of c.own_body-body.result.now) c.own_body-body.ensures c.loop-k.k c.value_type-number.result.0 lt c.value_type-number.ensures c.own_index.result c.own_index.ensures j marks w.in-Some-own_index.is known (below_grows d c.loop-k.marks marks grows (take c.loop-k.k (by_value (own_body (held d) c.args.i))) c.loop-k.invariant.below));
+            below = rw w.marks-is (below_named d c.args.i (body_of c.own_body-body.result.now) c.own_body-body.ensures c.loop-k.k c.value_type-number.result.0 lt c.value_type-number.ensures c.own_index.result c.own_index.ensures j marks w.in-Some-own_index.is known (below_grows d c.loop-k.marks marks grows (take c.loop-k.k (by_value (own_body (content d) c.args.i))) c.loop-k.invariant.below));
             longest = longer_by d c.args.i (body_of c.own_body-body.result.now) c.own_body-body.ensures c.loop-k.k c.value_type-number.result.0 lt c.value_type-number.ensures c.own_index.result c.own_index.ensures c.loop-k.depth c.longer-depth.result j found w.in-Some-own_index.is is deeper c.loop-k.invariant.longest;
             affordable = omega (arith, short, deeper, c.loop-k.invariant.affordable);
             aligned = aligned_more d c.args.i (body_of c.own_body-body.result.now) c.own_body-body.ensures c.loop-k.k c.value_type-number.result.0 lt c.value_type-number.ensures c.own_index.result c.own_index.ensures c.loop-k.align c.match-own_index.below.align c.beside-align.result c.aligned_by-counting.result c.aligned_by-counting.ensures c.loop-k.invariant.aligned

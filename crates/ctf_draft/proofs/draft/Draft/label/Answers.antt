@@ -7,7 +7,7 @@ use Rattle.ctf_model.specs.format.Dictionary.{Label}
 use Rattle.ctf_model.specs.drafts.DraftLaws.{IsSound}
 use Rattle.ctf_model.proofs.SoundDrafts.{label_sound}
 use Rattle.ctf_draft.specs.ParentView.{parent_in}
-use Rattle.ctf_model.specs.drafts.Drafts.{Draft, has_zero, held}
+use Rattle.ctf_model.specs.drafts.Drafts.{Draft, has_zero, content}
 use Rattle.ctf_draft.specs.TypeView.{type_of}
 use Rattle.ctf_draft.proofs.Known.{terms_known}
 use Rattle.ctf_draft.proofs.Holding.{terms_bounded}
@@ -28,7 +28,7 @@ accepted c =
     let zeros : has_zero c.args.name ≡ c.has_zero.result = sym (c.has_zero.ensures ∙ ap has_zero c.as_slice.ensures) in
     let names : list_any (bytes_eq c.args.name) (map (λ l. l.name) d.labels) ≡ c.has.result = sym (c.has.ensures ∙ ap (λ (n : List ℕ). list_any (bytes_eq n) (map (λ l. l.name) d.labels)) c.as_slice-2.ensures) in
     let one = one_label d.parname d.parlabel parent d.model d.updated d.updated_labels terms d.labels l (omega arith) in
-    label_accepted c.args.self.now.draft l (label_free c.args.name c.args.self.now.draft d.labels (ap (λ (e : Draft). (held e).labels) (sym view) ∙ all_labels d.parname d.parlabel parent d.model d.updated d.updated_labels terms d.labels) (zeros ∙ c.if-has_zero.false) (names ∙ c.if-has.false))
+    label_accepted c.args.self.now.draft l (label_free c.args.name c.args.self.now.draft d.labels (ap (λ (e : Draft). (content e).labels) (sym view) ∙ all_labels d.parname d.parlabel parent d.model d.updated d.updated_labels terms d.labels) (zeros ∙ c.if-has_zero.false) (names ∙ c.if-has.false))
     ∙ labelled c.args.self.now.draft (seen d.parname d.parlabel parent d.model d.updated d.updated_labels terms d.labels) l (seen d.parname d.parlabel parent d.model d.updated d.updated_labels terms c.push.new.self) (sym view) (one ∙ ap (λ (ls : List Label). seen d.parname d.parlabel parent d.model d.updated d.updated_labels terms ls) (sym all))
 
 pub returns-clause-ok : goal.returns-clause-ok

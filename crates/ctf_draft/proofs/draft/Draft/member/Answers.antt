@@ -1,6 +1,6 @@
 use Rattle.std.proofs.Common.{◌≡◌, List, ℕ, Result, Ok, ap, sym, subst, ◌∙◌, inr}
 use Rattle.std.proofs.lemmas.Result.{err_from_is_err_and}
-use Rattle.ctf_model.specs.drafts.Adders.{Added, body_at, replaced, with_member}
+use Rattle.ctf_model.specs.drafts.Adders.{Added, body_at, replace_body, with_member}
 use Rattle.ctf_model.specs.drafts.DraftLaws.{IsSound}
 use Rattle.ctf_model.specs.drafts.Drafts.{Draft}
 use Rattle.ctf_model.specs.declared.faults.Fault.{Fault}
@@ -28,7 +28,7 @@ returns-clause-ok c =
     let p = c.in_ok-plan.plan in
     let body = with_member (record { name = c.args.name; tnum = c.args.tnum.0; offset = p.offset }) p.size in
     let same = ap (λ o. o.draft) c.plan.ensures.same in
-    let after : replaced d n (body (body_at d n)) ≡ c.put_member.new.self.draft = sym (c.in_ok-put_member.ensures.ok ∙ ap (λ (e : Draft). replaced e n (body (body_at e n))) same) in
+    let after : replace_body d n (body (body_at d n)) ≡ c.put_member.new.self.draft = sym (c.in_ok-put_member.ensures.ok ∙ ap (λ (e : Draft). replace_body e n (body (body_at e n))) same) in
     member_accepted d n c.args.name c.args.tnum.0 c.args.offset p (ap (λ (name : List ℕ). against_name d n name c.args.tnum.0) (sym c.as_slice.ensures) ∙ c.in_ok-i.ensures.ok) c.in_ok-plan.ensures.ok
     ∙ ap (λ (e : Draft). let r : Result Added Fault = Ok (record { draft = e; answer = p.offset }) in r) after
 
@@ -39,5 +39,5 @@ put_member-requires-clause-sound c =
     let p = c.in_ok-plan.plan in
     let body = with_member (record { name = c.args.name; tnum = c.args.tnum.0; offset = p.offset }) p.size in
     let same = ap (λ o. o.draft) c.plan.ensures.same in
-    subst (λ (e : Draft). IsSound e → IsSound (replaced e n (body (body_at e n)))) (sym same)
+    subst (λ (e : Draft). IsSound e → IsSound (replace_body e n (body (body_at e n)))) (sym same)
     (λ ok. planned_sound d n c.args.name c.args.tnum.0 c.args.offset p ok (ap (λ (name : List ℕ). against_name d n name c.args.tnum.0) (sym c.as_slice.ensures) ∙ c.in_ok-i.ensures.ok) c.in_ok-plan.ensures.ok)

@@ -1,7 +1,7 @@
 use Rattle.std.proofs.Common.{◌≡◌, true, false, List, ℕ, Result, Ok, ap, sym, subst, ◌∙◌, inr}
 use Rattle.std.specs.List.{list_any}
 use Rattle.std.proofs.lemmas.Result.{err_from_is_err_and, on_ok_weaker}
-use Rattle.ctf_model.specs.drafts.Adders.{body_at, present_members, replaced, with_member}
+use Rattle.ctf_model.specs.drafts.Adders.{body_at, present_members, replace_body, with_member}
 use Rattle.ctf_model.specs.drafts.DraftLaws.{IsSound}
 use Rattle.ctf_model.specs.drafts.Drafts.{Draft}
 use Rattle.ctf_model.specs.declared.faults.Fault.{Fault}
@@ -58,7 +58,7 @@ put_member-requires-clause-sound c =
     let same = ap (λ o. o.draft) c.is_deep.ensures.same in
     let inside : list_any (begins_behind size) (present_members d n) ≡ false = ap (λ (e : Draft). list_any (begins_behind size) (present_members e n)) (sym same) ∙ sym c.leaves_behind.ensures ∙ c.if-leaves_behind.false in
     let own : begins_behind size m ≡ false = sym c.is_behind.ensures.behind ∙ c.if-is_behind.false in
-    subst (λ (e : Draft). IsSound e → IsSound (replaced e n (with_member m size (body_at e n)))) (sym same)
+    subst (λ (e : Draft). IsSound e → IsSound (replace_body e n (with_member m size (body_at e n)))) (sym same)
     (λ ok. stated_sound d n m size ok none c.is_behind.ensures.place_fits c.is_behind.ensures.size_fits inside own)
 
 pub returns-clause-ok : goal.returns-clause-ok
@@ -74,5 +74,5 @@ returns-clause-ok c =
     let own : begins_behind size m ≡ false = sym c.is_behind.ensures.behind ∙ c.if-is_behind.false in
     on_ok_weaker c.put_member.result
     (λ is. stated_accepted d n m size none shallow c.is_behind.ensures.place_fits c.is_behind.ensures.size_fits inside own
-    ∙ ap (λ (e : Draft). let r : Result Draft Fault = Ok e in r) (sym (is ∙ ap (λ (e : Draft). replaced e n (with_member m size (body_at e n))) same)))
+    ∙ ap (λ (e : Draft). let r : Result Draft Fault = Ok e in r) (sym (is ∙ ap (λ (e : Draft). replace_body e n (with_member m size (body_at e n))) same)))
     c.put_member.ensures.ok

@@ -3,7 +3,7 @@ use Rattle.std.proofs.lemmas.List.{map-set}
 use Rattle.ctf_model.specs.format.Shown.{enumerators_in, shown}
 use Rattle.ctf_model.specs.format.Term.{Body, Term}
 use Rattle.std.proofs.lemmas.Result.{on_ok_weaker, on_err_weaker}
-use Rattle.ctf_model.specs.drafts.Adders.{body_at, is_taken, replaced, with_enumerator}
+use Rattle.ctf_model.specs.drafts.Adders.{body_at, is_taken, replace_body, with_enumerator}
 use Rattle.ctf_draft.specs.ParentView.{parent_in}
 use Rattle.ctf_model.specs.drafts.DraftLaws.{IsSound}
 use Rattle.ctf_model.specs.drafts.Drafts.{Draft}
@@ -51,7 +51,7 @@ invariant_of-self c =
       c.self.invariant.1,
       c.self.invariant.2,
       c.self.invariant.3,
-      either_sound c.push_enumerator.result before (replaced e n (change (body_at e n))) after changed left c.self.invariant.4 sound,
+      either_sound c.push_enumerator.result before (replace_body e n (change (body_at e n))) after changed left c.self.invariant.4 sound,
       knows,
       enumerated_bounded d.parname d.parlabel parent d.model d.depths d.updated d.updated_labels d.types.items d.labels c.args.i c.index_mut.result.now new (place_inside d.parname d.parlabel parent d.model d.updated d.updated_labels d.types.items d.labels n c.args.i e view c.requires.pending) c.index_mut.ensures.value c.self.invariant.6 c.push_enumerator.result (enumerator_of c.args.enumerator) c.push_enumerator.ensures.ok c.push_enumerator.ensures.as_before,
     )

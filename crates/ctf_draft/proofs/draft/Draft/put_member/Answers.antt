@@ -3,7 +3,7 @@ use Rattle.std.proofs.lemmas.List.{get_or-map, length-map, length-take, map-set}
 use Rattle.ctf_model.specs.format.Shown.{members_in, shown}
 use Rattle.ctf_model.specs.format.Term.{Body, Term}
 use Rattle.std.proofs.lemmas.Result.{on_ok_weaker, on_err_weaker}
-use Rattle.ctf_model.specs.drafts.Adders.{body_at, is_taken, replaced, with_member}
+use Rattle.ctf_model.specs.drafts.Adders.{body_at, is_taken, replace_body, with_member}
 use Rattle.ctf_draft.specs.ParentView.{parent_in}
 use Rattle.ctf_model.specs.drafts.DraftLaws.{IsSound}
 use Rattle.ctf_model.specs.drafts.Drafts.{Draft, count_of}
@@ -74,7 +74,7 @@ invariant_of-self-2 c =
       c.self.invariant.1,
       c.self.invariant.2,
       c.self.invariant.3,
-      either_sound c.push_member.result before (replaced e n (change (body_at e n))) after changed left c.self.invariant.4 sound,
+      either_sound c.push_member.result before (replace_body e n (change (body_at e n))) after changed left c.self.invariant.4 sound,
       knows,
       pushed_bounded d.parname d.parlabel parent d.model c.make_ready.new.self d.updated d.updated_labels d.types.items d.labels c.args.i c.index_mut.result.now new (place_inside d.parname d.parlabel parent d.model d.updated d.updated_labels d.types.items d.labels n c.args.i e view c.requires.pending) c.index_mut.ensures.value bounded c.push_member.result (member_of c.args.member) c.args.size c.own_index-held.result few own c.in_ok-make_ready.ensures.ready c.push_member.ensures.ok c.push_member.ensures.as_before,
     )

@@ -1,7 +1,7 @@
 use Rattle.std.proofs.Common.{◌≡◌, ℕ, length, map, sym, ap, subst, ◌∙◌, arith}
 use Rattle.std.proofs.lemmas.List.{length-map}
 use Rattle.ctf_model.specs.drafts.DraftLaws.{IsSound}
-use Rattle.ctf_model.specs.drafts.Drafts.{settled}
+use Rattle.ctf_model.specs.drafts.Drafts.{commit}
 use Rattle.ctf_model.proofs.SoundDrafts.{life_sound}
 use Rattle.ctf_draft.specs.DraftView.{made_of}
 use Rattle.ctf_draft.specs.ParentView.{parent_in}
@@ -18,7 +18,7 @@ invariant_of-self c =
     let terms = map type_of d.types.items in
     let types : c.len-self-inside.result ≡ length terms = c.len-self-inside.ensures ∙ d.types.ok.0 ∙ sym (length-map d.types.items type_of) in
     let labels : c.len-self-inside-2.result ≡ length d.labels = c.len-self-inside-2.ensures.len in
-    let whole : made_of d.parname d.parlabel parent d.model c.len-self-inside.result c.len-self-inside-2.result terms d.labels ≡ settled (seen d.parname d.parlabel parent d.model d.updated d.updated_labels terms d.labels) =
+    let whole : made_of d.parname d.parlabel parent d.model c.len-self-inside.result c.len-self-inside-2.result terms d.labels ≡ commit (seen d.parname d.parlabel parent d.model d.updated d.updated_labels terms d.labels) =
     ap (λ (n : ℕ). made_of d.parname d.parlabel parent d.model n c.len-self-inside-2.result terms d.labels) types
     ∙ ap (λ (n : ℕ). made_of d.parname d.parlabel parent d.model (length terms) n terms d.labels) labels
     ∙ settled_is d.parname d.parlabel parent d.model d.updated d.updated_labels terms d.labels in

@@ -7,5 +7,5 @@ pub returns : goal.returns
 returns c q =
     let old = c.args.self.now in
     let kept = c.keep_field.ensures in
-    let w = c.wanted.ensures in
+    let w = c.wanted_list.ensures in
     field_kept c.args.key.now q old c.keep_field.new.self c.args.place c.args.field c.requires kept.inside kept.fields (kept.names ∙ ap (λ x. names_without x old.names) w) (kept.args ∙ ap (λ x. args_without x old.args) w)

@@ -3,4 +3,4 @@ use Rattle.ctf_layout.proofs.Few.{space_few}
 use Rattle.ctf_layout.proofs.layout.Layout.build.Goals as goal
 
 pub returns-clause-bounded : goal.returns-clause-bounded
-returns-clause-bounded c = space_few c.whole.result (space_of c.args.space.now) c.whole.ensures.steps
+returns-clause-bounded c = space_few c.of_space.result (space_of c.args.space.now) c.of_space.ensures.steps

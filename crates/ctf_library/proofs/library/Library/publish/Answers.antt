@@ -28,7 +28,7 @@ pub returns-then-not-fits : goal.returns-then-not-fits
 returns-then-not-fits c =
     let slot_at_d = ap (λ (s : State). slot_at c.args.d s.slots) (sym c.self.view_is) ∙ ap (λ (xs : List own.Slot). slot_at c.args.d (map slot_of xs)) (sym c.deref.ensures.value) ∙ sym c.in-Some.ensures in
     let none = nothing_pending (slot_of c.in-Some.slot.now) c.pending.result c.pending.ensures c.if-pending-gt0.false in
-    let free = ap (λ (n : List ℕ). is_some (published_as n c.args.self.now.published)) (sym c.as_slice.ensures) ∙ ap is_some (sym c.published.ensures) ∙ map_there _ c.published.result ∙ sym c.is_some.ensures ∙ c.if-is_some.false in
+    let free = ap (λ (n : List ℕ). is_some (published_as n c.args.self.now.published)) (sym c.as_slice.ensures) ∙ ap is_some (sym c.publication.ensures) ∙ map_there _ c.publication.result ∙ sym c.is_some.ensures ∙ c.if-is_some.false in
     let lt = room_lt (c.charge.result + c.bytes.result) (sym c.fits.ensures ∙ c.if-not-fits.true) in
     let charged = c.charge.ensures in
     let count = c.bytes.ensures.count ∙ ap kept_bytes c.own.ensures in
@@ -39,7 +39,7 @@ pub returns : goal.returns
 returns c =
     let slot_at_d = ap (λ (s : State). slot_at c.args.d s.slots) (sym c.self.view_is) ∙ ap (λ (xs : List own.Slot). slot_at c.args.d (map slot_of xs)) (sym c.deref.ensures.value) ∙ sym c.in-Some.ensures in
     let none = nothing_pending (slot_of c.in-Some.slot.now) c.pending.result c.pending.ensures c.if-pending-gt0.false in
-    let free = ap (λ (n : List ℕ). is_some (published_as n c.args.self.now.published)) (sym c.as_slice.ensures) ∙ ap is_some (sym c.published.ensures) ∙ map_there _ c.published.result ∙ sym c.is_some.ensures ∙ c.if-is_some.false in
+    let free = ap (λ (n : List ℕ). is_some (published_as n c.args.self.now.published)) (sym c.as_slice.ensures) ∙ ap is_some (sym c.publication.ensures) ∙ map_there _ c.publication.result ∙ sym c.is_some.ensures ∙ c.if-is_some.false in
     let le = room_le (c.charge.result + c.bytes.result) (sym c.fits.ensures ∙ c.if-not-fits.false) in
     let charged = c.charge.ensures in
     let count = c.bytes.ensures.count ∙ ap kept_bytes c.own.ensures in

@@ -14,7 +14,7 @@ returns-clause-step c =
     let s = slot_of c.args.self.now in
     let named = ap (λ (x : List ℕ). enumerator_added c.args.t.0 (record { name = x; value = c.args.value }) (open_of s)) (sym c.as_slice.ensures.bytes) in
     let valued = ap (λ (v : ℤ). enumerator_added c.args.t.0 (record { name = c.as_slice.result.now; value = v }) (open_of s)) (sym (to_z-of_z {w = w32} {z = c.args.value} c.ranges.value)) in
-    done_step unsaid s _ c.add_part.new.self _ _ (named ∙ valued ∙ c.in_ok-add_part.ensures.ok) (ap (λ (a : Answer). Ok a) c.done.ensures)
+    done_step unsaid s _ c.add_part.new.self _ _ (named ∙ valued ∙ c.in_ok-add_part.ensures.ok) (ap (λ (a : Answer). Ok a) c.of_success.ensures)
 
 pub returns-in_err-add_part-clause-step : goal.returns-in_err-add_part-clause-step
 returns-in_err-add_part-clause-step c =

@@ -12,7 +12,7 @@ pub returns-clause-step : goal.returns-clause-step
 returns-clause-step c =
     let s = slot_of c.args.self.now in
     let named = ap (λ (x : List ℕ). label_added (record { name = x; last = c.args.last }) (open_of s)) (sym c.as_slice.ensures.bytes) in
-    done_step unsaid s _ c.add_part.new.self _ _ (named ∙ c.in_ok-add_part.ensures.ok) (ap (λ (a : Answer). Ok a) c.done.ensures)
+    done_step unsaid s _ c.add_part.new.self _ _ (named ∙ c.in_ok-add_part.ensures.ok) (ap (λ (a : Answer). Ok a) c.of_success.ensures)
 
 pub returns-in_err-add_part-clause-step : goal.returns-in_err-add_part-clause-step
 returns-in_err-add_part-clause-step c =

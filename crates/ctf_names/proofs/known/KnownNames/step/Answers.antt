@@ -1,8 +1,8 @@
 use Rattle.std.proofs.Common.{Ok, Err, sym, ap, refl, subst, ◌∙◌}
 use Rattle.std.specs.Prelude.{ℕ, List, option_map}
 use Rattle.ctf_check.specs.FactsView.{shape_view}
-use Rattle.ctf_check.specs.TypedView.{spelled}
-use Rattle.ctf_model.specs.names.TypeNames.{bare, declaration_of, declaration_within, or_anon}
+use Rattle.ctf_check.specs.TypedView.{term_in}
+use Rattle.ctf_model.specs.names.TypeNames.{bare_name, declaration_of, declaration_within, or_anon}
 use Rattle.ctf_model.specs.spaces.Space.{Space}
 use Rattle.ctf_records.specs.RecordView.{tag_of}
 use Rattle.ctf_space.specs.SpaceView.{space_of}
@@ -31,7 +31,7 @@ returns-in-Layer c =
     let n = c.args.number.0 in
     subst (λ (x : Space). IsStep x n (Round c.in-Layer.layer c.in-Layer.next)) c.self.view_is
     (λ k. type_found s n k c.if-number-eq0.false ∙ ap (declaration_of (declaration_within s k)) (sym (rw c.in-Ok.is at c.term.ensures))
-    ∙ layer_found (declaration_within s k) (spelled c.in-Ok.found) (shape_view c.shape.result) c.in-Layer.layer c.in-Layer.next.0 c.shape.ensures (sym (rw c.in-Layer.is at c.found_inside.ensures)))
+    ∙ layer_found (declaration_within s k) (term_in c.in-Ok.found) (shape_view c.shape.result) c.in-Layer.layer c.in-Layer.next.0 c.shape.ensures (sym (rw c.in-Layer.is at c.found_inside.ensures)))
 
 pub returns-in-Name : goal.returns-in-Name
 returns-in-Name c =
@@ -40,7 +40,7 @@ returns-in-Name c =
     let tag = option_map tag_of c.in-Name.tag in
     let name = c.name.result.now in
     subst (λ (x : Space). IsMeasured x n (record { layers = 0; lengths = Ok c.of_base-in-Name.result })) c.self.view_is
-    (end_found s n (bare (behind_tag tag (or_anon name))) (Ok c.of_base-in-Name.result)
+    (end_found s n (bare_name (behind_tag tag (or_anon name))) (Ok c.of_base-in-Name.result)
     (λ k. type_found s n k c.if-number-eq0.false ∙ ap (declaration_of (declaration_within s k)) (sym (rw c.in-Ok.is at c.term.ensures))
-    ∙ name_found (declaration_within s k) (spelled c.in-Ok.found) (shape_view c.shape.result) tag name c.shape.ensures c.name.ensures (sym (rw c.in-Name.is at c.found_inside.ensures)))
+    ∙ name_found (declaration_within s k) (term_in c.in-Ok.found) (shape_view c.shape.result) tag name c.shape.ensures c.name.ensures (sym (rw c.in-Name.is at c.found_inside.ensures)))
     (ap Ok (sym (c.of_base-in-Name.ensures ∙ ap (λ (text : List ℕ). of_base (behind_tag tag text)) c.or_anon-name.ensures))))

@@ -12,8 +12,8 @@ returns-then-is_empty-clause-steps c =
     let ended = sym c.self.view_is ∙ walk_ended (length c.self.inside.rest.now) c.self.inside.index c.self.inside.at c.self.inside.rest.now none in
     (ended, ended)
 
-pub taken-record-requires-clause-near : goal.taken-record-requires-clause-near
-taken-record-requires-clause-near c =
+pub take_record-record-requires-clause-near : goal.take_record-record-requires-clause-near
+take_record-record-requires-clause-near c =
     let inside = (front_len_range c.self.inside.rest.now c.in-Some.len (sym c.in-Some.ensures)).1 in
     omega (arith, inside, c.self.invariant.1)
 
@@ -31,7 +31,7 @@ pub returns-in-Some-clause-steps : goal.returns-in-Some-clause-steps
 returns-in-Some-clause-steps c =
     sym c.self.view_is
     ∙ took c.self.inside.rest.now _ c.split_at.result.1.now c.self.inside.index c.self.inside.at c.in-Some.len (sym c.in-Some.ensures) refl c.split_at.ensures.back
-    ∙ ap (λ (p : Piece). Ok p ∷ walk (length c.split_at.result.1.now) (c.self.inside.index + 1) (c.self.inside.at + c.in-Some.len) c.split_at.result.1.now) (sym c.taken-record.ensures)
+    ∙ ap (λ (p : Piece). Ok p ∷ walk (length c.split_at.result.1.now) (c.self.inside.index + 1) (c.self.inside.at + c.in-Some.len) c.split_at.result.1.now) (sym c.take_record-record.ensures)
 
 pub returns-in-Some-clause-goes : goal.returns-in-Some-clause-goes
 returns-in-Some-clause-goes c = goes_first _ (λ _. tt) _ _ _ _ (returns-in-Some-clause-steps c)

@@ -3,7 +3,7 @@ use Rattle.ctf_space.specs.SpaceView.{own_lists}
 use Rattle.ctf_space.proofs.Few.{few_terms}
 use Rattle.ctf_space.proofs.space.Space.own_number.Goals as goal
 
-pub numbered-requires : goal.numbered-requires
-numbered-requires c =
+pub number_of-requires : goal.number_of-requires
+number_of-requires c =
     let few = few_terms (own_lists c.args.self.now) c.args.self.now.own.faultless in
     omega (arith, few, c.requires)

@@ -22,7 +22,7 @@ signature_of-requires c =
     let x = there s _ c.args.number c.in-Some.sort p.sym c.in-Some.ensures in
     let other = other_sort x.0 c.in-Some.sort 1 x.2 (λ e. omega (arith, c.if-sort-ne2.false)) in
     let kept = kept_of s c.args.number x.0 (sound_parts s _ _ _ p.strs p.sym p.functions p.sound) x.1 in
-    let left = left_is s _ c.left.result c.args.number c.left.ensures c.requires.fits.places in
+    let left = left_is s _ c.bytes_left.result c.args.number c.bytes_left.ensures c.requires.fits.places in
     let end = ending_is _ _ _ _ _ c.ending-entry.ensures left p.functions in
     record { good = ap is_bad_entry end ∙ function_good _ _ x.0 _ _ kept other }
 
@@ -34,7 +34,7 @@ returns-in-Some-signature_of c =
     let is = is_sort x.0 c.in-Some.sort 2 x.2 (omega (arith, c.if-sort-ne2.false)) in
     let other = other_sort x.0 c.in-Some.sort 1 x.2 (λ e. omega (arith, c.if-sort-ne2.false)) in
     let kept = kept_of s c.args.number x.0 (sound_parts s _ _ _ p.strs p.sym p.functions p.sound) x.1 in
-    let left = left_is s _ c.left.result c.args.number c.left.ensures c.requires.fits.places in
+    let left = left_is s _ c.bytes_left.result c.args.number c.bytes_left.ensures c.requires.fits.places in
     let end = ending_is _ _ _ _ _ c.ending-entry.ensures left p.functions in
     function_said s c.args.number x.0 _ x.1 is (c.in-Some-signature_of.ensures ∙ ap signature_in end ∙ function_kept _ _ x.0 _ _ kept other)
 
@@ -46,6 +46,6 @@ returns-in-None c =
     let is = is_sort x.0 c.in-Some.sort 2 x.2 (omega (arith, c.if-sort-ne2.false)) in
     let other = other_sort x.0 c.in-Some.sort 1 x.2 (λ e. omega (arith, c.if-sort-ne2.false)) in
     let kept = kept_of s c.args.number x.0 (sound_parts s _ _ _ p.strs p.sym p.functions p.sound) x.1 in
-    let left = left_is s _ c.left.result c.args.number c.left.ensures c.requires.fits.places in
+    let left = left_is s _ c.bytes_left.result c.args.number c.bytes_left.ensures c.requires.fits.places in
     let end = ending_is _ _ _ _ _ c.ending-entry.ensures left p.functions in
     rw c.placeless-in-None.ensures (function_said s c.args.number x.0 None x.1 is (c.in-None.ensures ∙ ap signature_in end ∙ function_kept _ _ x.0 _ _ kept other))

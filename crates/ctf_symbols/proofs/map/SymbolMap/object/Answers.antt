@@ -22,7 +22,7 @@ returns-in-Some-type_in c =
     let x = there s _ c.args.number c.in-Some.sort p.sym c.in-Some.ensures in
     let is = is_sort x.0 c.in-Some.sort 1 x.2 (omega (arith, c.if-sort-ne1.false)) in
     let kept = kept_of s c.args.number x.0 (sound_parts s _ _ _ p.strs p.sym p.functions p.sound) x.1 in
-    let left = left_is s _ c.left.result c.args.number c.left.ensures c.requires.fits.places in
+    let left = left_is s _ c.bytes_left.result c.args.number c.bytes_left.ensures c.requires.fits.places in
     let end = ending_is _ _ _ _ _ c.ending.ensures left p.objects in
     object_said s c.args.number x.0 (Some c.in-Some-type_in.found.0) x.1 is (c.in-Some-type_in.ensures ∙ ap type_told end ∙ object_kept _ _ x.0 _ _ kept is)
 
@@ -33,6 +33,6 @@ returns-in-None c =
     let x = there s _ c.args.number c.in-Some.sort p.sym c.in-Some.ensures in
     let is = is_sort x.0 c.in-Some.sort 1 x.2 (omega (arith, c.if-sort-ne1.false)) in
     let kept = kept_of s c.args.number x.0 (sound_parts s _ _ _ p.strs p.sym p.functions p.sound) x.1 in
-    let left = left_is s _ c.left.result c.args.number c.left.ensures c.requires.fits.places in
+    let left = left_is s _ c.bytes_left.result c.args.number c.bytes_left.ensures c.requires.fits.places in
     let end = ending_is _ _ _ _ _ c.ending.ensures left p.objects in
     rw c.placeless-in-None.ensures (object_said s c.args.number x.0 None x.1 is (c.in-None.ensures ∙ ap type_told end ∙ object_kept _ _ x.0 _ _ kept is))

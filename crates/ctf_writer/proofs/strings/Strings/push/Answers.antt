@@ -1,7 +1,7 @@
 use Rattle.std.proofs.Common.{◌≡◌, ℕ, List, [], ◌∷◌, ◌++◌, arith, length, ap, ◌∙◌}
 use Rattle.std.specs.List.{flat_map}
 use Rattle.indexmap.proofs.CallerLemmas.{insert_entry-new}
-use Rattle.ctf_model.specs.writing.WrittenNames.{closed}
+use Rattle.ctf_model.specs.writing.WrittenNames.{closed_name}
 use Rattle.ctf_writer.specs.Offsets.{Entry, names_in}
 use Rattle.ctf_writer.proofs.Offsets.{none_where, entry_more, names_more, strings_more}
 use Rattle.ctf_writer.proofs.strings.Strings.push.Goals as goal
@@ -16,7 +16,7 @@ invariant_of-self-2 c =
     let more = grown c in
     let ends = c.args.self.now.ends in
     let names : names_in c.insert.new.self.entries ≡ names_in c.args.self.now.offsets.entries ++ c.args.name.now ∷ [] = ap (λ (es : List Entry). names_in es) (grown c) ∙ names_more c.args.self.now.offsets.entries c.args.name c.args.self.now.len in
-    let strings = ap (λ (ns : List (List ℕ)). length (flat_map closed ns)) names ∙ strings_more (names_in c.args.self.now.offsets.entries) c.args.name.now in
+    let strings = ap (λ (ns : List (List ℕ)). length (flat_map closed_name ns)) names ∙ strings_more (names_in c.args.self.now.offsets.entries) c.args.name.now in
     let room = c.requires.room in
     record {
       placed = rw more (entry_more old c.args.name c.args.self.now.len c.args.self.now.placed ends);

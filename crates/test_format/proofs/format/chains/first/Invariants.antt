@@ -1,5 +1,5 @@
 use Rattle.test_format.proofs.format.chains.first.Given as goal
 
 -- the ledger is the one of the blank
-abbrev pub ghosts-counted : goal.ghosts-counted
-ghosts-counted a = record { name = a.blank.name; parts = a.blank.parts }
+abbrev pub ghosts-count_ticks : goal.ghosts-count_ticks
+ghosts-count_ticks a = record { name = a.blank.name; parts = a.blank.parts }

@@ -1,0 +1,80 @@
+//! The items of a list that are answered.
+ghost use Rattle.std.specs.Prelude.{◌≡◌, ◌<◌, ◌≤◌, length, take, Some, IfSome, slice_get};
+ghost use Rattle.ctf_protocol.specs.answers.Questions.{member_item as said_member, window_of};
+ghost use Rattle.ctf_views.specs.ItemsView.{member as member_view};
+ghost use Rattle.ctf_answers.specs.Items.{item_of, items_of};
+
+use crate::items::{Item, Items};
+use ctf_protocol::Window;
+use ctf_views::Member;
+use std::marker::Model;
+
+/// Some items of a list: those from one on, as many as are answered.
+#[derive(Drop)]
+pub struct Listed<'a> {
+    items: Items<'a>,
+    from: usize,
+    count: usize,
+}
+
+impl<'a> Model for Listed<'a> {
+    ghost use Rattle.std.specs.Prelude.{List, ◌+◌, ◌<◌, ◌≤◌, ◌^◌, length, take, drop};
+    ghost use Rattle.ctf_protocol.specs.answers.Answers.{Item as SaidItem};
+    ghost use Rattle.ctf_answers.specs.Items.{items_of};
+
+    ghost Value = { List SaidItem };
+
+    ghost view = { λ l. take l.count (drop l.from (items_of l.items)) };
+
+    ghost invariant = { λ l. (l.from + l.count ≤ length (items_of l.items))
+        × (l.from + l.count < 2 ^ 64) };
+}
+
+impl<'a> Listed<'a> {
+    /// The items that a window shows.
+    pub fn new(items: Items<'a>, window: Window) -> Listed<'a>
+        ensures { result ≡ window_of window (items_of items.entry) }
+    {
+        let len = items.len();
+        let from = len.min(window.from as usize);
+        let count = match window.count {
+            Some(count) => (len - from).min(count as usize),
+            None => len - from,
+        };
+        Listed { items, from, count }
+    }
+
+    /// The first items.
+    pub fn front(items: Items<'a>, count: usize) -> Listed<'a>
+        requires { count ≤ length (items_of items) }
+        ensures { result ≡ take count (items_of items.entry) }
+    {
+        Listed {
+            items,
+            from: 0,
+            count,
+        }
+    }
+
+    pub fn len(&self) -> usize
+        ensures { result ≡ length self.now }
+    {
+        self.count
+    }
+
+    /// The item with a number, from 0.
+    pub fn get(&self, index: usize) -> Item<'a>
+        requires { index < length self.now }
+        ensures { Some (item_of result) ≡ slice_get self.now index }
+    {
+        self.items.get(self.from + index)
+    }
+    /// The member with a number, from 0, where the list is of members.
+    pub fn member(&self, index: usize) -> Option<Member<'a>>
+        requires { index < length self.now }
+        ensures { IfSome result (λ member.
+            Some (said_member (member_view member)) ≡ slice_get self.now index) }
+    {
+        self.items.member(self.from + index)
+    }
+}

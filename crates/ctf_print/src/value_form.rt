@@ -1,0 +1,95 @@
+//! A type's form with typedefs and qualifiers followed, worked out once for all of its values.
+ghost use Rattle.std.specs.Prelude.{◌≡◌, ℕ, IfErr, IfOk};
+ghost use Rattle.ctf_model.specs.values.Pieces.{ends};
+ghost use Rattle.ctf_print.specs.Finding.{IsFound};
+ghost use Rattle.ctf_print.specs.ImageView.{shows, types_of};
+
+use crate::image::Image;
+use crate::show_cache::ShowCache;
+use crate::telling::{Told, told_by};
+use ctf_model::{Fault, TypeNum, placeless};
+
+/// How the values of a type are shown.
+#[derive(Drop)]
+pub struct Found<'a> {
+    /// The type whose record says so.
+    pub number: TypeNum,
+    /// How many values may still stand in each other inside one of them.
+    pub nesting: u32,
+    pub how: Told<'a>,
+}
+
+/// How the values of a number's type are shown, as its record says, or why none is.
+#[inline(always)]
+fn by_record<'a>(image: &Image<'a>, number: TypeNum, nesting: u32) -> Result<Found<'a>, Fault>
+    ensures found { IfOk result (IsFound image.now nesting number.0) }
+    ensures fault { IfErr result (λ f. (p : ℕ) → shows image.now nesting number.0 p ≡ ends f) }
+{
+    if nesting == 0 || number.0 == 0 {
+        return Err(placeless(Fault::INCOMPLETE));
+    }
+    let term = image.space.term(number)?;
+    Ok(Found {
+        number,
+        nesting: nesting - 1,
+        how: told_by(term.shape()),
+    })
+}
+
+/// How the values of a number's type are shown, wherever they stand, or why none is. Typedefs and
+/// qualifiers are followed once for each type.
+#[inline(always)]
+fn found_behind<'a>(
+    image: &Image<'a>,
+    number: TypeNum,
+    nesting: u32,
+    known: &mut ShowCache<'_>,
+) -> Result<Found<'a>, Fault>
+    requires known { known.old ≡ types_of image.now }
+    ensures found { IfOk result (IsFound image.now nesting number.0) }
+    ensures fault { IfErr result (λ f. (p : ℕ) → shows image.now nesting number.0 p ≡ ends f) }
+    ensures kept { known.new ≡ known.old }
+{
+    match by_record(image, number, nesting) {
+        Ok(
+            Found {
+                nesting,
+                how: Told::As(next),
+                ..
+            },
+        ) => {
+            let reached = known.reach(next, nesting);
+            by_record(image, reached.number, reached.nesting)
+        }
+        other => other,
+    }
+}
+
+/// The same, put into a place: where values stand in each other, each has one such place on the
+/// stack, and none for a result that is moved.
+#[inline(always)]
+pub fn find_how<'a>(
+    image: &Image<'a>,
+    number: TypeNum,
+    nesting: u32,
+    known: &mut ShowCache<'_>,
+    found: &mut Found<'a>,
+) -> Result<(), Fault>
+    requires known { known.old ≡ types_of image.now }
+    ensures found { IfOk result (λ _. IsFound image.now nesting number.0 found.new) }
+    ensures fault { IfErr result (λ f. (p : ℕ) → shows image.now nesting number.0 p ≡ ends f) }
+    ensures kept { known.new ≡ known.old }
+{
+    *found = found_behind(image, number, nesting, known)?;
+    Ok(())
+}
+
+/// A place in which nothing is found yet.
+#[inline(always)]
+pub fn nothing_found<'a>() -> Found<'a> {
+    Found {
+        number: TypeNum(0),
+        nesting: 0,
+        how: Told::Incomplete,
+    }
+}

@@ -1,0 +1,4 @@
+use Rattle.test_format.proofs.format.spelling.+are_named.Given as goal
+
+abbrev pub decreases-are_named : goal.decreases-are_named
+decreases-are_named l = l.count

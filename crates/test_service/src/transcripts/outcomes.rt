@@ -1,0 +1,32 @@
+//! Lines that go in, and the replies that are wanted.
+
+use crate::serving::serve_all;
+use std::alloc::{AllocError, Global};
+
+/// Lines that go in, and the replies that are wanted.
+#[derive(Drop)]
+pub struct Told {
+    pub input: Vec<u8>,
+    pub want: Vec<u8>,
+}
+
+impl Told {
+    pub fn new(alloc: Global) -> Told {
+        Told {
+            input: Vec::new(alloc),
+            want: Vec::new(alloc),
+        }
+    }
+
+    /// Appends requests and their replies.
+    pub fn append(&mut self, more: &Told) -> Result<(), AllocError> {
+        self.input.extend_from_slice(&more.input)?;
+        self.want.extend_from_slice(&more.want)
+    }
+
+    /// Whether a run that begins with the lines writes just the replies.
+    pub fn are_answered(&self, alloc: Global) -> bool {
+        let (end, written) = serve_all(alloc, &self.input);
+        end.is_ok() && written.as_slice() == self.want.as_slice()
+    }
+}
