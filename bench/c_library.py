@@ -150,7 +150,7 @@ def main() -> int:
     options.add_argument("--first", action="store_true")
     options.add_argument("ctf", type=Path, nargs="*", default=[TOP / "examples" / "lua.ctf"])
     given = options.parse_args()
-    archive = subprocess.run([TOP / "tests" / "archive.py", "--kept"], check=True, text=True,
+    archive = subprocess.run([TOP / "tests/doors/c_library/archive.py", "--kept"], check=True, text=True,
                              capture_output=True).stdout.strip()
     for ctf in given.ctf:
         with tempfile.TemporaryDirectory() as folder:

@@ -7,19 +7,22 @@ usage: bench/converting.py [--rounds N] [--threads N] [--from FORM] [--btf FILE]
 Prints, for each program, the least processor time, time by the clock and memory of N rounds (3) of
 each in turn, the bytes of its debug sections, inflated, and ours as shares: of pahole's times, and
 of the sections' bytes. Behind a share stands "over" where it is more than is aimed at: pahole's
-processor time, half its clock, twice the bytes. Clocks say something on idle processors alone; the
-last line tells the load. Of a file that --btf names, a kernel's by default, it prints what a first
-question about one struct costs, and what all of it does.
+processor time, half its clock, twice the bytes. There pahole writes a file of its own, by
+--btf_encode_detached. A second line has what a copy with the types in it costs: `ctfd-convert
+--section` beside `pahole -J FILE`, which changes FILE. Clocks say something on idle processors
+alone; the last line tells the load. Of a file that --btf names, a kernel's by default, it prints
+what a first question about one struct costs, and what all of it does.
 
 --fetch gets what docs/PERFORMANCE.md has rows for into a folder, by apt-get, and prints the files:
 python3.11-dbg and libc6-dbg, with --kernel the debug file of a kernel too, which takes 2 GB there.
-Needs pahole, readelf, objcopy and the compiled commands.
+Needs pahole, readelf, objcopy, GNU time and the compiled commands.
 """
 from __future__ import annotations
 
 import argparse
 import os
 import re
+import shutil
 import subprocess
 import sys
 import tempfile
@@ -33,6 +36,9 @@ import rust  # noqa: E402
 
 KERNEL = "/sys/kernel/btf/vmlinux"
 STRUCT = "task_struct"
+# Tells what a program takes: of one that is started from here the least that is told is what this
+# one takes itself.
+TIME = "/usr/bin/time"
 # What is aimed at, as shares of pahole's processor time and clock, and of the sections' bytes.
 MOST = {"processor": 1.0, "clock": 0.5, "memory": 2.0}
 # Where a package has the files that are read.
@@ -54,15 +60,17 @@ class Cost(NamedTuple):
 
 def cost(words: Sequence[str], threads: int) -> Cost:
     environment = {**os.environ, **({"RAYON_NUM_THREADS": str(threads)} if threads else {})}
-    begun = time.monotonic()
-    process = subprocess.Popen(words, stdout=subprocess.DEVNULL, stderr=subprocess.DEVNULL,
-                               env=environment)
-    _, status, usage = os.wait4(process.pid, 0)
-    process.returncode = os.waitstatus_to_exitcode(status)
-    if process.returncode not in (0, 1):
-        raise SystemExit(f"{' '.join(words)}: status {process.returncode}")
-    return Cost(usage.ru_utime + usage.ru_stime, time.monotonic() - begun,
-                usage.ru_maxrss * 1024 / 1e6)
+    with tempfile.NamedTemporaryFile("r") as told:
+        begun = time.monotonic()
+        process = subprocess.Popen([TIME, "-q", "-f", "%M", "-o", told.name, *words],
+                                   stdout=subprocess.DEVNULL, stderr=subprocess.DEVNULL,
+                                   env=environment)
+        _, status, usage = os.wait4(process.pid, 0)
+        clock = time.monotonic() - begun
+        process.returncode = os.waitstatus_to_exitcode(status)
+        if process.returncode not in (0, 1):
+            raise SystemExit(f"{' '.join(words)}: status {process.returncode}")
+        return Cost(usage.ru_utime + usage.ru_stime, clock, int(told.read()) * 1024 / 1e6)
 
 
 def least(costs: Sequence[Cost]) -> Cost:
@@ -95,7 +103,7 @@ def share(name: str, ours: float, of: float) -> str:
 
 
 def convert(program: str, words: argparse.Namespace, folder: str) -> str:
-    """What converting a program costs, in a line."""
+    """What a file of a program's types costs, in a line."""
     out = f"{folder}/out"
     ours = [str(rust.folder() / "ctfd-convert"), "--from", words.form, "--lossy", program, out]
     theirs = ["pahole", "-J", f"--btf_encode_detached={out}", program]
@@ -104,6 +112,21 @@ def convert(program: str, words: argparse.Namespace, folder: str) -> str:
     shares = (share("processor", one.processor, other.processor),
               share("clock", one.clock, other.clock), share("memory", one.memory, sections))
     return (f"{program}: sections {sections:.1f} MB; ctfd-convert {one}; pahole -J {other};"
+            f" {', '.join(shares)}")
+
+
+def into_copy(program: str, words: argparse.Namespace, folder: str) -> str:
+    """What a copy of a program with its types in it costs, in a line."""
+    copy, turns = f"{folder}/copy", []
+    ours = [str(rust.folder() / "ctfd-convert"), "--from", words.form, "--lossy", "--section",
+            program, f"{folder}/out"]
+    for _ in range(words.rounds):
+        shutil.copyfile(program, copy)
+        turns.append((cost(ours, words.threads), cost(["pahole", "-J", copy], 0)))
+    one, other = (least([turn[place] for turn in turns]) for place in (0, 1))
+    shares = (share("processor", one.processor, other.processor),
+              share("clock", one.clock, other.clock))
+    return (f"{program}: into a copy: ctfd-convert --section {one}; pahole -J FILE {other};"
             f" {', '.join(shares)}")
 
 
@@ -162,6 +185,7 @@ def main() -> int:
     with tempfile.TemporaryDirectory() as folder:
         for program in words.programs:
             print(convert(program, words, folder), flush=True)
+            print(into_copy(program, words, folder), flush=True)
         if os.access(words.btf, os.R_OK):
             print("\n".join(first_look(words.btf, words, folder)))
     print(f"load {os.getloadavg()[0]:.0f}")

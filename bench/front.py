@@ -1,17 +1,19 @@
 #!/usr/bin/env python3
 """Measures how fast ctfd-front answers, beside redis-server answering PING, and an echo.
 
-usage: front.py [--front CTFD-FRONT] [--program CTFD] [--seconds N] [--runs N] [--held] [--calls]
+usage: front.py [--front CTFD-FRONT] [--program CTFD] [--seconds N] [--runs N] [--shards N,..]
+                [--askers N] [--held] [--calls]
 
 bench/lines.c is the client of all: it is compiled by cc. Each way is a server on a Unix socket:
-the front with one shard and with four, over a dictionary of a kernel's size (32,766 types),
-redis-server where it is installed, and an echo of the client's own loop. Each is asked in bursts of
-100 lines by 50 clients, and line by line by 1, 50 and 500. A pipe to `ctfd serve` is asked line by
-line too.
+the front with one shard and with four, or as --shards says, over a dictionary of a kernel's size
+(32,766 types), redis-server where it is installed, and an echo of the client's own loop. Each is
+asked in bursts of 100 lines by 50 clients, and line by line by 1, 50 and 500. A pipe to `ctfd
+serve` is asked line by line too.
 All ways are tried in turn, and the best of the runs by the clock is printed: lines a second, the
 server's processor time for a line and how much of that the system took, and within which time half
-of the bursts, and 99 of 100, were answered. --held asks over 9,500 connections that are open, 500
-at a time. --calls counts the calls of the system by strace, which slows all.
+of the bursts, and 99 of 100, were answered. With --askers so many processes share the clients among
+them, since one takes a processor when each line is waited for: the times are then those of the
+slowest. --held asks over 9,500 connections that are open, 500 at a time. --calls counts the calls of the system by strace, which slows all.
 """
 from __future__ import annotations
 
@@ -28,7 +30,7 @@ import tempfile
 import time
 from dataclasses import dataclass
 from pathlib import Path
-from typing import Dict, Iterator, List, Optional, Sequence
+from typing import Dict, Iterator, List, Optional, Sequence, Tuple
 
 TOP = Path(__file__).resolve().parents[1]
 FRONT = TOP / "clients" / "rust" / "target" / "release" / "ctfd-front"
@@ -120,7 +122,7 @@ class Bench:
         self.servers = [*self._fronts(ends), *self._others(ends)]
 
     def _fronts(self, ends: contextlib.ExitStack) -> Iterator[Server]:
-        for shards in (1, 4):
+        for shards in map(int, self.given.shards.split(",")):
             path = f"{self.folder}/front-{shards}"
             words = [self.given.front, "--socket", path, "--processes", str(shards),
                      "--connections", "20000", "--user-connections", "20000",
@@ -145,19 +147,34 @@ class Bench:
         """One run."""
         line = server.lines[word]
         count = line.count("\n")
-        words = [self.client, server.path, str(held or clients), str(clients),
-                 str(max(1, burst // count)), str(self.given.seconds), server.begin, line]
-        with subprocess.Popen(words, stdin=subprocess.PIPE, stdout=subprocess.PIPE,
-                              text=True) as client:
-            assert client.stdin and client.stdout
-            client.stdout.readline()
-            before, ticks_before = used(server.pid), ticks(server.pid)
-            told = client.communicate("\n")[0].split()
+        askers = min(self.given.askers, clients)
+        words = [self.client, server.path, str((held or clients) // askers),
+                 str(clients // askers), str(max(1, burst // count)), str(self.given.seconds),
+                 server.begin, line]
+        with contextlib.ExitStack() as ends:
+            started = [ends.enter_context(subprocess.Popen(words, stdin=subprocess.PIPE,
+                                                           stdout=subprocess.PIPE, text=True))
+                       for _ in range(askers)]
+            before, ticks_before = self._begin(started, server)
+            told = [list(map(float, client.communicate()[0].split())) for client in started]
         seconds = used(server.pid) - before
         own, system = (after - was for after, was in zip(ticks(server.pid), ticks_before))
-        lines = int(told[0])
-        return Measured(lines / float(told[1]), 1e6 * seconds / lines,
-                        system / max(1, own + system), float(told[2]), float(told[3]))
+        lines, took, half, most = (list(column) for column in zip(*told))
+        return Measured(sum(lines) / max(took), 1e6 * seconds / sum(lines),
+                        system / max(1, own + system), max(half), max(most))
+
+    def _begin(self, started: Sequence[subprocess.Popen[str]],
+               server: Server) -> Tuple[float, List[int]]:
+        """Lets clients ask once all are connected; what the server has used until then."""
+        for client in started:
+            assert client.stdout
+            client.stdout.readline()
+        before = used(server.pid), ticks(server.pid)
+        for client in started:
+            assert client.stdin
+            client.stdin.write("\n")
+            client.stdin.flush()
+        return before
 
     def calls(self, server: Server, word: str, clients: int, burst: int) -> Optional[float]:
         """Calls of the system for a line, under strace."""
@@ -233,6 +250,8 @@ def main() -> int:
     parser.add_argument("--program", default=str(PROGRAM))
     parser.add_argument("--seconds", type=float, default=2)
     parser.add_argument("--runs", type=int, default=3)
+    parser.add_argument("--shards", default="1,4")
+    parser.add_argument("--askers", type=int, default=1)
     parser.add_argument("--held", action="store_true")
     parser.add_argument("--calls", action="store_true")
     given = parser.parse_args()

@@ -28,7 +28,7 @@ from pathlib import Path
 
 TOP = Path(__file__).resolve().parents[1]
 sys.path.insert(0, str(TOP / "tests"))
-from runs import examples, transcripts  # noqa: E402
+from doors.service.runs import examples, transcripts  # noqa: E402
 
 LONGEST_READ = 65_536
 # A run of the repository with a longer line takes more time than it is worth here.

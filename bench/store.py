@@ -29,7 +29,7 @@ from typing import List, NamedTuple, Sequence, Tuple
 TOP = Path(__file__).resolve().parents[1]
 sys.path[:0] = [str(TOP / "scripts"), str(TOP / "tests")]
 import rust  # noqa: E402
-from store import servers  # noqa: E402
+from doors.store import servers  # noqa: E402
 
 PIECE = 1 << 16
 UNPACKER = ".deb=dpkg-deb --fsys-tarfile"

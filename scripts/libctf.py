@@ -24,6 +24,7 @@ import shutil
 import subprocess
 import sys
 import tempfile
+from concurrent.futures import ThreadPoolExecutor
 from dataclasses import dataclass
 from pathlib import Path
 from typing import Optional, Sequence
@@ -105,7 +106,7 @@ class Tools:
 
     def linked(self, name: str, folder: Path, *words: object) -> Path:
         """A shared library that exports what is for C."""
-        script, made = folder / "exports.map", folder / name
+        script, made = folder / f"{name}.map", folder / name
         script.write_text(EXPORTS, encoding="utf-8")
         run(*self.compiler, "-shared", "-o", made, f"-Wl,-soname,{soname(name)}",
             f"-Wl,--version-script={script}", "-Wl,-Bsymbolic", "-Wl,-z,defs", "-Wl,-z,now",
@@ -132,7 +133,9 @@ def in_archive() -> list[Path]:
 def put_objects(tools: Tools, archive: Path, folder: Path, says: str) -> None:
     """Puts the objects of the calls into an archive, in place of those that are there."""
     flag = f'-DCTFD_BUILD="{says}"'
-    objects = [tools.compiled(source, folder, flag) for source in in_archive()]
+    with ThreadPoolExecutor(os.cpu_count()) as together:
+        objects = list(together.map(lambda source: tools.compiled(source, folder, flag),
+                                    in_archive()))
     old = [name for name in run(tools.archiver, "t", archive).split() if name.startswith(PREFIX)]
     if old:
         run(tools.archiver, "dD", archive, *old)
@@ -180,10 +183,12 @@ def make(archive: Path, archiver: str = "ar", says: str = UNTOLD) -> list[Path]:
         folder = Path(made)
         whole = folder / archive.name
         shutil.copy2(archive, whole)
-        put_objects(tools, whole, folder, says)
-        libraries = [share(tools, whole, folder)]
-        if tools.has_elf(folder):
-            libraries += elf_part(tools, folder)
+        with ThreadPoolExecutor(1) as beside:
+            part = beside.submit(elf_part, tools, folder) if tools.has_elf(folder) else None
+            put_objects(tools, whole, folder, says)
+            libraries = [share(tools, whole, folder)]
+        if part:
+            libraries += part.result()
         else:
             print("without the part for ELF files: there is no libelf or zlib to compile with "
                   "(Debian: libelf-dev zlib1g-dev)", file=sys.stderr)

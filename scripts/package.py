@@ -158,7 +158,8 @@ def rust_sources(into: Path, seconds: int) -> list[Path]:
     name = f"ctfd-rust-{version()}"
     with tempfile.TemporaryDirectory() as folder:
         stage = Path(folder, name)
-        for line in listed("clients/rust", "scripts/rust.py", "examples/lua.ctf", "VERSION"):
+        for line in listed("clients/rust", "scripts/rust.py", "scripts/progress.py",
+                           "examples/lua.ctf", "VERSION"):
             place = stage / line
             place.parent.mkdir(parents=True, exist_ok=True)
             shutil.copy2(TOP / line, place)

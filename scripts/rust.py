@@ -24,6 +24,8 @@ import sys
 from pathlib import Path
 from typing import Optional, Sequence
 
+from progress import Progress
+
 TOP = Path(__file__).resolve().parents[1]
 WORKSPACE = TOP / "clients" / "rust"
 ARCHIVE = TOP / "crates" / "ctf_c" / "out" / "libctfd.a"
@@ -96,7 +98,10 @@ def folder() -> Path:
 
 def build(*words: str) -> Path:
     """Builds the commands and the front; the folder with them. Raises NotBuilt."""
-    if run(["build", "--release", "--package", PACKAGE, *words], LATER) != 0:
+    with Progress() as progress:
+        progress.text = "compiles the commands"
+        status = run(["build", "--release", "--package", PACKAGE, *words], LATER)
+    if status != 0:
         raise NotBuilt("cargo has failed: are all of Debian's packages installed that"
                        f" scripts/rust.py needs ({' '.join(PACKAGES)})?")
     for name in COMMANDS:

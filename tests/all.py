@@ -8,11 +8,12 @@ PROGRAM it is that one. As many parts run side by side as there are processors, 
 parts only these run; `tests/all.py no_such_part` lists them. With --whole those that otherwise try
 a share of their cases (growths, front and convert) try all.
 
-With --prove, `rt ci` comes first, and prints as it goes; a line tells the processor time it took.
+With --prove, `rt ci` comes first, and prints as it goes; a line tells the processor time it took,
+and stands once more before the last.
 Each mutant that it refused at a written proof alone is named behind it, and fails: it may say nothing
-(tests/emptied.py). What the kit built by it is then what is built, and the parts run over that. One
+(tests/house/emptied.py). What the kit built by it is then what is built, and the parts run over that. One
 more part, `quick`, builds the program and the library without their proofs and compares the two
-(tests/quick.sh). With --prove-only no part follows.
+(tests/doors/packages/quick.sh). With --prove-only no part follows.
 
 What a part prints goes to a file, and is shown where it fails. A part that lacks something here
 (gdb, say) prints a line that begins with `skipped: `, which is shown; with STRICT=1 in the
@@ -36,7 +37,7 @@ from dataclasses import dataclass
 from pathlib import Path
 from typing import Optional
 
-from emptied import refused_at_a_proof
+from house.emptied import refused_at_a_proof
 from lanes import Lanes
 from parts import TOP, Part, archive, parts, quick, whole
 
@@ -49,10 +50,11 @@ COUNTS = re.compile(r"([0-9]+) passed, ([0-9]+) failed")
 
 @dataclass
 class Tally:
-    """How much passed and how much failed."""
+    """How much passed and how much failed, and what the proofs took."""
 
     passed: int = 0
     failed: int = 0
+    cost: str = ""
 
     def add(self, well: bool) -> None:
         self.passed += well
@@ -85,9 +87,10 @@ def prove(tally: Tally) -> bool:
             print(line, end="", flush=True)
             last = line.strip() or last
             weak += refused_at_a_proof(line)
-    print(f"rt ci took {processor_minutes() - before:.0f} processor minutes")
+    tally.cost = f"rt ci took {processor_minutes() - before:.0f} processor minutes"
+    print(tally.cost)
     for mutant in weak:
-        print(f"weak  {mutant}: refused at a written proof alone (tests/emptied.py)")
+        print(f"weak  {mutant}: refused at a written proof alone (tests/house/emptied.py)")
         tally.add(False)
     counts = COUNTS.fullmatch(last)
     if counts:
@@ -163,6 +166,8 @@ def main() -> int:
         else:
             print(f"FAILED  there is no program {given.program}")
             tally.add(False)
+    if tally.cost:
+        print(tally.cost)
     print(f"{tally.passed} passed, {tally.failed} failed")
     return 1 if tally.failed else 0
 

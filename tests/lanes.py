@@ -11,9 +11,9 @@ from pathlib import Path
 
 from parts import Part
 
-# As the tests of this repository say it, and as unittest does.
-SKIPPED = re.compile(r"^skipped.*|^.*\.\.\. skipped .*", re.MULTILINE)
-IMPOSSIBLE = re.compile(r"^not possible here: .*", re.MULTILINE)
+# As the scripts of this repository say it, and as pytest does.
+SKIPPED = re.compile(r"^skipped.*|^SKIPPED (?!.*not possible here).*", re.MULTILINE)
+IMPOSSIBLE = re.compile(r"^not possible here: .*|^SKIPPED .*not possible here.*", re.MULTILINE)
 # No part takes nearly so long, so one that does goes on without end.
 LONGEST_SECONDS = 1800
 LINES_SHOWN = 200

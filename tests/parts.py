@@ -10,8 +10,6 @@ from typing import Mapping, Sequence
 
 TOP = Path(__file__).resolve().parents[1]
 CLIENT = TOP / "clients" / "python"
-IN_PROCESS = """[ -f "$CTFD_LIBRARY" ] || { echo "skipped: there is no $CTFD_LIBRARY"; exit 0; }
-exec "$0" -m unittest discover -v -s tests -t ."""
 
 
 @dataclass(frozen=True)
@@ -29,14 +27,15 @@ class Part:
     is_alone: bool = False
 
 
-# Parts that try only some of their cases, and the word by which each tries all.
-SAMPLED = {"growths": "--all", "front": "--all", "convert": "all"}
+# Parts that try only some of their cases, and all with this word.
+SAMPLED = ("growths", "front", "convert", "reader", "doors")
+WHOLE = "--whole"
+PYTEST = ("-m", "pytest", "-q", "-rs", "-p", "no:cacheprovider", "-W", "ignore")
 
 
 def whole(part: Part) -> Part:
     """A part with all of its cases."""
-    word = SAMPLED.get(part.name)
-    return replace(part, command=[*part.command, word]) if word else part
+    return replace(part, command=[*part.command, WHOLE]) if part.name in SAMPLED else part
 
 
 def with_package(name: str) -> str:
@@ -56,81 +55,93 @@ def library() -> Path:
 
 def archive(is_made: bool) -> Part:
     """The library for C: made of what the kit has proved, or the one that is there."""
-    return Part("archive", ["tests/archive.py", *([] if is_made else ["--kept"])])
+    return Part("archive", ["tests/doors/c_library/archive.py", *([] if is_made else ["--kept"])])
 
 
 def quick(program: str) -> Part:
     """Builds all once more without the proofs, and compares that with what was proved."""
-    return Part("quick", ["tests/quick.sh", program])
+    return Part("quick", ["tests/doors/packages/quick.sh", program], after=("compiled",))
 
 
 def parts(program: str) -> list[Part]:
     """All parts over a program and the library beside it; those that take longest come first."""
-    over = {"CTFD": program}
-    python = with_package("pycparser")
-    of_library = ("archive",)
+    return [*doors(program), *packages(program), *of_the_service(program), *of_the_house(),
+            Part("front", ["tests/doors/front/run.sh", program], after=("compiled",),
+                 is_alone=True),
+            Part("hostile", ["bench/hostile.py", program, "--limit", "5"], is_alone=True)]
+
+
+def pytest(name: str, program: str, *words: str, after: tuple[str, ...] = ()) -> Part:
+    """A part that pytest runs, of these folders and files."""
+    return Part(name, [with_package("pytest"), *PYTEST, "--program", program, *words], after=after)
+
+
+def client(name: str, words: Mapping[str, str], after: tuple[str, ...], tests: str) -> Part:
+    """A part of the tests of the package for Python."""
+    return Part(name, [with_package("pytest"), *PYTEST, tests], CLIENT, words, after)
+
+
+def doors(program: str) -> list[Part]:
+    """What people run and link, as black boxes."""
+    folder, compiled, over = "tests/doors", ("archive", "compiled"), {"CTFD": program}
     return [
-        Part("growths", ["tests/growths.sh", program]),
-        Part("shown", [python, "tests/shown.py", program],
-             after=("archive", "compiled")),
-        Part("lending", ["tests/lending.sh"], after=of_library),
-        Part("client", [python, "-m", "unittest", "discover", "-v", "-s", "tests", "-t", "."],
-             CLIENT, over, ("compiled",)),
+        Part("shown", [with_package("pycparser"), f"{folder}/shown/run.py", program],
+             after=compiled),
+        client("client", over, ("compiled",), "tests"),
         # The same tests over the library in process, where the parts above ask a `ctfd serve`.
-        Part("client_in_process", ["bash", "-c", IN_PROCESS, python], CLIENT,
-             {**over, "CTFD_LIBRARY": str(library())}, ("archive", "compiled")),
-        Part("front", ["tests/front.sh", program], after=("compiled",), is_alone=True),
-        Part("gdb", ["tests/gdb.sh", program], after=("compiled",)),
-        Part("drgn", [with_package("drgn"), "-m", "unittest", "-v", "tests.test_drgn"],
-             CLIENT, over, ("compiled",)),
-        Part("debuginfo", ["tests/debuginfo.sh", program], after=("compiled",)),
-        Part("show", ["tests/show.sh"], after=("compiled",)),
-        Part("convert", ["tests/convert.sh", program], after=("compiled",)),
+        client("client_in_process", {**over, "CTFD_LIBRARY": str(library())}, compiled, "tests"),
+        Part("gdb", [f"{folder}/gdb/run.sh", program], after=("compiled",)),
+        Part("debuginfo", [f"{folder}/debuginfo/run.sh", program], after=("compiled",)),
+        Part("show", [f"{folder}/show/run.sh"], after=("compiled",)),
+        Part("convert", [f"{folder}/convert/run.sh", program], after=("compiled",)),
         # The compiled commands, over the library.
-        Part("compiled", ["scripts/rust.py", "--quiet"], after=of_library),
-        Part("reader", ["tests/reader/all.sh", program], after=("archive", "compiled")),
-        Part("many_types", ["tests/reader/many_types.py", program],
-             after=("archive", "compiled")),
-        Part("c_library", ["tests/c_library.sh", program], after=("archive", "compiled")),
+        Part("compiled", ["scripts/rust.py", "--quiet"], after=("archive",)),
+        pytest("reader", program, f"{folder}/reader", after=compiled),
+        Part("c_library", [f"{folder}/c_library/run.sh", program], after=compiled),
+        pytest("rows", program, f"{folder}/c_library", after=("archive",)),
         # Dictionaries in the making, by libctf's calls.
-        Part("making", ["tests/making.sh"], after=("archive", "compiled")),
-        Part("packages", ["tests/packages.sh", program], after=("archive", "compiled")),
-        Part("install", ["tests/install.sh", program], after=("archive", "compiled")),
-        Part("rust", ["tests/rust.sh"], after=of_library),
-        Part("rows", ["tests/rows.py", program, str(library())], after=of_library),
-        Part("stack", ["tests/stack.sh", program], after=of_library),
-        Part("streams", ["tests/streams.sh", program]),
-        Part("damage", ["tests/damage.py", program, "--all"]),
-        Part("program", ["tests/program.sh", program]),
-        Part("transcripts", ["tests/transcripts.py", program]),
-        Part("dumps", ["tests/dumps.py", program]),
-        Part("by_hand", [sys.executable, "-m", "unittest", "discover", "-s",
-                         "tests/by_hand", "-t", "tests"], words=over),
-        # What people run, as black boxes, with the hostile files that tests/doors makes.
-        Part("doors", [python, "-m", "unittest", "discover", "-s", "tests/doors", "-t", "tests"],
-             words=over, after=("archive", "compiled")),
+        Part("making", [f"{folder}/c_library/making.sh"], after=compiled),
+        Part("lending", [f"{folder}/c_library/lending.sh"], after=("archive",)),
+        Part("examples", ["tests/house/examples.py", "--try"], after=("archive",)),
+        # The commands, with the hostile files that tests/doors makes.
+        pytest("doors", program, f"{folder}/commands", after=compiled),
         # Stores of types by build-id, and the servers that people put in front of them.
-        Part("store", [python, "-m", "unittest", "discover", "-s", "tests/store", "-t", "tests"],
-             words=over, after=("archive", "compiled")),
-        Part("ilp32", ["tests/ilp32.sh", program], after=("archive", "compiled")),
-        Part("house", ["tests/house.py"]),
-        Part("style", ["tests/style.py"]),
-        Part("clippy", ["tests/clippy.sh"], after=("archive", "compiled")),
-        Part("links", ["tests/links.py"]),
-        Part("names", ["tests/names.py"]),
-        Part("bare_names", ["tests/bare_names.py"]),
-        Part("pages", ["tests/pages.py"]),
-        Part("reading", ["tests/reading.py"]),
-        Part("faults", ["scripts/faults.py", "--check"]),
-        Part("raw", ["scripts/raw.py", "--check"]),
-        Part("refusals", ["tests/refusals.py"]),
-        Part("lists_refused", ["tests/lists_refused.py", program], after=of_library),
-        Part("edits", ["tests/further_edits.py", "--apply"]),
-        Part("manual", ["tests/manual.sh"], after=("compiled",)),
-        Part("examples", ["tests/examples.py", program]),
-        Part("written_bytes", ["bash", "-c",
-                               "tests/written_bytes.py | cmp - examples/written.ctf"]),
-        Part("written_by_pahole", ["tests/written_by_pahole.sh"]),
-        Part("written_by_libctf", ["tests/written_by_libctf.py"]),
-        Part("hostile", ["bench/hostile.py", program, "--limit", "5"], is_alone=True),
+        pytest("store", program, f"{folder}/store", after=compiled),
+        Part("ilp32", [f"{folder}/ilp32/run.sh", program], after=compiled),
+    ]
+
+
+def packages(program: str) -> list[Part]:
+    """What is installed and released, and the crates for Rust."""
+    folder, compiled = "tests/doors", ("archive", "compiled")
+    return [
+        Part("packages", [f"{folder}/packages/packages.sh", program], after=compiled),
+        Part("install", [f"{folder}/packages/install.sh", program], after=compiled),
+        Part("rust", [f"{folder}/rust/run.sh"], after=("archive",)),
+        Part("clippy", [f"{folder}/rust/clippy.sh"], after=compiled),
+    ]
+
+
+def of_the_service(program: str) -> list[Part]:
+    """Lines in, a reply to each out; and dictionaries as text."""
+    folder = "tests/doors/service"
+    return [
+        pytest("growths", program, f"{folder}/growths"),
+        pytest("stack", program, f"{folder}/stack", after=("archive",)),
+        pytest("streams", program, f"{folder}/streams"),
+        pytest("damage", program, f"{folder}/test_damage.py", WHOLE),
+        Part("program", [f"{folder}/program.sh", program]),
+        pytest("replies", program, *(f"{folder}/{name}" for name in (
+            "test_transcripts.py", "test_examples.py", "test_lists_refused.py", "by_hand")),
+               after=("archive",)),
+        pytest("dumps", program, "tests/doors/dump"),
+        Part("written_by_pahole", ["tests/doors/dump/written_by_pahole.sh"]),
+    ]
+
+
+def of_the_house() -> list[Part]:
+    """What needs no program: names, pages, style and lists; and the manual pages."""
+    return [
+        Part("house", [with_package("pytest"), *PYTEST, "tests/house"]),
+        Part("manual", ["tests/house/manual.sh"], after=("compiled",)),
     ]

@@ -52,8 +52,7 @@ class Command(unittest.TestCase):
                 self.assertEqual(self.told(pipe, "struct lua_Debug"), DEBUG + "\n")
         for device in ("/dev/zero", "/dev/null"):
             self.assertEqual(self.refused(device).splitlines(), [
-                f"ctfd-types: {device}: it is no file with contents of its own, but a device or the"
-                " like, which is not read"])
+                f"ctfd-types: {device}: not a regular file: devices and the like are not read"])
 
     def test_a_function(self) -> None:
         beside = ("--symbols", str(EXAMPLES / "lua.sym"), "--strings", str(EXAMPLES / "lua.str"))

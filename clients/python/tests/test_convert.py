@@ -282,7 +282,7 @@ class Choosing(WithFiles):
     def test_what_is_wanted_last_comes_last(self) -> None:
         """Those that come first with what they hold; what is left out is named in its order."""
         _, told = self.converted(self.file("many.btf", btf(20_000)), "--one", status=1)
-        self.assertIn("point to nothing told: struct s16382, struct s16383, ", told)
+        self.assertIn("become void *: struct s16382, struct s16383, ", told)
 
     def test_the_long_forms(self) -> None:
         table = Table()

@@ -1,10 +1,5 @@
-"""drgn's types by a dictionary, where this Python has drgn.
-
-Of all tests together these are left out where it has none: a part of the gate of their own runs
-them, under a Python that has it.
-"""
+"""drgn's types by a dictionary, where this Python has drgn."""
 import unittest
-from typing import Optional
 
 import ctfd
 
@@ -22,12 +17,6 @@ NAMES = b"\0int\0point\0x\0next\0bits\0color\0RED\0number\0grid\0u\0"
 
 def name(text: str) -> int:
     return NAMES.index(b"\0" + text.encode() + b"\0") + 1
-
-
-def load_tests(_: unittest.TestLoader, found: unittest.TestSuite,
-               pattern: Optional[str]) -> unittest.TestSuite:
-    """All of them where this module is named, or where this Python has drgn."""
-    return found if pattern is None or has_library("drgn") else unittest.TestSuite()
 
 
 @unittest.skipUnless(has_library("drgn"), "this Python has no drgn (Debian's python3-drgn)")

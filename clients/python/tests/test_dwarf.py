@@ -159,7 +159,8 @@ class Forms(WithFiles):
         at = whole.index(struct.pack("<IIQ", 1, 0, 0)[:8], 64)
         whole[at] = 2
         self.assertRegex(self.converted(self.file("zstd.o", bytes(whole)), status=2)[1],
-                         r"\.debug_\w+ does not inflate to the bytes that it says: damage"
+                         r"\.debug_\w+ does not inflate to the size that its header states: it is "
+                         r"damaged"
                          r"|built without libzstd: objcopy --decompress-debug-sections")
 
     def test_sections_that_zstd_compressed(self) -> None:
@@ -184,7 +185,7 @@ class Forms(WithFiles):
             for more in (1, 1 << 20, 1 << 31):
                 wrong = bytearray(data)
                 struct.pack_into("<I", wrong, size, more)
-                self.assertIn("does not inflate to the bytes that it says: damage",
+                self.assertIn("does not inflate to the size that its header states: it is damaged",
                               self.converted(self.file("wrong.o", bytes(wrong)), status=2)[1])
 
     def test_archives(self) -> None:

@@ -7,7 +7,7 @@ import shutil
 import tempfile
 import unittest
 from pathlib import Path
-from typing import Any, Dict, List, Optional, Type
+from typing import Any, Dict
 
 from .browser import CHROMIUM, Browser
 from .support import EXAMPLES, PROGRAM, STRUCT, WithService, dictionary, integer, member, record
@@ -242,13 +242,8 @@ BOXES = """[...document.querySelectorAll('#picture g')].map(g => [g.dataset.name
  Number(g.querySelector('rect').getAttribute('width'))])"""
 
 
-def load_tests(loader: unittest.TestLoader, standard: unittest.TestSuite,
-               pattern: Optional[str]) -> unittest.TestSuite:
-    """All but those in a browser, which is a large package: CTFD_BROWSER=1 runs these too."""
-    cases: List[Type[unittest.TestCase]] = [Page]
-    if os.environ.get("CTFD_BROWSER"):
-        cases.append(InBrowser)
-    return unittest.TestSuite(loader.loadTestsFromTestCase(case) for case in cases)
+if not os.environ.get("CTFD_BROWSER"):
+    del InBrowser  # these need a large package, so they run where that is asked for
 
 
 if __name__ == "__main__":

@@ -195,7 +195,7 @@ class Named(Bounded):
             self.assertIn("a damaged ELF file", self.refused(path))
 
     def test_what_is_read_is_a_file(self) -> None:
-        self.assertIn("/dev/zero: it is no file with contents", self.refused("/dev/zero"))
+        self.assertIn("/dev/zero: not a regular file", self.refused("/dev/zero"))
         self.assertIn("it is a folder", self.refused(str(self.folder)))
 
     def test_a_debug_link_names_a_regular_file_beside_it(self) -> None:

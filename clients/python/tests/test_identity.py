@@ -166,12 +166,12 @@ class Of(WithPrograms):
         self.assertEqual((ctfd.read(out).model, self.types(out).model), ("ilp32", "ilp32"))
         self.assertEqual(self.types(out).find("struct node").size, 20)
         said = command("ctfd-types", "--model", "lp64", out).stderr
-        self.assertIn("it says that it is of ilp32, and lp64 was asked for: leave the model out",
+        self.assertIn("its model is ilp32, but lp64 was asked for: leave the model out",
                       said)
         module = self.compiled("module.o", CODE)
         kept = self.file("short.ctf", Path(out).read_bytes())
         told = self.converted(module, "--parent", kept, status=2)[1]
-        self.assertIn("it says that it is of ilp32", told)
+        self.assertIn("its model is ilp32", told)
 
     def test_a_parent_is_the_one_that_the_child_was_made_over(self) -> None:
         parents: List[str] = []

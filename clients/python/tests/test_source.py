@@ -96,7 +96,7 @@ class Foreign(WithFile):
 
     def test_no_such_file(self) -> None:
         for name, why in (("/nowhere/at/all", "No such file"), ("/", "it is a folder"),
-                          ("/dev/null", "no file with contents"), ("a\0b", "null byte")):
+                          ("/dev/null", "not a regular file"), ("a\0b", "null byte")):
             with self.assertRaisesRegex(ctfd.Unreadable, why):
                 ctfd.read(name)
 

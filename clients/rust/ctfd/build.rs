@@ -7,7 +7,7 @@ use std::path::{Path, PathBuf};
 use std::process::Command;
 
 /// The one that `make install` installed.
-fn installed(name: &str) -> Option<PathBuf> {
+fn installed_library(name: &str) -> Option<PathBuf> {
     let asked = Command::new(env::var("PKG_CONFIG").unwrap_or_else(|_| "pkg-config".into()))
         .args(["--libs-only-L", "--keep-system-libs", "ctfd"])
         .output()
@@ -20,15 +20,15 @@ fn installed(name: &str) -> Option<PathBuf> {
 }
 
 /// The one of the clone that this crate stands in.
-fn built(name: &str) -> Option<PathBuf> {
+fn library_of_clone(name: &str) -> Option<PathBuf> {
     let top = Path::new(&env::var_os("CARGO_MANIFEST_DIR")?).join("../../..");
     Some(top.join("crates/ctf_c/out").join(name)).filter(|library| library.exists())
 }
 
 /// The library of a name, which a word of the environment may name by its path.
-fn found(name: &str, word: &str) -> PathBuf {
+fn library_path(name: &str, word: &str) -> PathBuf {
     let named = env::var_os(word).map(PathBuf::from);
-    let library = named.or_else(|| installed(name)).or_else(|| built(name));
+    let library = named.or_else(|| installed_library(name)).or_else(|| library_of_clone(name));
     let library =
         library.unwrap_or_else(|| panic!("no {name}: `make install` it, or name it by {word}"));
     println!("cargo:rerun-if-changed={}", library.display());
@@ -46,7 +46,7 @@ fn name_archive() {
 
 /// A copy of the archive by itself, since beside it stands the shared library, which is preferred.
 fn link_archive() {
-    let archive = found("libctfd.a", "CTFD_ARCHIVE");
+    let archive = library_path("libctfd.a", "CTFD_ARCHIVE");
     let out = env::var("OUT_DIR").expect("cargo says where");
     fs::copy(&archive, Path::new(&out).join("libctfd.a"))
         .unwrap_or_else(|why| panic!("{}: {why}", archive.display()));
@@ -56,7 +56,7 @@ fn link_archive() {
 
 /// The folder is told to the crates that use this one, as DEP_CTFD_FOLDER, for a run path.
 fn link_shared() {
-    let library = found("libctfd.so", "CTFD_LIBRARY");
+    let library = library_path("libctfd.so", "CTFD_LIBRARY");
     let folder = library.parent().expect("a file stands in a folder");
     println!("cargo:folder={}", folder.display());
     println!("cargo:rustc-link-search=native={}", folder.display());

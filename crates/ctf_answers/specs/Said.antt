@@ -6,9 +6,9 @@ use Rattle.ctf_answers.specs.Singles.{single_of}
 use Rattle.ctf_answers.specs.Told.{record_view, info_view}
 use Rattle.ctf_answers.specs.declared.values.Said.{Said}
 use Rattle.ctf_answers.specs.declared.values.Said.TheVariants as said
-use Rattle.ctf_answers.specs.declared.singles.Entry.{Entry}
+use Rattle.ctf_answers.specs.declared.singles.KeyedValue.{KeyedValue}
 
-abbrev pub entry_view : Entry → answers.Field
+abbrev pub entry_view : KeyedValue → answers.Field
 entry_view e = says e.key.now (single_of e.value)
 
 abbrev pub fields_view : Said → answers.Answer

@@ -1,5 +1,5 @@
 //! What a granted request is answered.
-ghost use Rattle.std.specs.Prelude.{◌≡◌, ◌<◌, [], ◌∷◌, codes, length, Some, slice_get};
+ghost use Rattle.std.specs.Prelude.{◌≡◌, ◌<◌, [], ◌∷◌, codes, length, IfSome, Some, slice_get};
 ghost use Rattle.ctf_protocol.specs.answers.Answers.{says, lists, number, truth, text as said_text};
 ghost use Rattle.ctf_answers.specs.Singles.{single_of};
 ghost use Rattle.ctf_answers.specs.Fields.{field_of};
@@ -8,7 +8,7 @@ ghost use Rattle.ctf_answers.specs.Told.{record_view, info_view};
 
 use crate::fields::{Field, Value};
 use crate::item_lists::Listed;
-use crate::singles::{Entry, Single};
+use crate::singles::{KeyedValue, Single};
 use crate::type_fields::{InfoAnswer, RecordAnswer, field};
 use crate::values::Said;
 use ctf_protocol::Bytes;
@@ -29,10 +29,10 @@ impl<'a> Model for Answer<'a> {
     ghost view = { λ a. fields_view a.said };
 }
 
-fn entry<'a>(key: &'static str, value: Single<'a>) -> Entry<'a>
+fn entry<'a>(key: &'static str, value: Single<'a>) -> KeyedValue<'a>
     ensures { entry_view result ≡ says key.now (single_of value.entry) }
 {
-    Entry { key, value }
+    KeyedValue { key, value }
 }
 
 impl<'a> Answer<'a> {
@@ -147,6 +147,16 @@ impl<'a> Answer<'a> {
         }
     }
 
+    /// The dictionary as a whole, where that is what it is of.
+    pub fn as_info(&self) -> Option<InfoAnswer<'a>>
+        ensures { IfSome result (λ told. self.now ≡ info_view told) }
+    {
+        match &self.said {
+            Said::Info(told) => Some(*told),
+            _ => None,
+        }
+    }
+
     /// The field with a number, from 0.
     pub fn get<'b>(&'b self, index: usize) -> Field<'a, 'b>
         requires { index < length self.now }
@@ -186,7 +196,7 @@ fn made_field<'a, 'b>(key: &'static str, text: &'b Bytes) -> Field<'a, 'b>
     }
 }
 
-fn pick_two<'a, 'b>(a: Entry<'a>, b: Entry<'a>, index: usize) -> Field<'a, 'b>
+fn pick_two<'a, 'b>(a: KeyedValue<'a>, b: KeyedValue<'a>, index: usize) -> Field<'a, 'b>
     requires { index < 2 }
     ensures { Some (field_of result)
         ≡ slice_get (entry_view a.entry ∷ entry_view b.entry ∷ []) index }
@@ -197,7 +207,12 @@ fn pick_two<'a, 'b>(a: Entry<'a>, b: Entry<'a>, index: usize) -> Field<'a, 'b>
     }
 }
 
-fn pick_three<'a, 'b>(a: Entry<'a>, b: Entry<'a>, c: Entry<'a>, index: usize) -> Field<'a, 'b>
+fn pick_three<'a, 'b>(
+    a: KeyedValue<'a>,
+    b: KeyedValue<'a>,
+    c: KeyedValue<'a>,
+    index: usize,
+) -> Field<'a, 'b>
     requires { index < 3 }
     ensures { Some (field_of result)
         ≡ slice_get (entry_view a.entry ∷ entry_view b.entry ∷ entry_view c.entry ∷ []) index }

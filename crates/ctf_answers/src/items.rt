@@ -7,15 +7,15 @@ ghost use Rattle.ctf_views.specs.ItemsView.{member as member_view, enumerator as
 ghost use Rattle.ctf_answers.specs.Singles.{single_of, entry_of};
 ghost use Rattle.ctf_answers.specs.Items.{item_of, items_of};
 
-use crate::singles::{Entry, Single};
+use crate::singles::{KeyedValue, Single};
 use ctf_views::{Args, Enumerator, Enumerators, Label, Labels, Member, Members};
 
 /// An item of a list: a value by itself, or an object of two or three parts.
 #[derive(Clone, Copy)]
 pub enum Item<'a> {
     Bare(Single<'a>),
-    Two(Entry<'a>, Entry<'a>),
-    Three(Entry<'a>, Entry<'a>, Entry<'a>),
+    Two(KeyedValue<'a>, KeyedValue<'a>),
+    Three(KeyedValue<'a>, KeyedValue<'a>, KeyedValue<'a>),
 }
 
 /// All items of a list.
@@ -27,10 +27,10 @@ pub enum Items<'a> {
     Labels(Labels<'a>),
 }
 
-fn entry<'a>(key: &'static str, value: Single<'a>) -> Entry<'a>
+fn entry<'a>(key: &'static str, value: Single<'a>) -> KeyedValue<'a>
     ensures { entry_of result ≡ said_entry key.now (single_of value.entry) }
 {
-    Entry { key, value }
+    KeyedValue { key, value }
 }
 
 fn member_item<'a>(member: Member<'a>) -> Item<'a>

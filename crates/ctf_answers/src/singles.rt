@@ -14,9 +14,9 @@ pub enum Single<'a> {
     Bytes(&'a [u8]),
 }
 
-/// A part of an object.
+/// A value of an object, with its key.
 #[derive(Clone, Copy)]
-pub struct Entry<'a> {
+pub struct KeyedValue<'a> {
     pub key: &'static str,
     pub value: Single<'a>,
 }

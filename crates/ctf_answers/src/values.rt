@@ -1,7 +1,7 @@
 //! What is answered, by what it is.
 
 use crate::item_lists::Listed;
-use crate::singles::Entry;
+use crate::singles::KeyedValue;
 use crate::type_fields::{InfoAnswer, RecordAnswer};
 use ctf_protocol::Bytes;
 
@@ -9,9 +9,9 @@ use ctf_protocol::Bytes;
 #[derive(Drop)]
 pub enum Said<'a> {
     Done,
-    One(Entry<'a>),
-    Two(Entry<'a>, Entry<'a>),
-    Three(Entry<'a>, Entry<'a>, Entry<'a>),
+    One(KeyedValue<'a>),
+    Two(KeyedValue<'a>, KeyedValue<'a>),
+    Three(KeyedValue<'a>, KeyedValue<'a>, KeyedValue<'a>),
     /// Some items of a list, and how many it has.
     Window {
         key: &'static str,

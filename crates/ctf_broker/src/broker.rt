@@ -13,7 +13,7 @@ ghost use Rattle.ctf_laws.specs.Good.{AreGood, FitsChange};
 ghost use Rattle.ctf_library.specs.Telling.{makes_text};
 
 use crate::libraries::{drop_new, found_by, publish_in, step_in};
-use crate::session_library::Held;
+use crate::session_library::SessionLibrary;
 use ctf_answers::{Answer, Counts};
 use ctf_library::{Loaded, MODEL_UNSAID, Pool};
 use ctf_protocol::{Bytes, Change, Fault, Parts, PublicationName, Question, SlotNumber, placeless};
@@ -29,7 +29,7 @@ const OPERATOR: u32 = 0;
 #[derive(Drop)]
 pub struct Broker {
     alloc: Global,
-    libraries: BTreeMap<u32, Held>,
+    libraries: BTreeMap<u32, SessionLibrary>,
     pool: Pool,
 }
 

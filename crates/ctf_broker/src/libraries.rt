@@ -8,7 +8,7 @@ ghost use Rattle.ctf_protocol.specs.sessions.Quiet.{is_quiet_change};
 ghost use Rattle.ctf_protocol.specs.declared.requests.Request.TheVariants.{Changes};
 ghost use Rattle.ctf_broker.specs.Table.{kept_for, library_at};
 
-use crate::session_library::Held;
+use crate::session_library::SessionLibrary;
 use ctf_answers::Counts;
 use ctf_library::{Loaded, Pool};
 use ctf_protocol::{Change, Fault, PublicationName, placeless};
@@ -17,7 +17,7 @@ use std::collections::BTreeMap;
 
 /// What a change finds: a take, what its owner has published under the name.
 pub fn found_by(
-    libraries: &BTreeMap<u32, Held>,
+    libraries: &BTreeMap<u32, SessionLibrary>,
     change: &Change,
 ) -> Result<Option<Loaded>, AllocError>
     ensures ok { IfOk result (λ found. found
@@ -37,7 +37,7 @@ pub fn found_by(
 }
 
 /// Gives back the memory of a session's library that is as new.
-pub fn drop_new(libraries: &mut BTreeMap<u32, Held>, session: u32)
+pub fn drop_new(libraries: &mut BTreeMap<u32, SessionLibrary>, session: u32)
     ensures own { library_at libraries.new.entries session
         ≡ library_at libraries.old.entries session }
     ensures others { (other : ℕ) → other ≢ session
@@ -57,7 +57,7 @@ pub fn drop_new(libraries: &mut BTreeMap<u32, Held>, session: u32)
 /// Makes the step of a change in the session's own library, which is made where there is none yet.
 pub fn step_in(
     alloc: Global,
-    libraries: &mut BTreeMap<u32, Held>,
+    libraries: &mut BTreeMap<u32, SessionLibrary>,
     pool: &mut Pool,
     session: u32,
     change: &Change,
@@ -77,7 +77,7 @@ pub fn step_in(
     let Ok(entry) = libraries.entry(session) else {
         return Err(placeless(Fault::MEMORY));
     };
-    let Ok(held) = entry.or_try_insert_with(|| Held::new(alloc)) else {
+    let Ok(held) = entry.or_try_insert_with(|| SessionLibrary::new(alloc)) else {
         return Err(placeless(Fault::MEMORY));
     };
     held.step(change, found, pool)
@@ -86,7 +86,7 @@ pub fn step_in(
 /// Publishes a dictionary in the library of a session, which is made where there is none yet.
 pub fn publish_in(
     alloc: Global,
-    libraries: &mut BTreeMap<u32, Held>,
+    libraries: &mut BTreeMap<u32, SessionLibrary>,
     session: u32,
     name: &PublicationName,
     loaded: Loaded,
@@ -100,7 +100,7 @@ pub fn publish_in(
     let Ok(entry) = libraries.entry(session) else {
         return Err(placeless(Fault::MEMORY));
     };
-    let Ok(held) = entry.or_try_insert_with(|| Held::new(alloc)) else {
+    let Ok(held) = entry.or_try_insert_with(|| SessionLibrary::new(alloc)) else {
         return Err(placeless(Fault::MEMORY));
     };
     held.publish_loaded(name, loaded)

@@ -14,11 +14,11 @@ use std::marker::Model;
 /// A library, of which a table of sessions keeps no more than where it is: a node of the table has
 /// room for eleven, and only six are in use where sessions come by rising numbers.
 #[derive(Drop)]
-pub struct Held {
+pub struct SessionLibrary {
     library: Box<Library>,
 }
 
-impl Model for Held {
+impl Model for SessionLibrary {
     ghost use Rattle.ctf_protocol.specs.sessions.State.{State};
 
     ghost Value = { State };
@@ -26,13 +26,13 @@ impl Model for Held {
     ghost view = { λ h. h.library.value };
 }
 
-impl Held {
+impl SessionLibrary {
     /// A library with nothing in it, for a session's first change.
     #[inline(always)]
-    pub fn new(alloc: Global) -> Result<Held, AllocError>
+    pub fn new(alloc: Global) -> Result<SessionLibrary, AllocError>
         ensures { IfOk result (λ h. h ≡ empty_state) }
     {
-        Ok(Held {
+        Ok(SessionLibrary {
             library: Box::new(alloc, Library::new(alloc))?,
         })
     }

@@ -1,4 +1,23 @@
 //! What C asks in process, of dictionaries and of a whole service. The header is clients/c/ctfd.h.
+//!
+//! ```c
+//! /* How many bytes a type of a dictionary has; 0 where it has none of the name. */
+//! uint64_t size_of(const uint8_t *ctf, size_t ctf_len, const char *name, size_t name_len)
+//! {
+//!     struct ctfd types = CTFD_NONE;
+//!     uint64_t place, bytes = 0;
+//!     uint16_t t;
+//!     if (ctfd_open(&types, ctf, ctf_len, "", 0, "", 0, false, false, false, &place) == CTFD_OK &&
+//!         ctfd_find(&types, name, name_len, &t) == CTFD_OK)
+//!         ctfd_size(&types, t, &bytes);
+//!     ctfd_close(&types);
+//!     return bytes;
+//! }
+//! ```
+//!
+//! A call answers `CTFD_OK`, or 1 and the code of a fault; docs/FAULTS.md says what `place` counts.
+//! What is refused changes nothing and writes nothing but `place`. Sizes are in bytes, offsets in
+//! bits. The head of the header says what a caller owes and is given.
 #![tactic(auto)]
 
 mod additions;

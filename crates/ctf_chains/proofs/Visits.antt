@@ -8,7 +8,7 @@ use Rattle.ctf_model.specs.rules.Chains.{targets, IsWithin}
 use Rattle.ctf_chains.specs.Deep.{AreWithinBefore}
 use Rattle.ctf_chains.specs.Places.{Places, places_at, led_to, steps_between}
 use Rattle.ctf_chains.specs.Search.{IsDepth, busy, entry_in, Knows, Leads, OnWay, GoesOn, Found, Answers}
-use Rattle.ctf_chains.specs.declared.entry.Entry.TheVariants.{Unvisited, Depth, TooDeep}
+use Rattle.ctf_chains.specs.declared.entry.VisitState.TheVariants.{Unvisited, Depth, TooDeep}
 use Rattle.ctf_chains.proofs.Depths.{IsWithin-more, targets_are, led_at}
 use Rattle.ctf_chains.proofs.Lists.{All-at, not_empty, same_or_not}
 

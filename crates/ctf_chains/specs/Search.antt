@@ -3,8 +3,8 @@ use Rattle.std.specs.Prelude.{◌≡◌, ℕ, zero, suc, ◌+◌, ◌-◌, ◌==
 use Rattle.std.specs.List.{AllByRecursion}
 use Rattle.ctf_model.specs.rules.Chains.{IsWithin}
 use Rattle.ctf_chains.specs.Places.{Places, record_work}
-use Rattle.ctf_chains.specs.declared.entry.Entry.{Entry}
-use Rattle.ctf_chains.specs.declared.entry.Entry.TheVariants.{Unvisited, Depth, TooDeep}
+use Rattle.ctf_chains.specs.declared.entry.VisitState.{VisitState}
+use Rattle.ctf_chains.specs.declared.entry.VisitState.TheVariants.{Unvisited, Depth, TooDeep}
 
 -- ---- depths
 
@@ -31,7 +31,7 @@ abbrev pub busy : ℕ
 busy = 0xffff
 
 -- what a number of the table stands for, where there is a budget
-abbrev pub entry_in : ℕ → ℕ → Entry
+abbrev pub entry_in : ℕ → ℕ → VisitState
 entry_in budget n =
     if n == 0 then Unvisited else if nat_le (n - 1) budget then Depth (n - 1) else TooDeep
 

@@ -8,7 +8,7 @@ pub(crate) const BUSY: u16 = u16::MAX;
 
 /// What is known of a record where there is a budget.
 #[derive(Clone, Copy)]
-pub(crate) enum Entry {
+pub(crate) enum VisitState {
     /// Nothing yet.
     Unvisited,
     /// The length of the longest chain from it, for which the budget is enough.
@@ -19,17 +19,17 @@ pub(crate) enum Entry {
 
 /// What a number of the table stands for. A depth is told by one compare.
 #[inline(always)]
-pub(crate) fn entry_of(number: u16, budget: u16) -> Entry
+pub(crate) fn entry_of(number: u16, budget: u16) -> VisitState
     requires { budget ≤ longest_chain }
     ensures { result ≡ entry_in budget number }
 {
     let depth = number.wrapping_sub(1);
     if depth <= budget {
-        return Entry::Depth(depth);
+        return VisitState::Depth(depth);
     }
     if number == 0 {
-        Entry::Unvisited
+        VisitState::Unvisited
     } else {
-        Entry::TooDeep
+        VisitState::TooDeep
     }
 }

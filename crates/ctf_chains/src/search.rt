@@ -5,7 +5,7 @@ ghost use Rattle.ctf_chains.specs.Deep.{IsLeastDeep};
 ghost use Rattle.ctf_chains.specs.Places.{full_work, steps_between};
 ghost use Rattle.ctf_chains.specs.Search.{Knows, OnWay, Answers, work_left};
 
-use crate::entry::{BUSY, Entry, entry_of};
+use crate::entry::{BUSY, VisitState, entry_of};
 use crate::graph::Graph;
 use crate::ticks::Ticks;
 use std::alloc::{AllocError, Global};
@@ -49,9 +49,9 @@ fn depth<L: Ledger, G: Graph<L>>(
         ≡ work.old + work_left (G.places graph.now) known.old }
 {
     match entry_of(known[i], budget) {
-        Entry::Depth(depth) => Some(depth),
-        Entry::Unvisited => visit_below(graph, known, work, i, budget),
-        Entry::TooDeep => None,
+        VisitState::Depth(depth) => Some(depth),
+        VisitState::Unvisited => visit_below(graph, known, work, i, budget),
+        VisitState::TooDeep => None,
     }
 }
 
@@ -148,9 +148,9 @@ fn depth_first<L: Ledger, G: Graph<L>>(
         ≡ work.old + work_left (G.places graph.now) known.old }
 {
     match entry_of(known[i], budget) {
-        Entry::Depth(depth) => Some(depth),
-        Entry::Unvisited => visit(graph, known, work, i, budget),
-        Entry::TooDeep => None,
+        VisitState::Depth(depth) => Some(depth),
+        VisitState::Unvisited => visit(graph, known, work, i, budget),
+        VisitState::TooDeep => None,
     }
 }
 

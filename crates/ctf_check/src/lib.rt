@@ -1,4 +1,26 @@
 //! The check of a dictionary, and what a dictionary that passed it answers.
+//!
+//! ```rust
+//! use ctf_check::{Judged, check};
+//! use ctf_model::{DataModel, Fault, Parts};
+//! use std::alloc::Global;
+//!
+//! /// Whether a CTF section, without symbols, breaks no rule of the format.
+//! fn is_good(alloc: Global, ctf: &[u8]) -> bool {
+//!     check(alloc, ctf, None, None).is_ok()
+//! }
+//!
+//! /// How many types a dictionary has, or its first fault.
+//! fn type_count(alloc: Global, parts: Parts) -> Result<usize, Fault> {
+//!     match Judged::build(alloc, parts, DataModel::Lp64) {
+//!         Ok(judged) => Ok(judged.view().count()),
+//!         Err((fault, _parts)) => Err(fault),
+//!     }
+//! }
+//! ```
+//!
+//! A fault's place counts what docs/FAULTS.md says for its code; code 0 says that memory was
+//! refused. Types are counted from 0 here, and by their numbers from `ctf_space` on.
 #![tactic(auto)]
 
 mod bad_names;

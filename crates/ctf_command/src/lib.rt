@@ -1,5 +1,30 @@
 //! What the words of the command line ask for, the files that they name, and how the program ends:
 //! what of `ctfd` has a contract. It passes on what the program calls of the crates below.
+//!
+//! ```rust
+//! use ctf_command::{FromReader, ToWriter, end, serve_lines, start};
+//! use std::io;
+//!
+//! /// Publishes the files of words such as `own=types.ctf`, serves standard input, and answers the
+//! /// exit status.
+//! fn run(rt: &HostRuntime, words: &[&str]) -> u8 {
+//!     match start(rt.alloc(), rt, words) {
+//!         Ok(mut broker) => {
+//!             let mut source = FromReader::new(rt.reader());
+//!             let mut sink = ToWriter::new(io::writer(rt));
+//!             end(
+//!                 rt,
+//!                 serve_lines(rt.alloc(), &mut broker, &mut source, &mut sink),
+//!             )
+//!         }
+//!         Err(why) => why.status(),
+//!     }
+//! }
+//! ```
+//!
+//! A file has at most 67,108,864 bytes. Statuses are 0 where all was done, 1 where a file was
+//! refused, 2 where the words are wrong, 3 where a read or a write failed, 4 where memory was
+//! refused.
 #![tactic(auto)]
 
 mod files;

@@ -1,3 +1,4 @@
 mod Progress
 mod TypeLines
 mod AllLines
+mod PlainNames

@@ -1,4 +1,30 @@
 //! Dictionaries as text, for people: line by line, into any writer.
+//!
+//! ```rust
+//! use ctf_dump::{InputFile, Inputs, dump_lists};
+//! use ctf_model::{Bytes, DataModel};
+//! use std::alloc::Global;
+//!
+//! /// Writes the dump of a CTF section to `out`, or a line that says why not to `err`.
+//! fn dump_section(alloc: Global, ctf: Vec<u8>, out: &mut Vec<u8>, err: &mut Vec<u8>) -> u8 {
+//!     let inputs = Inputs {
+//!         ctf: InputFile {
+//!             name: "types.ctf",
+//!             bytes: Bytes::from(ctf),
+//!         },
+//!         parent: None,
+//!         sym: None,
+//!         str: None,
+//!         model: DataModel::Lp64,
+//!     };
+//!     dump_lists(alloc, inputs, out, err)
+//! }
+//! ```
+//!
+//! The answer is an exit status: 0 where all was written, 1 where a file was refused, 3 where a
+//! write failed, 4 where memory was refused. With 1 nothing was written to `out`; with 3 and 4 the
+//! text breaks off. [`dump`] writes a dictionary that was judged already. Sizes in the text are in
+//! bytes, offsets in bits: docs/DUMP.md has its form.
 #![tactic(auto)]
 
 mod dumping;

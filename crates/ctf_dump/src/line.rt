@@ -1,6 +1,7 @@
 //! A line as it is built, and then written.
 
-ghost use Rattle.std.specs.Prelude.{◌≡◌, ◌<◌, ◌++◌, [], codes, decimal, IfErr, OnOk};
+ghost use Rattle.std.specs.Prelude.{◌≡◌, ◌<◌, ◌++◌, [], codes, decimal, IfErr, IsTrue, OnOk};
+ghost use Rattle.std.specs.List.{flat_map};
 ghost use Rattle.std.specs.Io.KnownBytes.{Appends, Keeps};
 ghost use Rattle.ctf_model.specs.dumps.Dump.{escape, in_quotes};
 ghost use Rattle.ctf_model.specs.dumps.Texts.{signed_decimal};
@@ -62,6 +63,18 @@ fn is_plain(byte: u8) -> bool
     0x20 <= byte && byte <= 0x7e && byte != 0x22 && byte != 0x5c
 }
 
+/// Whether all bytes of a name stand as themselves. None ends it early, so that many are looked
+/// at at once.
+fn are_plain(name: &[u8]) -> bool
+    ensures { IsTrue result → flat_map escape name.now ≡ name.now }
+{
+    let mut plain = true;
+    for byte in name {
+        plain &= is_plain(*byte);
+    }
+    plain
+}
+
 impl Line {
     pub fn new(alloc: Global) -> Line
         ensures { result ≡ [] }
@@ -111,15 +124,27 @@ impl Line {
         }
     }
 
+    /// A name, escaped where it has to be.
+    fn push_name(&mut self, name: &[u8]) -> Result<(), AllocError>
+        ensures { OnOk result (self.new ≡ self.old ++ flat_map escape name.now) }
+    {
+        if are_plain(name) {
+            return self.bytes.extend_from_slice(name);
+        }
+        for byte in name {
+            self.byte(*byte)?;
+        }
+        Ok(())
+    }
+
     /// A name between quotes.
     pub fn push_quoted(&mut self, name: &[u8]) -> Result<(), AllocError>
         ensures { OnOk result (self.new ≡ self.old ++ in_quotes name.now) }
     {
-        self.text("\"")?;
-        for byte in name {
-            self.byte(*byte)?;
-        }
-        self.text("\"")
+        self.bytes.push(b'"')?;
+        self.push_name(name)?;
+        self.bytes.push(b'"')?;
+        Ok(())
     }
 
     /// Writes the line with its newline, and begins another. Where the write fails, the line is
@@ -133,7 +158,7 @@ impl Line {
         ensures quiet { IfErr result (λ f. f ≡ DumpFault.Memory
             → Keeps (W.contents out.old) (W.contents out.new)) }
     {
-        if self.text("\n").is_err() {
+        if self.bytes.push(b'\n').is_err() {
             return Err(DumpFault::Memory);
         }
         match out.write_all(&self.bytes) {

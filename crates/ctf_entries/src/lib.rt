@@ -1,4 +1,26 @@
 //! The symbols of a program that a dictionary tells something of, and what it tells of them.
+//!
+//! ```rust
+//! use ctf_entries::{Considered, SymbolNames, type_in};
+//! use ctf_model::TypeNum;
+//!
+//! /// The number of the first symbol that may have an entry: an object or a function with a name.
+//! fn first_number(sym: &[u8], strs: Option<&[u8]>) -> Option<u32> {
+//!     for considered in Considered::new(sym, SymbolNames::new(strs)) {
+//!         return Some(considered.number);
+//!     }
+//!     None
+//! }
+//!
+//! /// The type of the first object of the section of objects; none where it has no type.
+//! fn first_type(objects: &[u8]) -> Option<TypeNum> {
+//!     type_in(objects)
+//! }
+//! ```
+//!
+//! Symbols are counted from 0, all of the symbol table with them; an entry has 24 bytes. Nothing is
+//! refused here: [`is_bad_entry`] says whether the entry of a function is bad, and `ctf_check`
+//! refuses the dictionary then. No call takes memory.
 #![tactic(auto)]
 
 mod considered;

@@ -9,8 +9,9 @@ ghost use Rattle.ctf_json.specs.Memory.{has_byte};
 ghost use Rattle.ctf_json.specs.PlainReader.{IsField, token_said};
 
 use crate::plain_reader::PlainReader;
+use crate::scratch::Scratch;
 use crate::values::Field;
-use json::{Invalid, Scratch, Token};
+use json::{Invalid, Token};
 use memchr::memchr;
 use std::alloc::AllocError;
 use std::marker::Model;
@@ -108,6 +109,14 @@ fn token<'a>(field: Field<'a>) -> Token<'a>
     }
 }
 
+fn lent<'a>(text: &'a str, scratch: &'a mut Scratch) -> Result<Reader<'a>, AllocError>
+    ensures { IfOk result (λ reader. reader ≡ tokens text.now) }
+{
+    Ok(Reader {
+        source: Source::Lent(json::Reader::new(text, scratch.lend()?)?),
+    })
+}
+
 fn without_scratch<'a>(text: &'a str) -> Result<Reader<'a>, AllocError>
     ensures ok { IfOk result (λ reader. reader ≡ tokens text.now) }
     ensures full { OnErr result (has_byte 92 text.now ≡ true) }
@@ -133,10 +142,8 @@ impl<'a> Reader<'a> {
                 return Ok(reader);
             }
         }
-        match json::Reader::new(text, scratch) {
-            Ok(reader) => Ok(Reader {
-                source: Source::Lent(reader),
-            }),
+        match lent(text, scratch) {
+            Ok(reader) => Ok(reader),
             Err(AllocError) => without_scratch(text),
         }
     }

@@ -16,8 +16,9 @@ use crate::line::Line;
 use crate::lists::list_at;
 use crate::passing::{pass, pass_from};
 use crate::readers::Reader;
+use crate::scratch::Scratch;
 use crate::values::{Field, Read};
-use json::{Invalid, Scratch, Token};
+use json::{Invalid, Token};
 use std::alloc::Global;
 
 /// How deep arrays and objects may nest.

@@ -52,6 +52,16 @@ fn stops_16(v: u8x16) -> u64
         | v.simd_lt(u8x16::splat(0x20))).to_bitmask()
 }
 
+/// The same of 64 bytes.
+#[inline(always)]
+fn stops_64(v: u8x64) -> u64
+    ensures { result ≡ mask_l (map is_stop v) }
+{
+    (v.simd_eq(u8x64::splat(b'"'))
+        | v.simd_eq(u8x64::splat(b'\\'))
+        | v.simd_lt(u8x64::splat(0x20))).to_bitmask()
+}
+
 /// The same of 8 bytes.
 #[inline(always)]
 fn stops_8(v: u8x8) -> u64
@@ -90,6 +100,41 @@ fn plain_end_8(text: &[u8], from: usize) -> usize
     plain_end_slowly(text, from + 8)
 }
 
+/// The last place, some 64s on, up to which none of them stands. Long texts alone come here.
+#[inline(never)]
+fn passed_blocks(text: &[u8], from: usize) -> usize
+    requires { from ≤ length text.now }
+    ensures same { result + prefix_len is_plain (drop result text.now)
+        ≡ from + prefix_len is_plain (drop from text.now) }
+    ensures bound { (from ≤ result) × (result ≤ length text.now) }
+{
+    let mut i = from;
+    while text.len() - i >= 64 {
+        let found = stops_64(u8x64::from_slice(&text[i..]));
+        if found != 0 {
+            return i;
+        }
+        i += 64;
+    }
+    i
+}
+
+/// Where to look on from a place up to which none of them stands: a text that is 64 bytes long by
+/// then is likely to be much longer.
+#[inline(always)]
+fn next_place(text: &[u8], from: usize, i: usize) -> usize
+    requires { (from ≤ i) × (i ≤ length text.now) }
+    ensures same { result + prefix_len is_plain (drop result text.now)
+        ≡ i + prefix_len is_plain (drop i text.now) }
+    ensures bound { (i ≤ result) × (result ≤ length text.now) }
+{
+    if i - from == 64 {
+        passed_blocks(text, i)
+    } else {
+        i
+    }
+}
+
 /// The first quote, backslash or control byte from a place on, or the length.
 #[inline(always)]
 pub(crate) fn plain_end(text: &[u8], from: usize) -> usize
@@ -103,7 +148,7 @@ pub(crate) fn plain_end(text: &[u8], from: usize) -> usize
         if found != 0 {
             return i + found.trailing_zeros() as usize;
         }
-        i += 16;
+        i = next_place(text, from, i + 16);
     }
     plain_end_8(text, i)
 }

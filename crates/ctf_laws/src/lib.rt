@@ -1,5 +1,17 @@
 //! Laws over whole runs of a service: what each library keeps, whatever is asked, and what follows
 //! from that. Each is the contract of a function that does nothing.
+//!
+//! ```rust
+//! use ctf_laws::numbers_are_given_once;
+//!
+//! /// The call makes the law known to what is proved of the function that has it.
+//! fn knows_the_law() {
+//!     numbers_are_given_once();
+//! }
+//! ```
+//!
+//! Proofs cite a law by the name of its function too. No call takes time or memory, and none is
+//! refused.
 #![tactic(auto)]
 
 mod good;

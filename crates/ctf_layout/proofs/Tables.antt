@@ -17,7 +17,7 @@ use Rattle.ctf_layout.specs.Fitting.{Fits}
 use Rattle.ctf_layout.specs.Kept.{AreExtents, extent_at, extent_kept, extent_said, or_no_type, table_kept}
 use Rattle.ctf_layout.specs.Over.{OverParent}
 use Rattle.ctf_layout.specs.Table.{Knows, Table, entry}
-use Rattle.ctf_layout.specs.declared.entry.Entry.{Entry}
+use Rattle.ctf_layout.specs.declared.entry.KeptExtent.{KeptExtent}
 use Rattle.ctf_layout.specs.declared.extents.Extent.{Extent}
 use Rattle.ctf_layout.specs.declared.extents.Refusal.TheVariants.{NoParent, NoType}
 use Rattle.ctf_layout.specs.declared.layout.Layout.{Layout}
@@ -27,21 +27,21 @@ use Rattle.ctf_layout.proofs.Entries.{known_is_said}
 -- ---- a table, kept
 
 -- what an entry says stands at its place in the table
-entry_said : (entries : List Entry) (i : ℕ) (x : Entry) → slice_get entries i ≡ Some x → entry (table_kept entries) i ≡ extent_kept x
+entry_said : (entries : List KeptExtent) (i : ℕ) (x : KeptExtent) → slice_get entries i ≡ Some x → entry (table_kept entries) i ≡ extent_kept x
 entry_said entries i x got = get_or_from_slice_get (table_kept entries) i (extent_kept x) None (slice_get-map extent_kept entries i ∙ ap (option_map extent_kept) got)
 
 -- so it does where it was looked up
-pub entry_at : (entries : List Entry) (i : ℕ) (x : Entry) → i < length entries → x ≡ get_or entries i x → entry (table_kept entries) i ≡ extent_kept x
+pub entry_at : (entries : List KeptExtent) (i : ℕ) (x : KeptExtent) → i < length entries → x ≡ get_or entries i x → entry (table_kept entries) i ≡ extent_kept x
 entry_at entries i x lt is = get_or-map extent_kept entries i x None lt ∙ ap extent_kept (sym is)
 
 -- a table of open entries knows nothing
-pub all_open : (x : Entry) (n j : ℕ) → extent_kept x ≡ None → entry (table_kept (replicate n x)) j ≡ None
+pub all_open : (x : KeptExtent) (n j : ℕ) → extent_kept x ≡ None → entry (table_kept (replicate n x)) j ≡ None
 all_open x zero j none = refl
 all_open x (suc n) zero none = none
 all_open x (suc n) (suc j) none = all_open x n j none
 
 -- what a full table says of a type
-said : (s : Space) (table : Table) (n i : ℕ) (x : Entry) → Knows s table → own_number s.own.child i ≡ n → entry table i ≡ extent_kept x → IsSome (extent_kept x) → IsExtent s n (extent_said x)
+said : (s : Space) (table : Table) (n i : ℕ) (x : KeptExtent) → Knows s table → own_number s.own.child i ≡ n → entry table i ≡ extent_kept x → IsSome (extent_kept x) → IsExtent s n (extent_said x)
 said s table n i x knows at is some =
     let known : extent_kept x ≡ Some (extent_said x) = known_is_said x.sized (extent_said x) some in
     let P : ℕ → Type 0 = λ m. IsExtent s m (extent_said x) in
@@ -58,10 +58,10 @@ not_own child count n i at past = rw at (go (ltb i count) refl)
     go false e = refl
 
 -- the extent of an own type, or of a number behind the last of them
-pub own_extent : (s : Space) (entries : List Entry) → AreExtents s entries → (n i : ℕ) → place s.own.child n ≡ Own i → (e : Extent) → e ≡ extent_at entries i → IsExtent s n e
+pub own_extent : (s : Space) (entries : List KeptExtent) → AreExtents s entries → (n i : ℕ) → place s.own.child n ≡ Own i → (e : Extent) → e ≡ extent_at entries i → IsExtent s n e
 own_extent s entries are n i at e is = rw is (go (slice_get_cases entries i).1)
   where
-    go : ((x : Entry) × (i < length entries) × (slice_get entries i ≡ Some x) × (get_or entries i x ≡ x)) ⊎ ((length entries ≤ i) × (slice_get entries i ≡ None)) → IsExtent s n (or_no_type (slice_get entries i))
+    go : ((x : KeptExtent) × (i < length entries) × (slice_get entries i ≡ Some x) × (get_or entries i x ≡ x)) ⊎ ((length entries ≤ i) × (slice_get entries i ≡ None)) → IsExtent s n (or_no_type (slice_get entries i))
     go (inl h) =
         let here = entry_said entries i h.0 h.2 in
         let inside : i < length s.own.terms = omega (arith, are.count, h.1) in
@@ -73,7 +73,7 @@ own_extent s entries are n i at e is = rw is (go (slice_get_cases entries i).1)
 -- ---- over a parent
 
 -- a parent's type, by the parent's own table
-pub in_parents_table : (s : Space) (entries : List Entry) → OverParent s (Some entries) → (n i : ℕ) → place s.own.child n ≡ Parents i → (e : Extent) → e ≡ extent_at entries i → IsParentsExtent s n e
+pub in_parents_table : (s : Space) (entries : List KeptExtent) → OverParent s (Some entries) → (n i : ℕ) → place s.own.child n ≡ Parents i → (e : Extent) → e ≡ extent_at entries i → IsParentsExtent s n e
 in_parents_table s entries over n i at e is = go s.parent refl
   where
     go : (parent : Option Dictionary) → s.parent ≡ parent → IsParentsExtent s n e

@@ -14,7 +14,7 @@ use Rattle.ctf_model.specs.figures.FigureLaws.{nothing, own_body, value_edges}
 use Rattle.ctf_model.specs.spaces.TypePlaces.{own_number}
 use Rattle.ctf_model.specs.spaces.Space.{Space}
 use Rattle.ctf_layout.specs.declared.bases.Row.{Row}
-use Rattle.ctf_layout.specs.declared.entry.Entry.{Entry}
+use Rattle.ctf_layout.specs.declared.entry.KeptExtent.{KeptExtent}
 use Rattle.ctf_layout.specs.declared.extents.Amount.{Amount}
 use Rattle.ctf_layout.specs.declared.extents.Extent.{Extent}
 use Rattle.ctf_model.specs.declared.numbers.TypeNum.{TypeNum}
@@ -115,7 +115,7 @@ visited s k i before now from all to e w inside lt none cost right a =
     }
 
 -- what is kept of a number is what is kept of the own type that it names
-pub kept_at_number : (s : Space) (t j : ℕ) (before after : Table) (from to : ℕ) (x : Entry) → t ≡ own_number s.own.child j → IsFilled s j before after from to → entry after j ≡ extent_kept x → IsKept s t x
+pub kept_at_number : (s : Space) (t j : ℕ) (before after : Table) (from to : ℕ) (x : KeptExtent) → t ≡ own_number s.own.child j → IsFilled s j before after from to → entry after j ≡ extent_kept x → IsKept s t x
 kept_at_number s t j before after from to x is h said = go (entry after j) refl h.known
   where
     go : (o : Option Extent) → entry after j ≡ o → IsSome o → IsKept s t x
@@ -123,15 +123,15 @@ kept_at_number s t j before after from to x is h said = go (entry after j) refl 
     go (Some e) at some = record { extent = e; kept = sym said ∙ at; right = rw is (h.knows.right j e at) }
 
 -- so is an extent that was kept
-pub kept_new : (s : Space) (t : ℕ) (e : Extent) (x : Entry) → extent_kept x ≡ Some e → IsExtent s t e → IsKept s t x
+pub kept_new : (s : Space) (t : ℕ) (e : Extent) (x : KeptExtent) → extent_kept x ≡ Some e → IsExtent s t e → IsKept s t x
 kept_new s t e x kept right = record { extent = e; kept = kept; right = right }
 
 -- what is kept of a type that is as another is
-pub kept_as_one : (n : ℕ) (row : Option Row) (x : Entry) (e : Extent) → row ≡ None → extent_kept x ≡ Some e → IsByKept n row e x
+pub kept_as_one : (n : ℕ) (row : Option Row) (x : KeptExtent) (e : Extent) → row ≡ None → extent_kept x ≡ Some e → IsByKept n row e x
 kept_as_one n row x e is h = rw is (record { extent = e; kept = h; by = record { size = refl; align = refl; target = refl } })
 
 -- and of one that is a row of it
-pub kept_of_row : (number : TypeNum) (row : Row) (element x : Entry) (e f : Extent) (size : Amount) → extent_kept element ≡ Some e → amount size ≡ row_size (Some row) (amount e.size) → extent_kept x ≡ Some (itself size e.align number) → extent_kept element ≡ Some f → IsByKept number.0 (Some row) f x
+pub kept_of_row : (number : TypeNum) (row : Row) (element x : KeptExtent) (e f : Extent) (size : Amount) → extent_kept element ≡ Some e → amount size ≡ row_size (Some row) (amount e.size) → extent_kept x ≡ Some (itself size e.align number) → extent_kept element ≡ Some f → IsByKept number.0 (Some row) f x
 kept_of_row number row element x e f size here is kept there =
     let same : e ≡ f = same_Some e f (sym here ∙ there) in
     let P : Extent → Type 0 = λ g. IsByKept number.0 (Some row) g x in

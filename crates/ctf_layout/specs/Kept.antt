@@ -12,7 +12,7 @@ use Rattle.ctf_layout.specs.declared.extents.Target.{Target}
 use Rattle.ctf_layout.specs.declared.extents.Target.TheVariants as stands_for
 use Rattle.ctf_model.specs.declared.numbers.TypeNum.{TypeNum}
 use Rattle.ctf_layout.specs.declared.bases.Row.{Row}
-use Rattle.ctf_layout.specs.declared.entry.Entry.{Entry}
+use Rattle.ctf_layout.specs.declared.entry.KeptExtent.{KeptExtent}
 use Rattle.ctf_layout.specs.declared.entry.Standing.{Standing}
 use Rattle.ctf_layout.specs.declared.entry.Standing.TheVariants as stands
 
@@ -44,7 +44,7 @@ unless_open stands.NoType x = Some x
 unless_open stands.NoParent x = Some x
 
 -- what an entry says: of an open one that there is no type
-abbrev pub extent_said : Entry → Extent
+abbrev pub extent_said : KeptExtent → Extent
 extent_said e = record {
   size = amount_kept e.sized e.size;
   align = amount_kept e.aligned e.align;
@@ -52,34 +52,34 @@ extent_said e = record {
 }
 
 -- an extent, where it is known
-abbrev pub extent_kept : Entry → Option Extent
+abbrev pub extent_kept : KeptExtent → Option Extent
 extent_kept e = unless_open e.sized (extent_said e)
 
 -- an entry in which the size, the alignment and the type stand that a number comes to
-pub record IsKept (s : Space) (n : ℕ) (x : Entry) : Type 0 where
+pub record IsKept (s : Space) (n : ℕ) (x : KeptExtent) : Type 0 where
   pub extent : Extent
   pub kept : extent_kept x ≡ Some extent
   pub right : IsExtent s n extent
 
 -- an entry of an extent that is that of one type, as it is or for a row of elements
-pub record IsByKept (n : ℕ) (row : Option Row) (one : Extent) (x : Entry) : Type 0 where
+pub record IsByKept (n : ℕ) (row : Option Row) (one : Extent) (x : KeptExtent) : Type 0 where
   pub extent : Extent
   pub kept : extent_kept x ≡ Some extent
   pub by : IsByOne n row one extent
 
 -- the table that entries are
-abbrev pub table_kept : List Entry → Table
+abbrev pub table_kept : List KeptExtent → Table
 table_kept entries = map extent_kept entries
 
-abbrev pub or_no_type : Option Entry → Extent
+abbrev pub or_no_type : Option KeptExtent → Extent
 or_no_type None = refusal_extent NoType
 or_no_type (Some e) = extent_said e
 
 -- the extent of the own type with a number from 0
-abbrev pub extent_at : List Entry → ℕ → Extent
+abbrev pub extent_at : List KeptExtent → ℕ → Extent
 extent_at entries i = or_no_type (slice_get entries i)
 
 -- the extents of the own types
-pub record AreExtents (s : Space) (entries : List Entry) : Type 0 where
+pub record AreExtents (s : Space) (entries : List KeptExtent) : Type 0 where
   pub count : length entries ≡ length s.own.terms
   pub whole : IsWhole s (table_kept entries)

@@ -4,10 +4,10 @@ use Rattle.std.specs.Option.{ForSome, is_some}
 use Rattle.ctf_model.specs.figures.FigureLaws.{parent_alone}
 use Rattle.ctf_model.specs.spaces.Space.{Space}
 use Rattle.ctf_layout.specs.Kept.{AreExtents}
-use Rattle.ctf_layout.specs.declared.entry.Entry.{Entry}
+use Rattle.ctf_layout.specs.declared.entry.KeptExtent.{KeptExtent}
 
 -- they are there where there is a parent, which is no child, and are right
-pub record OverParent (s : Space) (entries : Option (List Entry)) : Type 0 where
+pub record OverParent (s : Space) (entries : Option (List KeptExtent)) : Type 0 where
   pub both : is_some entries ≡ is_some s.parent
   pub plain : ForSome s.parent (λ p. p.child ≡ false)
   pub right : ForSome s.parent (λ p. ForSome entries (λ es. AreExtents (parent_alone s p) es))

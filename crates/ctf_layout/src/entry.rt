@@ -20,7 +20,7 @@ pub enum Standing {
 
 /// The size and the alignment of a type, and the type that it stands for, where they were found.
 #[derive(Clone, Copy, Debug, PartialEq, Eq)]
-pub struct Entry {
+pub struct KeptExtent {
     size: u64,
     align: u64,
     target: TypeNum,
@@ -30,7 +30,7 @@ pub struct Entry {
 }
 
 /// How many bytes a type takes in a layout.
-const ENTRY_LEN: usize = size_of::<Entry>();
+const ENTRY_LEN: usize = size_of::<KeptExtent>();
 
 const _: [(); 24] = [(); ENTRY_LEN];
 
@@ -104,12 +104,12 @@ impl Standing {
     }
 }
 
-impl Entry {
+impl KeptExtent {
     /// One that is still to be found.
-    pub fn open() -> Entry
+    pub fn open() -> KeptExtent
         ensures { extent_kept result ≡ None }
     {
-        Entry {
+        KeptExtent {
             size: 0,
             align: 0,
             target: TypeNum(0),
@@ -120,13 +120,13 @@ impl Entry {
     }
 
     #[tactic(auto, using(crate::proofs::Entries::kept_whole))]
-    pub fn new(extent: Extent) -> Entry
+    pub fn new(extent: Extent) -> KeptExtent
         ensures { extent_kept result ≡ Some extent }
     {
         let (sized, size) = Standing::of(extent.size);
         let (aligned, align) = Standing::of(extent.align);
         let (resolved, target) = Standing::of_target(extent.target);
-        Entry {
+        KeptExtent {
             size,
             align,
             target,

@@ -11,7 +11,7 @@ ghost use Rattle.ctf_model.specs.figures.FigureLaws.{HasBoundedValues, value_edg
 
 use crate::amounts::{greater, row_amount};
 use crate::bases::{Basis, Row};
-use crate::entry::Entry;
+use crate::entry::KeptExtent;
 use crate::extents::{Amount, Extent, Refusal, Target, of_no_type, refused};
 use crate::types::Types;
 use ctf_chains::{LONGEST_CHAIN, Ticks};
@@ -46,7 +46,7 @@ fn elsewhere<L: Ledger, T: Types<L>>(types: &T, number: TypeNum) -> Extent
 
 /// What the table has of a type.
 #[inline(always)]
-fn entry_at(table: &[Entry], i: usize) -> Entry
+fn entry_at(table: &[KeptExtent], i: usize) -> KeptExtent
     requires { i < length table.now }
     ensures { entry (table_kept table.now) i ≡ extent_kept result }
 {
@@ -55,7 +55,7 @@ fn entry_at(table: &[Entry], i: usize) -> Entry
 
 /// What the table has of a type, where it was found.
 #[inline(always)]
-fn known_entry(table: &[Entry], i: usize) -> Option<Entry>
+fn known_entry(table: &[KeptExtent], i: usize) -> Option<KeptExtent>
     requires { i < length table.now }
     ensures { MatchOption result (entry (table_kept table.now) i ≡ None)
         (λ x. (entry (table_kept table.now) i ≡ extent_kept x) × IsSome (extent_kept x)) }
@@ -69,7 +69,7 @@ fn known_entry(table: &[Entry], i: usize) -> Option<Entry>
 
 /// Keeps what was found of a type in the table.
 #[inline(always)]
-fn keep(table: &mut [Entry], i: usize, found: Entry)
+fn keep(table: &mut [KeptExtent], i: usize, found: KeptExtent)
     requires { i < length table.old }
     ensures { table_kept table.new ≡ slice_set (table_kept table.old) i (extent_kept found) }
 {
@@ -89,35 +89,35 @@ fn of_itself(size: Amount, align: Amount, number: TypeNum) -> Extent
 
 /// What is kept of a type with a number that stands for itself.
 #[inline(always)]
-fn kept_itself(size: Amount, align: Amount, number: TypeNum) -> Entry
+fn kept_itself(size: Amount, align: Amount, number: TypeNum) -> KeptExtent
     ensures { extent_kept result ≡ Some (itself size align number) }
 {
-    Entry::new(of_itself(size, align, number))
+    KeptExtent::new(of_itself(size, align, number))
 }
 
 /// What would be kept of a number that names no own type.
-fn kept_elsewhere<L: Ledger, T: Types<L>>(types: &T, number: TypeNum) -> Entry
+fn kept_elsewhere<L: Ledger, T: Types<L>>(types: &T, number: TypeNum) -> KeptExtent
     requires not_own { let d = (T.space types.now).own in
         own_index_of d.child (length d.terms) number.0 ≡ None }
     ensures { IsKept (T.space types.now) number.0 result }
 {
-    Entry::new(elsewhere(types, number))
+    KeptExtent::new(elsewhere(types, number))
 }
 
 /// What is kept of the type with a number that is a row of elements.
-fn kept_row(row: Row, element: Entry, number: TypeNum) -> Entry
+fn kept_row(row: Row, element: KeptExtent, number: TypeNum) -> KeptExtent
     ensures { (e : WholeExtent) → extent_kept element ≡ Some e
         → IsByKept number.0 (Some row) e result }
 {
     match element.extent() {
         Some(e) => kept_itself(row_amount(Some(row), e.size), e.align, number),
-        None => Entry::open(),
+        None => KeptExtent::open(),
     }
 }
 
 /// What is kept of the type with a number that hangs on one, as it is or for a row of elements.
 #[inline(always)]
-fn kept_by_one(row: Option<Row>, one: Entry, number: TypeNum) -> Entry
+fn kept_by_one(row: Option<Row>, one: KeptExtent, number: TypeNum) -> KeptExtent
     ensures { (e : WholeExtent) → extent_kept one ≡ Some e → IsByKept number.0 row e result }
 {
     match row {
@@ -132,11 +132,11 @@ fn kept_by_one(row: Option<Row>, one: Entry, number: TypeNum) -> Entry
 #[inline(always)]
 fn extent<L: Ledger, T: Types<L>>(
     types: &T,
-    table: &mut [Entry],
+    table: &mut [KeptExtent],
     work: &mut Ticks<L>,
     i: usize,
     budget: u16,
-) -> Entry
+) -> KeptExtent
     requires same { length table.old ≡ length (T.space types.now).own.terms }
     requires own { i < length (T.space types.now).own.terms }
     requires short { budget ≤ longest_chain }
@@ -160,7 +160,7 @@ fn extent<L: Ledger, T: Types<L>>(
 #[inline(always)]
 fn visit<L: Ledger, T: Types<L>>(
     types: &T,
-    table: &mut [Entry],
+    table: &mut [KeptExtent],
     work: &mut Ticks<L>,
     i: usize,
     budget: u16,
@@ -207,7 +207,7 @@ fn visit<L: Ledger, T: Types<L>>(
 #[inline(never)]
 fn visit_below<L: Ledger, T: Types<L>>(
     types: &T,
-    table: &mut [Entry],
+    table: &mut [KeptExtent],
     work: &mut Ticks<L>,
     i: usize,
     budget: u16,
@@ -228,7 +228,7 @@ fn visit_below<L: Ledger, T: Types<L>>(
 #[inline(always)]
 fn fill_one<L: Ledger, T: Types<L>>(
     types: &T,
-    table: &mut [Entry],
+    table: &mut [KeptExtent],
     work: &mut Ticks<L>,
     i: usize,
     budget: u16,
@@ -248,7 +248,7 @@ fn fill_one<L: Ledger, T: Types<L>>(
 }
 
 /// Finds the extents of all own types.
-pub fn fill<L: Ledger, T: Types<L>>(types: &T, table: &mut [Entry], work: &mut Ticks<L>)
+pub fn fill<L: Ledger, T: Types<L>>(types: &T, table: &mut [KeptExtent], work: &mut Ticks<L>)
     requires same { length table.old ≡ length (T.space types.now).own.terms }
     requires empty { (j : ℕ) → entry (table_kept table.old) j ≡ None }
     requires bounded { HasBoundedValues (T.space types.now).own }

@@ -4,7 +4,7 @@ ghost use Rattle.ctf_layout.specs.Kept.{AreExtents, extent_at};
 ghost use Rattle.ctf_layout.specs.Work.{types_work};
 ghost use Rattle.ctf_model.specs.figures.FigureLaws.{HasBoundedValues};
 
-use crate::entry::Entry;
+use crate::entry::KeptExtent;
 use crate::extents::{Extent, Refusal, refused};
 use crate::filling::fill;
 use crate::types::Types;
@@ -17,7 +17,7 @@ use std::sync::ledger::Ledger;
 /// borrow nothing.
 #[derive(Drop)]
 pub struct Extents {
-    pub(crate) entries: Vec<Entry>,
+    pub(crate) entries: Vec<KeptExtent>,
 }
 
 impl Extents {
@@ -32,7 +32,7 @@ impl Extents {
         ensures steps { OnOk result (work.new
             ≡ work.old + types_work (T.space types.now).own.terms) }
     {
-        let mut entries = vec![in alloc; Entry::open(); types.count()]?;
+        let mut entries = vec![in alloc; KeptExtent::open(); types.count()]?;
         fill(types, entries.as_mut_slice(), work);
         Ok(Extents { entries })
     }

@@ -16,7 +16,7 @@ ghost use Rattle.ctf_space.specs.SpaceView.{space_of};
 
 use crate::extents::{Extent, Refusal, of_no_type, refused};
 use crate::kept::Extents;
-use crate::source::Source;
+use crate::source::LayoutInput;
 use ctf_chains::Ticks;
 use ctf_model::{Fault, Place, TypeNum};
 use ctf_space::Space;
@@ -61,7 +61,7 @@ fn beside<L: Ledger>(
     ensures work { OnOk result (work.new
         ≡ work.old + types_work (space_of space.now).own.terms) }
 {
-    let source = Source {
+    let source = LayoutInput {
         space: *space,
         dictionary: space.dictionary(),
         parent: lend_extents(&parent),
@@ -102,7 +102,7 @@ fn by_itself<L: Ledger>(
     ensures work { OnOk result (work.new
         ≡ work.old + types_work (space_of space.entry).own.terms) }
 {
-    let source = Source {
+    let source = LayoutInput {
         space,
         dictionary: space.dictionary(),
         parent: None,

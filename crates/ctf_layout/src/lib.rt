@@ -1,4 +1,19 @@
 //! Sizes, alignments and paths: what types come to once typedefs, arrays and members are followed.
+//!
+//! ```rust
+//! use ctf_layout::Layout;
+//! use ctf_model::{Fault, TypeNum};
+//! use ctf_space::Space;
+//! use std::alloc::Global;
+//!
+//! /// The size and the alignment of a type, in bytes.
+//! fn figures(alloc: Global, space: &Space<'_>, number: TypeNum) -> Result<(u64, u64), Fault> {
+//!     let layout = Layout::build(alloc, space)?;
+//!     Ok((layout.size(number)?, layout.align(number)?))
+//! }
+//! ```
+//!
+//! The table is made once for a dictionary: 24 bytes a type. Offsets along a path are in bits.
 #![tactic(auto)]
 
 mod amounts;

@@ -19,7 +19,7 @@ use std::sync::ledger::Ledger;
 
 /// A space, and the extents of its parent's types where it has a parent.
 #[derive(Clone, Copy)]
-pub struct Source<'a> {
+pub struct LayoutInput<'a> {
     pub(crate) space: Space<'a>,
     /// The space's own, which is read for each type.
     pub(crate) dictionary: Checked<'a>,
@@ -43,7 +43,7 @@ fn own_term<'a>(dictionary: &Checked<'a>, i: usize) -> Option<Record<'a>>
     }
 }
 
-impl<'a, L: Ledger> Types<L> for Source<'a> {
+impl<'a, L: Ledger> Types<L> for LayoutInput<'a> {
     ghost use Rattle.ctf_space.specs.SpaceView.{space_of};
 
     ghost space = { λ s. space_of s.space };

@@ -1,6 +1,6 @@
 -- What keeps publications right.
 use Rattle.std.proofs.Common.{◌≡◌, ℕ, ◌+◌, ◌-◌, ◌≤◌, List, [], ◌∷◌, ◌++◌, map, sum_by, Option, None, Some, refl, sym, ◌∙◌, ap, subst, Vec, arith}
-use Rattle.std.specs.Prelude.{Bool, false, nat_lt, option_map, true, if◌then◌else◌}
+use Rattle.std.specs.Prelude.{Bool, false, is_some, nat_lt, not, option_map, true, if◌then◌else◌}
 use Rattle.std.specs.List.{list_all}
 use Rattle.std.specs.BTreeMap.{BTreeMap, IsOrdered, insert_entry, is_at}
 use Rattle.std.specs.Map.{lookup, remove_entry, values_of}
@@ -71,6 +71,26 @@ not_there (Some p) h = absurd cc
 free : (name : List ℕ) (k : Vec ℕ Global) (m : Kept_map) (turns bytes : ℕ) → IsKept m turns bytes → published_as name (published_in m.entries) ≡ None → k.items ≡ name → lookup (is_at (by_bytes k)) m.entries ≡ None
 free name k m turns bytes kept none is =
     subst (λ (n : List ℕ). lookup (at n) m.entries ≡ None) (sym is) (not_there (lookup (at name) m.entries) (sym (found_in name m turns bytes kept) ∙ none))
+
+-- a key that has the name is in the map just where the name is taken
+taken_alike : (name : List ℕ) (k : Vec ℕ Global) (m : Kept_map) (turns bytes : ℕ) → IsKept m turns bytes → k.items ≡ name → is_some (published_as name (published_in m.entries)) ≡ is_some (lookup (is_at (by_bytes k)) m.entries)
+taken_alike name k m turns bytes kept is =
+    ap is_some (found_in name m turns bytes kept) ∙ some_alike (lookup (at name) m.entries) ∙ ap (λ (n : List ℕ). is_some (lookup (at n) m.entries)) (sym is)
+  where
+    some_alike : (o : Option own.Publication) → is_some (option_map loaded_of o) ≡ is_some o
+    some_alike None = refl
+    some_alike (Some p) = refl
+
+none_of : (o : Option Kept) → not (is_some o) ≡ true → o ≡ None
+none_of None h = refl
+none_of (Some k) h = absurd cc
+
+pub are_free : (name : List ℕ) (k : Vec ℕ Global) (m : Kept_map) (turns bytes : ℕ) → IsKept m turns bytes → k.items ≡ name → not (is_some (lookup (is_at (by_bytes k)) m.entries)) ≡ true → published_as name (published_in m.entries) ≡ None
+are_free name k m turns bytes kept is none =
+    none_of (published_as name (published_in m.entries)) (ap not (taken_alike name k m turns bytes kept is) ∙ none)
+
+pub are_taken : (name : List ℕ) (k : Vec ℕ Global) (m : Kept_map) (turns bytes : ℕ) → IsKept m turns bytes → k.items ≡ name → not (is_some (lookup (is_at (by_bytes k)) m.entries)) ≡ false → not (is_some (published_as name (published_in m.entries))) ≡ false
+are_taken name k m turns bytes kept is some = ap not (taken_alike name k m turns bytes kept is) ∙ some
 
 -- ---- sums
 

@@ -71,6 +71,10 @@ publish_over name kept s e lt =
     let more = publication_charge (record { name = name; kept = kept }) s in
     rw e (over (adds_publication name kept s) s (omega (arith, more, lt)))
 
+pub publish_in_room : (name : List ℕ) (kept : Kept) (s : State) (taken : Bool) → is_some (published_as name s.published) ≡ taken → charge s + kept_bytes kept ≤ quota → publishes_within name kept s ≡ publishes_kept name kept s
+publish_in_room name kept s true e room = rw e refl
+publish_in_room name kept s false e room = publish_done name kept s e room ∙ rw e refl
+
 -- ---- import
 
 pub import_done : (d : ℕ) (parent : Kept) (child : Slot) (s : State) → slot_at d s.slots ≡ Some child → charge s + kept_bytes parent ≤ quota + parent_bytes child.parent → imports_unless None d parent s ≡ grants [] (record s { slots = slots_with_parent d parent s.slots })
@@ -110,8 +114,12 @@ publish_at d name slot s at none = rw (at, none) refl
 pub publishes_over : (d : ℕ) (name : List ℕ) (slot : Slot) (s : State) → slot_at d s.slots ≡ Some slot → nat_lt 0 (pending_in slot.draft) ≡ false → is_some (published_as name s.published) ≡ false → quota < charge s + kept_bytes slot.kept → publishes d name s ≡ refuses QUOTA_FULL s
 publishes_over d name slot s at none free lt = publish_at d name slot s at none ∙ publish_over name slot.kept s free lt
 
-pub publishes_done : (d : ℕ) (name : List ℕ) (slot : Slot) (s : State) → slot_at d s.slots ≡ Some slot → nat_lt 0 (pending_in slot.draft) ≡ false → is_some (published_as name s.published) ≡ false → charge s + kept_bytes slot.kept ≤ quota → publishes d name s ≡ publishes_kept name slot.kept s
-publishes_done d name slot s at none free le = publish_at d name slot s at none ∙ publish_done name slot.kept s free le ∙ rw free refl
+pub publishes_taken : (d : ℕ) (name : List ℕ) (slot : Slot) (s : State) → slot_at d s.slots ≡ Some slot → nat_lt 0 (pending_in slot.draft) ≡ false → is_some (published_as name s.published) ≡ true → publishes d name s ≡ refuses NAME_TAKEN s
+publishes_taken d name slot s at none taken = publish_at d name slot s at none ∙ publish_taken name slot.kept s taken
+
+pub publishes_done : (d : ℕ) (name : List ℕ) (slot : Slot) (s : State) → slot_at d s.slots ≡ Some slot → nat_lt 0 (pending_in slot.draft) ≡ false → charge s + kept_bytes slot.kept ≤ quota → publishes d name s ≡ publishes_kept name slot.kept s
+publishes_done d name slot s at none le =
+    publish_at d name slot s at none ∙ publish_in_room name slot.kept s (is_some (published_as name s.published)) refl le
 
 -- of two slots that are there, the first without a draft
 import_at : (d p : ℕ) (child parent : Slot) (s : State) → slot_at d s.slots ≡ Some child → slot_at p s.slots ≡ Some parent → is_some child.draft ≡ false → imports d p s ≡ imports_unless (fault_over child.kept parent.kept) d parent.kept s

@@ -1,7 +1,7 @@
 -- What is told of a type, and which questions take memory. The words are ours.
 use Rattle.std.specs.Prelude.{◌≡◌, ℕ, Bool, true, false, Result}
-use Rattle.ctf_library.specs.declared.answering.Told.{Told}
-use Rattle.ctf_library.specs.declared.answering.Told.TheVariants.{Lent, Name, Value}
+use Rattle.ctf_library.specs.declared.answering.TypeAnswer.{TypeAnswer}
+use Rattle.ctf_library.specs.declared.answering.TypeAnswer.TheVariants.{Lent, Name, Value}
 use Rattle.ctf_protocol.specs.answers.Questions.{answer_of}
 use Rattle.ctf_model.specs.declared.faults.Fault.{Fault}
 use Rattle.ctf_model.specs.format.Term.{Term}
@@ -13,7 +13,7 @@ use Rattle.ctf_protocol.specs.declared.questions.TypeQuestion.{TypeQuestion}
 use Rattle.ctf_protocol.specs.declared.questions.TypeQuestion.TheVariants as about
 
 -- a question is answered so of what a number names, or asks for this text
-abbrev pub IsTold : TypeQuestion → Space → ℕ → Result Term Fault → Told → Type 0
+abbrev pub IsTold : TypeQuestion → Space → ℕ → Result Term Fault → TypeAnswer → Type 0
 IsTold question s t x (Lent answer) = answer ≡ answer_of question s t x
 IsTold question s t x Name = question ≡ about.Plain plain.Name
 IsTold question s t x (Value memory offset) = question ≡ about.Show memory.now offset

@@ -228,7 +228,7 @@ fn value<'a>(
 }
 
 /// What is told of a type: an answer that is lent and takes no memory, or what text is to be made.
-pub(crate) enum Told<'a, 'q> {
+pub(crate) enum TypeAnswer<'a, 'q> {
     Lent(Result<Answer<'a>, Fault>),
     Name,
     Value { memory: &'q [u8], offset: u64 },
@@ -274,20 +274,24 @@ fn tell<'a, 'q>(
     tables: &Tables,
     t: TypeNum,
     question: &'q TypeQuestion,
-) -> Told<'a, 'q>
+) -> TypeAnswer<'a, 'q>
     requires kind { option_map (λ x. kind_of x.body) (term_in x.now) ≡ Some kind }
     requires tables { Serve space.now tables.now }
     ensures { IsTold question.now (space_of space.now) t.0 (or_no_type (term_in x.now)) result }
 {
     match question {
         TypeQuestion::Plain(question) => match plain_answer(x, kind, space, tables, t, *question) {
-            Some(answer) => Told::Lent(answer),
-            None => Told::Name,
+            Some(answer) => TypeAnswer::Lent(answer),
+            None => TypeAnswer::Name,
         },
-        TypeQuestion::Members(window) => Told::Lent(members(x.variant(), *window)),
-        TypeQuestion::Enumerators(window) => Told::Lent(enumerators(x.variant(), *window)),
-        TypeQuestion::Path(names) => Told::Lent(position_answer(path(space, t, names.as_joined()))),
-        TypeQuestion::Show { memory, offset } => Told::Value {
+        TypeQuestion::Members(window) => TypeAnswer::Lent(members(x.variant(), *window)),
+        TypeQuestion::Enumerators(window) => TypeAnswer::Lent(enumerators(x.variant(), *window)),
+        TypeQuestion::Path(names) => TypeAnswer::Lent(position_answer(path(
+            space,
+            t,
+            names.as_joined(),
+        ))),
+        TypeQuestion::Show { memory, offset } => TypeAnswer::Value {
             memory: memory.as_slice(),
             offset: *offset,
         },
@@ -312,9 +316,16 @@ fn answer_on<'a>(
 {
     let found = space.term(t)?;
     match tell(&found, found.kind(), space, tables, t, question) {
-        Told::Lent(answer) => answer,
-        Told::Name => name(alloc, space, t),
-        Told::Value { memory, offset } => value(alloc, space, &tables.layout, t, memory, offset),
+        TypeAnswer::Lent(answer) => answer,
+        TypeAnswer::Name => name(alloc, space, t),
+        TypeAnswer::Value { memory, offset } => value(
+            alloc,
+            space,
+            &tables.layout,
+            t,
+            memory,
+            offset,
+        ),
     }
 }
 

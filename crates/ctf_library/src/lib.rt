@@ -1,4 +1,32 @@
 //! The library of one session: its slots and staged lists, and what its requests are answered.
+//!
+//! ```rust
+//! use ctf_library::{Library, Pool};
+//! use ctf_model::{DataModel, Fault, Piece};
+//! use ctf_protocol::{Change, ListName, Question};
+//! use std::alloc::Global;
+//!
+//! /// A library with a slot, 1, of the dictionary that a CTF section is.
+//! fn opened(alloc: Global, ctf: Vec<u8>) -> Result<Library, Fault> {
+//!     let mut library = Library::new(alloc);
+//!     let mut pool = Pool::new(alloc);
+//!     let part = Change::Part {
+//!         section: ListName::Ctf,
+//!         bytes: Piece::new(ctf),
+//!     };
+//!     library.step(&part, None, &mut pool)?;
+//!     let open = Change::Open {
+//!         model: DataModel::Lp64,
+//!     };
+//!     library.step(&open, None, &mut pool)?;
+//!     Ok(library)
+//! }
+//! ```
+//!
+//! A refusal is a `Fault`, whose code and place docs/FAULTS.md lists; the library is then as
+//! before. A change may be refused for memory (code 0) or because it is over the session's quota of
+//! bytes, which docs/LIMITS.md has. `Library::answer` answers questions: it lends names and lists,
+//! and takes memory for the words `name` and `show` alone.
 #![tactic(auto)]
 
 mod additions;

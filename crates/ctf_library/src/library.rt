@@ -271,14 +271,14 @@ impl Library {
         if slot.dictionary.pending() > 0 {
             return Err(placeless(Fault::NOT_UPDATED));
         }
-        if self.publication(name.as_slice()).is_some() {
-            return Err(placeless(Fault::NAME_TAKEN));
-        }
         if !fits(self.charge(), slot.dictionary.own().bytes()) {
+            if self.publication(name.as_slice()).is_some() {
+                return Err(placeless(Fault::NAME_TAKEN));
+            }
             return Err(placeless(Fault::QUOTA_FULL));
         }
         let loaded = slot.dictionary.own().share()?;
-        self.publish_free(name, loaded)
+        self.publish_loaded(name, loaded)
     }
 
     /// Publishes a dictionary that stands in no slot, under a name that has none yet, whatever it
@@ -290,21 +290,12 @@ impl Library {
     ) -> Result<Counts, Fault>
         ensures { Makes self.old (publishes_kept name.now loaded self.old) result self.new }
     {
-        if self.publication(name.as_slice()).is_some() {
-            return Err(placeless(Fault::NAME_TAKEN));
-        }
-        self.publish_free(name, loaded)
-    }
-
-    /// The same under a name that is known to have none yet.
-    fn publish_free(&mut self, name: &PublicationName, loaded: Loaded) -> Result<Counts, Fault>
-        requires { published_as name.now self.old.published ≡ None }
-        ensures { Makes self.old (publishes_kept name.now loaded self.old) result self.new }
-    {
         if loaded.bytes() > u128::MAX - self.charge() {
             return Err(placeless(Fault::MEMORY));
         }
-        self.published.add(self.alloc, name, loaded)?;
+        if !self.published.add(self.alloc, name, loaded)? {
+            return Err(placeless(Fault::NAME_TAKEN));
+        }
         Ok(Counts::of_success())
     }
 

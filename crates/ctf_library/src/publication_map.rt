@@ -1,5 +1,8 @@
 //! Dictionaries under names, in the order of the names.
-ghost use Rattle.std.specs.Prelude.{◌≡◌, ◌+◌, ◌<◌, ◌^◌, ◌++◌, [], ◌∷◌, None, OnErr, OnOk, is_some, option_map, sum_by, ◌↔◌, IsTrue};
+ghost use Rattle.std.specs.Prelude.{◌≡◌, ◌+◌, ◌<◌, ◌^◌, ◌++◌, [], ◌∷◌, true, false, Ok, IfOk, OnErr, is_some, not, option_map, sum_by, ◌↔◌, IsTrue};
+ghost use Rattle.std.specs.BTreeMap.{IsOrdered, get, insert_entry};
+ghost use Rattle.std.specs.Cmp.Lexicographic.{slice_cmp};
+ghost use Rattle.std.specs.Ordering.{nat_cmp};
 ghost use Rattle.ctf_model.specs.opened.Sizes.{kept_bytes};
 ghost use Rattle.ctf_protocol.specs.sessions.Charges.{publication_bytes};
 ghost use Rattle.ctf_protocol.specs.sessions.Publications.{published_as, published_without};
@@ -9,6 +12,7 @@ use ctf_open::Loaded;
 use ctf_protocol::PublicationName;
 use std::alloc::{AllocError, Global};
 use std::collections::BTreeMap;
+use std::collections::btree_map::Entry;
 use std::marker::Model;
 
 /// Publications and how many bytes they come to. They are kept in the order of names, and seen in
@@ -31,6 +35,28 @@ impl Model for PublicationMap {
     ghost view = { λ p. published_in p.by_name.entries };
 
     ghost invariant = { λ p. IsKept p.by_name p.turns p.bytes };
+}
+
+/// Puts a value under a key that has none yet, and says whether it had none. The key is looked for
+/// once.
+fn put_new<V: Drop>(
+    map: &mut BTreeMap<Vec<u8>, V>,
+    key: Vec<u8>,
+    value: V,
+) -> Result<bool, AllocError>
+    ensures free { IfOk result (λ is_free. is_free
+        ≡ not (is_some (get (λ x y. slice_cmp nat_cmp x.items y.items) map.old key))) }
+    ensures put { result ≡ Ok true → map.new.entries
+        ≡ insert_entry (λ x y. slice_cmp nat_cmp x.items y.items) map.old.entries key value }
+    ensures taken { result ≡ Ok false → map.new.entries ≡ map.old.entries }
+    ensures err { OnErr result (map.new.entries ≡ map.old.entries) }
+    ensures ordered { IsOrdered (λ x y. slice_cmp nat_cmp x.items y.items) map.new }
+{
+    let Entry::Vacant(entry) = map.entry(key)? else {
+        return Ok(false);
+    };
+    entry.insert(value);
+    Ok(true)
 }
 
 impl PublicationMap {
@@ -71,13 +97,16 @@ impl PublicationMap {
         }
     }
 
-    /// Publishes a dictionary under a name that has none yet. Where memory is refused, nothing
-    /// changes; so it is too where 64 bits can't count one publication more.
-    pub fn add(&mut self, name: &PublicationName, loaded: Loaded) -> Result<(), AllocError>
-        requires free { published_as name.now self.old ≡ None }
+    /// Publishes a dictionary under a name, if that has none yet, and says whether it had none.
+    /// Where it has one, or memory is refused, nothing changes; so it is too where 64 bits can't
+    /// count one publication more.
+    pub fn add(&mut self, name: &PublicationName, loaded: Loaded) -> Result<bool, AllocError>
         requires small { sum_by publication_bytes self.old + kept_bytes loaded < 2 ^ 128 }
-        ensures ok { OnOk result (self.new
-            ≡ self.old ++ (record { name = name.now; kept = loaded }) ∷ []) }
+        ensures free { IfOk result (λ is_free. is_free
+            ≡ not (is_some (published_as name.now self.old))) }
+        ensures added { result ≡ Ok true → self.new
+            ≡ self.old ++ (record { name = name.now; kept = loaded }) ∷ [] }
+        ensures taken { result ≡ Ok false → self.new ≡ self.old }
         ensures err { OnErr result (self.new ≡ self.old) }
     {
         if self.turns == u64::MAX {
@@ -89,10 +118,12 @@ impl PublicationMap {
             loaded,
         };
         let key = Vec::from_slice(self.alloc, name.as_slice())?;
-        self.by_name.insert(key, publication)?;
+        if !put_new(&mut self.by_name, key, publication)? {
+            return Ok(false);
+        }
         self.turns += 1;
         self.bytes += bytes;
-        Ok(())
+        Ok(true)
     }
 
     /// Takes out what is published under a name, if anything is.

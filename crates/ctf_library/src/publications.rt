@@ -1,5 +1,5 @@
 //! What a session published, which takes memory of its own from the first publication on.
-ghost use Rattle.std.specs.Prelude.{◌≡◌, ◌+◌, ◌<◌, ◌^◌, ◌++◌, [], ◌∷◌, None, OnErr, OnOk, is_some, option_map, sum_by, ◌↔◌, IsTrue};
+ghost use Rattle.std.specs.Prelude.{◌≡◌, ◌+◌, ◌<◌, ◌^◌, ◌++◌, [], ◌∷◌, true, false, Ok, IfOk, OnErr, is_some, not, option_map, sum_by, ◌↔◌, IsTrue};
 ghost use Rattle.ctf_model.specs.opened.Sizes.{kept_bytes};
 ghost use Rattle.ctf_protocol.specs.sessions.Charges.{publication_bytes};
 ghost use Rattle.ctf_protocol.specs.sessions.Publications.{published_as, published_without};
@@ -65,27 +65,30 @@ impl Publications {
         }
     }
 
-    /// Publishes a dictionary under a name that has none yet. Where memory is refused, nothing
-    /// changes; so it is too where 64 bits can't count one publication more.
+    /// Publishes a dictionary under a name, if that has none yet, and says whether it had none.
+    /// Where it has one, or memory is refused, nothing changes; so it is too where 64 bits can't
+    /// count one publication more.
     pub fn add(
         &mut self,
         alloc: Global,
         name: &PublicationName,
         loaded: Loaded,
-    ) -> Result<(), AllocError>
-        requires free { published_as name.now self.old ≡ None }
+    ) -> Result<bool, AllocError>
         requires small { sum_by publication_bytes self.old + kept_bytes loaded < 2 ^ 128 }
-        ensures ok { OnOk result (self.new
-            ≡ self.old ++ (record { name = name.now; kept = loaded }) ∷ []) }
+        ensures free { IfOk result (λ is_free. is_free
+            ≡ not (is_some (published_as name.now self.old))) }
+        ensures added { result ≡ Ok true → self.new
+            ≡ self.old ++ (record { name = name.now; kept = loaded }) ∷ [] }
+        ensures taken { result ≡ Ok false → self.new ≡ self.old }
         ensures err { OnErr result (self.new ≡ self.old) }
     {
         match &mut self.map {
             Some(map) => map.add(name, loaded),
             None => {
                 let mut map = PublicationMap::new(alloc);
-                map.add(name, loaded)?;
+                let is_free = map.add(name, loaded)?;
                 self.map = Some(Box::new(alloc, map)?);
-                Ok(())
+                Ok(is_free)
             }
         }
     }

@@ -17,3 +17,4 @@ pub mod AskedParts
 pub mod Needing
 pub mod Pushed
 pub mod Numbered
+pub mod InfoText

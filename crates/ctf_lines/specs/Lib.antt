@@ -6,3 +6,4 @@ pub mod Rows
 pub mod LineBuffers
 pub mod Memory
 pub mod Numbered
+pub mod Decoded

@@ -7,10 +7,10 @@ ghost use Rattle.ctf_answers.specs.Items.{item_of};
 use crate::series::Series;
 use crate::singles::{put_entry, put_single};
 use crate::text_sinks::TextSink;
-use ctf_answers::{Entry, Item, Listed};
+use ctf_answers::{Item, KeyedValue, Listed};
 
 /// Puts an object of two parts on.
-fn put_two<P: TextSink>(sink: &mut P, a: &Entry<'_>, b: &Entry<'_>)
+fn put_two<P: TextSink>(sink: &mut P, a: &KeyedValue<'_>, b: &KeyedValue<'_>)
     ensures { P.Took sink.old (object_text (entry_of a.now ∷ entry_of b.now ∷ [])) sink.new }
 {
     sink.put_one(b'{');
@@ -21,7 +21,7 @@ fn put_two<P: TextSink>(sink: &mut P, a: &Entry<'_>, b: &Entry<'_>)
 }
 
 /// Puts an object of three parts on.
-fn put_three<P: TextSink>(sink: &mut P, a: &Entry<'_>, b: &Entry<'_>, c: &Entry<'_>)
+fn put_three<P: TextSink>(sink: &mut P, a: &KeyedValue<'_>, b: &KeyedValue<'_>, c: &KeyedValue<'_>)
     ensures { P.Took sink.old
         (object_text (entry_of a.now ∷ entry_of b.now ∷ entry_of c.now ∷ [])) sink.new }
 {

@@ -1,4 +1,21 @@
 //! Lines of text: requests are read from them, and replies are written as them.
+//!
+//! ```rust
+//! use ctf_lines::{FromLine, Scratch};
+//! use ctf_protocol::{Fault, Request};
+//! use std::alloc::Global;
+//!
+//! /// The session of a line, whether it is granted or refused; 0 where it names none.
+//! fn session_of(alloc: Global, scratch: &mut Scratch, line: &[u8]) -> u32 {
+//!     match Request::read(alloc, scratch, line) {
+//!         Ok((session, _request)) => session,
+//!         Err((session, _fault)) => session,
+//!     }
+//! }
+//! ```
+//!
+//! A line is given without its newline, and has at most [`LONGEST_LINE`] bytes. Keep one `Scratch`
+//! from line to line.
 #![tactic(auto)]
 
 mod additions;
@@ -7,6 +24,7 @@ mod digits;
 mod drafts;
 mod escapes;
 mod fields;
+mod info_fields;
 mod line_buffers;
 mod line_traits;
 mod measures;

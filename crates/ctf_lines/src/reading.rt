@@ -131,8 +131,24 @@ fn read_or(
     if line.len() <= LONGEST_KEPT {
         read_text(alloc, scratch, text, given)
     } else {
-        read_text(alloc, &mut Scratch::new(alloc), text, given)
+        read_long(alloc, text, given)
     }
+}
+
+/// Reads a line with memory of its own. It is no part of its callers, whose frames stay small so.
+#[inline(never)]
+fn read_long(alloc: Global, text: &str, given: Option<u32>) -> Result<(u32, Request), (u32, Fault)>
+    requires { ForSome given (λ n. n ≢ 0) }
+    ensures ok { IfOk result (λ said. value_asked_or given (read_json text.now) ≡ Ok said) }
+    ensures session { IfOk result (λ said. said.0 ≢ 0) }
+    ensures refused { IfErr result (λ refusal. refusal.1.code ≢ MEMORY
+        → value_asked_or given (read_json text.now) ≡ Err refusal) }
+    ensures memory { IfErr result (λ refusal. refusal.1.code ≡ MEMORY
+        → refusal ≡ (0, out_of_memory)) }
+    ensures needed { IfErr result (λ refusal. refusal.1.code ≡ MEMORY
+        → takes_memory text.now ≡ true) }
+{
+    read_text(alloc, &mut Scratch::new(alloc), text, given)
 }
 
 /// Reads a line that is a text.
@@ -250,19 +266,105 @@ fn word_of(text: &str) -> Option<Word>
         b"kind" => Some(Word::Plain(PlainQuestion::Kind)),
         b"size" => Some(Word::Plain(PlainQuestion::Size)),
         b"find" => Some(Word::Find),
-        _ => named_long(text),
+        _ => word_by_length(text),
     }
 }
 
+/// The word that a text is, looked for among those of its length: the table of all words is looked
+/// through from its front.
+fn word_by_length(text: &str) -> Option<Word>
+    ensures { result ≡ word_named text.now words }
+{
+    match text.len() {
+        4 => word_of_four(text),
+        5 => word_of_five(text),
+        6 => word_of_six(text),
+        7 => word_of_seven(text),
+        _ => word_of_other(text),
+    }
+}
+
+/// The word of four letters that a text is; else any word.
 #[tactic(auto, unfolding(ctf_protocol::specs::words::Words::words))]
-fn named_long(text: &str) -> Option<Word>
+fn word_of_four(text: &str) -> Option<Word>
+    ensures { result ≡ word_named text.now words }
+{
+    match text {
+        "part" => Some(Word::Part),
+        "open" => Some(Word::Open),
+        "take" => Some(Word::Take),
+        "info" => Some(Word::Held(HeldQuestion::Info)),
+        "name" => Some(Word::Plain(PlainQuestion::Name)),
+        "path" => Some(Word::Path),
+        "show" => Some(Word::Show),
+        "args" => Some(Word::Plain(PlainQuestion::Args)),
+        _ => Word::of_text(text),
+    }
+}
+
+/// The word of five letters that a text is; else any word.
+#[tactic(auto, unfolding(ctf_protocol::specs::words::Words::words))]
+fn word_of_five(text: &str) -> Option<Word>
+    ensures { result ≡ word_named text.now words }
+{
+    match text {
+        "reset" => Some(Word::Reset),
+        "close" => Some(Word::Close),
+        "check" => Some(Word::Check),
+        "clear" => Some(Word::Clear),
+        "label" => Some(Word::Label),
+        "bytes" => Some(Word::Bytes),
+        "model" => Some(Word::Held(HeldQuestion::Model)),
+        "array" => Some(Word::Plain(PlainQuestion::Array)),
+        "align" => Some(Word::Plain(PlainQuestion::Align)),
+        _ => Word::of_text(text),
+    }
+}
+
+/// The word of six letters that a text is; else any word.
+#[tactic(auto, unfolding(ctf_protocol::specs::words::Words::words))]
+fn word_of_six(text: &str) -> Option<Word>
     ensures { result ≡ word_named text.now words }
 {
     match text {
         "record" => Some(Word::Plain(PlainQuestion::Record)),
-        "members" => Some(Word::Members),
         "symbol" => Some(Word::Symbol),
-        "reset" => Some(Word::Reset),
+        "create" => Some(Word::Create),
+        "update" => Some(Word::Update),
+        "import" => Some(Word::Import),
+        "labels" => Some(Word::Labels),
+        "object" => Some(Word::Object),
+        _ => Word::of_text(text),
+    }
+}
+
+/// The word of seven letters that a text is; else any word.
+#[tactic(auto, unfolding(ctf_protocol::specs::words::Words::words))]
+fn word_of_seven(text: &str) -> Option<Word>
+    ensures { result ≡ word_named text.now words }
+{
+    match text {
+        "members" => Some(Word::Members),
+        "publish" => Some(Word::Publish),
+        "discard" => Some(Word::Discard),
+        "resolve" => Some(Word::Plain(PlainQuestion::Resolve)),
+        "pointer" => Some(Word::Plain(PlainQuestion::Pointer)),
+        _ => Word::of_text(text),
+    }
+}
+
+/// The word of any other length that a text is; else any word.
+#[tactic(auto, unfolding(ctf_protocol::specs::words::Words::words))]
+fn word_of_other(text: &str) -> Option<Word>
+    ensures { result ≡ word_named text.now words }
+{
+    match text {
+        "add" => Some(Word::Add),
+        "function" => Some(Word::Function),
+        "encoding" => Some(Word::Plain(PlainQuestion::Encoding)),
+        "reference" => Some(Word::Plain(PlainQuestion::Reference)),
+        "enumerators" => Some(Word::Enumerators),
+        "withdraw" => Some(Word::Withdraw),
         _ => Word::of_text(text),
     }
 }

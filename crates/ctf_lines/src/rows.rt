@@ -1,12 +1,14 @@
 //! Rows of lists: an item whose keys are known is put on as a whole.
 ghost use Rattle.std.specs.Prelude.{◌≡◌, ◌<◌, ◌++◌, [], get_or, length, map};
 ghost use Rattle.ctf_protocol.specs.answers.Questions.{member_item};
+ghost use Rattle.ctf_model.specs.dumps.Texts.{with_commas};
 ghost use Rattle.ctf_protocol.specs.lines.ReplyLines.{item_text, list_text, field_text, json_text};
 ghost use Rattle.ctf_protocol.specs.lines.Text.{text_of};
 ghost use Rattle.ctf_views.specs.ItemsView.{member as member_view};
 ghost use Rattle.ctf_answers.specs.Fields.{field_of, value_of};
 
 use crate::escapes::are_plain;
+use crate::info_fields::put_info;
 use crate::series::{Series, put_series};
 use crate::singles::{put_key, put_quoted, put_single};
 use crate::text_sinks::TextSink;
@@ -38,11 +40,11 @@ fn put_row<P: TextSink>(sink: &mut P, items: &Listed<'_>, index: usize)
 
 /// The items of a list.
 #[derive(Clone, Copy)]
-struct Rows<'a, 'b> {
+struct AnswerRows<'a, 'b> {
     items: &'b Listed<'a>,
 }
 
-impl<'a, 'b> Series for Rows<'a, 'b> {
+impl<'a, 'b> Series for AnswerRows<'a, 'b> {
     ghost use Rattle.std.specs.Prelude.{map};
     ghost use Rattle.ctf_protocol.specs.lines.ReplyLines.{item_text};
 
@@ -62,7 +64,7 @@ fn put_list<P: TextSink>(sink: &mut P, items: &Listed<'_>)
     ensures { P.Took sink.old (list_text items.now) sink.new }
 {
     sink.put_one(b'[');
-    put_series(sink, &Rows { items });
+    put_series(sink, &AnswerRows { items });
     sink.put_one(b']');
 }
 
@@ -87,8 +89,8 @@ fn put_field<P: TextSink>(sink: &mut P, field: Field<'_, '_>)
 
 /// The fields of an answer.
 #[derive(Clone, Copy)]
-pub struct Fields<'a, 'b> {
-    pub answer: &'b Answer<'a>,
+struct Fields<'a, 'b> {
+    answer: &'b Answer<'a>,
 }
 
 impl<'a, 'b> Series for Fields<'a, 'b> {
@@ -103,5 +105,15 @@ impl<'a, 'b> Series for Fields<'a, 'b> {
 
     fn put_text<P: TextSink>(&self, sink: &mut P, index: usize) {
         put_field(sink, self.answer.get(index));
+    }
+}
+
+/// Puts the fields of an answer on.
+pub fn put_fields<P: TextSink>(sink: &mut P, answer: &Answer<'_>)
+    ensures { P.Took sink.old (with_commas (map field_text answer.now)) sink.new }
+{
+    match answer.as_info() {
+        Some(told) => put_info(sink, &told),
+        None => put_series(sink, &Fields { answer }),
     }
 }

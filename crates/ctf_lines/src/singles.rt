@@ -7,7 +7,7 @@ ghost use Rattle.ctf_answers.specs.Singles.{single_of, entry_of};
 use crate::escapes::{are_plain, put_name};
 use crate::text_sinks::TextSink;
 use crate::texts::{put_number, put_signed};
-use ctf_answers::{Entry, Single};
+use ctf_answers::{KeyedValue, Single};
 
 fn truth(value: bool) -> &'static str
     ensures { result.now ≡ truth_text value }
@@ -71,7 +71,7 @@ pub fn put_key<P: TextSink>(sink: &mut P, key: &str)
 }
 
 /// Puts a part of an object on.
-pub fn put_entry<P: TextSink>(sink: &mut P, entry: &Entry<'_>)
+pub fn put_entry<P: TextSink>(sink: &mut P, entry: &KeyedValue<'_>)
     ensures { P.Took sink.old (entry_text (entry_of entry.now)) sink.new }
 {
     put_key(sink, entry.key);

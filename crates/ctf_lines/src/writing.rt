@@ -10,8 +10,7 @@ use crate::line_traits::ToLine;
 use crate::measures::Measure;
 use crate::refusals::put_fault;
 use crate::room::put_counts;
-use crate::rows::Fields;
-use crate::series::put_series;
+use crate::rows::put_fields;
 use crate::text_sinks::TextSink;
 use crate::texts::LONGEST_REPLY;
 use ctf_answers::{Answer, Counts, Reply, Single};
@@ -31,7 +30,7 @@ fn put_line<P: TextSink>(sink: &mut P, under: &str, session: u32, fields: &Answe
     ensures { P.Took sink.old (object_line under.now session fields.now) sink.new }
 {
     sink.put_between(b"{\"", under.as_bytes(), b"\":{");
-    put_series(sink, &Fields { answer: fields });
+    put_fields(sink, fields);
     sink.put_numbered(b"},\"s\":", u64::from(session), b"}\n");
 }
 

@@ -1,4 +1,26 @@
 //! CTF dictionaries: what they are, and which faults they can have.
+//!
+//! ```rust
+//! use ctf_model::{Fault, Place, TypeNum, fault_name};
+//!
+//! /// Whether a number in a child dictionary names a type of its parent.
+//! fn is_parents(number: u16) -> bool {
+//!     match TypeNum(number).place(true) {
+//!         Place::Parents(_) => true,
+//!         _ => false,
+//!     }
+//! }
+//!
+//! /// The name of a refusal, as replies have it.
+//! fn name_of(fault: Fault) -> &'static str {
+//!     fault_name(fault.code)
+//! }
+//! ```
+//!
+//! A [`Fault`] is a code and a place. docs/FAULTS.md lists the codes and what the place of each
+//! counts; `placeless` makes one whose place is 0. A [`TypeNum`] is a number as dictionaries have
+//! it; a [`Place`] counts types from 0. The functions named by a sentence, as
+//! `records_are_a_cut`, do nothing: their contracts are laws of the definitions.
 #![tactic(auto)]
 
 mod bytes;

@@ -1,4 +1,21 @@
 //! Names of types: as C spells them, and looked up.
+//!
+//! ```rust
+//! use ctf_model::Fault;
+//! use ctf_names::{NameIndex, find, spell};
+//! use ctf_space::Space;
+//! use std::alloc::Global;
+//!
+//! /// How C spells the first type of a name, as `struct packet`.
+//! fn spelled(alloc: Global, space: &Space<'_>, name: &[u8]) -> Result<Vec<u8>, Fault> {
+//!     let index = NameIndex::build(alloc, space)?;
+//!     let mut text = Vec::new(alloc);
+//!     spell(alloc, space, find(space, &index, name)?, &mut text)?;
+//!     Ok(text)
+//! }
+//! ```
+//!
+//! A spelled name has at most 65,536 bytes, else it is refused as TooLong.
 #![tactic(auto)]
 
 mod buckets;

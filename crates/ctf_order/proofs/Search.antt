@@ -16,14 +16,14 @@ use Rattle.ctf_order.specs.Naming.{Naming, name_or_empty}
 use Rattle.ctf_order.specs.Holding.{is_early, precedes, same_entry, IsFound, IsNamed, Stands}
 use Rattle.ctf_order.specs.Names.{is_text, rank}
 use Rattle.ctf_order.specs.Searching.{first_of}
-use Rattle.ctf_order.specs.declared.entries.Entry.{Entry}
+use Rattle.ctf_order.specs.declared.entries.NamedItem.{NamedItem}
 use Rattle.ctf_order.specs.declared.entries.Ranked.{Ranked}
 use Rattle.ctf_order.proofs.Lent.{entry_in}
 use Rattle.ctf_order.proofs.Ranks.{precedes_ranks}
 
 -- ---- the order
 
-abbrev pub called : Naming → Entry → List ℕ
+abbrev pub called : Naming → NamedItem → List ℕ
 called t e = name_or_empty t e.reference
 
 not_less : (a b : ℕ) → is_lt (nat_cmp a b) ≡ false → b ≤ a
@@ -42,103 +42,103 @@ itself_equal : (n : ℕ) → nat_cmp n n ≡ Equal
 itself_equal n = sym (nat_cmp_is n n Equal refl)
 
 -- an entry that no other precedes has the lower rank
-ranks_up : (t : Naming) (e f : Entry) → precedes t f e ≡ false → rank (called t e) ≤ rank (called t f)
+ranks_up : (t : Naming) (e f : NamedItem) → precedes t f e ≡ false → rank (called t e) ≤ rank (called t f)
 ranks_up t e f far = not_less (rank (called t f)) (rank (called t e)) (by_name (nat_cmp (rank (called t f)) (rank (called t e))) (nat_cmp f.item e.item) far)
 
 -- ---- one entry against a text
 
-pub text_is : (t : Naming) (text : List ℕ) (e : Entry) → is_text (t e.reference) text ≡ true → IsNamed t text e
+pub text_is : (t : Naming) (text : List ℕ) (e : NamedItem) → is_text (t e.reference) text ≡ true → IsNamed t text e
 text_is t text e h = by_case (t e.reference) refl h
   where
     by_case : (o : Option (List ℕ)) → t e.reference ≡ o → is_text o text ≡ true → o ≡ Some text
     by_case None f g = absurd cc
     by_case (Some x) f g = ap Some ((bytes_eq-Decides x text).0 g)
 
-is_text_of : (t : Naming) (text : List ℕ) (e : Entry) → IsNamed t text e → is_text (t e.reference) text ≡ true
+is_text_of : (t : Naming) (text : List ℕ) (e : NamedItem) → IsNamed t text e → is_text (t e.reference) text ≡ true
 is_text_of t text e h = rw h ((bytes_eq-Decides text text).1 refl)
 
 -- ---- all entries from one on
 
 -- each of them has a name
-abbrev pub AllNamed : Naming → List Entry → Type 0
-AllNamed t entries = (e : Entry) → Contains entries e → t e.reference ≡ Some (called t e)
+abbrev pub AllNamed : Naming → List NamedItem → Type 0
+AllNamed t entries = (e : NamedItem) → Contains entries e → t e.reference ≡ Some (called t e)
 
 -- no entry precedes one in front of it
-abbrev pub Rises : Naming → List Entry → Type 0
-Rises t entries = (i j : ℕ) (d : Entry) → i ≤ j → j < length entries → precedes t (get_or entries j d) (get_or entries i d) ≡ false
+abbrev pub Rises : Naming → List NamedItem → Type 0
+Rises t entries = (i j : ℕ) (d : NamedItem) → i ≤ j → j < length entries → precedes t (get_or entries j d) (get_or entries i d) ≡ false
 
-in_rest : (e f : Entry) (entries : List Entry) → Contains entries f → Contains (e ∷ entries) f
+in_rest : (e f : NamedItem) (entries : List NamedItem) → Contains entries f → Contains (e ∷ entries) f
 in_rest e f entries h = (suc h.0, omega (arith, h.1), h.2)
 
-by_place : (e f : Entry) (entries : List Entry) → Contains (e ∷ entries) f → (e ≡ f) ⊎ Contains entries f
+by_place : (e f : NamedItem) (entries : List NamedItem) → Contains (e ∷ entries) f → (e ≡ f) ⊎ Contains entries f
 by_place e f entries (zero, lt, is) = inl is
 by_place e f entries (suc k, lt, is) = inr (k, omega (arith, lt), is)
 
-rises_on : (t : Naming) (e : Entry) (entries : List Entry) → Rises t (e ∷ entries) → Rises t entries
+rises_on : (t : Naming) (e : NamedItem) (entries : List NamedItem) → Rises t (e ∷ entries) → Rises t entries
 rises_on t e entries rises i j d le lt = rises (suc i) (suc j) d (omega (arith, le)) (omega (arith, lt))
 
-from_first : (t : Naming) (e f : Entry) (entries : List Entry) → Rises t (e ∷ entries) → Contains entries f → precedes t f e ≡ false
+from_first : (t : Naming) (e f : NamedItem) (entries : List NamedItem) → Rises t (e ∷ entries) → Contains entries f → precedes t f e ≡ false
 from_first t e f entries rises (k, lt, is) = let far : precedes t (get_or entries k f) e ≡ false = rises 0 (suc k) f (omega arith) (omega (arith, lt)) in rw is at far
 
 -- ---- the search
 
 -- none of them has the name, or this is the least that has
-pub record LeastOf (t : Naming) (text : List ℕ) (entries : List Entry) (n : ℕ) : Type 0 where
-  pub entry : Entry
+pub record LeastOf (t : Naming) (text : List ℕ) (entries : List NamedItem) (n : ℕ) : Type 0 where
+  pub entry : NamedItem
   pub there : Contains entries entry
   pub named : IsNamed t text entry
   pub is : entry.item ≡ n
-  pub least : (e : Entry) → Contains entries e → IsNamed t text e → n ≤ e.item
+  pub least : (e : NamedItem) → Contains entries e → IsNamed t text e → n ≤ e.item
 
-abbrev pub NoneOf : Naming → List ℕ → List Entry → Type 0
-NoneOf t text entries = (e : Entry) → Contains entries e → IsNamed t text e → ⊥
+abbrev pub NoneOf : Naming → List ℕ → List NamedItem → Type 0
+NoneOf t text entries = (e : NamedItem) → Contains entries e → IsNamed t text e → ⊥
 
-abbrev pub Searched : Naming → List ℕ → List Entry → Option ℕ → Type 0
+abbrev pub Searched : Naming → List ℕ → List NamedItem → Option ℕ → Type 0
 Searched t text entries found = MatchOption found (NoneOf t text entries) (LeastOf t text entries)
 
 -- items of one name stand in order
 not_smaller : (o : Ordering) (a b : ℕ) → o ≡ Equal → is_lt (ordering_then o (nat_cmp a b)) ≡ false → b ≤ a
 not_smaller o a b same h = not_less a b (rw same at h)
 
-same_called : (t : Naming) (text : List ℕ) (e : Entry) → IsNamed t text e → called t e ≡ text
+same_called : (t : Naming) (text : List ℕ) (e : NamedItem) → IsNamed t text e → called t e ≡ text
 same_called t text e h = rw h refl
 
 -- of two entries of one name the first has the smaller item
-in_order : (t : Naming) (text : List ℕ) (e f : Entry) → precedes t f e ≡ false → IsNamed t text e → IsNamed t text f → e.item ≤ f.item
+in_order : (t : Naming) (text : List ℕ) (e f : NamedItem) → precedes t f e ≡ false → IsNamed t text e → IsNamed t text f → e.item ≤ f.item
 in_order t text e f far is also =
     let tie : nat_cmp (rank (called t f)) (rank (called t e)) ≡ Equal = ap (λ x. nat_cmp (rank x) (rank (called t e))) (same_called t text f also) ∙ ap (λ x. nat_cmp (rank text) (rank x)) (same_called t text e is) ∙ itself_equal (rank text) in
     not_smaller (nat_cmp (rank (called t f)) (rank (called t e))) f.item e.item tie far
 
-here : (t : Naming) (text : List ℕ) (e : Entry) (entries : List Entry) → Rises t (e ∷ entries) → IsNamed t text e → LeastOf t text (e ∷ entries) e.item
+here : (t : Naming) (text : List ℕ) (e : NamedItem) (entries : List NamedItem) → Rises t (e ∷ entries) → IsNamed t text e → LeastOf t text (e ∷ entries) e.item
 here t text e entries rises is = record { entry = e; there = (0, omega arith, refl); named = is; is = refl; least = λ f h also. least_case f also (by_place e f entries h) }
   where
-    least_case : (f : Entry) → IsNamed t text f → (e ≡ f) ⊎ Contains entries f → e.item ≤ f.item
-    least_case f also (inl same) = omega (arith, ap (λ (x : Entry). x.item) same)
+    least_case : (f : NamedItem) → IsNamed t text f → (e ≡ f) ⊎ Contains entries f → e.item ≤ f.item
+    least_case f also (inl same) = omega (arith, ap (λ (x : NamedItem). x.item) same)
     least_case f also (inr h) = in_order t text e f (from_first t e f entries rises h) is also
 
-not_here : (t : Naming) (text : List ℕ) (e f : Entry) → is_text (t e.reference) text ≡ false → e ≡ f → IsNamed t text f → ⊥
+not_here : (t : Naming) (text : List ℕ) (e f : NamedItem) → is_text (t e.reference) text ≡ false → e ≡ f → IsNamed t text f → ⊥
 not_here t text e f h same is = let bad : is_text (t e.reference) text ≡ true = is_text_of t text e (rw same is) in absurd cc
 
 -- what stands behind an entry of a greater rank has a greater one too
-past : (t : Naming) (text : List ℕ) (e f : Entry) → rank text < rank (called t e) → rank (called t e) ≤ rank (called t f) → IsNamed t text f → ⊥
+past : (t : Naming) (text : List ℕ) (e f : NamedItem) → rank text < rank (called t e) → rank (called t e) ≤ rank (called t f) → IsNamed t text f → ⊥
 past t text e f gt far is = absurd (omega (arith, gt, far, ap rank (same_called t text f is)))
 
-none_past : (t : Naming) (text : List ℕ) (e : Entry) (entries : List Entry) → Rises t (e ∷ entries) → rank text < rank (called t e) → NoneOf t text (e ∷ entries)
+none_past : (t : Naming) (text : List ℕ) (e : NamedItem) (entries : List NamedItem) → Rises t (e ∷ entries) → rank text < rank (called t e) → NoneOf t text (e ∷ entries)
 none_past t text e entries rises gt f h is = none_case (by_place e f entries h)
   where
     none_case : (e ≡ f) ⊎ Contains entries f → ⊥
-    none_case (inl same) = absurd (omega (arith, gt, ap (λ (x : Entry). rank (called t x)) same, ap rank (same_called t text f is)))
+    none_case (inl same) = absurd (omega (arith, gt, ap (λ (x : NamedItem). rank (called t x)) same, ap rank (same_called t text f is)))
     none_case (inr there) = past t text e f gt (ranks_up t e f (from_first t e f entries rises there)) is
 
-further : (t : Naming) (text : List ℕ) (e : Entry) (entries : List Entry) → is_text (t e.reference) text ≡ false → (found : Option ℕ) → Searched t text entries found → Searched t text (e ∷ entries) found
+further : (t : Naming) (text : List ℕ) (e : NamedItem) (entries : List NamedItem) → is_text (t e.reference) text ≡ false → (found : Option ℕ) → Searched t text entries found → Searched t text (e ∷ entries) found
 further t text e entries not None none = λ f h is. none_case f is (by_place e f entries h)
   where
-    none_case : (f : Entry) → IsNamed t text f → (e ≡ f) ⊎ Contains entries f → ⊥
+    none_case : (f : NamedItem) → IsNamed t text f → (e ≡ f) ⊎ Contains entries f → ⊥
     none_case f is (inl same) = not_here t text e f not same is
     none_case f is (inr h) = none f h is
 further t text e entries not (Some n) least = record { entry = least.entry; there = in_rest e least.entry entries least.there; named = least.named; is = least.is; least = λ f h is. least_case f is (by_place e f entries h) }
   where
-    least_case : (f : Entry) → IsNamed t text f → (e ≡ f) ⊎ Contains entries f → n ≤ f.item
+    least_case : (f : NamedItem) → IsNamed t text f → (e ≡ f) ⊎ Contains entries f → n ≤ f.item
     least_case f is (inl same) = absurd (not_here t text e f not same is)
     least_case f is (inr h) = least.least f h is
 
@@ -187,7 +187,7 @@ skipped t text (suc n) (r ∷ kept) ranked before =
 
 -- ---- the place of a text
 
-pub rises_by : (t : Naming) (entries : List Entry) → IsSortedBy (precedes t) entries → Rises t entries
+pub rises_by : (t : Naming) (entries : List NamedItem) → IsSortedBy (precedes t) entries → Rises t entries
 rises_by t entries sorted i j d le lt = sorted_far (precedes t) (precedes_ranks t) entries sorted i j d le lt
 
 -- ranks rise
@@ -219,19 +219,19 @@ both true b h = (refl, h)
 both false b h = absurd cc
 
 -- an item of that name which is not greater
-pub record HasFirst (t : Naming) (text : List ℕ) (entries : List Entry) (item : ℕ) : Type 0 where
-  pub entry : Entry
+pub record HasFirst (t : Naming) (text : List ℕ) (entries : List NamedItem) (item : ℕ) : Type 0 where
+  pub entry : NamedItem
   pub there : Contains entries entry
   pub named : IsNamed t text entry
   pub least : entry.item ≤ item
 
-pub has_first : (t : Naming) (text : List ℕ) (entries : List Entry) (item : ℕ) → list_any (is_early t text item) entries ≡ true → HasFirst t text entries item
+pub has_first : (t : Naming) (text : List ℕ) (entries : List NamedItem) (item : ℕ) → list_any (is_early t text item) entries ≡ true → HasFirst t text entries item
 has_first t text entries item h =
     let one = any_from (is_early t text item) entries h in
     let says = both (nat_le one.0.item item) (is_text (t one.0.reference) text) one.2 in
     record { entry = one.0; there = one.1; named = text_is t text one.0 says.1; least = leb-true one.0.item item says.0 }
 
-pub found_by : (t : Naming) (items entries : List Entry) (text : List ℕ) → Stands t items entries → (found : Option ℕ) → Searched t text entries found → IsFound t items text found
+pub found_by : (t : Naming) (items entries : List NamedItem) (text : List ℕ) → Stands t items entries → (found : Option ℕ) → Searched t text entries found → IsFound t items text found
 found_by t items entries text stands None none = λ e h is. let has = has_first t text entries e.item (stands.all e text h is) in none has.entry has.there has.named
 found_by t items entries text stands (Some n) least =
     let one = any_from (same_entry least.entry) items (stands.inside least.entry least.there) in
@@ -240,7 +240,7 @@ found_by t items entries text stands (Some n) least =
     let item : least.entry.item ≡ one.0.item = eqb-true least.entry.item one.0.item same.1 in
     record { entry = one.0; there = one.1; named = rw reference at least.named; is = sym item ∙ least.is; least = λ e h is. least_case e (has_first t text entries e.item (stands.all e text h is)) }
   where
-    least_case : (e : Entry) → HasFirst t text entries e.item → n ≤ e.item
+    least_case : (e : NamedItem) → HasFirst t text entries e.item → n ≤ e.item
     least_case e has = omega (arith, least.least has.entry has.there has.named, has.least)
 
 -- ---- a step of the loop

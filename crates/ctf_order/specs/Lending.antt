@@ -5,7 +5,7 @@ use Rattle.std.specs.Ordering.{is_lt, nat_cmp, ordering_then}
 use Rattle.ctf_order.specs.Naming.{Naming}
 use Rattle.ctf_order.specs.Names.{rank}
 use Rattle.ctf_order.specs.Holding.{IsNamed}
-use Rattle.ctf_order.specs.declared.entries.Entry.{Entry}
+use Rattle.ctf_order.specs.declared.entries.NamedItem.{NamedItem}
 use Rattle.ctf_order.specs.declared.entries.Ranked.{Ranked}
 use Rattle.ctf_order.specs.declared.lending.Named.{Named}
 
@@ -13,12 +13,12 @@ use Rattle.ctf_order.specs.declared.lending.Named.{Named}
 abbrev pub IsLent : Naming → Named → Type 0
 IsLent t n = t n.entry.reference ≡ Some n.name.now
 
-abbrev pub repeats : Option Entry → Entry → Bool
+abbrev pub repeats : Option NamedItem → NamedItem → Bool
 repeats None item = false
 repeats (Some before) item = before.reference == item.reference && nat_le before.item item.item
 
 -- the item beside its name, or it has none, or it repeats the one before it
-abbrev pub IsNextLent : Naming → Option Entry → Entry → Option Named → Type 0
+abbrev pub IsNextLent : Naming → Option NamedItem → NamedItem → Option Named → Type 0
 IsNextLent t before item next =
     MatchOption next ((repeats before item ≡ true) ⊎ (t item.reference ≡ None))
     (λ n. (n.entry ≡ item) × IsLent t n)
@@ -43,8 +43,8 @@ pub record HasRanked (t : Naming) (text : List ℕ) (ranked : List Ranked) (item
 
 -- each of them is one of the items beside the rank of its name,
 -- and the least item of each name is one of them
-pub record Ranks (t : Naming) (items : List Entry) (ranked : List Ranked) : Type 0 where
+pub record Ranks (t : Naming) (items : List NamedItem) (ranked : List Ranked) : Type 0 where
   pub inside : (r : Ranked) → Contains ranked r → Contains items r.entry
   pub right : (r : Ranked) → Contains ranked r → IsRanked t r
-  pub all : (e : Entry) (text : List ℕ) → Contains items e → IsNamed t text e
+  pub all : (e : NamedItem) (text : List ℕ) → Contains items e → IsNamed t text e
       → HasRanked t text ranked e.item

@@ -7,7 +7,7 @@ ghost use Rattle.ctf_order.specs.declared.texts.Texts.{Texts as AnyTexts};
 ghost use Rattle.ctf_order.specs.Lending.{goes_before, repeats, IsLent, IsNextLent, Ranks};
 
 use crate::comparing::rank;
-use crate::entries::{Entry, Ranked};
+use crate::entries::{NamedItem, Ranked};
 use crate::texts::Texts;
 use std::alloc::{AllocError, Global};
 use std::cmp::Ordering;
@@ -19,7 +19,7 @@ const USUAL_NAME: usize = 64;
 #[derive(Clone, Copy)]
 pub(crate) struct Named<'a> {
     pub(crate) name: &'a [u8],
-    pub(crate) entry: Entry,
+    pub(crate) entry: NamedItem,
 }
 
 /// What a reference names that points into the name of another.
@@ -55,7 +55,7 @@ fn name_after<'a>(texts: &Texts<'a>, before: Option<Named<'a>>, reference: u32) 
 
 /// Whether an item has the reference of a smaller one.
 #[inline(always)]
-fn is_repeated(before: Option<Named<'_>>, item: Entry) -> bool
+fn is_repeated(before: Option<Named<'_>>, item: NamedItem) -> bool
     ensures { result ≡ repeats (option_map (λ n. n.entry) before.entry) item }
 {
     match before {
@@ -72,7 +72,11 @@ fn is_repeated(before: Option<Named<'_>>, item: Entry) -> bool
 
 /// An item beside its name, if it has one, and is not the repetition of a smaller one.
 #[inline(always)]
-fn next_named<'a>(texts: &Texts<'a>, before: Option<Named<'a>>, item: Entry) -> Option<Named<'a>>
+fn next_named<'a>(
+    texts: &Texts<'a>,
+    before: Option<Named<'a>>,
+    item: NamedItem,
+) -> Option<Named<'a>>
     requires { ForSome before (IsLent (naming texts.now)) }
     ensures { IsNextLent (naming texts.now) (option_map (λ n. n.entry) before.entry) item result }
 {
@@ -85,7 +89,11 @@ fn next_named<'a>(texts: &Texts<'a>, before: Option<Named<'a>>, item: Entry) -> 
 
 /// The items that have names, beside the ranks of these; of items with one reference at least the
 /// least. Where their references rise, each table is read once at most to find where names end.
-fn ranked<'a>(alloc: Global, texts: &Texts<'a>, items: &[Entry]) -> Result<Vec<Ranked>, AllocError>
+fn ranked<'a>(
+    alloc: Global,
+    texts: &Texts<'a>,
+    items: &[NamedItem],
+) -> Result<Vec<Ranked>, AllocError>
     ensures { IfOk result (λ ranked. Ranks (naming texts.now) items.now ranked.items) }
 {
     let mut ranked = Vec::with_capacity(alloc, items.len())?;
@@ -107,7 +115,7 @@ fn ranked<'a>(alloc: Global, texts: &Texts<'a>, items: &[Entry]) -> Result<Vec<R
 fn ranked_within<'a>(
     alloc: Global,
     texts: &Texts<'a>,
-    items: &[Entry],
+    items: &[NamedItem],
     most: usize,
 ) -> Result<Option<Vec<Ranked>>, AllocError>
     ensures { IfOk result (λ found. ForSome found
@@ -137,7 +145,7 @@ fn ranked_within<'a>(
 pub(crate) fn ranked_items(
     alloc: Global,
     texts: &Texts<'_>,
-    mut items: Vec<Entry>,
+    mut items: Vec<NamedItem>,
 ) -> Result<Vec<Ranked>, AllocError>
     ensures { IfOk result (λ ranked. Ranks (naming texts.now) items.items ranked.items) }
 {

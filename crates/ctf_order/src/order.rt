@@ -3,10 +3,10 @@ ghost use Rattle.std.specs.Prelude.{◌≡◌, ◌≤◌, IfOk, IsTrue, List, le
 ghost use Rattle.ctf_order.specs.Holding.{Fits, IsFound};
 ghost use Rattle.ctf_order.specs.Naming.{naming};
 ghost use Rattle.ctf_order.specs.Searching.{first_of, AreLowerBefore, AreParted, IsNear};
-ghost use Rattle.ctf_order.specs.declared.entries.Entry.{Entry as Item};
+ghost use Rattle.ctf_order.specs.declared.entries.NamedItem.{NamedItem as Item};
 
 use crate::comparing::{is_named, rank};
-use crate::entries::{Entry, Ranked};
+use crate::entries::{NamedItem, Ranked};
 use crate::lending::{arrange, ranked_items};
 use crate::texts::Texts;
 use std::alloc::{AllocError, Global};
@@ -93,7 +93,11 @@ impl Order {
     ///
     /// To find where names end it reads each table once at most, or 64 bytes for each item and one
     /// name; and then at most 2,056 bytes of each name. No name is read while items are sorted.
-    pub fn build(alloc: Global, texts: &Texts<'_>, items: Vec<Entry>) -> Result<Order, AllocError>
+    pub fn build(
+        alloc: Global,
+        texts: &Texts<'_>,
+        items: Vec<NamedItem>,
+    ) -> Result<Order, AllocError>
         ensures { IfOk result (λ o. Fits (naming texts.now) items.items o) }
     {
         let mut entries = ranked_items(alloc, texts, items)?;

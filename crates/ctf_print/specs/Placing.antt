@@ -6,7 +6,7 @@ use Rattle.ctf_model.specs.declared.faults.Fault.{Fault}
 use Rattle.ctf_model.specs.format.Shown.{shape}
 use Rattle.ctf_model.specs.format.Term.{Enumerator, Term}
 use Rattle.ctf_model.specs.spaces.Space.{Space, space_type}
-use Rattle.ctf_print.specs.Telling.{Told, enum, told_in, untold}
+use Rattle.ctf_print.specs.Telling.{ShowRule, enum, told_in, untold}
 use Rattle.ctf_print.specs.declared.places.FirstByValue.{FirstByValue}
 
 -- the number of the first enumerator with a value, where these are counted from i on
@@ -19,14 +19,14 @@ unfoldable pub AreFirstByValue : List Enumerator → FirstByValue → Type 0
 AreFirstByValue es p = (value : ℤ) → get int_cmp p.first value ≡ first_with value 0 es
 
 -- how the type of a number is shown
-abbrev pub told_found : Result Term Fault → Told
+abbrev pub told_found : Result Term Fault → ShowRule
 told_found (Ok x) = told_in (shape x.body)
 told_found (Err fault) = untold
 
-unfoldable pub shown_how : Space → ℕ → Told
+unfoldable pub shown_how : Space → ℕ → ShowRule
 shown_how s n = told_found (space_type s n)
 
-abbrev pub enumerators_of : Told → Option (List Enumerator)
+abbrev pub enumerators_of : ShowRule → Option (List Enumerator)
 enumerators_of (enum said es) = Some es
 enumerators_of _ = None
 

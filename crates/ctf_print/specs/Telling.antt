@@ -10,26 +10,26 @@ use Rattle.ctf_model.specs.values.Values.{Shows, array_shown, enum_shown, float_
 use Rattle.ctf_model.specs.declared.kinds.Kind.{Kind}
 use Rattle.ctf_model.specs.declared.kinds.Kind.TheVariants.{KUnknown, KInteger, KFloat, KPointer, KArray, KFunction, KStruct, KUnion, KEnum, KForward, KTypedef, KVolatile, KConst, KRestrict}
 
-pub data Told : Type 0 where
-  integer : EncodingParts → Told
-  float : EncodingParts → Told
-  pointer : Told
+pub data ShowRule : Type 0 where
+  integer : EncodingParts → ShowRule
+  float : EncodingParts → ShowRule
+  pointer : ShowRule
   -- with the size that it says, in bytes
-  enum : Option ℕ → List Enumerator → Told
+  enum : Option ℕ → List Enumerator → ShowRule
   -- a struct or a union
-  members : List Member → Told
-  array : ArrayParts → Told
+  members : List Member → ShowRule
+  array : ArrayParts → ShowRule
   -- as that of another type
-  like : ℕ → Told
+  like : ℕ → ShowRule
   -- not at all
-  untold : Told
+  untold : ShowRule
 
-abbrev pub of_reference : Option ℕ → Told
+abbrev pub of_reference : Option ℕ → ShowRule
 of_reference None = untold
 of_reference (Some t) = like t
 
 -- a type with nothing behind its head
-abbrev pub of_head : Kind → Option ℕ → Told
+abbrev pub of_head : Kind → Option ℕ → ShowRule
 of_head KPointer reference = pointer
 of_head KTypedef reference = of_reference reference
 of_head KVolatile reference = of_reference reference
@@ -45,7 +45,7 @@ of_head KUnion reference = untold
 of_head KEnum reference = untold
 of_head KForward reference = untold
 
-abbrev pub of_encoding : Kind → EncodingParts → Told
+abbrev pub of_encoding : Kind → EncodingParts → ShowRule
 of_encoding KFloat parts = float parts
 of_encoding kind parts = integer parts
 
@@ -54,7 +54,7 @@ abbrev pub said_size : Option ℕ → ℕ
 said_size None = 4
 said_size (Some size) = enum_size size
 
-abbrev pub told_behind : Shape → Shown → Told
+abbrev pub told_behind : Shape → Shown → ShowRule
 told_behind x (behind.members ms) = members ms
 told_behind x (behind.enumerators es) = enum x.size es
 told_behind x (behind.arguments ts) = untold
@@ -64,11 +64,11 @@ told_behind x (behind.tag t) = untold
 told_behind x behind.nothing = of_head x.kind x.reference
 
 -- of a type of a shape
-abbrev pub told_in : Shape → Told
+abbrev pub told_in : Shape → ShowRule
 told_in x = told_behind x x.behind
 
 -- what is shown then of a value that begins at bit p, where others are shown so
-abbrev pub told_shown : Space → List ℕ → Shows → ℕ → Told → Pieces
+abbrev pub told_shown : Space → List ℕ → Shows → ℕ → ShowRule → Pieces
 told_shown s memory show p (integer parts) = integer_shown memory p parts
 told_shown s memory show p (float parts) = float_shown memory p parts
 told_shown s memory show p pointer = raw_shown memory p (8 * pointer_size s.model)

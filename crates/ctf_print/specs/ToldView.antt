@@ -1,10 +1,10 @@
--- What a `Told` shows.
+-- What a `ShowRule` shows.
 use Rattle.ctf_views.specs.PartsView.{array_info, encoding_info}
 use Rattle.ctf_print.specs.Telling as telling
-use Rattle.ctf_print.specs.declared.telling.Told.{Told}
-use Rattle.ctf_print.specs.declared.telling.Told.TheVariants as told
+use Rattle.ctf_print.specs.declared.telling.ShowRule.{ShowRule}
+use Rattle.ctf_print.specs.declared.telling.ShowRule.TheVariants as told
 
-abbrev pub told_view : Told → telling.Told
+abbrev pub told_view : ShowRule → telling.ShowRule
 told_view (told.Integer encoding) = telling.integer (encoding_info encoding)
 told_view (told.Float encoding) = telling.float (encoding_info encoding)
 told_view told.Pointer = telling.pointer

@@ -8,7 +8,7 @@ ghost use Rattle.ctf_print.specs.Standing.{StandsFor};
 ghost use Rattle.ctf_print.specs.declared.places.FirstByValue.{FirstByValue};
 
 use crate::places::{FirstByValue, first_of};
-use crate::telling::{Told, told_by};
+use crate::telling::{ShowRule, told_by};
 use ctf_model::TypeNum;
 use ctf_space::Space;
 use ctf_views::Enumerators;
@@ -93,7 +93,7 @@ impl<'a> ShowCache<'a> {
         }
         match self.space.term(number) {
             Ok(found) => match told_by(found.shape()) {
-                Told::As(next) => Some(next),
+                ShowRule::As(next) => Some(next),
                 _ => None,
             },
             Err(_) => None,

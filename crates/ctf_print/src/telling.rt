@@ -11,7 +11,7 @@ use ctf_views::{ArrayInfo, Encoding, Enumerators, Members, Variant};
 
 /// How the value of a type is shown.
 #[derive(Drop)]
-pub enum Told<'a> {
+pub enum ShowRule<'a> {
     Integer(Encoding),
     Float(Encoding),
     Pointer,
@@ -27,30 +27,30 @@ pub enum Told<'a> {
 }
 
 /// A typedef or a qualifier, by the type that it refers to.
-fn by_reference<'a>(reference: Option<TypeNum>) -> Told<'a>
+fn by_reference<'a>(reference: Option<TypeNum>) -> ShowRule<'a>
     ensures { told_view result ≡ of_reference (option_map (λ t. t.0) reference) }
 {
     match reference {
-        Some(number) => Told::As(number),
-        None => Told::Incomplete,
+        Some(number) => ShowRule::As(number),
+        None => ShowRule::Incomplete,
     }
 }
 
 /// A type with nothing behind its head.
-fn by_head<'a>(kind: Kind, reference: Option<TypeNum>) -> Told<'a>
+fn by_head<'a>(kind: Kind, reference: Option<TypeNum>) -> ShowRule<'a>
     ensures { told_view result ≡ of_head kind (option_map (λ t. t.0) reference) }
 {
     match kind {
-        Kind::KPointer => Told::Pointer,
+        Kind::KPointer => ShowRule::Pointer,
         Kind::KTypedef | Kind::KVolatile | Kind::KConst | Kind::KRestrict => {
             by_reference(reference)
         }
-        _ => Told::Incomplete,
+        _ => ShowRule::Incomplete,
     }
 }
 
 /// How the value of a type of a shape is shown.
-pub fn told_by(x: Shape<'_>) -> Told<'_>
+pub fn told_by(x: Shape<'_>) -> ShowRule<'_>
     ensures { told_view result ≡ told_in (shape_view x.entry) }
 {
     let Shape {
@@ -61,14 +61,14 @@ pub fn told_by(x: Shape<'_>) -> Told<'_>
         ..
     } = x;
     match behind {
-        Variant::Members(members) => Told::Members(members),
-        Variant::Enumerators(enumerators) => Told::Enum(size, enumerators),
-        Variant::Array(info) => Told::Array(info),
+        Variant::Members(members) => ShowRule::Members(members),
+        Variant::Enumerators(enumerators) => ShowRule::Enum(size, enumerators),
+        Variant::Array(info) => ShowRule::Array(info),
         Variant::Encoding(encoding) => match kind {
-            Kind::KFloat => Told::Float(encoding),
-            _ => Told::Integer(encoding),
+            Kind::KFloat => ShowRule::Float(encoding),
+            _ => ShowRule::Integer(encoding),
         },
-        Variant::Args(_) | Variant::Tag(_) => Told::Incomplete,
+        Variant::Args(_) | Variant::Tag(_) => ShowRule::Incomplete,
         Variant::Nothing => by_head(kind, reference),
     }
 }

@@ -6,7 +6,7 @@ ghost use Rattle.ctf_print.specs.ImageView.{shows, types_of};
 
 use crate::image::Image;
 use crate::show_cache::ShowCache;
-use crate::telling::{Told, told_by};
+use crate::telling::{ShowRule, told_by};
 use ctf_model::{Fault, TypeNum, placeless};
 
 /// How the values of a type are shown.
@@ -16,7 +16,7 @@ pub struct Found<'a> {
     pub number: TypeNum,
     /// How many values may still stand in each other inside one of them.
     pub nesting: u32,
-    pub how: Told<'a>,
+    pub how: ShowRule<'a>,
 }
 
 /// How the values of a number's type are shown, as its record says, or why none is.
@@ -54,7 +54,7 @@ fn found_behind<'a>(
         Ok(
             Found {
                 nesting,
-                how: Told::As(next),
+                how: ShowRule::As(next),
                 ..
             },
         ) => {
@@ -90,6 +90,6 @@ pub fn nothing_found<'a>() -> Found<'a> {
     Found {
         number: TypeNum(0),
         nesting: 0,
-        how: Told::Incomplete,
+        how: ShowRule::Incomplete,
     }
 }

@@ -18,7 +18,7 @@ ghost use Rattle.ctf_print.specs.Written.{Refused, written};
 
 use crate::image::Image;
 use crate::pen::{Ended, Pen};
-use crate::telling::Told;
+use crate::telling::ShowRule;
 use crate::value_form::{Found, nothing_found};
 use ctf_model::{DataModel, Fault, TypeNum, placeless};
 use ctf_views::{ArrayInfo, Members};
@@ -181,16 +181,16 @@ fn show_told(image: &Image<'_>, found: &Found<'_>, at: u128, pen: &mut Pen<'_>) 
 {
     let nesting = found.nesting;
     match &found.how {
-        Told::Integer(encoding) => pen.write_integer(image.memory, at, *encoding),
-        Told::Float(encoding) => pen.write_float(image.memory, at, *encoding),
-        Told::Pointer => pen.write_raw(image.memory, at, pointer_bits(image.space.model())),
-        Told::Enum(said, enumerators) => {
+        ShowRule::Integer(encoding) => pen.write_integer(image.memory, at, *encoding),
+        ShowRule::Float(encoding) => pen.write_float(image.memory, at, *encoding),
+        ShowRule::Pointer => pen.write_raw(image.memory, at, pointer_bits(image.space.model())),
+        ShowRule::Enum(said, enumerators) => {
             pen.write_enum(image.memory, at, found.number, *said, enumerators)
         }
-        Told::Members(members) => show_members(image, members, at, nesting, pen),
-        Told::Array(array) => show_array(image, *array, at, nesting, pen),
-        Told::As(next) => show_again(image, *next, at, nesting, pen),
-        Told::Incomplete => {
+        ShowRule::Members(members) => show_members(image, members, at, nesting, pen),
+        ShowRule::Array(array) => show_array(image, *array, at, nesting, pen),
+        ShowRule::As(next) => show_again(image, *next, at, nesting, pen),
+        ShowRule::Incomplete => {
             pen.end(placeless(Fault::INCOMPLETE));
             Err(Ended)
         }

@@ -1,4 +1,23 @@
 //! What a session may ask of the service, and what it is answered.
+//!
+//! ```rust
+//! use ctf_protocol::{PlainQuestion, Question, Request, SlotNumber, TypeNum, TypeQuestion};
+//!
+//! /// The request for the size of a type in a slot; none where the number is no slot's.
+//! fn size_request(d: u32, t: u16) -> Option<Request> {
+//!     let d = SlotNumber::new(d)?;
+//!     let question = Question::OfType {
+//!         t: TypeNum(t),
+//!         question: TypeQuestion::Plain(PlainQuestion::Size),
+//!     };
+//!     Some(Request::Asks { d, question })
+//! }
+//! ```
+//!
+//! These types say what is asked; `ctf_lines` reads them from lines, and `ctf_broker` and
+//! `ctf_library` answer. Slots are numbered from 1. A value that is out of range cannot be made:
+//! `new` answers `None` then. The functions named by a sentence do nothing: their contracts are
+//! laws and worked rows of the definitions.
 #![tactic(auto)]
 
 mod addables;

@@ -5,6 +5,7 @@ use crate::bytes::u64_at;
 
 /// Whether two texts of one length have the same eight bytes from a place on, or the same last
 /// eight where fewer follow. Of texts of fewer than eight bytes nothing is looked at.
+#[inline(always)]
 pub(crate) fn are_alike_at(text: &[u8], other: &[u8], place: usize) -> bool
     requires { length text.now ≡ length other.now }
     ensures { text.now ≡ other.now → IsTrue result }
@@ -19,6 +20,7 @@ pub(crate) fn are_alike_at(text: &[u8], other: &[u8], place: usize) -> bool
 
 /// A place within eight bytes of where two texts of one length, which differ, differ last.
 /// It looks at the half behind, and then at the half of that half which differs.
+#[inline(never)]
 pub(crate) fn last_difference(text: &[u8], other: &[u8]) -> usize
     requires { length text.now ≡ length other.now }
 {

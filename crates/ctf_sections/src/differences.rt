@@ -55,6 +55,7 @@ impl Places {
     }
 
     /// Whether two texts of one length may be the same, as far as the places say.
+    #[inline(never)]
     fn may_be_same(&self, end: usize, text: &[u8], other: &[u8]) -> bool
         requires { length text.now ≡ length other.now }
         ensures { text.now ≡ other.now → IsTrue result }
@@ -77,6 +78,7 @@ impl Places {
 
     /// Keeps a place in one of the two slots of an end. Where as many were kept as there are slots,
     /// names may have been made for the factors, so others follow.
+    #[inline(never)]
     fn keep(&mut self, end: usize, place: u32) {
         let way = self.kept % 2;
         self.by_end[slot(end, self.factors[way])] = place;
@@ -105,6 +107,7 @@ impl<'a> Differences<'a> {
     }
 
     /// Whether two texts of one length may be the same, as far as is known.
+    #[inline(always)]
     pub(crate) fn may_be_same(&self, end: usize, text: &[u8], other: &[u8]) -> bool
         requires { length text.now ≡ length other.now }
         ensures { text.now ≡ other.now → IsTrue result }
@@ -124,6 +127,7 @@ impl<'a> Differences<'a> {
     }
 
     /// Keeps where two texts of one length differ last.
+    #[inline(always)]
     pub(crate) fn keep_last(&mut self, end: usize, text: &[u8], other: &[u8])
         requires { length text.now ≡ length other.now }
     {

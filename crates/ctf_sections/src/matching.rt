@@ -9,6 +9,7 @@ use crate::differences::Differences;
 use memchr::memrchr;
 
 /// Whether a zero byte stands at a place.
+#[inline(always)]
 fn is_end(bytes: &[u8], at: usize) -> bool
     ensures inside { IsTrue result → at < length bytes.now }
     ensures zero { IsTrue result ↔ (slice_get bytes.now at ≡ Some 0) }
@@ -21,6 +22,7 @@ fn is_end(bytes: &[u8], at: usize) -> bool
 
 /// Whether a zero byte stands behind as many bytes as a text has, whose first eight and last eight
 /// bytes are the text's.
+#[inline(always)]
 fn has_ends(bytes: &[u8], text: &[u8]) -> bool
     ensures end { IsTrue result → (slice_get bytes.now (length text.now) ≡ Some 0) }
     ensures inside { IsTrue result → length text.now < length bytes.now }
@@ -54,7 +56,8 @@ fn begins_with(bytes: &[u8], text: &[u8]) -> bool
 
 /// The same, where others were compared before: it looks also where these differed. `end` is where
 /// the text would end.
-fn begins_with_after(bytes: &[u8], text: &[u8], end: usize, others: &mut Differences<'_>) -> bool
+#[inline(always)]
+fn is_front_after(bytes: &[u8], text: &[u8], end: usize, others: &mut Differences<'_>) -> bool
     ensures { result ≡ is_named text.now (text_in bytes.now) }
 {
     if !has_ends(bytes, text) {
@@ -75,6 +78,33 @@ fn begins_with_after(bytes: &[u8], text: &[u8], end: usize, others: &mut Differe
     false
 }
 
+/// Whether two texts of one length have the same last byte, if they have any.
+#[inline(always)]
+fn have_one_end(text: &[u8], other: &[u8]) -> bool
+    requires { length text.now ≡ length other.now }
+    ensures { text.now ≡ other.now → IsTrue result }
+{
+    if text.is_empty() {
+        return true;
+    }
+    let last = text.len() - 1;
+    text[last] == other[last]
+}
+
+/// The same. Of most texts it is seen by two bytes that they are others.
+#[inline(always)]
+fn begins_with_after(rest: &[u8], text: &[u8], end: usize, others: &mut Differences<'_>) -> bool
+    ensures { result ≡ is_named text.now (text_in rest.now) }
+{
+    if !is_end(rest, text.len()) {
+        return false;
+    }
+    if !have_one_end(text, &rest[..text.len()]) {
+        return false;
+    }
+    is_front_after(rest, text, end, others)
+}
+
 /// Whether the text at an offset of a table is this one.
 pub fn is_text(table: &[u8], offset: usize, text: &[u8]) -> bool
     ensures { result ≡ is_named text.now (text_at (Some table.now) offset) }
@@ -86,6 +116,7 @@ pub fn is_text(table: &[u8], offset: usize, text: &[u8]) -> bool
 }
 
 /// Whether the text at an offset of a table is this one, where others were compared with it before.
+#[inline(always)]
 pub fn is_text_after(table: &[u8], offset: usize, text: &[u8], others: &mut Differences<'_>) -> bool
     ensures { result ≡ is_named text.now (text_at (Some table.now) offset) }
 {

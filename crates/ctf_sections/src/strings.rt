@@ -104,6 +104,7 @@ impl<'a> Strings<'a> {
 
     /// Whether a reference names a text, where others were compared before. Names that differ from
     /// it where they differed from those before are not searched again.
+    #[inline(always)]
     pub fn is_name_after(&self, reference: u32, text: &[u8], others: &mut Differences<'_>) -> bool
         ensures { result ≡ is_named text.now (named (tables self.now) reference) }
     {

@@ -23,7 +23,7 @@ use Rattle.ctf_model.specs.declared.faults.TheConstants.Fault.{NO_LABEL}
 use Rattle.ctf_model.specs.declared.symbols.SymbolClass.TheVariants.{Object, Function}
 use Rattle.ctf_order.specs.Holding.{Fits, IsFound, IsLeast, IsNamed}
 use Rattle.ctf_order.specs.Naming.{Naming}
-use Rattle.ctf_order.specs.declared.entries.Entry.{Entry}
+use Rattle.ctf_order.specs.declared.entries.NamedItem.{NamedItem}
 use Rattle.ctf_order.specs.declared.order.Order.{Order}
 use Rattle.ctf_symbols.specs.Kept.{class_in, sort_in}
 use Rattle.ctf_symbols.specs.Named.{AreInOrder, AreItems, LabelsInOrder, SymbolsInOrder, called_label, called_symbol, first_called, program_names}
@@ -33,43 +33,43 @@ use Rattle.ctf_symbols.proofs.Answering.{not_there, there}
 abbrev pub number : {A : Type 0} → ℕ × A → ℕ
 number x = x.0
 
-by_place : (e f : Entry) (items : List Entry) → Contains (e ∷ items) f → (e ≡ f) ⊎ Contains items f
+by_place : (e f : NamedItem) (items : List NamedItem) → Contains (e ∷ items) f → (e ≡ f) ⊎ Contains items f
 by_place e f items (zero, lt, is) = inl is
 by_place e f items (suc k, lt, is) = inr (k, omega (arith, lt), is)
 
-in_rest : (e f : Entry) (items : List Entry) → Contains items f → Contains (e ∷ items) f
+in_rest : (e f : NamedItem) (items : List NamedItem) → Contains items f → Contains (e ∷ items) f
 in_rest e f items h = (suc h.0, omega (arith, h.1), h.2)
 
-none_there : (items : List Entry) (e : Entry) → items ≡ [] → Contains items e → ⊥
+none_there : (items : List NamedItem) (e : NamedItem) → items ≡ [] → Contains items e → ⊥
 none_there [] e none h = absurd (omega (arith, h.1))
 none_there (f ∷ items) e none h = absurd cc
 
 -- the items of rising numbers rise
-items_from : {A : Type 0} (names : Naming) (called : A → List ℕ) (low : ℕ) (xs : List (ℕ × A)) (items : List Entry) → AreRising number low xs → AreItems names called xs items → (e : Entry) → Contains items e → low ≤ e.item
+items_from : {A : Type 0} (names : Naming) (called : A → List ℕ) (low : ℕ) (xs : List (ℕ × A)) (items : List NamedItem) → AreRising number low xs → AreItems names called xs items → (e : NamedItem) → Contains items e → low ≤ e.item
 items_from names called low [] items rising each e h = absurd (none_there items e each h)
 items_from names called low (x ∷ xs) [] rising each e h = absurd each
 items_from names called low (x ∷ xs) (f ∷ items) rising each e h = at (items_from names called (x.0 + 1) xs items rising.1 each.2 e) (by_place f e items h)
   where
     at : (Contains items e → x.0 + 1 ≤ e.item) → (f ≡ e) ⊎ Contains items e → low ≤ e.item
-    at rest (inl same) = omega (arith, rising.0, each.0, ap (λ (y : Entry). y.item) same)
+    at rest (inl same) = omega (arith, rising.0, each.0, ap (λ (y : NamedItem). y.item) same)
     at rest (inr there) = omega (arith, rising.0, rest there)
 
-same_text : (names : Naming) (x text : List ℕ) (e : Entry) → names e.reference ≡ Some x → IsNamed names text e → bytes_eq x text ≡ true
+same_text : (names : Naming) (x text : List ℕ) (e : NamedItem) → names e.reference ≡ Some x → IsNamed names text e → bytes_eq x text ≡ true
 same_text names x text e is named = let same : ◌≡◌ {A = Option (List ℕ)} (Some x) (Some text) = sym is ∙ named in let text_same : x ≡ text = cc in (bytes_eq-Decides x text).1 text_same
 
-later : {A : Type 0} (names : Naming) (text : List ℕ) (e : Entry) (items : List Entry) → (IsNamed names text e → ⊥) → (found : Option (ℕ × A)) → IsFound names items text (option_map number found) → IsFound names (e ∷ items) text (option_map number found)
+later : {A : Type 0} (names : Naming) (text : List ℕ) (e : NamedItem) (items : List NamedItem) → (IsNamed names text e → ⊥) → (found : Option (ℕ × A)) → IsFound names items text (option_map number found) → IsFound names (e ∷ items) text (option_map number found)
 later names text e items not None none = λ f h named. at f named (by_place e f items h)
   where
-    at : (f : Entry) → IsNamed names text f → (e ≡ f) ⊎ Contains items f → ⊥
+    at : (f : NamedItem) → IsNamed names text f → (e ≡ f) ⊎ Contains items f → ⊥
     at f named (inl same) = not (rw same named)
     at f named (inr there) = none f there named
 later names text e items not (Some x) least = record { entry = least.entry; there = in_rest e least.entry items least.there; named = least.named; is = least.is; least = λ f h named. at f named (by_place e f items h) }
   where
-    at : (f : Entry) → IsNamed names text f → (e ≡ f) ⊎ Contains items f → x.0 ≤ f.item
+    at : (f : NamedItem) → IsNamed names text f → (e ≡ f) ⊎ Contains items f → x.0 ≤ f.item
     at f named (inl same) = absurd (not (rw same named))
     at f named (inr there) = least.least f there named
 
-here : {A : Type 0} (names : Naming) (called : A → List ℕ) (low : ℕ) (x : ℕ × A) (xs : List (ℕ × A)) (text : List ℕ) (e : Entry) (items : List Entry) → AreRising number low (x ∷ xs) → AreItems names called (x ∷ xs) (e ∷ items) → bytes_eq (called x.1) text ≡ true → IsLeast names (e ∷ items) text x.0
+here : {A : Type 0} (names : Naming) (called : A → List ℕ) (low : ℕ) (x : ℕ × A) (xs : List (ℕ × A)) (text : List ℕ) (e : NamedItem) (items : List NamedItem) → AreRising number low (x ∷ xs) → AreItems names called (x ∷ xs) (e ∷ items) → bytes_eq (called x.1) text ≡ true → IsLeast names (e ∷ items) text x.0
 here names called low x xs text e items rising each same = record {
   entry = e;
   there = (0, omega arith, refl);
@@ -78,23 +78,23 @@ here names called low x xs text e items rising each same = record {
   least = λ f h named. at f (by_place e f items h);
 }
   where
-    at : (f : Entry) → (e ≡ f) ⊎ Contains items f → x.0 ≤ f.item
-    at f (inl is) = omega (arith, each.0, ap (λ (y : Entry). y.item) is)
+    at : (f : NamedItem) → (e ≡ f) ⊎ Contains items f → x.0 ≤ f.item
+    at f (inl is) = omega (arith, each.0, ap (λ (y : NamedItem). y.item) is)
     at f (inr there) = omega (arith, items_from names called (x.0 + 1) xs items rising.1 each.2 f there)
 
-first_case : {A : Type 0} (names : Naming) (called : A → List ℕ) (low : ℕ) (x : ℕ × A) (xs : List (ℕ × A)) (text : List ℕ) (e : Entry) (items : List Entry) → AreRising number low (x ∷ xs) → AreItems names called (x ∷ xs) (e ∷ items) → IsFound names items text (option_map number (first_called called text xs))
+first_case : {A : Type 0} (names : Naming) (called : A → List ℕ) (low : ℕ) (x : ℕ × A) (xs : List (ℕ × A)) (text : List ℕ) (e : NamedItem) (items : List NamedItem) → AreRising number low (x ∷ xs) → AreItems names called (x ∷ xs) (e ∷ items) → IsFound names items text (option_map number (first_called called text xs))
     → (t : Bool) → bytes_eq (called x.1) text ≡ t → IsFound names (e ∷ items) text (option_map number (first_called called text (x ∷ xs)))
 first_case names called low x xs text e items rising each rest true same = rw same (here names called low x xs text e items rising each same)
 first_case names called low x xs text e items rising each rest false other = rw other (later names text e items (λ named. let same = same_text names (called x.1) text e each.1 named in absurd cc) (first_called called text xs) rest)
 
 -- the first of a name is the one with the least number
-first_found : {A : Type 0} (names : Naming) (called : A → List ℕ) (low : ℕ) (xs : List (ℕ × A)) (items : List Entry) (text : List ℕ) → AreRising number low xs → AreItems names called xs items → IsFound names items text (option_map number (first_called called text xs))
+first_found : {A : Type 0} (names : Naming) (called : A → List ℕ) (low : ℕ) (xs : List (ℕ × A)) (items : List NamedItem) (text : List ℕ) → AreRising number low xs → AreItems names called xs items → IsFound names items text (option_map number (first_called called text xs))
 first_found names called low [] items text rising each = λ e h named. none_there items e each h
 first_found names called low (x ∷ xs) [] text rising each = absurd each
 first_found names called low (x ∷ xs) (e ∷ items) text rising each = first_case names called low x xs text e items rising each (first_found names called (x.0 + 1) xs items text rising.1 each.2) (bytes_eq (called x.1) text) refl
 
 -- only one number is found
-one_found : (names : Naming) (items : List Entry) (text : List ℕ) (found other : Option ℕ) → IsFound names items text found → IsFound names items text other → found ≡ other
+one_found : (names : Naming) (items : List NamedItem) (text : List ℕ) (found other : Option ℕ) → IsFound names items text found → IsFound names items text other → found ≡ other
 one_found names items text None None p q = refl
 one_found names items text None (Some m) p q = absurd (p q.entry q.there q.named)
 one_found names items text (Some n) None p q = absurd (q p.entry p.there p.named)
@@ -104,7 +104,7 @@ one_found names items text (Some n) (Some m) p q = ap (λ (k : ℕ). Some k) (sa
     same a b c d = omega (arith, a, b, c, d)
 
 -- what is found in the order of names is the first of the name
-pub found_first : {A : Type 0} (names : Naming) (called : A → List ℕ) (xs : List (ℕ × A)) (o : Order) (text : List ℕ) (found : Option ℕ) → AreRising number 0 xs → AreInOrder names called xs o → ((items : List Entry) → Fits names items o → IsFound names items text found)
+pub found_first : {A : Type 0} (names : Naming) (called : A → List ℕ) (xs : List (ℕ × A)) (o : Order) (text : List ℕ) (found : Option ℕ) → AreRising number 0 xs → AreInOrder names called xs o → ((items : List NamedItem) → Fits names items o → IsFound names items text found)
     → found ≡ option_map number (first_called called text xs)
 found_first names called xs o text found rising order finds = ∥∥₁_elim order (search props) (λ h. one_found names h.items text found _ (finds h.items h.fits) (first_found names called 0 xs h.items text rising h.each))
 
@@ -176,7 +176,7 @@ class_there s table k x t at (Some sort) e =
     ap (λ (n : ℕ). if n == 1 then Object else Function) (sym y.2 ∙ ap (λ (z : Symbol). z.sort) same)
 
 -- the considered symbol that is found owns the first entry of the name
-pub found_owner : (s : Lists) (o : Order) (table text : List ℕ) (names : Naming) (number : ℕ) → first_fault s ≡ None → table ≡ unwrap_or s.sym [] → names ≡ program_names s.strs → SymbolsInOrder s o → ((items : List Entry) → Fits names items o → IsFound names items text (Some number))
+pub found_owner : (s : Lists) (o : Order) (table text : List ℕ) (names : Naming) (number : ℕ) → first_fault s ≡ None → table ≡ unwrap_or s.sym [] → names ≡ program_names s.strs → SymbolsInOrder s o → ((items : List NamedItem) → Fits names items o → IsFound names items text (Some number))
     → Some (record { number = number; name = text; class = class_in (sort_in table number) }) ≡ option_map owner_of (entry_named (said_by s).entries text)
 found_owner s o table text names number sound t by order finds =
     let first = found_first (program_names s.strs) called_symbol (with_types (symbols s)) o text (Some number) (considered_rising 0 (symbols s)) order (rw by at finds) in
@@ -192,7 +192,7 @@ found_owner s o table text names number sound t by order finds =
         rw (e, class, ← is.named, numbered) refl
 
 -- where none is found there is no entry of the name
-pub none_owned : (s : Lists) (o : Order) (text : List ℕ) (names : Naming) → first_fault s ≡ None → names ≡ program_names s.strs → SymbolsInOrder s o → ((items : List Entry) → Fits names items o → IsFound names items text None)
+pub none_owned : (s : Lists) (o : Order) (text : List ℕ) (names : Naming) → first_fault s ≡ None → names ≡ program_names s.strs → SymbolsInOrder s o → ((items : List NamedItem) → Fits names items o → IsFound names items text None)
     → None ≡ option_map owner_of (entry_named (said_by s).entries text)
 none_owned s o text names sound by order finds =
     let first = found_first (program_names s.strs) called_symbol (with_types (symbols s)) o text None (considered_rising 0 (symbols s)) order (rw by at finds) in
@@ -221,7 +221,7 @@ label_there n (l ∷ ls) text x h = by_case (bytes_eq l.name text) (label_there 
     by_case false rest same = let later = rest same in (suc later.0, omega (arith, later.1), later.2)
 
 -- what is found of labels
-pub found_label : (s : Lists) (o : Order) (text : List ℕ) (names : Naming) (found : Option ℕ) → names ≡ name (tables s) → LabelsInOrder s o → ((items : List Entry) → Fits names items o → IsFound names items text found)
+pub found_label : (s : Lists) (o : Order) (text : List ℕ) (names : Naming) (found : Option ℕ) → names ≡ name (tables s) → LabelsInOrder s o → ((items : List NamedItem) → Fits names items o → IsFound names items text found)
     → MatchOption found (last_of_label (said_by s).labels text ≡ None) (λ n. last_of_label (said_by s).labels text ≡ option_map (λ x. x.last) (slice_get (said_by s).labels n))
 found_label s o text names found by order finds =
     let all = enumerate_from 0 (said_by s).labels in

@@ -13,31 +13,31 @@ use Rattle.ctf_model.specs.declared.sections.Section.TheVariants.{SLabels}
 use Rattle.ctf_model.specs.format.Name.{Tables, name, text_at}
 use Rattle.ctf_model.specs.symbols.Symbols.{Symbol, is_absolute_zero, is_considered, is_function, is_mark, is_named, is_object, symbol_name, symbol_of}
 use Rattle.ctf_order.specs.Naming.{Naming}
-use Rattle.ctf_order.specs.declared.entries.Entry.{Entry}
+use Rattle.ctf_order.specs.declared.entries.NamedItem.{NamedItem}
 use Rattle.ctf_symbols.specs.Named.{AreItems, called_label, program_names}
 
 -- ---- one after the other
 
 -- with the items of those that are left, these are the items of all
-abbrev pub GoesOn : {A : Type 0} → Naming → (A → List ℕ) → List (ℕ × A) → List Entry → List (ℕ × A) → Type 0
-GoesOn names called all items left = (more : List Entry) → AreItems names called left more → AreItems names called all (items ++ more)
+abbrev pub GoesOn : {A : Type 0} → Naming → (A → List ℕ) → List (ℕ × A) → List NamedItem → List (ℕ × A) → Type 0
+GoesOn names called all items left = (more : List NamedItem) → AreItems names called left more → AreItems names called all (items ++ more)
 
 pub none_yet : {A : Type 0} (names : Naming) (called : A → List ℕ) (all : List (ℕ × A)) → GoesOn names called all [] all
 none_yet names called all = λ more h. h
 
-pub one_more : {A : Type 0} (names : Naming) (called : A → List ℕ) (all left behind : List (ℕ × A)) (items : List Entry) (x : ℕ × A) (e : Entry) → left ≡ x ∷ behind → e.item ≡ x.0 → names e.reference ≡ Some (called x.1)
+pub one_more : {A : Type 0} (names : Naming) (called : A → List ℕ) (all left behind : List (ℕ × A)) (items : List NamedItem) (x : ℕ × A) (e : NamedItem) → left ≡ x ∷ behind → e.item ≡ x.0 → names e.reference ≡ Some (called x.1)
     → GoesOn names called all items left → GoesOn names called all (items ++ e ∷ []) behind
 one_more {A} names called all left behind items x e first at named goes = λ more h.
     let later : AreItems names called left (e ∷ more) = subst (λ (l : List (ℕ × A)). AreItems names called l (e ∷ more)) (sym first) (at, named, h) in
-    subst (λ (l : List Entry). AreItems names called all l) (sym (append_assoc items (e ∷ []) more)) (goes (e ∷ more) later)
+    subst (λ (l : List NamedItem). AreItems names called all l) (sym (append_assoc items (e ∷ []) more)) (goes (e ∷ more) later)
 
-pub passed : {A : Type 0} (names : Naming) (called : A → List ℕ) (all left behind : List (ℕ × A)) (items : List Entry) → left ≡ behind → GoesOn names called all items left → GoesOn names called all items behind
+pub passed : {A : Type 0} (names : Naming) (called : A → List ℕ) (all left behind : List (ℕ × A)) (items : List NamedItem) → left ≡ behind → GoesOn names called all items left → GoesOn names called all items behind
 passed {A} names called all left behind items same goes = subst (λ (l : List (ℕ × A)). GoesOn names called all items l) same goes
 
-pub all_there : {A : Type 0} (names : Naming) (called : A → List ℕ) (all left : List (ℕ × A)) (items : List Entry) → left ≡ [] → GoesOn names called all items left → AreItems names called all items
+pub all_there : {A : Type 0} (names : Naming) (called : A → List ℕ) (all left : List (ℕ × A)) (items : List NamedItem) → left ≡ [] → GoesOn names called all items left → AreItems names called all items
 all_there {A} names called all left items none goes =
     let last : AreItems names called left [] = subst (λ (l : List (ℕ × A)). AreItems names called l []) (sym none) refl in
-    subst (λ (l : List Entry). AreItems names called all l) (append-nil items) (goes [] last)
+    subst (λ (l : List NamedItem). AreItems names called all l) (append-nil items) (goes [] last)
 
 -- ---- symbols
 
@@ -98,7 +98,7 @@ abbrev pub labels_left : Tables → ℕ → List ℕ → List (ℕ × Label)
 labels_left t n b = enumerate_from n (labels_in t (length b / 8) b)
 
 -- what stays true from label to label
-pub record PassesLabels (t : Tables) (all : List (ℕ × Label)) (items : List Entry) (n : ℕ) (rest : List ℕ) : Type 0 where
+pub record PassesLabels (t : Tables) (all : List (ℕ × Label)) (items : List NamedItem) (n : ℕ) (rest : List ℕ) : Type 0 where
   pub goes : GoesOn (name t) called_label all items (labels_left t n rest)
   pub good : AreLabels t rest (labels_in t (length rest / 8) rest)
 
@@ -108,7 +108,7 @@ good_first t b label labels h = h.1
 good_rest : (t : Tables) (b : List ℕ) (label : Label) (labels : List Label) → AreLabels t b (label ∷ labels) → AreLabels t (drop 8 b) labels
 good_rest t b label labels h = h.3
 
-pub next_label : (t : Tables) (all : List (ℕ × Label)) (items : List Entry) (n : ℕ) (rest behind : List ℕ) → 8 ≤ length rest → behind ≡ drop 8 rest → PassesLabels t all items n rest
+pub next_label : (t : Tables) (all : List (ℕ × Label)) (items : List NamedItem) (n : ℕ) (rest behind : List ℕ) → 8 ≤ length rest → behind ≡ drop 8 rest → PassesLabels t all items n rest
     → PassesLabels t all (items ++ record { reference = u32_at rest 0; item = n } ∷ []) (n + 1) behind
 next_label t all items n rest behind le d p =
     let first : Label = record { name = text_or_empty t (u32_at rest 0); last = u32_at rest 4 } in
@@ -119,7 +119,7 @@ next_label t all items n rest behind le d p =
       good = good_rest t rest first _ good;
     })
 
-pub last_label : (t : Tables) (all : List (ℕ × Label)) (items : List Entry) (n : ℕ) (rest : List ℕ) → length rest < 8 → PassesLabels t all items n rest → AreItems (name t) called_label all items
+pub last_label : (t : Tables) (all : List (ℕ × Label)) (items : List NamedItem) (n : ℕ) (rest : List ℕ) → length rest < 8 → PassesLabels t all items n rest → AreItems (name t) called_label all items
 last_label t all items n rest lt p = all_there (name t) called_label all _ items (ap (λ (ls : List Label). enumerate_from n ls) (labels_end t rest lt)) p.goes
 
 -- those of a dictionary that breaks no rule

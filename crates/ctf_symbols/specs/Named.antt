@@ -8,7 +8,7 @@ use Rattle.ctf_model.specs.format.Name.{name, text_at}
 use Rattle.ctf_model.specs.symbols.Symbols.{Symbol, with_types, symbols}
 use Rattle.ctf_order.specs.Holding.{Fits}
 use Rattle.ctf_order.specs.Naming.{Naming}
-use Rattle.ctf_order.specs.declared.entries.Entry.{Entry}
+use Rattle.ctf_order.specs.declared.entries.NamedItem.{NamedItem}
 use Rattle.ctf_order.specs.declared.order.Order.{Order}
 
 -- the first of a name among what has numbers and names
@@ -18,7 +18,7 @@ first_called called text (x ∷ xs) =
     if bytes_eq (called x.1) text then Some x else first_called called text xs
 
 -- each has an item, with its number, and where its name stands
-abbrev pub AreItems : {A : Type 0} → Naming → (A → List ℕ) → List (ℕ × A) → List Entry → Type 0
+abbrev pub AreItems : {A : Type 0} → Naming → (A → List ℕ) → List (ℕ × A) → List NamedItem → Type 0
 AreItems names called [] items = items ≡ []
 AreItems names called (x ∷ xs) [] = ⊥
 AreItems names called (x ∷ xs) (e ∷ items) =
@@ -27,7 +27,7 @@ AreItems names called (x ∷ xs) (e ∷ items) =
 -- such items, which an order fits
 pub record Ordered {A : Type 0} (names : Naming) (called : A → List ℕ) (xs : List (ℕ × A))
     (o : Order) : Type 0 where
-  pub items : List Entry
+  pub items : List NamedItem
   pub each : AreItems names called xs items
   pub fits : Fits names items o
 

@@ -9,17 +9,17 @@ ghost use Rattle.ctf_symbols.specs.Named.{AreItems, called_symbol, program_names
 use crate::items::symbol_item;
 use crate::rows::behind_symbol;
 use ctf_entries::{Symbol, SymbolNames, behind_function, behind_object};
-use ctf_order::Entry;
+use ctf_order::NamedItem;
 use std::alloc::{AllocError, Global};
 
 /// What is kept of the symbols of a table.
 #[derive(Drop)]
-pub(crate) struct Listed {
+pub(crate) struct SymbolItems {
     /// How much is left of its section where the entry of each symbol begins, and 0 where it has
     /// none.
     pub(crate) lefts: Vec<u32>,
     /// The considered symbols.
-    pub(crate) items: Vec<Entry>,
+    pub(crate) items: Vec<NamedItem>,
 }
 
 /// Lists the symbols of a table. Reads each symbol and each entry once, and of a name a few bytes.
@@ -29,7 +29,7 @@ pub(crate) fn list(
     names: SymbolNames<'_>,
     objects: &[u8],
     functions: &[u8],
-) -> Result<Listed, AllocError>
+) -> Result<SymbolItems, AllocError>
     requires sound { bad_place (with_types (symbols_of (strings_of names) sym.now)) functions.now
         ≡ None }
     requires objects { length objects.now < 2 ^ 32 }
@@ -63,5 +63,5 @@ pub(crate) fn list(
         }
         number += 1;
     }
-    Ok(Listed { lefts, items })
+    Ok(SymbolItems { lefts, items })
 }

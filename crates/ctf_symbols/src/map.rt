@@ -3,7 +3,7 @@ ghost use Rattle.std.specs.Prelude.{IfOk};
 ghost use Rattle.ctf_check.specs.CheckedView.{lists_of};
 ghost use Rattle.ctf_symbols.specs.Fitting.{Fits};
 
-use crate::building::{Listed, list};
+use crate::building::{SymbolItems, list};
 use crate::by_name::program_texts;
 use crate::items::label_items;
 use ctf_check::Checked;
@@ -32,7 +32,7 @@ impl SymbolMap {
     {
         let parts = dictionary.symbol_parts();
         let names = SymbolNames::new(parts.strs);
-        let Listed { lefts, items } = list(
+        let SymbolItems { lefts, items } = list(
             alloc,
             parts.sym,
             names,

@@ -1,4 +1,23 @@
 //! The parts of a type, lent from the bytes of its record.
+//!
+//! ```rust
+//! use ctf_model::TypeNum;
+//! use ctf_views::{Member, Members};
+//!
+//! /// The first member of a type, among the members of a struct or union.
+//! fn first_of<'a>(members: Members<'a>, number: TypeNum) -> Option<Member<'a>> {
+//!     for member in members {
+//!         if member.tnum == number {
+//!             return Some(member);
+//!         }
+//!     }
+//!     None
+//! }
+//! ```
+//!
+//! [`variant`] gives the parts of a record that breaks no rule of the format, so no call here is
+//! refused. Offsets of members are in bits. Members, enumerators, arguments and labels are counted
+//! from 0: `get` answers `None` behind the last.
 #![tactic(auto)]
 
 mod args;

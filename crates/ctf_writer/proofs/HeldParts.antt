@@ -22,26 +22,26 @@ use Rattle.ctf_model.specs.declared.faults.Fault.{Fault}
 use Rattle.ctf_model.specs.declared.faults.TheConstants.Fault.{DICT_TOO_BIG}
 use Rattle.ctf_writer.specs.HeldView.{dictionary_of, uses, written_type}
 use Rattle.ctf_writer.specs.Uses.{IsRefused}
-use Rattle.ctf_writer.specs.declared.draft_view.Held.{Held}
+use Rattle.ctf_writer.specs.declared.draft_view.DraftContent.{DraftContent}
 use Rattle.ctf_writer.proofs.Header.{four_joined}
 use Rattle.ctf_writer.proofs.Joining.{all_mapped}
 use Rattle.ctf_writer.proofs.Lengths.{bytes_len}
 
 -- ---- types
 
-pub fits_held : (h : Held) → AllByRecursion Fits (dictionary_of h).terms → All (λ t. Fits (type_of t)) h.types.now
+pub fits_held : (h : DraftContent) → AllByRecursion Fits (dictionary_of h).terms → All (λ t. Fits (type_of t)) h.types.now
 fits_held h fits = All-from_recursion (λ (t : DraftType). Fits (type_of t)) h.types.now (all_mapped Fits type_of h.types.now fits)
 
 -- ---- names
 
-abbrev all_names : Held → List (List ℕ)
+abbrev all_names : DraftContent → List (List ℕ)
 all_names h = h.parlabel.now ∷ h.parname.now ∷ (map (λ l. l.name) h.labels.now ++ flat_map names_of (map type_of h.types.now))
 
-kept_all : (h : Held) → AllByRecursion (IsKept (strings_of (dictionary_of h))) (all_names h)
+kept_all : (h : DraftContent) → AllByRecursion (IsKept (strings_of (dictionary_of h))) (all_names h)
 unfolding strings_of used_names
 kept_all h = kept_of (used_names (dictionary_of h))
 
-module _ (h : Held) (ns : List (List ℕ)) (e : ns ≡ strings_of (dictionary_of h)) where
+module _ (h : DraftContent) (ns : List (List ℕ)) (e : ns ≡ strings_of (dictionary_of h)) where
   kept_by : AllByRecursion (IsKept ns) (all_names h)
   kept_by = subst (λ (n : List (List ℕ)). AllByRecursion (IsKept n) (all_names h)) (sym e) (kept_all h)
 

@@ -18,7 +18,7 @@ use Rattle.ctf_draft.specs.declared.types.AggregateKind.TheVariants.{Struct, Uni
 use Rattle.ctf_writer.specs.Leading.{type_places, draft_places}
 use Rattle.ctf_draft.specs.TypeView.{aggregate_body, body_of, member_of, type_of}
 use Rattle.ctf_writer.specs.HeldView.{dictionary_of}
-use Rattle.ctf_writer.specs.declared.draft_view.Held.{Held}
+use Rattle.ctf_writer.specs.declared.draft_view.DraftContent.{DraftContent}
 use Rattle.ctf_model.specs.writing.Written.{deep_by}
 use Rattle.ctf_draft.specs.declared.types.DraftType.{DraftType}
 use Rattle.ctf_draft.specs.declared.types.Member.{Member}
@@ -81,7 +81,7 @@ member_step ms k d lt =
     map_twice (m ∷ ms) = ap (λ ns. m.tnum.0 ∷ ns) (map_twice ms)
 
 -- the same of what a draft lends
-pub found_held : (chain : Chain) (h : Held) (found : Option ℕ) → IsLeastDeep (steps_between (draft_places chain h.child h.types.now)) longest_chain found → option_map (λ i. i + 1) found ≡ deep_by (steps chain) (dictionary_of h)
+pub found_held : (chain : Chain) (h : DraftContent) (found : Option ℕ) → IsLeastDeep (steps_between (draft_places chain h.child h.types.now)) longest_chain found → option_map (λ i. i + 1) found ≡ deep_by (steps chain) (dictionary_of h)
 found_held chain h found least = found_place chain h.child h.types.now found least
 
 -- the type of a member of a struct or union, by its number

@@ -8,10 +8,10 @@ use Rattle.ctf_draft.specs.TypeView.{enumerator_of, member_of, type_of}
 use Rattle.ctf_draft.specs.declared.types.DraftType.{DraftType}
 use Rattle.ctf_draft.specs.declared.types.Enumerator.{Enumerator}
 use Rattle.ctf_draft.specs.declared.types.Member.{Member}
-use Rattle.ctf_writer.specs.declared.draft_view.Held.{Held}
+use Rattle.ctf_writer.specs.declared.draft_view.DraftContent.{DraftContent}
 
 -- the dictionary that is written
-abbrev pub dictionary_of : Held → Dictionary
+abbrev pub dictionary_of : DraftContent → Dictionary
 dictionary_of h =
     record {
       child = h.child;

@@ -10,7 +10,7 @@ ghost use Rattle.ctf_model.specs.writing.Written.{deep_by};
 ghost use Rattle.ctf_writer.specs.HeldView.{dictionary_of};
 ghost use Rattle.ctf_writer.specs.Leading.{draft_places, type_places};
 
-use crate::draft_view::Held;
+use crate::draft_view::DraftContent;
 use ctf_chains::{Chain, Graph, Ticks, first_deep};
 use ctf_draft::{Body, DraftType, ReferenceKind};
 use ctf_model::{Fault, Place, TypeNum, placeless};
@@ -102,7 +102,7 @@ fn number_of(types: &[DraftType], i: usize) -> u64
 /// The first type that a chain of one sort of more than 512 steps begins at, counted from 1.
 fn deep_with<L: Ledger>(
     alloc: Global,
-    held: Held<'_>,
+    held: DraftContent<'_>,
     chain: Chain,
     blank: Blank,
 ) -> Result<Option<u64>, AllocError>
@@ -124,14 +124,14 @@ fn deep_with<L: Ledger>(
 }
 
 /// The same in a ledger of its own, which nobody reads.
-fn deep(alloc: Global, held: Held<'_>, chain: Chain) -> Result<Option<u64>, AllocError>
+fn deep(alloc: Global, held: DraftContent<'_>, chain: Chain) -> Result<Option<u64>, AllocError>
     ensures { IfOk result (λ place. place ≡ deep_by (steps chain) (dictionary_of held.entry)) }
 {
     deep_with::<Brand>(alloc, held, chain, Blank::new(1))
 }
 
 /// Judges the chains of a draft's types: by value first, then those of declarators.
-pub(crate) fn judge_chains(alloc: Global, held: Held<'_>) -> Result<(), Fault>
+pub(crate) fn judge_chains(alloc: Global, held: DraftContent<'_>) -> Result<(), Fault>
     ensures ok { OnOk result ((deep_by by_value (dictionary_of held.entry) ≡ None)
         × (deep_by declarator (dictionary_of held.entry) ≡ None)) }
     ensures err { IfErr result (λ f. (f ≡ out_of_memory) ⊎ ((later : Option Fault)

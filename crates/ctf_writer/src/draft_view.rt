@@ -8,7 +8,7 @@ use ctf_draft::{Draft, DraftType, Labels};
 
 /// All that is written of a draft: its updated and its pending parts.
 #[derive(Clone, Copy)]
-pub struct Held<'a> {
+pub struct DraftContent<'a> {
     pub child: bool,
     pub parname: &'a [u8],
     pub parlabel: &'a [u8],
@@ -16,12 +16,12 @@ pub struct Held<'a> {
     pub types: &'a [DraftType],
 }
 
-impl<'a> Held<'a> {
-    pub fn of(draft: &'a Draft) -> Held<'a>
+impl<'a> DraftContent<'a> {
+    pub fn of(draft: &'a Draft) -> DraftContent<'a>
         ensures dictionary { dictionary_of result ≡ content draft.now.draft }
         ensures sound { IsSound draft.now.draft }
     {
-        Held {
+        DraftContent {
             child: draft.parent().is_some(),
             parname: draft.parname(),
             parlabel: draft.parlabel(),

@@ -7,7 +7,7 @@ ghost use Rattle.ctf_writer.specs.HeldView.{dictionary_of, uses};
 ghost use Rattle.ctf_writer.specs.Tables.{names};
 ghost use Rattle.ctf_writer.specs.Uses.{with_names, IsRefused};
 
-use crate::draft_view::Held;
+use crate::draft_view::DraftContent;
 use crate::labels::label_name;
 use crate::strings::Strings;
 use ctf_draft::{Body, DraftType, Enumerator, Labels, Member};
@@ -90,7 +90,7 @@ fn add_labels<'a>(strings: &mut Strings<'a>, labels: &'a Labels) -> Result<(), F
 }
 
 /// The names of all that a draft holds.
-pub(crate) fn strings_of<'a>(alloc: Global, held: Held<'a>) -> Result<Strings<'a>, Fault>
+pub(crate) fn strings_of<'a>(alloc: Global, held: DraftContent<'a>) -> Result<Strings<'a>, Fault>
     ensures ok { IfOk result (λ s. names s ≡ strings_in (dictionary_of held.entry)) }
     ensures refused { IfErr result (IsRefused (strings_in (dictionary_of held.entry))) }
 {

@@ -13,7 +13,7 @@ ghost use Rattle.ctf_writer.specs.Tables.{names};
 ghost use Rattle.ctf_writer.specs.Updating.{StandsFor};
 
 use crate::chains::judge_chains;
-use crate::draft_view::Held;
+use crate::draft_view::DraftContent;
 use crate::labels::put_labels;
 use crate::numbers::{put, put_u32};
 use crate::records::put_record;
@@ -84,7 +84,7 @@ struct Lengths {
 }
 
 /// The lengths of what is written, if it isn't more than a dictionary's may be.
-fn lengths_of(held: Held<'_>, strings: &Strings<'_>) -> Option<Lengths>
+fn lengths_of(held: DraftContent<'_>, strings: &Strings<'_>) -> Option<Lengths>
     requires fits { AllByRecursion Fits (dictionary_of held).terms }
     requires strings { names strings.now ≡ strings_in (dictionary_of held) }
     ensures { MatchOption result (most_written < length (bytes_of (dictionary_of held.entry)))
@@ -111,7 +111,7 @@ fn lengths_of(held: Held<'_>, strings: &Strings<'_>) -> Option<Lengths>
 }
 
 /// Appends what is held, whose parts have these lengths.
-fn put_held(out: &mut Vec<u8>, held: Held<'_>, strings: &Strings<'_>, lengths: Lengths)
+fn put_held(out: &mut Vec<u8>, held: DraftContent<'_>, strings: &Strings<'_>, lengths: Lengths)
     requires fits { AllByRecursion Fits (dictionary_of held).terms }
     requires strings { names strings.now ≡ strings_in (dictionary_of held) }
     requires labels { lengths.labels ≡ length (labels_written (dictionary_of held)) }
@@ -135,7 +135,7 @@ fn put_held(out: &mut Vec<u8>, held: Held<'_>, strings: &Strings<'_>, lengths: L
 }
 
 /// What is held as bytes, or why it isn't written.
-fn write_held(alloc: Global, held: Held<'_>) -> Result<Vec<u8>, Fault>
+fn write_held(alloc: Global, held: DraftContent<'_>) -> Result<Vec<u8>, Fault>
     requires { AllByRecursion Fits (dictionary_of held).terms }
     ensures ok { IfOk result (λ bytes. written (dictionary_of held.entry) ≡ Ok bytes.items) }
     ensures exact_err { IfErr result (λ f. (f ≡ out_of_memory)
@@ -161,5 +161,5 @@ pub fn write(alloc: Global, draft: &Draft) -> Result<Vec<u8>, Fault>
     ensures exact_err { IfErr result (λ f. (f ≡ out_of_memory)
         ⊎ (written (held_by draft.now.draft) ≡ Err f)) }
 {
-    write_held(alloc, Held::of(draft))
+    write_held(alloc, DraftContent::of(draft))
 }

@@ -11,10 +11,10 @@ mod runs;
 mod shelves;
 
 use crate::collected::Said;
-use crate::transcripts::outcomes::Told;
+use crate::transcripts::outcomes::Exchange;
 
 /// Answers the calls that are about the lines of a run. Whether it knows the name.
-fn answers_run(said: &mut Said, told: &Told, name: &str, words: &str) -> bool {
+fn answers_run(said: &mut Said, told: &Exchange, name: &str, words: &str) -> bool {
     match name {
         "run" => runs::run(said, told, words),
         "again" => runs::again(said, told, words),
@@ -30,7 +30,7 @@ fn answers_run(said: &mut Said, told: &Told, name: &str, words: &str) -> bool {
 }
 
 /// Answers a call: its name and what it is given.
-pub fn answer(said: &mut Said, told: &Told, call: &str) {
+pub fn answer(said: &mut Said, told: &Exchange, call: &str) {
     let (name, words) = call.split_once(' ').unwrap_or((call, ""));
     if answers_run(said, told, name, words) {
         return;

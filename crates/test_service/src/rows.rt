@@ -3,12 +3,12 @@
 
 use crate::calls::answer;
 use crate::collected::Said;
-use crate::transcripts::outcomes::Told;
+use crate::transcripts::outcomes::Exchange;
 use crate::transcripts::runs::{Others, told};
 use std::{fs, io};
 
 /// Whether a row's call answers what the row says; if not, prints what it answers.
-fn holds(rt: &HostRuntime, told: &Told, row: &str, place: (&str, usize)) -> io::Result<bool> {
+fn holds(rt: &HostRuntime, told: &Exchange, row: &str, place: (&str, usize)) -> io::Result<bool> {
     let (call, want) = row.split_once(" = ").unwrap_or((row, "?"));
     let mut said = Said::new(rt.alloc());
     answer(&mut said, told, call);

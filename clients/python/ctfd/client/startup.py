@@ -10,9 +10,9 @@ import sys
 # What is imported when it is first needed, by this package or by what it imports.
 LATE = ("argparse", "bisect", "copy", "ctypes", "dataclasses", "decimal", "difflib", "enum",
         "errno", "fcntl", "gc", "grp", "gzip", "hashlib", "html", "importlib", "io", "logging",
-        "lzma", "operator", "platform", "pwd", "random", "re", "resource", "selectors", "shlex",
-        "shutil", "signal", "socket", "stat", "subprocess", "tempfile", "time", "traceback",
-        "weakref", "zlib")
+        "lzma", "operator", "pathlib", "platform", "pwd", "random", "re", "resource", "selectors",
+        "shlex", "shutil", "signal", "socket", "stat", "subprocess", "tempfile", "time",
+        "traceback", "weakref", "zlib")
 
 
 class AbsoluteFolders:

@@ -90,7 +90,7 @@ class Inferior:
                 return f"the symbol table of {path} is one of 32 bits, which is not read"
             if how in ("differs", "stripped"):
                 return f"{path}: {source.WARNINGS[how]}"
-        return "no dictionary tells its type"
+        return "no dictionary has its type"
 
     def find(self, name: str) -> ctfd.Type:
         """The type of a name, in the first file that has it."""

@@ -45,7 +45,7 @@ pub struct Store {
 }
 
 /// A build that is published.
-struct Published {
+struct PublishedBuild {
     bytes: u64,
     last_use: u64,
 }
@@ -53,7 +53,7 @@ struct Published {
 /// The builds of a store that a shard has published.
 pub struct Builds {
     store: Store,
-    published: HashMap<Name, Published>,
+    published: HashMap<Name, PublishedBuild>,
     bytes: u64,
     uses: u64,
     line: Vec<u8>,
@@ -144,7 +144,7 @@ impl Builds {
         self.line = Vec::new();
         done.and(ended)?;
         self.bytes += bytes;
-        self.published.insert(name, Published { bytes, last_use: self.uses });
+        self.published.insert(name, PublishedBuild { bytes, last_use: self.uses });
         Ok(())
     }
 

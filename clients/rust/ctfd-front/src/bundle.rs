@@ -95,7 +95,7 @@ pub fn read(store: &Store, name: &Name) -> Result<Bundle, Trouble> {
         .stderr(Stdio::null())
         .spawn()
         .map_err(|why| format!("{}: {}", store.converter.display(), Words(&why)))?;
-    let printed = printed(&mut child);
+    let printed = output_of(&mut child);
     let _ = child.kill(); // it has ended, unless it takes too long or prints too much
     let status = child.wait().map_err(|why| Words(&why).to_string())?;
     let bytes = printed?;
@@ -117,7 +117,7 @@ fn with_room(bytes: usize) -> Result<Vec<u8>, OutOfMemory> {
 }
 
 /// All that a command prints.
-fn printed(child: &mut Child) -> Result<Vec<u8>, Trouble> {
+fn output_of(child: &mut Child) -> Result<Vec<u8>, Trouble> {
     let Some(mut output) = child.stdout.take() else { return Ok(Vec::new()) };
     let until = Instant::now() + PATIENCE;
     let mut bytes = Vec::new();

@@ -280,14 +280,14 @@ fn mode(text: &str) -> Result<u32, String> {
 mod tests {
     use super::*;
 
-    fn parsed(words: &[&str]) -> Options {
+    fn options_of(words: &[&str]) -> Options {
         options(["ctfd-front"].iter().chain(words).map(OsString::from), |_, error| error.exit())
     }
 
     #[test]
     fn the_command_line_is_consistent() {
         command().debug_assert();
-        let options = parsed(&[]);
+        let options = options_of(&[]);
         let wanted = Limits::default();
         assert_eq!(format!("{:?}", options.limits), format!("{wanted:?}"));
         assert_eq!((options.mode, options.shards, options.files.len()), (0o660, 1, 0));
@@ -296,7 +296,7 @@ mod tests {
     #[test]
     fn words_are_read() {
         let options =
-            parsed(&["--idle", "0.5", "a=b", "--mode=600", "--user-mem", "7", "--", "-c=d"]);
+            options_of(&["--idle", "0.5", "a=b", "--mode=600", "--user-mem", "7", "--", "-c=d"]);
         assert_eq!(options.limits.idle, Duration::from_millis(500));
         assert_eq!((options.mode, options.limits.user_memory), (0o600, 7));
         assert_eq!(options.files, ["a=b", "-c=d"]);

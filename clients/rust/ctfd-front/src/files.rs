@@ -22,7 +22,7 @@ pub struct Trouble {
 }
 
 /// A dictionary that all may take.
-pub struct Published {
+pub struct PublishedDictionary {
     pub name: String,
     pub path: PathBuf,
     pub section: Vec<u8>,
@@ -60,18 +60,18 @@ fn cut(word: &OsString) -> Option<(&[u8], &Path)> {
 }
 
 /// The dictionaries that some words name.
-pub fn read(files: &[OsString]) -> Result<Vec<Published>, Trouble> {
+pub fn read(files: &[OsString]) -> Result<Vec<PublishedDictionary>, Trouble> {
     files.iter().map(one).collect()
 }
 
-fn one(word: &OsString) -> Result<Published, Trouble> {
+fn one(word: &OsString) -> Result<PublishedDictionary, Trouble> {
     let usage = || Trouble { status: 2, message: "usage: NAME=FILE".into() };
     let (name, path) = cut(word).ok_or_else(usage)?;
     let is_plain = !name.contains(&b'\\');
     let name = Name::of(Text(name)).filter(|_| is_plain).ok_or_else(usage)?.to_string();
     let path = path.to_owned();
     let section = section(&path)?;
-    Ok(Published { name, path, section })
+    Ok(PublishedDictionary { name, path, section })
 }
 
 /// The bytes of a file.

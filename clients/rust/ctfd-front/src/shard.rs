@@ -17,7 +17,9 @@ const SLICE: Duration = Duration::from_millis(2);
 /// How often silent clients are looked for, at least and at most.
 const LEAST_TICK: Duration = Duration::from_millis(20);
 const LONGEST_TICK: Duration = Duration::from_secs(1);
-const EVENTS: usize = 512;
+/// So many events are told at once. Whose they are is served before more are taken, in less than a
+/// slice where lines are short: so all who wait for short replies come one after the other.
+const EVENTS: usize = 128;
 
 /// A shard, as its thread has it.
 pub struct Shard {
@@ -54,19 +56,7 @@ impl Shard {
     pub fn run(mut self) -> io::Result<usize> {
         let mut events = Events::with_capacity(EVENTS);
         loop {
-            match self.poll.poll(&mut events, self.patience()) {
-                Err(why) if why.kind() == ErrorKind::Interrupted => continue,
-                polled => polled?,
-            }
-            self.tools.meter.refresh();
-            for event in &events {
-                if event.token() == BELL {
-                    self.look();
-                } else if let Some(Some(connection)) = self.connections.get_mut(event.token().0) {
-                    connection.note(event);
-                    self.turns.offer(event.token().0);
-                }
-            }
+            self.hear(&mut events)?;
             self.turns.wake(self.tools.meter.last());
             self.slice();
             self.tick();
@@ -78,6 +68,38 @@ impl Shard {
         (0..self.connections.len()).for_each(|token| self.close(token, Cause::Unread));
         self.tell();
         Ok(left)
+    }
+
+    /// Takes note of what has come: of everything, where somebody was left without a turn and those
+    /// who come now may go first.
+    fn hear(&mut self, events: &mut Events) -> io::Result<()> {
+        let times = if self.turns.is_empty() { 1 } else { 1 + self.open / EVENTS };
+        for _ in 0..times {
+            match self.poll.poll(events, self.patience()) {
+                Err(why) if why.kind() == ErrorKind::Interrupted => return Ok(()),
+                polled => polled?,
+            }
+            self.tools.meter.refresh();
+            if self.note(events) < EVENTS {
+                break;
+            }
+        }
+        Ok(())
+    }
+
+    /// Takes note of some events; how many these are.
+    fn note(&mut self, events: &Events) -> usize {
+        let mut count = 0;
+        for event in events {
+            count += 1;
+            if event.token() == BELL {
+                self.look();
+            } else if let Some(Some(connection)) = self.connections.get_mut(event.token().0) {
+                connection.note(event);
+                self.turns.offer(event.token().0);
+            }
+        }
+        count
     }
 
     /// Whether nobody waits in any shard, from which one could still come, or the time is over.

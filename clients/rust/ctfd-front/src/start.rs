@@ -4,7 +4,7 @@ use crate::answers::Answers;
 use crate::builds::{Builds, Store, OWNER};
 use crate::command::Options;
 use crate::door::Door;
-use crate::files::{Published, Trouble};
+use crate::files::{PublishedDictionary, Trouble};
 use crate::front::TROUBLE;
 use crate::journal::{say, Level};
 use crate::limits::Limits;
@@ -112,7 +112,7 @@ pub fn judge_store(store: &Store) -> Result<(), Trouble> {
 pub fn shards(
     options: &Options,
     users: &Arc<Users>,
-    published: Arc<Vec<Published>>,
+    published: Arc<Vec<PublishedDictionary>>,
 ) -> Result<(Vec<Thread>, Arc<[Door]>), Trouble> {
     let failed = |why: io::Error| Trouble {
         status: TROUBLE,
@@ -149,7 +149,7 @@ pub fn shards(
 }
 
 /// A service that has the operator's dictionaries.
-fn answers(published: &[Published]) -> Result<Answers, Trouble> {
+fn answers(published: &[PublishedDictionary]) -> Result<Answers, Trouble> {
     let refused = |name: &dyn std::fmt::Display, why: ctfd::Refusal| Trouble {
         status: if why.fault == ctfd::Fault::Memory { 4 } else { 1 },
         message: format!("{name}: {:?} at {}", why.fault, why.place),

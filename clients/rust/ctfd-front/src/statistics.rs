@@ -129,19 +129,19 @@ impl Statistics {
 
     /// Refusals by their faults, the most frequent first.
     pub fn refusals(&self) -> impl Iterator<Item = (FaultName, u64)> + Clone {
-        sorted(&self.refusals_by_code).filter_map(|(code, count)| {
+        largest_first(&self.refusals_by_code).filter_map(|(code, count)| {
             ctfd::Fault::from_code(code as u16).map(|fault| (FaultName(fault), count))
         })
     }
 
     /// Closed connections by what closed them, the most frequent first.
     pub fn causes(&self) -> impl Iterator<Item = (&'static str, u64)> + Clone {
-        sorted(&self.closes).map(|(place, count)| (Cause::ALL[place].words(), count))
+        largest_first(&self.closes).map(|(place, count)| (Cause::ALL[place].words(), count))
     }
 }
 
 /// Places with a count, the largest counts first.
-fn sorted<const N: usize>(counts: &[u64; N]) -> impl Iterator<Item = (usize, u64)> + Clone {
+fn largest_first<const N: usize>(counts: &[u64; N]) -> impl Iterator<Item = (usize, u64)> + Clone {
     let mut sorted = [(0, 0); N];
     for ((place, count), sorted) in counts.iter().enumerate().zip(&mut sorted) {
         *sorted = (place, *count);

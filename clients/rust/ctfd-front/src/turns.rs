@@ -13,6 +13,7 @@
 
 use std::cmp::Reverse;
 use std::collections::{BinaryHeap, HashMap, TryReserveError};
+use std::hash::{BuildHasherDefault, Hasher};
 use std::time::{Duration, Instant};
 
 /// A request that takes longer is a long one.
@@ -21,9 +22,10 @@ pub const LONG: Duration = Duration::from_millis(2);
 const ABOUT: Duration = Duration::from_secs(1);
 const LONGEST_REST: Duration = Duration::from_secs(1);
 
-/// A place in a queue: the tag, whether the next request may be long, the order of coming, and who
-/// it is.
-type Place<T> = Reverse<(u64, bool, u64, T)>;
+/// A place in a queue: the tag, the order of coming, and who it is.
+type Place<T> = Reverse<(u64, u64, T)>;
+/// Added to the order of one whose next request may be long: it is behind all others of its tag.
+const BEHIND: u64 = 1 << 63;
 
 /// Who waits, by tags in nanoseconds. `now` is the tag of the one that was served last.
 struct Queue<T> {
@@ -38,12 +40,34 @@ impl<T: Ord> Queue<T> {
 
     fn push(&mut self, tag: &mut u64, may_be_long: bool, order: u64, who: T) {
         *tag = self.now.max(*tag);
-        self.heap.push(Reverse((*tag, may_be_long, order, who)));
+        let order = if may_be_long { order | BEHIND } else { order };
+        self.heap.push(Reverse((*tag, order, who)));
     }
 
     /// Room for so many.
     fn reserve(&mut self, count: usize) -> Result<(), TryReserveError> {
         self.heap.try_reserve(count.saturating_sub(self.heap.len()))
+    }
+}
+
+/// Spreads the numbers of users over a table. The system gives these, so none is chosen to meet
+/// another.
+#[derive(Default)]
+struct Spreader(u64);
+
+impl Hasher for Spreader {
+    fn write(&mut self, bytes: &[u8]) {
+        bytes.iter().for_each(|byte| self.write_u32(u32::from(*byte)));
+    }
+
+    fn write_u32(&mut self, number: u32) {
+        // 2^64 by the golden ratio: numbers that are near each other come far apart.
+        let spread = (self.0 ^ u64::from(number)).wrapping_mul(0x9e37_79b9_7f4a_7c15);
+        self.0 = spread.rotate_left(32);
+    }
+
+    fn finish(&self) -> u64 {
+        self.0
     }
 }
 
@@ -68,7 +92,7 @@ struct Asker {
 
 /// Who has turns in a shard. Connections are known by their tokens.
 pub struct Turns {
-    users: HashMap<u32, User>,
+    users: HashMap<u32, User, BuildHasherDefault<Spreader>>,
     queue: Queue<u32>,
     askers: Vec<Option<Asker>>,
     rests: BinaryHeap<Reverse<(Instant, usize)>>,
@@ -84,7 +108,7 @@ impl Turns {
     /// Nobody waits.
     pub fn new() -> Turns {
         Turns {
-            users: HashMap::new(),
+            users: HashMap::default(),
             queue: Queue::new(),
             askers: Vec::new(),
             rests: BinaryHeap::new(),
@@ -199,15 +223,15 @@ impl Turns {
 
     /// Whose turn it is. It has no place any more: see `offer`.
     pub fn next(&mut self) -> Option<usize> {
-        while let Some(Reverse((tag, _, order, number))) = self.queue.heap.pop() {
+        while let Some(Reverse((tag, order, number))) = self.queue.heap.pop() {
             let Some(user) = self.users.get_mut(&number) else { continue };
             if user.tag > tag && !user.queue.heap.is_empty() {
                 // It was found to have used more since it came.
-                self.queue.heap.push(Reverse((user.tag, false, order, number)));
+                self.queue.heap.push(Reverse((user.tag, order, number)));
                 continue;
             }
             user.is_waiting = false;
-            let Some(Reverse((own_tag, _, _, token))) = user.queue.heap.pop() else {
+            let Some(Reverse((own_tag, _, token))) = user.queue.heap.pop() else {
                 self.tidy(number);
                 continue;
             };
@@ -238,8 +262,8 @@ impl Turns {
             self.recent = Some(token);
         }
         self.recently = Some(now);
-        let are_others = self.others_recently.is_some_and(|before| now - before < ABOUT);
-        if longest > LONG && are_others {
+        let are_about = || self.others_recently.is_some_and(|before| now - before < ABOUT);
+        if longest > LONG && are_about() {
             if let Some(asker) = self.askers[token].as_mut() {
                 asker.is_resting = true;
                 self.rests.push(Reverse((now + longest.min(LONGEST_REST), token)));

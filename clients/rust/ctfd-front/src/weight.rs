@@ -1,6 +1,7 @@
 //! Which requests may be long, by their words, before anything is known of what they take.
 
 use crate::members::Members;
+use memchr::memchr;
 
 /// A longer line takes as long as its bytes, whatever its word.
 const SHORT_BYTES: usize = 65_536;
@@ -37,11 +38,18 @@ const SHORT: [&str; 27] = [
     "add",
 ];
 
+/// A line so short is searched for its word before its members are looked at.
+const PLAIN_BYTES: usize = 256;
+const WORD_KEY: &[u8] = b"\"op\"";
+
 /// Whether a line may take as long as a whole dictionary: not where its word says otherwise, nor
 /// where it has none.
 pub fn may_be_long(line: &[u8]) -> bool {
     if line.len() > SHORT_BYTES {
         return true;
+    }
+    if plain_word(line).is_some_and(|word| SHORT.iter().any(|short| word == short.as_bytes())) {
+        return false;
     }
     let word = Members::of(line).filter(|member| member.key.is("op")).last();
     match word.map(|member| member.text()) {
@@ -49,6 +57,19 @@ pub fn may_be_long(line: &[u8]) -> bool {
         Some(None) => true,
         Some(Some(word)) => !SHORT.iter().any(|short| word.is(short)),
     }
+}
+
+/// The word of a line as most clients write it: short, without escapes, and with one `"op"`. That
+/// may stand in an object of a member: then the line has no word.
+fn plain_word(line: &[u8]) -> Option<&[u8]> {
+    if line.len() > PLAIN_BYTES || memchr(b'\\', line).is_some() {
+        return None;
+    }
+    let mut keys = line.windows(WORD_KEY.len()).enumerate().filter(|(_, bytes)| *bytes == WORD_KEY);
+    let (key, _) = keys.next()?;
+    let rest = line[key + WORD_KEY.len()..].strip_prefix(b":\"")?;
+    let word = &rest[..memchr(b'"', rest)?];
+    keys.next().is_none().then_some(word)
 }
 
 #[cfg(test)]
@@ -60,7 +81,13 @@ mod tests {
         for line in [r#"{"op":"kind"}"#, r#"{"op":"open","\u006fp":"f\u0069nd"}"#, "{}", "no"] {
             assert!(!may_be_long(line.as_bytes()), "{line}");
         }
+        for line in [r#"{"x":{"op":"kind"}}"#, r#"{"x":"op"}"#, r#"{"x":"op","op":"kind"}"#] {
+            assert!(!may_be_long(line.as_bytes()), "{line}");
+        }
         for line in [r#"{"op":"import","d":1}"#, r#"{"op":"kind","op":"open"}"#, r#"{"op":7}"#] {
+            assert!(may_be_long(line.as_bytes()), "{line}");
+        }
+        for line in [r#"{"x":{"op":"kind"},"op":"open"}"#, r#"{"op":"kind","\u006fp":"open"}"#] {
             assert!(may_be_long(line.as_bytes()), "{line}");
         }
         assert!(may_be_long(&[b' '; SHORT_BYTES + 1]));

@@ -47,7 +47,7 @@ pub fn debug_sections(image: &Image, folders: &[PathBuf]) -> Result<Option<Vec<S
     if !elf::has_debug(&file) {
         return Ok(None);
     }
-    let loaded = Sections::load(debug, folders)?;
+    let loaded = Sections::load(debug, folders, false)?;
     if loaded.goes_on() {
         return refuse(format!(
             "{}: its debug information goes on in other files (.dwo files, or one of dwz's), which \

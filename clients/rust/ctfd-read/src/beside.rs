@@ -6,7 +6,7 @@ use crate::elf;
 use crate::error::Result;
 use crate::image::Image;
 use crate::labels;
-use crate::opening::{Handed, Origin};
+use crate::opening::{LibraryInput, Origin};
 use crate::symbols::{Identity, SymbolTable};
 use object::elf::SHF_ALLOC;
 use object::{Object as _, ObjectSection as _, SectionFlags};
@@ -38,7 +38,7 @@ fn identity_of(ctf: &[u8]) -> Option<Identity> {
     Sections::of(ctf).ok().and_then(|sections| labels::symbols(&sections))
 }
 
-impl<'a> Handed<'a> {
+impl<'a> LibraryInput<'a> {
     /// Hands in the symbols of a program with a dictionary that is by itself, where it was written
     /// for these.
     pub fn add_symbols_of(&mut self, program: &'a Image) -> Result<()> {

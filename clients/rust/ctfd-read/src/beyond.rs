@@ -62,7 +62,7 @@ impl Beyond {
             return;
         }
         for (place, member) in record.members().iter().enumerate() {
-            let end = full.resolved(member.of);
+            let end = full.resolve(member.of);
             if member.width.is_some() && end != 0 && full.get(end).kind == Kind::Enum {
                 self.fields.insert((number, place), end);
             }

@@ -287,7 +287,7 @@ impl<'a> Section<'a> {
                 name: self.name(name)?,
                 of,
                 offset: offset.into(),
-                width: (width != 0).then_some(width.into()),
+                width: (width != 0).then_some(width as u16),
             });
         }
         Ok(members.into())

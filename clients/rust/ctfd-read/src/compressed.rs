@@ -1,76 +1,76 @@
 //! Sections of ELF files that are compressed, by zlib or by zstd.
 
-use crate::error::{Error, Result};
-use crate::image::{Elf, ElfSection, Image};
+use crate::error::{refuse, Error, Result};
+use crate::image::{Elf, ElfSection, Image, Pieces};
 use ctfd_zstd::Refusal;
+use flate2::{Decompress, FlushDecompress, Status};
 use object::elf::{FileHeader32, FileHeader64, SHF_COMPRESSED};
 use object::read::elf::{CompressionHeader as _, FileHeader};
-use object::{pod, CompressedData, CompressedFileRange, CompressionFormat, Endianness};
+use object::{pod, CompressedFileRange, CompressionFormat, Endianness};
 use object::{Object as _, ObjectSection as _, ReadRef as _, SectionFlags};
 use std::borrow::Cow;
 
 /// What deflate makes of one byte at most: a header that says more is damaged. So much is taken of
 /// zstd too, which makes no more of debug information than of bytes that were made to fill memory.
 const MOST_INFLATED: u64 = 1032;
+/// Why a section is refused that zlib did not compress.
+const INVALID: &str = "a damaged ELF file (Invalid zlib compressed data)";
 /// The kind of a section that zstd compressed.
 const ZSTD: u32 = 2;
 
 /// A section as it stands in its file.
-pub struct Packed<'a> {
-    form: Form,
-    data: Cow<'a, [u8]>,
-    whole_size: u64,
+pub enum StoredSection<'a> {
+    /// One that is not compressed.
+    Plain(&'a [u8]),
+    /// One that zlib compressed, and how many bytes it holds.
+    Zlib(Pieces<'a>, u64),
+    /// One that zstd compressed.
+    Zstd(Pieces<'a>, u64),
 }
 
-/// How a section is compressed.
-#[derive(Clone, Copy)]
-enum Form {
-    Plain,
-    Other(CompressionFormat),
-    Zstd,
-}
-
-impl<'a> Packed<'a> {
+impl<'a> StoredSection<'a> {
     /// A section, for what it holds. Its compressed bytes are not kept beside that.
     pub fn of(
         image: &'a Image,
         file: &Elf<'a>,
         section: &ElfSection<'a, '_>,
         name: &str,
-    ) -> Result<Packed<'a>> {
-        let (form, range) = match zstd_range(image, file, section)? {
-            Some(range) => (Form::Zstd, range),
-            None => match section.compressed_file_range()? {
-                range if range.format == CompressionFormat::None => {
-                    let data = Cow::Borrowed(section.data()?);
-                    return Ok(Packed { form: Form::Plain, whole_size: 0, data });
-                }
-                range => (Form::Other(range.format), Range::from(&range)),
-            },
-        };
-        if range.whole_size > MOST_INFLATED.saturating_mul(range.size) {
-            return Err(damaged(name));
+    ) -> Result<StoredSection<'a>> {
+        if let Some(range) = zstd_range(image, file, section)? {
+            return Ok(StoredSection::Zstd(range.pieces(image, name)?, range.whole_size));
         }
-        let data = image.passing(range.offset, range.size)?;
-        Ok(Packed { form, data, whole_size: range.whole_size })
+        let range = section.compressed_file_range()?;
+        match range.format {
+            CompressionFormat::None => Ok(StoredSection::Plain(section.data()?)),
+            CompressionFormat::Zlib => {
+                let range = Range::from(&range);
+                Ok(StoredSection::Zlib(range.pieces(image, name)?, range.whole_size))
+            }
+            _ => refuse("a damaged ELF file (Unsupported compressed data.)"),
+        }
+    }
+
+    /// Whether what it holds has to be inflated.
+    pub fn is_compressed(&self) -> bool {
+        !matches!(self, StoredSection::Plain(_))
     }
 
     /// What it holds.
     pub fn inflate(self, name: &str) -> Result<Cow<'a, [u8]>> {
-        match self.form {
-            Form::Plain => Ok(self.data),
-            Form::Other(format) => {
-                let uncompressed_size = self.whole_size;
-                let data = CompressedData { format, data: &self.data, uncompressed_size };
-                Ok(Cow::Owned(data.decompress()?.into_owned()))
+        match self {
+            StoredSection::Plain(data) => Ok(Cow::Borrowed(data)),
+            StoredSection::Zlib(pieces, whole_size) => {
+                of_zlib(name, pieces, whole_size).map(Cow::Owned)
             }
-            Form::Zstd => of_zstd(name, &self.data, self.whole_size),
+            StoredSection::Zstd(mut pieces, whole_size) => {
+                of_zstd(name, &pieces.all()?, whole_size)
+            }
         }
     }
 }
 
-fn damaged(name: &str) -> Error {
-    Error(format!("{name} does not inflate to the bytes that it says: damage"))
+fn damage_of(name: &str) -> Error {
+    Error(format!("{name} does not inflate to the size that its header states: it is damaged"))
 }
 
 /// Where the bytes of a compressed section stand, and how many it holds.
@@ -78,6 +78,16 @@ struct Range {
     offset: u64,
     size: u64,
     whole_size: u64,
+}
+
+impl Range {
+    /// The bytes of a section that can hold what its header says.
+    fn pieces<'a>(&self, image: &'a Image, name: &str) -> Result<Pieces<'a>> {
+        if self.whole_size > MOST_INFLATED.saturating_mul(self.size) {
+            return Err(damage_of(name));
+        }
+        image.pieces(self.offset, self.size)
+    }
 }
 
 impl From<&CompressedFileRange> for Range {
@@ -119,12 +129,37 @@ where
     Ok((head.ch_type(endian), head.ch_size(endian).into(), length))
 }
 
+/// What a section holds that zlib compressed: no more than its header says.
+fn of_zlib(name: &str, mut pieces: Pieces<'_>, whole_size: u64) -> Result<Vec<u8>> {
+    let length = usize::try_from(whole_size).map_err(|_| damage_of(name))?;
+    let mut made = Vec::with_capacity(length);
+    let mut inflater = Decompress::new(true);
+    loop {
+        let mut piece = pieces.next_piece()?;
+        if piece.is_empty() {
+            return refuse(INVALID);
+        }
+        while !piece.is_empty() {
+            let before = (inflater.total_in(), made.len());
+            let status = inflater.decompress_vec(piece, &mut made, FlushDecompress::None);
+            let status = status.map_err(|_| Error(INVALID.to_owned()))?;
+            let is_stuck = before == (inflater.total_in(), made.len());
+            match status {
+                Status::StreamEnd => return Ok(made),
+                _ if is_stuck && made.len() >= length => return Ok(made),
+                _ if is_stuck => return refuse(INVALID),
+                _ => piece = &piece[(inflater.total_in() - before.0) as usize..],
+            }
+        }
+    }
+}
+
 /// What a section holds that zstd compressed.
 fn of_zstd(name: &str, data: &[u8], whole_size: u64) -> Result<Cow<'static, [u8]>> {
-    let length = usize::try_from(whole_size).map_err(|_| damaged(name))?;
-    let made = ctfd_zstd::decompressed(data, length);
+    let length = usize::try_from(whole_size).map_err(|_| damage_of(name))?;
+    let made = ctfd_zstd::decompress(data, length);
     made.map(Cow::Owned).map_err(|refusal| match refusal {
-        Refusal::Damaged => damaged(name),
+        Refusal::Damaged => damage_of(name),
         Refusal::NotBuilt => Error(format!(
             "{name} is compressed by zstd, which is not read by commands that were built without \
              libzstd: objcopy --decompress-debug-sections undoes that"

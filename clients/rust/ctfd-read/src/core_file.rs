@@ -129,7 +129,7 @@ impl CoreFile {
                 Ok(())
             }
             None => refuse(format!(
-                "{} does not say where its program was in memory",
+                "{} does not record where its program was in memory",
                 self.image.path().display()
             )),
         }
@@ -138,17 +138,17 @@ impl CoreFile {
 
 /// The notes that are read.
 #[derive(Default)]
-struct Noted {
+struct Notes {
     auxiliary: Vec<u8>,
     files: Vec<u8>,
 }
 
 /// The parts of memory in the order of their addresses, and the notes. Of one that is cut off as
 /// much as there is.
-fn contents(image: &Image) -> Result<(Vec<Part>, Noted)> {
+fn contents(image: &Image) -> Result<(Vec<Part>, Notes)> {
     let data = image.data();
     let end = data.len().unwrap_or(0);
-    let (mut parts, mut noted) = (Vec::new(), Noted::default());
+    let (mut parts, mut noted) = (Vec::new(), Notes::default());
     for segment in segments(image)? {
         let length = segment.in_file.min(end.saturating_sub(segment.offset));
         match segment.purpose {
@@ -183,7 +183,7 @@ fn address(rest: &mut Reader<'_>, model: Model) -> Result<u64> {
     }
 }
 
-impl Noted {
+impl Notes {
     /// The files that were mapped, the program first.
     fn files(&self, model: Model) -> Result<Vec<MappedFile>> {
         let mut made: Vec<MappedFile> = Vec::new();

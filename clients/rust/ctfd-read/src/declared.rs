@@ -1,7 +1,8 @@
 //! In which source files the types of debug information are defined.
 
 use crate::dwarf::names::{Language, Prefixes};
-use crate::dwarf::units::{scopes, Debug, Entry, Unit};
+use crate::dwarf::scopes::scopes;
+use crate::dwarf::units::{Debug, Entry, Unit};
 use crate::error::Result;
 use crate::table::Kind;
 use gimli::constants as dw;
@@ -30,7 +31,7 @@ impl SourceFiles {
             made.add_unit(debug, &debug.open_place(place)?)?;
             Ok(made)
         };
-        let combined = |one: SourceFiles, other: SourceFiles| Ok(one.combined(other));
+        let combined = |one: SourceFiles, other: SourceFiles| Ok(one.with_others(other));
         let units = (0..debug.slot_count()).into_par_iter().map(of_unit);
         let made = units.try_reduce(SourceFiles::default, combined)?;
         Ok(SourceFiles { is_known: true, ..made })
@@ -75,9 +76,9 @@ impl SourceFiles {
     }
 
     /// The same with what others say.
-    pub fn combined(mut self, other: SourceFiles) -> SourceFiles {
+    pub fn with_others(mut self, other: SourceFiles) -> SourceFiles {
         if self.types.len() < other.types.len() {
-            return other.combined(self);
+            return other.with_others(self);
         }
         self.is_known |= other.is_known;
         let to: Vec<u32> = other.names.iter().map(|name| self.number(name)).collect();
@@ -94,11 +95,12 @@ impl SourceFiles {
             Language::C => Prefixes::default(),
             Language::Scoped => Prefixes::of(debug, unit)?,
         };
+        let lines = debug.lines(unit)?;
         let mut files = HashMap::new();
-        for scope in scopes(unit, language)? {
-            for (offset, tag) in scope.entries {
-                let Some(kind) = kind_of(tag) else { continue };
-                let entry = Entry::read_with_file(unit, offset)?;
+        for scope in scopes(unit, language, 1)? {
+            for one in scope.entries {
+                let Some(kind) = kind_of(one.tag) else { continue };
+                let entry = Entry::read_with_file(unit, one.offset)?;
                 let file = entry.constant(dw::DW_AT_decl_file);
                 let (Some(file), false) = (file, entry.has(dw::DW_AT_declaration)) else {
                     continue;
@@ -106,7 +108,7 @@ impl SourceFiles {
                 let name = prefixes.full_name(debug, &entry)?;
                 let number = match files.get(&file) {
                     Some(&number) => number,
-                    None => self.number(debug.file_name(unit, file)?),
+                    None => self.number(debug.file_name(unit, lines.as_ref(), file)?),
                 };
                 files.insert(file, number);
                 self.types.entry((kind, name.into_owned())).or_default().insert(number);

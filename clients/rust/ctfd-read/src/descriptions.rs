@@ -2,104 +2,263 @@
 
 use crate::hashed::{Map, Set};
 use crate::symbols::Symbol;
-use crate::table::{Name, Record};
+use crate::table::{Kind, Parts, Record};
+use smallvec::SmallVec;
+use std::borrow::Cow;
 
-/// What is said of a function or an object: the number of its type, or a function's record;
-/// `is_whole` where it is defined there and not just declared.
-pub struct Description<'a> {
+/// What a function returns, and what it takes.
+pub struct Signature {
+    of: u32,
+    varargs: bool,
+    arguments: Box<[u32]>,
+}
+
+impl Signature {
+    /// That of a function's record.
+    pub fn of_record(record: Record<'_>) -> Signature {
+        let arguments = match record.parts {
+            Parts::Arguments(listed) => listed,
+            _ => Box::default(),
+        };
+        Signature { of: record.of, varargs: record.varargs, arguments }
+    }
+
+    /// The record of such a function, with other numbers for what it names.
+    pub fn record<'a>(&self, to: impl Fn(u32) -> u32) -> Record<'a> {
+        let arguments = self.arguments.iter().map(|&n| to(n)).collect();
+        Record {
+            of: to(self.of),
+            varargs: self.varargs,
+            parts: Parts::Arguments(arguments),
+            ..Record::new(Kind::Function, Cow::Borrowed(b""))
+        }
+    }
+}
+
+/// What is said of a function or an object: the number of its type, or what a function returns and
+/// takes; `is_whole` where it is defined there and not just declared.
+pub struct Description {
     pub of: u32,
-    pub function: Option<Record<'a>>,
+    pub function: Option<Signature>,
     pub is_whole: bool,
 }
 
-/// What was said by a name, and by an address where there was one. A function that the compiler
-/// divided has `others` too, one of which may be where it begins. `is_own` says that no other file
-/// sees it, so that its name alone does not tell it.
-pub struct Statement<'a> {
-    pub name: Name<'a>,
+impl Description {
+    /// Gives another number to each type that it names.
+    pub fn renumber(&mut self, to: impl Fn(u32) -> u32) {
+        self.of = to(self.of);
+        if let Some(function) = &mut self.function {
+            function.of = to(function.of);
+            function.arguments.iter_mut().for_each(|n| *n = to(*n));
+        }
+    }
+}
+
+/// What was said by a name, which has a number among those that are wanted, and by an address where
+/// there was one. A function that the compiler divided has `others` too, one of which may be where
+/// it begins. `is_own` says that no other file sees it, so that its name alone does not tell it.
+pub struct Statement {
+    pub name: u32,
     pub place: Option<u64>,
-    pub said: Description<'a>,
-    pub others: Vec<u64>,
+    pub said: Description,
+    pub others: Box<[u64]>,
     pub is_own: bool,
 }
 
-/// Whether anything is wanted of a name or an address.
+/// The number of a name that no symbol has.
+const UNWANTED: u32 = u32::MAX;
+/// Stands for no place among what is said.
+const NOWHERE: u32 = u32::MAX;
+
+/// What says how well a statement tells what a name stands for, the best first: what other files
+/// see, and a definition before declarations.
+type Rank = (bool, bool);
+
+impl Statement {
+    fn rank(&self) -> Rank {
+        (self.is_own, !self.said.is_whole)
+    }
+
+    fn has_address(&self) -> bool {
+        self.place.is_some() || !self.others.is_empty()
+    }
+}
+
+/// The statements of some units, without those that tell nothing beside the ones before them: most
+/// declarations of a function stand in many units.
+#[derive(Default)]
+pub struct Statements {
+    pub listed: Vec<Statement>,
+    ranks: Map<u32, Rank>,
+}
+
+impl Statements {
+    /// Takes further ones in.
+    pub fn extend(&mut self, told: Vec<Statement>) {
+        for one in told {
+            let rank = one.rank();
+            let is_best = match self.ranks.get_mut(&one.name) {
+                Some(known) => rank < std::mem::replace(known, rank.min(*known)),
+                None => self.ranks.insert(one.name, rank).is_none(),
+            };
+            if is_best || one.has_address() {
+                self.listed.push(one);
+            }
+        }
+    }
+}
+
+/// The names and addresses of which anything is wanted.
 pub struct SymbolFilter<'w> {
-    names: Set<&'w [u8]>,
+    names: Map<&'w [u8], u32>,
     addresses: Set<u64>,
 }
 
 impl<'w> SymbolFilter<'w> {
     pub fn new(wanted: &'w [Symbol<'_>]) -> SymbolFilter<'w> {
-        let whole = wanted.iter().map(|one| unversioned(&one.name));
-        SymbolFilter {
-            names: whole.flat_map(|name| [name, bare(name)]).collect(),
-            addresses: wanted.iter().map(|one| one.address).collect(),
+        let mut names = Map::default();
+        names.reserve(wanted.len());
+        for one in wanted {
+            let whole = without_version(&one.name);
+            let bare = without_local_suffix(whole);
+            let count = names.len() as u32;
+            names.entry(whole).or_insert(count);
+            if bare.len() < whole.len() {
+                let count = names.len() as u32;
+                names.entry(bare).or_insert(count);
+            }
         }
+        SymbolFilter { names, addresses: wanted.iter().map(|one| one.address).collect() }
     }
 
-    pub fn has(&self, name: &[u8], place: Option<u64>) -> bool {
-        self.names.contains(name) || place.is_some_and(|at| self.addresses.contains(&at))
+    /// The number of a name of which something is wanted, or at whose address; None of others.
+    pub fn number(&self, name: &[u8], place: Option<u64>) -> Option<u32> {
+        let is_wanted = || place.is_some_and(|at| self.addresses.contains(&at));
+        self.names.get(name).copied().or_else(|| is_wanted().then_some(UNWANTED))
     }
 }
 
-/// What was said so far.
+/// What was said so far, and the places in that by addresses and by the numbers of names.
 #[derive(Default)]
-pub struct Descriptions<'a> {
-    said: Vec<Description<'a>>,
-    by_address: Map<u64, Vec<(Name<'a>, usize)>>,
-    by_part: Map<u64, Vec<(Name<'a>, usize)>>,
-    by_name: Map<Name<'a>, (usize, bool)>,
+pub struct Descriptions {
+    said: Vec<LinkedStatement>,
+    by_address: Map<u64, Chain>,
+    by_part: Map<u64, SmallVec<[u32; 2]>>,
+    by_name: Vec<Best>,
 }
 
-impl<'a> Descriptions<'a> {
+/// What was said, and the place of what was said next of the same address.
+struct LinkedStatement {
+    name: u32,
+    next: u32,
+    description: Description,
+}
+
+/// The places of the first and the last that was said of an address.
+struct Chain {
+    first: u32,
+    last: u32,
+}
+
+/// The place of what tells best what a name stands for.
+#[derive(Clone, Copy)]
+struct Best {
+    place: u32,
+    is_own: bool,
+}
+
+impl Descriptions {
     /// Takes something in. By name what other files see wins, and a definition over declarations,
     /// whatever comes first.
-    pub fn tell(&mut self, told: Statement<'a>) {
-        let place = self.said.len();
+    pub fn tell(&mut self, told: Statement) {
+        let place = self.said.len() as u32;
         if let Some(at) = told.place {
-            self.by_address.entry(at).or_default().push((told.name.clone(), place));
+            self.add_address(at, place);
         }
-        for &other in &told.others {
-            self.by_part.entry(other).or_default().push((told.name.clone(), place));
+        for &other in &*told.others {
+            self.by_part.entry(other).or_default().push(place);
         }
-        let rank = (told.is_own, !told.said.is_whole);
-        let known = self.by_name.get(&told.name);
-        if known.is_none_or(|&(known, is_own)| rank < (is_own, !self.said[known].is_whole)) {
-            self.by_name.insert(told.name, (place, told.is_own));
+        let is_best = told.name != UNWANTED && self.is_best(&told);
+        if is_best {
+            self.by_name[told.name as usize] = Best { place, is_own: told.is_own };
         }
-        self.said.push(told.said);
+        if is_best || told.has_address() {
+            self.said.push(LinkedStatement {
+                name: told.name,
+                next: NOWHERE,
+                description: told.said,
+            });
+        }
+    }
+
+    /// Whether nothing was said that tells as well what a name stands for.
+    fn is_best(&mut self, told: &Statement) -> bool {
+        let number = told.name as usize;
+        if self.by_name.len() <= number {
+            self.by_name.resize(number + 1, Best { place: NOWHERE, is_own: false });
+        }
+        let Best { place, is_own } = self.by_name[number];
+        let known = self.said.get(place as usize);
+        known.is_none_or(|known| told.rank() < (is_own, !known.description.is_whole))
+    }
+
+    fn add_address(&mut self, at: u64, place: u32) {
+        let chain = self.by_address.entry(at).or_insert(Chain { first: place, last: place });
+        if chain.last != place {
+            self.said[chain.last as usize].next = place;
+            chain.last = place;
+        }
+    }
+
+    /// The places of what was said of an address, in order.
+    fn of_address(&self, at: u64) -> impl Iterator<Item = u32> + '_ {
+        let first = self.by_address.get(&at).map(|chain| chain.first);
+        let next = |&place: &u32| Some(self.said[place as usize].next).filter(|&n| n != NOWHERE);
+        std::iter::successors(first, next)
     }
 
     /// What is told of a symbol: by name and address, else by one of these. In an object file many
     /// have one address; in what is linked, what no other file sees is elsewhere.
-    pub fn description_of(&self, wanted: &Symbol<'_>, is_linked: bool) -> Option<&Description<'a>> {
-        let name = unversioned(&wanted.name);
-        let named = |among: &Map<u64, Vec<(Name<'a>, usize)>>, name: &[u8]| {
-            let listed = among.get(&wanted.address)?;
-            listed.iter().find(|one| *one.0 == *name).map(|one| one.1)
-        };
-        let first = || self.by_address.get(&wanted.address).map(|listed| listed[0].1);
+    pub fn description_of(
+        &self,
+        wanted: &Symbol<'_>,
+        filter: &SymbolFilter<'_>,
+        is_linked: bool,
+    ) -> Option<&Description> {
+        let whole = without_version(&wanted.name);
+        let number = |name: &[u8]| filter.names.get(name).copied();
+        let is_of =
+            |name: Option<u32>| move |&place: &u32| Some(self.said[place as usize].name) == name;
+        let (name, bare) = (number(whole), number(without_local_suffix(whole)));
+        let parts = self.by_part.get(&wanted.address).into_iter().flatten().copied();
         let by_name = || {
-            let &(place, is_own) = self.by_name.get(name)?;
-            (!(is_linked && is_own)).then_some(place)
+            let best = self.by_name.get(name? as usize).filter(|best| best.place != NOWHERE)?;
+            (!(is_linked && best.is_own)).then_some(best.place)
         };
-        let place = named(&self.by_address, name)
-            .or_else(|| named(&self.by_part, name))
-            .or_else(|| named(&self.by_address, bare(name)))
-            .or_else(|| is_linked.then(first).flatten())
+        let at_address = || self.of_address(wanted.address);
+        let place = at_address()
+            .find(is_of(name))
+            .or_else(|| parts.into_iter().find(is_of(name)))
+            .or_else(|| at_address().find(is_of(bare)))
+            .or_else(|| is_linked.then(|| at_address().next()).flatten())
             .or_else(by_name)?;
-        let said = &self.said[place];
+        let said = &self.said[place as usize].description;
         (said.function.is_some() == wanted.is_function).then_some(said)
     }
 }
 
-fn unversioned(name: &[u8]) -> &[u8] {
+fn without_version(name: &[u8]) -> &[u8] {
+    if !name.contains(&b'@') {
+        return name;
+    }
     name.split(|&byte| byte == b'@').next().unwrap_or(name)
 }
 
 /// A symbol's name without what the compiler marks by what is local: `.part.0`, `.lto_priv.3`.
-fn bare(name: &[u8]) -> &[u8] {
+fn without_local_suffix(name: &[u8]) -> &[u8] {
+    if !name.contains(&b'.') {
+        return name;
+    }
     let is_word = |part: &[u8]| {
         !part.is_empty() && part.iter().all(|&b| b == b'_' || b.is_ascii_alphanumeric())
     };

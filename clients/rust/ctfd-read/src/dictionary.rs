@@ -68,7 +68,7 @@ pub fn select_in_full<'a>(
         [] => roots.into_iter().chain(table.symbol_roots()).collect(),
         names => types_named(&table, names)?,
     };
-    let seen = table.reached(roots);
+    let seen = table.reachable(roots);
     let order: Vec<u32> = (1..=table.len()).filter(|&n| seen[n as usize]).collect();
     let bases = order.iter().filter(|&&n| n <= bases).count() as u32;
     table.keep(&order);
@@ -95,13 +95,13 @@ pub fn alone<'a>(mut table: Table<'a>, symbols: Symbols<'a>) -> Dictionary<'a> {
         table.is_cut = true;
         table.losses.extend(line);
     }
-    let symbols = pruned(&mut table, symbols);
+    let symbols = symbols_with_types(&mut table, symbols);
     Dictionary { table, symbols, parent: None, has_own_parent: false, plain: None }
 }
 
 /// The symbols without those of which nothing is told, where the names are the dictionary's own; the
 /// table's entries with them.
-fn pruned<'a>(table: &mut Table<'a>, symbols: Symbols<'a>) -> Symbols<'a> {
+fn symbols_with_types<'a>(table: &mut Table<'a>, symbols: Symbols<'a>) -> Symbols<'a> {
     if symbols.table != SymbolTable::Names {
         return symbols;
     }
@@ -172,7 +172,7 @@ fn over<'a>(
     }
     joined.bases = bases;
     joined.parent_name = Cow::Owned(name.as_bytes().to_vec());
-    let symbols = pruned(&mut joined, symbols);
+    let symbols = symbols_with_types(&mut joined, symbols);
     Dictionary { table: joined, symbols, parent: None, has_own_parent: false, plain: None }
 }
 
@@ -209,7 +209,7 @@ pub fn split<'a>(
         whole.keep(&order);
         whole.bases = parents.len() as u32;
         whole.parent_name = Cow::Owned(name.into_bytes());
-        let symbols = pruned(&mut whole, symbols);
+        let symbols = symbols_with_types(&mut whole, symbols);
         Dictionary { table: whole, symbols, parent: None, has_own_parent: false, plain: None }
     };
     made.parent = Some(ctf);
@@ -371,7 +371,7 @@ pub fn report(path: &Path, form: Form, count: u32, made: &Dictionary<'_>) -> Vec
         made.symbols.table.word()
     ));
     let hidden = own.iter().filter(|record| !record.name.is_empty() && !record.root);
-    lines.extend(hidden.map(Record::tagged).map(|name| format!("hidden from look-ups: {name}")));
+    lines.extend(hidden.map(Record::tag_name).map(|name| format!("hidden from look-ups: {name}")));
     lines.extend(loss_lines(&table.losses).into_iter().map(|line| format!("lost: {line}")));
     lines
 }

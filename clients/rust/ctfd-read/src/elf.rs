@@ -1,7 +1,7 @@
 //! ELF files: their sections, the files that have their debug information, and their symbols.
 
 use crate::bytes::Names;
-use crate::compressed::Packed;
+use crate::compressed::StoredSection;
 use crate::error::{refuse, Result};
 use crate::image::{Data, Elf, ElfSection, Image};
 use crate::symbols::{Symbol, SymbolTable, Symbols};
@@ -82,7 +82,7 @@ pub fn debug_file(image: &Image, folders: &[PathBuf]) -> Result<DebugFile> {
         tried.extend(folders().map(|folder| folder.join(inner).join(link)));
     }
     for path in &tried {
-        let Some(found) = Image::linked(path) else { continue };
+        let Some(found) = Image::open_linked(path) else { continue };
         let is_debug = match found.elf() {
             Ok(other) if has_debug(&other) => {
                 let is_build = !build.is_empty() && other.build_id().ok().flatten() == Some(build);
@@ -137,7 +137,7 @@ pub fn alternate_file(image: &Image, folders: &[PathBuf]) -> Result<Option<Image
         })
     };
     for path in tried.iter().filter(|path| is_within(path)) {
-        let Some(found) = Image::linked(path) else { continue };
+        let Some(found) = Image::open_linked(path) else { continue };
         if found.elf().ok().and_then(|other| other.build_id().ok().flatten()) == Some(build) {
             return Ok(Some(found));
         }
@@ -169,34 +169,40 @@ pub fn section<'a>(image: &'a Image, file: &Elf<'a>, name: &str) -> Result<Cow<'
     made
 }
 
-/// The same for several names. They are inflated side by side.
+/// The same for several names. Those that are compressed are inflated side by side.
 pub fn sections<'a, const N: usize>(
     image: &'a Image,
     file: &Elf<'a>,
     names: [&str; N],
 ) -> [Result<Cow<'a, [u8]>>; N] {
     let mut places = names.map(|_| Vec::new());
-    let mut packed: Vec<Result<Vec<Packed<'a>>>> = Vec::new();
+    let mut packed: Vec<Result<Vec<StoredSection<'a>>>> = Vec::new();
     for (name, places) in names.iter().zip(&mut places) {
-        packed.push(called(file, name).and_then(|found| {
-            let listed = found.iter().map(|one| Packed::of(image, file, one, name)).collect();
+        packed.push(sections_of_name(file, name).and_then(|found| {
+            let listed =
+                found.iter().map(|one| StoredSection::of(image, file, one, name)).collect();
             *places = found;
             listed
         }));
     }
-    let inflate = |(packed, name): (Result<Vec<Packed<'a>>>, &&str)| -> Result<Vec<Cow<'a, [u8]>>> {
-        packed?.into_iter().map(|one| one.inflate(name)).collect()
+    let inflate =
+        |(packed, name): (Result<Vec<StoredSection<'a>>>, &&str)| -> Result<Vec<Cow<'a, [u8]>>> {
+            packed?.into_iter().map(|one| one.inflate(name)).collect()
+        };
+    let inflated: Vec<_> = match packed.iter().flatten().flatten().any(StoredSection::is_compressed)
+    {
+        true => packed.into_par_iter().zip(&names).map(inflate).collect(),
+        false => packed.into_iter().zip(&names).map(inflate).collect(),
     };
-    let inflated: Vec<_> = packed.into_par_iter().zip(&names).map(inflate).collect();
     let mut listed = inflated.into_iter().zip(places);
     names.map(|_| {
         let (parts, places) = listed.next().expect("there is one for each name");
-        joined(file, parts?, &places)
+        joined_bytes(file, parts?, &places)
     })
 }
 
 /// The sections of a name, also of the one that they had when only GNU's tools compressed any.
-fn called<'a, 'f>(file: &'f Elf<'a>, name: &str) -> Result<Vec<ElfSection<'a, 'f>>> {
+fn sections_of_name<'a, 'f>(file: &'f Elf<'a>, name: &str) -> Result<Vec<ElfSection<'a, 'f>>> {
     let zipped = name.strip_prefix(".debug").map(|rest| format!(".zdebug{rest}"));
     let mut found = Vec::new();
     for one in file.sections() {
@@ -209,7 +215,7 @@ fn called<'a, 'f>(file: &'f Elf<'a>, name: &str) -> Result<Vec<ElfSection<'a, 'f
 }
 
 /// The bytes of some sections as one, relocated.
-fn joined<'a>(
+fn joined_bytes<'a>(
     file: &Elf<'a>,
     mut parts: Vec<Cow<'a, [u8]>>,
     places: &[ElfSection<'a, '_>],
@@ -308,18 +314,14 @@ fn places(file: &Elf<'_>) -> Vec<u64> {
 }
 
 /// A symbol table of an ELF file, and the names that go with it.
-struct RawTable<'a> {
-    /// By number in the table: the place of the name, the address, the kind and the section.
-    entries: Vec<(u32, u64, u8, u16)>,
-    names: Names<'a>,
-}
+type RawTable<'a, S> = (&'a [S], Names<'a>);
 
 /// The names of all symbols together may overlap: they are read for so many bytes for each of the
 /// table's.
 const MOST_TIMES: u64 = 64;
 
 /// A symbol table of a file; None where it has none of that name with bytes in the file.
-fn raw_table<'a, F>(data: Data<'a>, name: &str) -> Result<Option<RawTable<'a>>>
+fn raw_table<'a, F>(data: Data<'a>, name: &str) -> Result<Option<RawTable<'a, F::Sym>>>
 where
     F: FileHeader<Endian = Endianness>,
 {
@@ -335,34 +337,37 @@ where
     if section.sh_type(endian) == elf::SHT_NOBITS {
         return Ok(None);
     }
-    let listed: &[F::Sym] = section.data_as_array(endian, data)?;
-    let entry = |one: &F::Sym| {
-        (one.st_name(endian), one.st_value(endian).into(), one.st_type(), one.st_shndx(endian))
-    };
-    let names = Names(strings.data(endian, data)?);
-    Ok(Some(RawTable { entries: listed.iter().map(entry).collect(), names }))
+    let entries = section.data_as_array(endian, data)?;
+    Ok(Some((entries, Names(strings.data(endian, data)?))))
 }
 
 /// The functions and objects of a table, in the order in which a dictionary tells of them; None
 /// where the file has no such table.
 pub fn symbols_of<'a>(image: &'a Image, table: SymbolTable) -> Result<Option<Symbols<'a>>> {
-    let file = image.elf()?;
-    let data = image.data();
-    let raw = if file.is_64() {
-        raw_table::<elf::FileHeader64<Endianness>>(data, table.word())?
-    } else {
-        raw_table::<elf::FileHeader32<Endianness>>(data, table.word())?
+    match image.elf()?.is_64() {
+        true => symbols_in::<elf::FileHeader64<Endianness>>(image, table),
+        false => symbols_in::<elf::FileHeader32<Endianness>>(image, table),
+    }
+}
+
+fn symbols_in<F>(image: &Image, table: SymbolTable) -> Result<Option<Symbols<'_>>>
+where
+    F: FileHeader<Endian = Endianness>,
+{
+    let Some((entries, names)) = raw_table::<F>(image.data(), table.word())? else {
+        return Ok(None);
     };
-    let Some(raw) = raw else { return Ok(None) };
-    let places = places(&file);
-    let mut left = MOST_TIMES * (raw.names.0.len() + 24 * raw.entries.len()) as u64;
+    let endian = F::parse(image.data())?.endian()?;
+    let places = places(&image.elf()?);
+    let mut left = MOST_TIMES * (names.0.len() + 24 * entries.len()) as u64;
     let mut listed = Vec::new();
-    for (place, address, kind, section) in raw.entries {
+    for one in entries {
+        let (place, kind, section) = (one.st_name(endian), one.st_type(), one.st_shndx(endian));
         let is_function = kind == elf::STT_FUNC;
         if !is_function && kind != elf::STT_OBJECT || section == elf::SHN_UNDEF || place == 0 {
             continue;
         }
-        let name = raw.names.at(place.into());
+        let name = names.at(place.into());
         let name = name.filter(|name| {
             left = left.saturating_sub(name.len() as u64);
             left != 0
@@ -370,6 +375,7 @@ pub fn symbols_of<'a>(image: &'a Image, table: SymbolTable) -> Result<Option<Sym
         let Some(name) = name else {
             return refuse(format!("the names of {} are damaged", table.word()));
         };
+        let address: u64 = one.st_value(endian).into();
         let is_nothing = !is_function && section == elf::SHN_ABS && address == 0;
         if name.is_empty() || name == b"_START_" || name == b"_END_" || is_nothing {
             continue;
@@ -378,6 +384,7 @@ pub fn symbols_of<'a>(image: &'a Image, table: SymbolTable) -> Result<Option<Sym
         let address = address.wrapping_add(put);
         listed.push(Symbol { name: Cow::Borrowed(name), address, is_function });
     }
+    listed.shrink_to_fit();
     Ok(Some(Symbols { table, listed }))
 }
 

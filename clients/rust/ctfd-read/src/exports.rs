@@ -152,7 +152,7 @@ fn numbers<'n>(table: &'n [u8], strings: &'n [u8]) -> Numbers<'n> {
     let mut names = Strings::new(strings);
     for is_local in [false, true] {
         for (number, entry) in table.chunks_exact(ENTRY).enumerate() {
-            let Some(symbol) = Handed::of(entry).filter(|one| one.is_local == is_local) else {
+            let Some(symbol) = TypedSymbol::of(entry).filter(|one| one.is_local == is_local) else {
                 continue;
             };
             let Some(name) = names.at(symbol.name) else { continue };
@@ -168,7 +168,7 @@ fn numbers<'n>(table: &'n [u8], strings: &'n [u8]) -> Numbers<'n> {
 pub fn soname(image: &Image) -> Result<Option<Vec<u8>>> {
     fn of<F: FileHeader<Endian = Endianness>>(image: &Image) -> Result<Option<Vec<u8>>> {
         let file: File<'_, F> = File::parse(image)?;
-        match file.named(".dynsym").is_some() && file.is_shared {
+        match file.section_of_name(".dynsym").is_some() && file.is_shared {
             true => Ok(Some(file.soname()?.to_vec())),
             false => Ok(None),
         }
@@ -180,20 +180,20 @@ pub fn soname(image: &Image) -> Result<Option<Vec<u8>>> {
 }
 
 /// A function or object of the table that types go by.
-struct Handed {
+struct TypedSymbol {
     name: u32,
     address: u64,
     is_local: bool,
 }
 
-impl Handed {
-    fn of(entry: &[u8]) -> Option<Handed> {
+impl TypedSymbol {
+    fn of(entry: &[u8]) -> Option<TypedSymbol> {
         let name = u32::from_le_bytes(entry.get(..4)?.try_into().ok()?);
         let address = u64::from_le_bytes(entry.get(8..16)?.try_into().ok()?);
         let is_told = matches!(entry[4] & 15, elf::STT_OBJECT | elf::STT_FUNC);
         let is_there = name != 0 && entry[6..8] != [0, 0];
         let is_local = entry[4] >> 4 == elf::STB_LOCAL;
-        (is_told && is_there).then_some(Handed { name, address, is_local })
+        (is_told && is_there).then_some(TypedSymbol { name, address, is_local })
     }
 }
 
@@ -243,7 +243,7 @@ impl<'a, F: FileHeader<Endian = Endianness>> File<'a, F> {
     }
 
     /// The section of a name, where it has bytes in the file.
-    fn named(&self, name: &str) -> Option<&'a F::SectionHeader> {
+    fn section_of_name(&self, name: &str) -> Option<&'a F::SectionHeader> {
         let (_, found) = self.sections.section_by_name(self.endian, name.as_bytes())?;
         (found.sh_type(self.endian) != elf::SHT_NOBITS).then_some(found)
     }
@@ -261,8 +261,10 @@ impl<'a, F: FileHeader<Endian = Endianness>> File<'a, F> {
 
     fn exports(&self, numbers: &Numbers<'_>) -> Result<Exports<'a>> {
         let mut made = Exports { soname: self.soname()?.into(), ..Exports::default() };
-        let dynamic = self.named(".dynsym").filter(|_| self.is_linked);
-        let Some(table) = dynamic.or_else(|| self.named(".symtab")) else { return Ok(made) };
+        let dynamic = self.section_of_name(".dynsym").filter(|_| self.is_linked);
+        let Some(table) = dynamic.or_else(|| self.section_of_name(".symtab")) else {
+            return Ok(made);
+        };
         let Some(mut strings) = self.strings(table)? else { return Ok(made) };
         let versions = self.versions()?;
         let symbols: &[F::Sym] = table.data_as_array(self.endian, self.data)?;
@@ -271,7 +273,7 @@ impl<'a, F: FileHeader<Endian = Endianness>> File<'a, F> {
                 0 => &[],
                 at => strings.at(at).ok_or_else(damage)?,
             };
-            let Some(kind) = self.seen(symbol, name) else { continue };
+            let Some(kind) = self.export_kind(symbol, name) else { continue };
             let (name, own) = without_version(name);
             let version = versions.get(place).copied().filter(|one| !one.is_empty());
             made.add(Export {
@@ -287,7 +289,7 @@ impl<'a, F: FileHeader<Endian = Endianness>> File<'a, F> {
     }
 
     /// What a symbol is that other files see; None of others.
-    fn seen(&self, symbol: &F::Sym, name: &[u8]) -> Option<ExportKind> {
+    fn export_kind(&self, symbol: &F::Sym, name: &[u8]) -> Option<ExportKind> {
         let section = symbol.st_shndx(self.endian);
         let is_bound = matches!(symbol.st_bind(), elf::STB_GLOBAL | elf::STB_WEAK | UNIQUE);
         let is_seen = matches!(symbol.st_visibility(), elf::STV_DEFAULT | elf::STV_PROTECTED);
@@ -301,9 +303,9 @@ impl<'a, F: FileHeader<Endian = Endianness>> File<'a, F> {
     /// The version of each dynamic symbol, as GNU's linker writes them; empty for none, and for
     /// that of the file itself.
     fn versions(&self) -> Result<Vec<&'a [u8]>> {
-        let Some(table) = self.named(".gnu.version") else { return Ok(Vec::new()) };
-        let defined = match self.named(".gnu.version_d") {
-            Some(section) => self.defined(section)?,
+        let Some(table) = self.section_of_name(".gnu.version") else { return Ok(Vec::new()) };
+        let defined = match self.section_of_name(".gnu.version_d") {
+            Some(section) => self.version_names(section)?,
             None => HashMap::new(),
         };
         let of_place = |bytes: &[u8]| {
@@ -314,7 +316,7 @@ impl<'a, F: FileHeader<Endian = Endianness>> File<'a, F> {
     }
 
     /// The names of the versions that a file defines.
-    fn defined(&self, section: &F::SectionHeader) -> Result<HashMap<u16, &'a [u8]>> {
+    fn version_names(&self, section: &F::SectionHeader) -> Result<HashMap<u16, &'a [u8]>> {
         let mut made = HashMap::new();
         let mut rest = self.bytes(section)?;
         let Some(mut strings) = self.strings(section)? else { return Ok(made) };
@@ -340,7 +342,7 @@ impl<'a, F: FileHeader<Endian = Endianness>> File<'a, F> {
 
     /// What programs that were linked with the file ask for.
     fn soname(&self) -> Result<&'a [u8]> {
-        let Some(section) = self.named(".dynamic") else { return Ok(&[]) };
+        let Some(section) = self.section_of_name(".dynamic") else { return Ok(&[]) };
         let Some(mut strings) = self.strings(section)? else { return Ok(&[]) };
         let listed: &[F::Dyn] = section.data_as_array(self.endian, self.data)?;
         let found = listed.iter().find(|one| one.tag32(self.endian) == Some(elf::DT_SONAME));

@@ -30,7 +30,7 @@ const WHAT: &str = "GNU CTF";
 /// What is told of functions or objects: their types by the table's numbers, and their names, or
 /// None where they are in the order of symbols.
 #[derive(Default)]
-pub struct Listed<'a> {
+pub struct SymbolTypes<'a> {
     /// The numbers of their types.
     pub types: Vec<u32>,
     /// Their names.
@@ -41,9 +41,9 @@ pub struct Listed<'a> {
 /// is ordered.
 pub struct Entries<'a> {
     /// Of objects.
-    pub objects: Listed<'a>,
+    pub objects: SymbolTypes<'a>,
     /// Of functions.
-    pub functions: Listed<'a>,
+    pub functions: SymbolTypes<'a>,
     /// Whether the order is that of `.dynsym`.
     pub is_dynamic: bool,
 }
@@ -143,8 +143,8 @@ pub fn read<'a>(
     let is_array = |n: u32| n != 0 && table.get(n).kind == Kind::Array;
     if table.records.iter().any(|one| one.kind == Kind::Array && is_array(one.of)) {
         table.losses.push(
-            "an array of arrays: gcc before 14 writes the dimensions of such in the other order, \
-             and they are taken as they stand; DWARF tells them"
+            "an array of arrays: gcc before 14 writes the dimensions in reverse order, and they are \
+             kept as written; the DWARF has the right order"
                 .to_owned(),
         );
     }
@@ -232,7 +232,7 @@ impl<'a> Dictionary<'a> {
                 for one in members.iter_mut() {
                     if let Some(slice) = self.slice(one.of) {
                         one.offset += u64::from(slice.offset);
-                        one.width = Some(slice.bits.into());
+                        one.width = Some(slice.bits);
                     }
                 }
             }
@@ -261,14 +261,14 @@ impl<'a> Dictionary<'a> {
         })
     }
 
-    fn entries_of(&self, types: &[u8], names: &[u8]) -> Result<Listed<'a>> {
+    fn entries_of(&self, types: &[u8], names: &[u8]) -> Result<SymbolTypes<'a>> {
         let types = words(types, self.endian)
             .map(|n| self.number(n).ok_or_else(damage))
             .collect::<Result<_>>()?;
         let names = (!names.is_empty())
             .then(|| words(names, self.endian).map(|one| self.name(one)).collect::<Result<_>>())
             .transpose()?;
-        Ok(Listed { types, names })
+        Ok(SymbolTypes { types, names })
     }
 
     fn number(&self, n: u32) -> Option<u32> {

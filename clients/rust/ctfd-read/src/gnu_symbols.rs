@@ -4,7 +4,7 @@
 //! dynamic one as a rule: what is not exported is not told there.
 
 use crate::error::Result;
-use crate::gnu::{Entries, Listed};
+use crate::gnu::{Entries, SymbolTypes};
 use crate::symbols::{Symbol, SymbolTable, Symbols};
 use crate::table::{Kind, Name, Table};
 use std::borrow::Cow;
@@ -24,18 +24,18 @@ fn key<'a>(symbol: &Symbol<'a>) -> Key<'a> {
 
 /// The types of symbols: by place where that is known, else by name, 0 where a name has several.
 #[derive(Default)]
-struct Known<'a> {
+struct TypesOfSymbols<'a> {
     by_place: HashMap<(Key<'a>, u64), u32>,
     by_name: HashMap<Key<'a>, u32>,
     names: Vec<Key<'a>>,
     lost: usize,
 }
 
-impl<'a> Known<'a> {
+impl<'a> TypesOfSymbols<'a> {
     /// Takes the functions or objects of a dictionary in; those of a file's table in their order.
     fn take<'s>(
         &mut self,
-        listed: &Listed<'a>,
+        listed: &SymbolTypes<'a>,
         symbols: impl Iterator<Item = &'s Symbol<'a>>,
         is_function: bool,
     ) where
@@ -79,7 +79,7 @@ impl<'a> Known<'a> {
     }
 
     /// Each name with its type, objects first.
-    fn named(&self, table: &Table<'_>) -> Vec<(Symbol<'a>, u32)> {
+    fn names_with_types(&self, table: &Table<'_>) -> Vec<(Symbol<'a>, u32)> {
         let symbol = |(name, is_function): &Key<'a>| {
             let one = Symbol { name: name.clone(), address: 0, is_function: *is_function };
             let number = self.type_of(table, &one, true);
@@ -118,7 +118,7 @@ pub fn describe<'a>(
     file: Option<&FileSymbols<'a>>,
     wanted: SymbolTable,
 ) -> Result<Symbols<'a>> {
-    let mut known = Known::default();
+    let mut known = TypesOfSymbols::default();
     let none = Symbols::default();
     for one in found {
         let order = if one.is_dynamic { SymbolTable::Dynsym } else { SymbolTable::Symtab };
@@ -127,7 +127,9 @@ pub fn describe<'a>(
         known.take(&one.functions, symbols.functions(), true);
     }
     let pairs = match file {
-        None => known.named(table).into_iter().filter(|&(_, number)| number != 0).collect(),
+        None => {
+            known.names_with_types(table).into_iter().filter(|&(_, number)| number != 0).collect()
+        }
         Some(file) => of_file(&known, table, file.of(wanted)),
     };
     let of_kind = |is_function: bool| {
@@ -155,7 +157,7 @@ pub fn describe<'a>(
 
 /// Each symbol of a table with its type. By its name alone one is known that no other has.
 fn of_file<'a>(
-    known: &Known<'a>,
+    known: &TypesOfSymbols<'a>,
     table: &Table<'_>,
     symbols: &Symbols<'a>,
 ) -> Vec<(Symbol<'a>, u32)> {
@@ -176,7 +178,7 @@ fn tell_losses(
     wanted: SymbolTable,
 ) {
     if lost != 0 {
-        let why = if has_file { "is not there" } else { "the section alone has not" };
+        let why = if has_file { "is not there" } else { "the section alone does not have" };
         table.losses.push(format!(
             "{lost} functions and objects of its GNU CTF are in the order of a symbol table that \
              {why}: they are left out"

@@ -4,7 +4,6 @@
 use crate::error::{refuse, Error, Result};
 use flate2::Crc;
 use object::read::{ReadCache, ReadRef};
-use std::borrow::Cow;
 use std::fs::File;
 use std::io::{Cursor, Read, Seek, SeekFrom};
 use std::ops::Range;
@@ -55,6 +54,8 @@ pub type ElfSection<'a, 'f> = object::Section<'a, 'f, Data<'a>>;
 const LONGEST_PIPE: u64 = 1 << 32;
 /// How many bytes a check sum reads at a time.
 const PIECE: u64 = 1 << 20;
+/// How many bytes pass at a time that are not kept.
+const PASSING: u64 = 1 << 16;
 
 /// A file, and where it is.
 pub struct Image {
@@ -78,10 +79,7 @@ impl Image {
                 return refuse("it is a folder");
             }
             if !is_pipe(&kind) {
-                return refuse(
-                    "it is no file with contents of its own, but a device or the like, which is not \
-                     read",
-                );
+                return refuse("not a regular file: devices and the like are not read");
             }
             let mut bytes = Vec::new();
             File::open(path)?.take(LONGEST_PIPE).read_to_end(&mut bytes)?;
@@ -94,7 +92,7 @@ impl Image {
     }
 
     /// Opens a regular file that another file names; anybody may have written that name.
-    pub fn linked(path: &Path) -> Option<Image> {
+    pub fn open_linked(path: &Path) -> Option<Image> {
         let is_file = std::fs::metadata(path).is_ok_and(|about| about.is_file());
         is_file.then(|| Image::open(path).ok()).flatten()
     }
@@ -102,7 +100,7 @@ impl Image {
     /// Opens a regular file that is at one place and known by another name; anybody may have
     /// written that place.
     pub fn linked_as(place: &Path, path: &Path) -> Option<Image> {
-        Some(Image { path: path.to_owned(), ..Image::linked(place)? })
+        Some(Image { path: path.to_owned(), ..Image::open_linked(place)? })
     }
 
     /// Bytes that are no file of their own, as a member of an archive.
@@ -116,18 +114,16 @@ impl Image {
         self.data().read_bytes_at(0, self.length).map_err(|()| Error("can't be read".to_owned()))
     }
 
-    /// Some of its bytes, which are not kept beside what is made of them.
-    pub fn passing(&self, offset: u64, length: u64) -> Result<Cow<'_, [u8]>> {
-        let is_there = offset.checked_add(length).is_some_and(|end| end <= self.length);
-        match (&self.file, usize::try_from(length)) {
-            (Some(file), Ok(length)) if is_there => {
-                let mut bytes = vec![0; length];
-                read_at(file, &mut bytes, offset)?;
-                Ok(Cow::Owned(bytes))
-            }
-            _ => {
+    /// Some of its bytes, which come a piece at a time, and are not kept beside what is made of
+    /// them.
+    pub fn pieces(&self, offset: u64, length: u64) -> Result<Pieces<'_>> {
+        let end = offset.checked_add(length).filter(|&end| end <= self.length);
+        let end = end.ok_or_else(|| Error("it ends too early".to_owned()))?;
+        match &self.file {
+            Some(file) => Ok(Pieces::OfFile { file, at: offset, end, piece: Vec::new() }),
+            None => {
                 let bytes = self.data().read_bytes_at(offset, length);
-                bytes.map(Cow::Borrowed).map_err(|()| Error("it ends too early".to_owned()))
+                bytes.map(Pieces::Whole).map_err(|()| Error("it ends too early".to_owned()))
             }
         }
     }
@@ -163,6 +159,51 @@ impl Image {
                 return Ok(crc.sum());
             }
             crc.update(&piece[..count]);
+        }
+    }
+}
+
+/// Some bytes of a file, a piece at a time.
+pub enum Pieces<'a> {
+    /// All of them at once, where they are there already.
+    Whole(&'a [u8]),
+    /// Those of a file, of which one piece is kept.
+    OfFile {
+        /// The file.
+        file: &'a File,
+        /// Where the next piece begins.
+        at: u64,
+        /// Where the last ends.
+        end: u64,
+        /// The last one that was read.
+        piece: Vec<u8>,
+    },
+}
+
+impl Pieces<'_> {
+    /// The next piece; empty behind the last.
+    pub fn next_piece(&mut self) -> Result<&[u8]> {
+        match self {
+            Pieces::Whole(bytes) => Ok(std::mem::take(bytes)),
+            Pieces::OfFile { file, at, end, piece } => {
+                let length = PASSING.min(*end - *at);
+                piece.resize(length as usize, 0);
+                read_at(file, piece, *at)?;
+                *at += length;
+                Ok(piece)
+            }
+        }
+    }
+
+    /// All that is left.
+    pub fn all(&mut self) -> Result<Vec<u8>> {
+        let mut made = Vec::new();
+        loop {
+            let piece = self.next_piece()?;
+            if piece.is_empty() {
+                return Ok(made);
+            }
+            made.extend_from_slice(piece);
         }
     }
 }

@@ -4,6 +4,7 @@ use crate::btf;
 use crate::bytes::Names;
 use crate::ctf::{self, Layout, Sections};
 use crate::declared::SourceFiles;
+use crate::descriptions::SymbolFilter;
 use crate::dictionary::keep_described;
 use crate::dwarf::collector::{collect, verify};
 use crate::dwarf::sections;
@@ -361,16 +362,8 @@ fn with_dwarf(image: &Image, options: &Options, run: &mut Use<'_>) -> Result<()>
     let files = elf::debug_file(image, &options.folders).map_err(|error| error.of(&path))?;
     let debug = files.debug.as_ref().unwrap_or(image);
     let file = image.elf().map_err(|error| error.of(&path))?;
-    let symbols = || -> Result<Symbols<'_>> {
-        let own = elf::symbols_of(image, options.symbols)?;
-        let is_stripped = own.is_none() && options.symbols == SymbolTable::Symtab;
-        if is_stripped && files.debug.is_some() {
-            let found = elf::symbols_of(debug, SymbolTable::Symtab)?.unwrap_or_default();
-            return Ok(Symbols { table: SymbolTable::Names, ..found });
-        }
-        Ok(own.unwrap_or(Symbols { table: options.symbols, listed: Vec::new() }))
-    };
-    let symbols = symbols().map_err(|error| error.of(&path))?;
+    let symbols = program_symbols(image, files.debug.as_ref(), options.symbols);
+    let symbols = symbols.map_err(|error| error.of(&path))?;
     if options.symbols == SymbolTable::Dynsym && symbols.listed.is_empty() {
         return refuse(format!(
             "{path}: it has no .dynsym with functions or objects, as a program has that exports \
@@ -378,15 +371,17 @@ fn with_dwarf(image: &Image, options: &Options, run: &mut Use<'_>) -> Result<()>
         ));
     }
     let debug_path = debug.path().display().to_string();
-    let sections =
-        sections::Sections::load(debug, &options.folders).map_err(|error| error.of(&debug_path))?;
+    let sections = sections::Sections::load(debug, &options.folders, options.has_sources)
+        .map_err(|error| error.of(&debug_path))?;
     let units = Debug::new(&sections).map_err(|error| error.of(&debug_path))?;
     let (read, is_ilp32) = ([(units, debug_path)], !file.is_64());
-    let collector = collect(&read, &symbols.listed, is_ilp32, &options.listener)?;
+    let filter = SymbolFilter::new(&symbols.listed);
+    let collector = collect(&read, &filter, is_ilp32, &options.listener)?;
     let verifier = |written: &Judges<'_>| verify(&read, is_ilp32, written);
     let is_linked = file.kind() != ObjectKind::Relocatable;
-    let (mut table, roots) =
-        collector.finish(&symbols, is_linked, !file.is_64()).map_err(|error| error.of(&path))?;
+    let finished = collector.finish(&symbols, &filter, is_linked, is_ilp32);
+    let (mut table, roots) = finished.map_err(|error| error.of(&path))?;
+    drop(filter);
     if options.has_sources {
         table.sources = sources_of(&read)?;
     }
@@ -399,11 +394,28 @@ fn with_dwarf(image: &Image, options: &Options, run: &mut Use<'_>) -> Result<()>
     run(ProgramTypes { table, roots, bases: 0, form: Form::Dwarf, symbols, note, verifier })
 }
 
+/// The symbols that the entries of a program go by: of one that is stripped those of its debug
+/// file.
+fn program_symbols<'a>(
+    image: &'a Image,
+    debug: Option<&'a Image>,
+    wanted: SymbolTable,
+) -> Result<Symbols<'a>> {
+    if let Some(own) = elf::symbols_of(image, wanted)? {
+        return Ok(own);
+    }
+    let Some(debug) = debug.filter(|_| wanted == SymbolTable::Symtab) else {
+        return Ok(Symbols { table: wanted, listed: Vec::new() });
+    };
+    let found = elf::symbols_of(debug, SymbolTable::Symtab)?.unwrap_or_default();
+    Ok(Symbols { table: SymbolTable::Names, ..found })
+}
+
 /// The files in which the types of some debug information are defined.
 fn sources_of(files: &[(Debug<'_>, String)]) -> Result<SourceFiles> {
     let mut made = SourceFiles::default();
     for (debug, name) in files {
-        made = made.combined(SourceFiles::of(debug).map_err(|error| error.of(name))?);
+        made = made.with_others(SourceFiles::of(debug).map_err(|error| error.of(name))?);
     }
     Ok(made)
 }
@@ -457,7 +469,7 @@ fn with_archive(image: &Image, data: &[u8], options: &Options, run: &mut Use<'_>
             ));
         }
         if elf::has_debug(&file) {
-            let sections = sections::Sections::load(member, &options.folders)
+            let sections = sections::Sections::load(member, &options.folders, options.has_sources)
                 .map_err(|error| error.of(&name))?;
             with_debug.push((member, sections));
         }
@@ -479,10 +491,10 @@ fn with_archive(image: &Image, data: &[u8], options: &Options, run: &mut Use<'_>
         let name = member.path().display().to_string();
         files.push((Debug::new(sections).map_err(|error| error.of(&name))?, name));
     }
-    let collector = collect(&files, &[], is_ilp32, &options.listener)?;
-    let symbols = Symbols::default();
-    let (mut table, roots) =
-        collector.finish(&symbols, false, is_ilp32).map_err(|error| error.of(path.display()))?;
+    let (symbols, filter) = (Symbols::default(), SymbolFilter::new(&[]));
+    let collector = collect(&files, &filter, is_ilp32, &options.listener)?;
+    let finished = collector.finish(&symbols, &filter, false, is_ilp32);
+    let (mut table, roots) = finished.map_err(|error| error.of(path.display()))?;
     if options.has_sources {
         table.sources = sources_of(&files)?;
     }
@@ -556,7 +568,7 @@ fn thin_members(path: &Path, data: &[u8]) -> Result<Vec<Image>> {
             None => name.to_owned(),
         };
         let beside = path.parent().unwrap_or(Path::new("")).join(name.trim_end_matches('/'));
-        let member = Image::linked(&beside).ok_or_else(|| {
+        let member = Image::open_linked(&beside).ok_or_else(|| {
             Error(format!("its member {} is no regular file that can be read", beside.display()))
         })?;
         found.push(member);
@@ -580,7 +592,7 @@ fn with_ctf(
     let of_file = section.file.map(|file| file.elf().map(|file| model_of(&file))).transpose()?;
     if options.model.or(of_file).is_some_and(|wanted| wanted != model) {
         return refuse(format!(
-            "it says that it is of {}, and {} was asked for",
+            "its model is {}, but {} was asked for",
             labels::model_word(model),
             labels::model_word(options.model.or(of_file).unwrap_or(told))
         ));
@@ -670,7 +682,7 @@ fn description_of(ctf: &[u8]) -> String {
             !record.name.is_empty() && (is_tagged || record.kind == Kind::Typedef)
         };
         let named = own.iter().filter(is_telling).min_by_key(|record| !record.kind.is_aggregate());
-        let name = named.map(|record| format!(", {}", record.tagged())).unwrap_or_default();
+        let name = named.map(|record| format!(", {}", record.tag_name())).unwrap_or_default();
         Ok(format!("{} types{name}", own.len()))
     };
     describe().unwrap_or_else(|_| format!("{} bytes, damaged", ctf.len()))
@@ -732,7 +744,7 @@ fn gnu_note(table: &Table<'_>, file: &Image, symbols: &Symbols<'_>) -> Result<St
         return note(file, symbols, file);
     }
     Ok(format!(
-        "its GNU CTF tells nothing of the {} functions and objects of {}: ld keeps that of what a \
+        "its GNU CTF has no types for the {} functions and objects of {}: ld keeps that of what a \
          file exports; -g tells of all",
         symbols.listed.len(),
         symbols.table.word()

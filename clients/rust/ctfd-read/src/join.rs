@@ -90,12 +90,12 @@ impl<'a> Piece<'a> {
     }
 
     /// The numbers of types with a tag of a single definition, and the keys of these.
-    pub fn tagged(&self) -> impl Iterator<Item = (u32, u64)> + '_ {
+    pub fn single_definitions(&self) -> impl Iterator<Item = (u32, u64)> + '_ {
         (1..).zip(self.single.iter().copied()).filter(|&(_, key)| key != 0)
     }
 
     /// The type of the table that a number stands for, if it stands for one.
-    pub fn known(&self, number: u32) -> Option<u32> {
+    pub fn table_number(&self, number: u32) -> Option<u32> {
         let place = self.known.binary_search_by_key(&number, |&(own, _)| own).ok()?;
         Some(self.known[place].1)
     }
@@ -125,7 +125,7 @@ pub struct Joiner<'a> {
 
 /// What a unit's types were found to be: 0 for what is not known yet, a number of the table, or one
 /// behind all of these for the unit's own.
-pub struct Found {
+pub struct Identities {
     /// For each number, 0 too, what it was found to be.
     pub is: Vec<u32>,
     pairs: Vec<u32>,
@@ -152,11 +152,11 @@ impl<'a> Joiner<'a> {
     }
 
     /// Finds what each type of a unit is.
-    fn find(&self, piece: &Piece<'a>) -> Found {
+    fn find(&self, piece: &Piece<'a>) -> Identities {
         let count = piece.records.len() as u32;
         let mut is = self.slots.find(piece, &self.table);
         piece.known.iter().for_each(|&(own, known)| is[own as usize] = known);
-        let mut found = Found {
+        let mut found = Identities {
             is,
             pairs: vec![0; count as usize + 1],
             differ: HashSet::default(),
@@ -198,6 +198,8 @@ impl<'a> Joiner<'a> {
             to[number] = same;
         }
         let mut records: Vec<Option<Record>> = piece.records.into_iter().map(Some).collect();
+        self.table.records.reserve(order.len());
+        self.known.first.reserve(order.len());
         for &(own, first) in &order {
             let place = own as usize - 1;
             let mut record = records[place].take().expect("each is kept once");
@@ -256,7 +258,7 @@ impl<'a> Joiner<'a> {
     /// too, the one in it.
     pub fn into_table(self) -> (Table<'a>, Vec<u32>) {
         let Joiner { mut table, turn, .. } = self;
-        let (order, to) = ordered(&turn);
+        let (order, to) = order_of_turns(&turn);
         table.choose(&order, &to);
         (table, to)
     }
@@ -264,14 +266,14 @@ impl<'a> Joiner<'a> {
     /// What was joined, to be joined with more: a piece, the numbers in it, and the conflicts.
     pub fn into_piece(self, tags: &SingleTags) -> (Piece<'a>, Vec<u32>, HashSet<u64>) {
         let Joiner { mut table, shape, turn, slots, .. } = self;
-        let (order, to) = ordered(&turn);
+        let (order, to) = order_of_turns(&turn);
         table.choose(&order, &to);
         let shape = order.iter().map(|&n| shape[n as usize - 1]).collect();
         (Piece::with_shape(table.records, shape, slots.loose, tags), to, slots.conflicts)
     }
 
     /// Finds a struct or union, with all that it names, among those that are known.
-    fn compare(&self, piece: &Piece<'a>, number: u32, found: &mut Found) {
+    fn compare(&self, piece: &Piece<'a>, number: u32, found: &mut Identities) {
         let alike: Vec<u32> = self.named.of(piece.shape(number)).take(MOST_ALIKE).collect();
         for other in alike {
             if !found.differ.contains(&pair(number, other))
@@ -284,7 +286,7 @@ impl<'a> Joiner<'a> {
 
     /// Whether a new type, and all that it names, are the same as known ones; if so these are found.
     /// Where two differ, so do all on the way to them: none of these is compared again.
-    fn is_alike(&self, piece: &Piece<'a>, number: u32, other: u32, found: &mut Found) -> bool {
+    fn is_alike(&self, piece: &Piece<'a>, number: u32, other: u32, found: &mut Identities) -> bool {
         found.pairs[number as usize] = other;
         let mut met = vec![(number, 0)];
         let mut at = 0;
@@ -324,7 +326,7 @@ impl<'a> Joiner<'a> {
     }
 
     /// Finds a type, and before it all that it names, among those that are known.
-    fn look_up(&self, piece: &Piece<'a>, number: u32, found: &mut Found, fresh: &mut Chains) {
+    fn look_up(&self, piece: &Piece<'a>, number: u32, found: &mut Identities, fresh: &mut Chains) {
         const BEGUN: u32 = u32::MAX;
         let mut todo = vec![number];
         while let Some(&number) = todo.last() {
@@ -346,7 +348,13 @@ impl<'a> Joiner<'a> {
     }
 
     /// A type whose references are found.
-    fn of_record(&self, piece: &Piece<'a>, number: u32, found: &Found, fresh: &mut Chains) -> u32 {
+    fn of_record(
+        &self,
+        piece: &Piece<'a>,
+        number: u32,
+        found: &Identities,
+        fresh: &mut Chains,
+    ) -> u32 {
         let record = piece.get(number);
         let of = |n: u32| found.is[n as usize];
         let hash = with_references(piece.shape(number), record.references().map(of));
@@ -373,7 +381,7 @@ impl<'a> Joiner<'a> {
 }
 
 /// Types in the order of their turns, and for each, 0 too, its place in that, from 1 on.
-fn ordered(turn: &[u64]) -> (Vec<u32>, Vec<u32>) {
+fn order_of_turns(turn: &[u64]) -> (Vec<u32>, Vec<u32>) {
     let mut order: Vec<u32> = (1..=turn.len() as u32).collect();
     order.sort_by_key(|&n| turn[n as usize - 1]);
     let mut to = vec![0; order.len() + 1];
@@ -393,7 +401,7 @@ fn pair_all(
     mine: &Record<'_>,
     theirs: &Record<'_>,
     at: usize,
-    found: &mut Found,
+    found: &mut Identities,
     met: &mut Vec<(u32, usize)>,
 ) -> bool {
     for (x, y) in mine.references().zip(theirs.references()) {

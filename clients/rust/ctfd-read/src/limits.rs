@@ -3,6 +3,7 @@
 use crate::table::{Encoding, Kind, Member, Name, Parts, Record, Table};
 use std::borrow::Cow;
 use std::collections::HashMap;
+use std::ops::Range;
 
 const MOST_PARTS: usize = 1023;
 const MOST_COUNT: u64 = 0xffff_ffff;
@@ -12,6 +13,9 @@ const DEEPEST: usize = 512;
 pub fn fit(table: &mut Table<'_>) {
     let mut widths = Widths::default();
     for number in 1..=table.len() {
+        if fits(table.get(number)) {
+            continue;
+        }
         let mut record = table.get(number).clone();
         match record.kind {
             Kind::Struct | Kind::Union => aggregate(table, &mut record, &mut widths),
@@ -21,7 +25,7 @@ pub fn fit(table: &mut Table<'_>) {
                 record.tag = Kind::Typedef;
                 record.name = Cow::Owned(format!("_Atomic({})", spelling(table, record.of)).into());
             }
-            Kind::Array if record.elements > MOST_COUNT => long_array(table, &mut record),
+            Kind::Array => long_array(table, &mut record),
             Kind::Function => function(&mut table.losses, &mut record),
             Kind::Enum => enumerators(table, &mut record),
             _ => continue,
@@ -32,10 +36,36 @@ pub fn fit(table: &mut Table<'_>) {
     functions.iter_mut().flatten().for_each(|one| function(losses, one));
 }
 
-fn float(table: &mut Table<'_>, record: &mut Record<'_>) {
-    if record.encoding.flags != 0 {
-        return;
+/// Whether CTF holds a type as it is.
+fn fits(record: &Record<'_>) -> bool {
+    match record.kind {
+        Kind::Struct | Kind::Union => {
+            let members = record.members();
+            members.len() <= MOST_PARTS && members.iter().all(|one| one.width.is_none())
+        }
+        Kind::Float => record.encoding.flags != 0,
+        Kind::Atomic => false,
+        Kind::Array => record.elements <= MOST_COUNT,
+        Kind::Function => record.arguments().len() <= argument_room(record),
+        Kind::Enum => {
+            let (values, held) = (record.values(), values_held(record));
+            values.len() <= MOST_PARTS && values.iter().all(|one| held.contains(&one.value))
+        }
+        _ => true,
     }
+}
+
+/// How many arguments of a function CTF holds.
+fn argument_room(record: &Record<'_>) -> usize {
+    MOST_PARTS - usize::from(record.varargs)
+}
+
+/// The values of an enum that CTF holds.
+fn values_held(record: &Record<'_>) -> Range<i128> {
+    -(1 << 31)..if record.size == 4 { 1 << 32 } else { 1 << 31 }
+}
+
+fn float(table: &mut Table<'_>, record: &mut Record<'_>) {
     record.encoding.flags = match &*record.name {
         b"float" | b"_Float32" | b"f32" => 1,
         b"double" | b"_Float64" | b"_Float32x" | b"f64" => 2,
@@ -46,7 +76,7 @@ fn float(table: &mut Table<'_>, record: &mut Record<'_>) {
         _ => 0,
     };
     if record.encoding.flags == 0 {
-        let name = record.tagged();
+        let name = record.tag_name();
         table.losses.push(format!(
             "{name}: CTF has no word for how this float is encoded; its encoding is 0"
         ));
@@ -64,7 +94,7 @@ fn long_array(table: &mut Table<'_>, record: &mut Record<'_>) {
 }
 
 fn function(losses: &mut Vec<String>, record: &mut Record<'_>) {
-    let (count, room) = (record.arguments().len(), MOST_PARTS - usize::from(record.varargs));
+    let (count, room) = (record.arguments().len(), argument_room(record));
     if count > room {
         losses.push(format!(
             "a function of {count} arguments: CTF holds {room}; the others are left out"
@@ -74,12 +104,12 @@ fn function(losses: &mut Vec<String>, record: &mut Record<'_>) {
 }
 
 fn enumerators(table: &mut Table<'_>, record: &mut Record<'_>) {
-    let most = if record.size == 4 { 1i128 << 32 } else { 1 << 31 };
-    let tagged = record.tagged();
+    let held = values_held(record);
+    let tagged = record.tag_name();
     let Parts::Values(listed) = std::mem::take(&mut record.parts) else { return };
     let mut kept = listed.into_vec();
     kept.retain(|one| {
-        let fits = (-(1i128 << 31)..most).contains(&one.value);
+        let fits = held.contains(&one.value);
         if !fits {
             table.losses.push(format!(
                 "{tagged}: its enumerator {} is {}, and CTF holds 32 bits; it is left out",
@@ -102,7 +132,7 @@ fn enumerators(table: &mut Table<'_>, record: &mut Record<'_>) {
 }
 
 fn aggregate<'a>(table: &mut Table<'a>, record: &mut Record<'a>, widths: &mut Widths) {
-    let tagged = record.tagged();
+    let tagged = record.tag_name();
     if let Parts::Members(members) = &mut record.parts {
         members.iter_mut().for_each(|one| widths.member(table, &tagged, one));
     }
@@ -144,8 +174,8 @@ impl Widths {
     /// A bit-field gets a type of its width, all others stay. One as wide as its type gets a hidden
     /// copy of that, by which it is known.
     fn member(&mut self, table: &mut Table<'_>, whole: &str, member: &mut Member<'_>) {
-        let Some(width) = member.width.take() else { return };
-        let end = table.resolved(member.of);
+        let Some(width) = member.width.take().map(u64::from) else { return };
+        let end = table.resolve(member.of);
         if end == 0 {
             return;
         }
@@ -157,7 +187,7 @@ impl Widths {
                 let line = format!(
                     "{whole}: its bit-field {name} is one of {}, and CTF has widths of integers \
                      alone; an integer of {width} bits with the enum's name stands there",
-                    base.tagged()
+                    base.tag_name()
                 );
                 table.losses.push(line);
             }
@@ -179,7 +209,7 @@ impl Widths {
             copy.root = false;
             if record.kind == Kind::Enum {
                 let is_signed = record.values().iter().any(|one| one.value < 0);
-                copy = Record::new(Kind::Integer, Name::Owned(record.tagged().into()));
+                copy = Record::new(Kind::Integer, Name::Owned(record.tag_name().into()));
                 copy.size = record.size;
                 copy.root = false;
                 copy.encoding = Encoding { flags: u8::from(is_signed), offset: 0, bits: width };
@@ -222,7 +252,7 @@ impl Widths {
 fn size_of(table: &Table<'_>, mut number: u32) -> Option<u64> {
     let mut count: u64 = 1;
     for _ in 0..=table.len() {
-        number = table.resolved(number);
+        number = table.resolve(number);
         let record = (number != 0).then(|| table.get(number))?;
         let size = match record.kind {
             Kind::Pointer if table.is_ilp32 => 4,
@@ -272,7 +302,7 @@ fn spelling(table: &Table<'_>, mut number: u32) -> String {
         }
         number = record.of;
     }
-    let base = if number == 0 { "void".to_owned() } else { table.get(number).tagged() };
+    let base = if number == 0 { "void".to_owned() } else { table.get(number).tag_name() };
     let around = left + &right;
     let words = before.into_iter().chain([&*base, &*around]);
     words.filter(|word| !word.is_empty()).collect::<Vec<_>>().join(" ")

@@ -6,22 +6,23 @@
 
 use crate::hashed::{Map, Set};
 use crate::table::{Kind, Record, Table};
+use smallvec::SmallVec;
 use std::hash::{Hash, Hasher};
 
 /// How often forwards are resolved anew, since those of a tag turned out to be of several types.
 const MOST_ROUNDS: u32 = 8;
 
-type Tag = (Kind, Vec<u8>);
+type Tag<'t> = (Kind, &'t [u8]);
 
-fn tag(record: &Record<'_>) -> Tag {
-    (record.tag, record.name.to_vec())
+fn tag<'t>(record: &'t Record<'_>) -> Tag<'t> {
+    (record.tag, &record.name)
 }
 
 /// Keeps each type once, in the order of their first copies. A forward is the struct, union or enum
 /// of its tag where the table has just one. The first `fixed` types, those of a parent, all stay as
 /// they are.
 pub fn merge(table: &mut Table<'_>, fixed: u32) {
-    let mut resolved = whole(table);
+    let mut resolved = definitions(table);
     for number in 1..=fixed {
         resolved[number as usize] = number;
     }
@@ -49,8 +50,8 @@ pub fn merge(table: &mut Table<'_>, fixed: u32) {
 }
 
 /// For each type itself, but for a forward the first type of its tag that is declared in full.
-fn whole(table: &Table<'_>) -> Vec<u32> {
-    let mut full: Map<Tag, u32> = Map::default();
+fn definitions(table: &Table<'_>) -> Vec<u32> {
+    let mut full: Map<Tag<'_>, u32> = Map::default();
     for (place, record) in table.records.iter().enumerate() {
         let is_full = record.kind.is_aggregate() || record.kind == Kind::Enum;
         if is_full && !record.name.is_empty() {
@@ -69,16 +70,16 @@ fn whole(table: &Table<'_>) -> Vec<u32> {
 }
 
 /// The tags that forwards were resolved by though several types have them.
-fn ambiguous(table: &Table<'_>, colors: &[u32], resolved: &[u32]) -> Set<Tag> {
+fn ambiguous<'t>(table: &'t Table<'_>, colors: &[u32], resolved: &[u32]) -> Set<Tag<'t>> {
     let is_resolved = |n: usize| resolved[n] != n as u32;
     let numbers = 1..resolved.len();
-    let wanted: Set<Tag> =
+    let wanted: Set<Tag<'_>> =
         numbers.clone().filter(|&n| is_resolved(n)).map(|n| tag(&table.records[n - 1])).collect();
-    let mut seen: Map<Tag, u32> = Map::default();
+    let mut seen: Map<Tag<'_>, u32> = Map::default();
     let mut several = Set::default();
     for n in numbers.filter(|&n| !is_resolved(n)) {
         let tag = tag(&table.records[n - 1]);
-        if wanted.contains(&tag) && *seen.entry(tag.clone()).or_insert(colors[n]) != colors[n] {
+        if wanted.contains(&tag) && *seen.entry(tag).or_insert(colors[n]) != colors[n] {
             several.insert(tag);
         }
     }
@@ -87,39 +88,88 @@ fn ambiguous(table: &Table<'_>, colors: &[u32], resolved: &[u32]) -> Set<Tag> {
 
 /// A color for each number, 0 too, that two have in common just where they are the same.
 fn colors(table: &Table<'_>, resolved: &[u32]) -> Vec<u32> {
-    let mut references: Vec<Vec<u32>> = vec![Vec::new()];
-    references.extend(
-        table
-            .records
-            .iter()
-            .map(|record| record.references().map(|n| resolved[n as usize]).collect()),
-    );
-    let mut named_by = vec![Vec::new(); references.len()];
-    for (number, named) in references.iter().enumerate() {
-        named.iter().for_each(|&n| named_by[n as usize].push(number as u32));
-    }
+    let named = Edges::references(table, resolved);
+    let named_by = named.reverse();
     let mut labels: Map<Shape<'_, '_>, u32> = Map::default();
+    labels.reserve(table.records.len());
     let mut colors = vec![0];
     for record in &table.records {
         let next = labels.len() as u32 + 1;
         colors.push(*labels.entry(Shape(record)).or_insert(next));
     }
-    let mut classes = vec![Set::default(); labels.len() + 1];
-    for (number, &color) in colors.iter().enumerate() {
-        classes[color as usize].insert(number as u32);
-    }
-    let mut changed: Vec<u32> = (0..colors.len() as u32).collect();
+    let mut classes = classes(&colors, labels.len() + 1);
+    let is_open = |n: u32, colors: &[u32], classes: &[Set<u32>]| {
+        !classes[colors[n as usize] as usize].is_empty()
+    };
+    let numbers = 0..colors.len() as u32;
+    let mut changed: Vec<u32> = numbers.filter(|&n| is_open(n, &colors, &classes)).collect();
+    let mut is_changed = vec![false; colors.len()];
     while !changed.is_empty() {
-        let parts = parts(&changed, &references, &colors);
+        let parts = parts(&changed, &named, &colors);
         let mut moved = Vec::new();
         for (color, parts) in parts {
             fall_apart(color, parts, &mut classes, &mut colors, &mut moved);
         }
-        changed = moved.iter().flat_map(|&n| named_by[n as usize].iter().copied()).collect();
-        changed.sort_unstable();
-        changed.dedup();
+        let users = moved.iter().flat_map(|&n| named_by.of(n)).copied();
+        let mut is_new = |n: u32| !std::mem::replace(&mut is_changed[n as usize], true);
+        changed = users.filter(|&n| is_open(n, &colors, &classes) && is_new(n)).collect();
+        changed.iter().for_each(|&n| is_changed[n as usize] = false);
     }
     colors
+}
+
+/// The numbers of each color; none of a color that one number has alone, since it is not divided.
+fn classes(colors: &[u32], count: usize) -> Vec<Set<u32>> {
+    let mut sizes = vec![0; count];
+    colors.iter().for_each(|&color| sizes[color as usize] += 1);
+    let mut classes = vec![Set::default(); count];
+    for (number, &color) in (0..).zip(colors) {
+        if sizes[color as usize] > 1 {
+            classes[color as usize].insert(number);
+        }
+    }
+    classes
+}
+
+/// For each number some others, one behind the other.
+struct Edges {
+    ends: Vec<u32>,
+    listed: Vec<u32>,
+}
+
+impl Edges {
+    /// What each type names.
+    fn references(table: &Table<'_>, resolved: &[u32]) -> Edges {
+        let mut made = Edges { ends: vec![0], listed: Vec::new() };
+        for record in &table.records {
+            made.listed.extend(record.references().map(|n| resolved[n as usize]));
+            made.ends.push(made.listed.len() as u32);
+        }
+        made
+    }
+
+    /// For each number those that it is among the others of.
+    fn reverse(&self) -> Edges {
+        let mut ends = vec![0; self.ends.len()];
+        self.listed.iter().for_each(|&n| ends[n as usize] += 1);
+        for place in 1..ends.len() {
+            ends[place] += ends[place - 1];
+        }
+        let (mut next, mut listed) = (ends.clone(), vec![0; self.listed.len()]);
+        for number in 0..self.ends.len() as u32 {
+            for &n in self.of(number) {
+                next[n as usize] -= 1;
+                listed[next[n as usize] as usize] = number;
+            }
+        }
+        Edges { ends, listed }
+    }
+
+    fn of(&self, number: u32) -> &[u32] {
+        let end = self.ends[number as usize] as usize;
+        let begin = number.checked_sub(1).map_or(0, |before| self.ends[before as usize] as usize);
+        &self.listed[begin..end]
+    }
 }
 
 /// A type without what it names, and without who sees it.
@@ -139,13 +189,16 @@ impl Hash for Shape<'_, '_> {
     }
 }
 
+/// The colors of what a type names: most name one other.
+type Names = SmallVec<[u32; 4]>;
+
 /// Those that may differ now, by their class, and in that by the colors of what they name.
-fn parts(changed: &[u32], references: &[Vec<u32>], colors: &[u32]) -> Vec<(u32, Vec<Vec<u32>>)> {
-    let mut by_class: Map<u32, (usize, Map<Vec<u32>, usize>)> = Map::default();
+fn parts(changed: &[u32], named: &Edges, colors: &[u32]) -> Vec<(u32, Vec<Vec<u32>>)> {
+    let mut by_class: Map<u32, (usize, Map<Names, usize>)> = Map::default();
     let mut made: Vec<(u32, Vec<Vec<u32>>)> = Vec::new();
     for &number in changed {
         let color = colors[number as usize];
-        let named = references[number as usize].iter().map(|&n| colors[n as usize]).collect();
+        let named = named.of(number).iter().map(|&n| colors[n as usize]).collect();
         let (place, by_names) = by_class.entry(color).or_insert_with(|| {
             made.push((color, Vec::new()));
             (made.len() - 1, Map::default())
@@ -175,9 +228,7 @@ fn fall_apart(
     if others < parts[largest].len() {
         if others > 0 {
             let told: Set<u32> = parts.iter().flatten().copied().collect();
-            let mut left: Vec<u32> = whole.difference(&told).copied().collect();
-            left.sort_unstable();
-            parts.push(left);
+            parts.push(whole.difference(&told).copied().collect());
         }
         parts.swap_remove(largest);
     }
@@ -190,7 +241,8 @@ fn fall_apart(
             colors[number as usize] = classes.len() as u32;
         }
         moved.extend(&part);
-        classes.push(part.into_iter().collect());
+        let is_alone = part.len() == 1;
+        classes.push(if is_alone { Set::default() } else { part.into_iter().collect() });
     }
 }
 
@@ -214,23 +266,22 @@ fn one_of_each(table: &mut Table<'_>, colors: &[u32], resolved: &[u32], fixed: u
 
 /// Of several types of a name the first that is declared in full is found by it.
 pub fn name_once(table: &mut Table<'_>, fixed: u32) {
-    let mut best: Map<Tag, usize> = Map::default();
-    for place in fixed as usize..table.records.len() {
-        let record = &table.records[place];
+    let mut best: Map<Tag<'_>, usize> = Map::default();
+    let mut hidden = Vec::new();
+    for (place, record) in table.records.iter().enumerate().skip(fixed as usize) {
         if record.name.is_empty() || !record.root {
             continue;
         }
         let key = match record.kind {
-            Kind::Typedef | Kind::Integer | Kind::Float => (Kind::Typedef, record.name.to_vec()),
+            Kind::Typedef | Kind::Integer | Kind::Float => (Kind::Typedef, &*record.name),
             _ => tag(record),
         };
-        let is_forward = record.kind == Kind::Forward;
-        let known = *best.entry(key.clone()).or_insert(place);
-        if known != place && table.records[known].kind == Kind::Forward && !is_forward {
-            table.records[known].root = false;
-            best.insert(key, place);
-        } else if known != place {
-            table.records[place].root = false;
+        let known = best.entry(key).or_insert(place);
+        if *known != place && table.records[*known].is_forward() && !record.is_forward() {
+            hidden.push(std::mem::replace(known, place));
+        } else if *known != place {
+            hidden.push(place);
         }
     }
+    hidden.into_iter().for_each(|place| table.records[place].root = false);
 }

@@ -8,7 +8,7 @@ const MOST: usize = 3;
 const LEAST: f64 = 0.6;
 
 /// A name without the word in front.
-fn bare(name: &str) -> &str {
+fn without_word(name: &str) -> &str {
     match name.split_once(' ') {
         Some(("struct" | "union" | "enum", rest)) => rest.trim(),
         _ => name,
@@ -17,7 +17,7 @@ fn bare(name: &str) -> &str {
 
 /// How alike two names are; a word in front counts where both have one.
 fn likeness(name: &str, other: &str) -> f64 {
-    let other = if bare(name) == name { bare(other) } else { other };
+    let other = if without_word(name) == name { without_word(other) } else { other };
     strsim::normalized_damerau_levenshtein(name, other)
 }
 
@@ -29,7 +29,7 @@ pub fn suggestion(name: &str, names: impl Iterator<Item = String>) -> String {
     let mut found: Vec<&str> = known
         .iter()
         .map(String::as_str)
-        .filter(|one| *one != name && bare(one) == bare(name))
+        .filter(|one| *one != name && without_word(one) == without_word(name))
         .collect();
     let mut close: Vec<(f64, &str)> = known
         .iter()

@@ -99,7 +99,7 @@ impl Origin {
 }
 
 /// What the library is given for a file.
-pub struct Handed<'a> {
+pub struct LibraryInput<'a> {
     /// The dictionary, inflated.
     pub ctf: Cow<'a, [u8]>,
     /// A symbol table of ELF64.
@@ -119,12 +119,12 @@ pub struct Handed<'a> {
     /// In which source files its types are defined, where that was asked for.
     pub sources: SourceFiles,
     /// The children of a program in parts, of which this is the parent.
-    pub children: Vec<Handed<'a>>,
+    pub children: Vec<LibraryInput<'a>>,
 }
 
-impl<'a> Handed<'a> {
-    fn plain(ctf: Cow<'a, [u8]>) -> Handed<'a> {
-        Handed {
+impl<'a> LibraryInput<'a> {
+    fn of_dictionary(ctf: Cow<'a, [u8]>) -> LibraryInput<'a> {
+        LibraryInput {
             ctf,
             symbols: None,
             strings: None,
@@ -139,9 +139,9 @@ impl<'a> Handed<'a> {
     }
 
     /// The same, which borrows nothing.
-    pub fn into_owned(self) -> Handed<'static> {
+    pub fn into_owned(self) -> LibraryInput<'static> {
         let owned = |bytes: Cow<'a, [u8]>| Cow::Owned(bytes.into_owned());
-        Handed {
+        LibraryInput {
             ctf: owned(self.ctf),
             symbols: self.symbols.map(owned),
             strings: self.strings.map(owned),
@@ -151,17 +151,17 @@ impl<'a> Handed<'a> {
             losses: self.losses,
             beyond: self.beyond,
             sources: self.sources,
-            children: self.children.into_iter().map(Handed::into_owned).collect(),
+            children: self.children.into_iter().map(LibraryInput::into_owned).collect(),
         }
     }
 
     /// The dictionary alone, without symbols, and its children so.
-    pub fn bare(&self) -> Handed<'_> {
-        Handed {
+    pub fn without_symbols(&self) -> LibraryInput<'_> {
+        LibraryInput {
             model: self.model,
             is_made: self.is_made,
-            children: self.children.iter().map(Handed::bare).collect(),
-            ..Handed::plain(Cow::Borrowed(&self.ctf))
+            children: self.children.iter().map(LibraryInput::without_symbols).collect(),
+            ..LibraryInput::of_dictionary(Cow::Borrowed(&self.ctf))
         }
     }
 
@@ -173,7 +173,7 @@ impl<'a> Handed<'a> {
                 .ok()
                 .and_then(|sections| labels::symbols(&sections))
                 .is_some_and(|wanted| wanted.table == SymbolTable::Names);
-        has_names || self.children.iter().any(Handed::has_more_names)
+        has_names || self.children.iter().any(LibraryInput::has_more_names)
     }
 
     /// Hands in the symbols whose names the dictionaries have themselves.
@@ -185,7 +185,7 @@ impl<'a> Handed<'a> {
             self.symbols = Some(symbols.into());
             self.strings = Some(strings.into());
         }
-        self.children.iter_mut().for_each(Handed::add_names);
+        self.children.iter_mut().for_each(LibraryInput::add_names);
         if self.symbols.is_some() || self.children.iter().any(|one| one.symbols.is_some()) {
             self.origin = Origin::Named;
         }
@@ -214,7 +214,7 @@ pub fn model_named(ctf: &[u8]) -> Option<Model> {
 }
 
 /// A dictionary with its sections compressed, as CTF has it; as it is where that takes no fewer bytes.
-pub fn deflated(ctf: &[u8]) -> Result<Cow<'_, [u8]>> {
+pub fn deflate(ctf: &[u8]) -> Result<Cow<'_, [u8]>> {
     let packed = ctf::deflate(ctf)?;
     Ok(if packed.len() < ctf.len() { packed.into() } else { ctf.into() })
 }
@@ -244,19 +244,19 @@ pub fn debug_file_of(image: &Image, folders: &[PathBuf]) -> Result<Option<Image>
 }
 
 /// What the library is given for a file: its own dictionary, or one that is made of its types.
-pub fn handed<'a>(image: &'a Image, options: &Options) -> Result<Handed<'a>> {
+pub fn library_input<'a>(image: &'a Image, options: &Options) -> Result<LibraryInput<'a>> {
     match own_or_found(image, options)? {
         Some(found) => Ok(found),
         None => {
             let options = Options { symbols: table_wanted(image)?, ..options.clone() };
-            converted(image, &options)
+            convert(image, &options)
         }
     }
 }
 
 /// The dictionary of a file, or what is given for the file that has its types by build-id, where it
 /// has none itself.
-fn own_or_found<'a>(image: &'a Image, options: &Options) -> Result<Option<Handed<'a>>> {
+fn own_or_found<'a>(image: &'a Image, options: &Options) -> Result<Option<LibraryInput<'a>>> {
     if let Some(found) = own_dictionary(image, options)? {
         return Ok(Some(found));
     }
@@ -267,7 +267,7 @@ fn own_or_found<'a>(image: &'a Image, options: &Options) -> Result<Option<Handed
     let id = image.elf()?.build_id()?.unwrap_or_default();
     let Some(found) = options.elsewhere.find(id)? else { return Ok(None) };
     let options = Options { elsewhere: Elsewhere::default(), ..options.clone() };
-    Ok(Some(handed(&found, &options)?.into_owned()))
+    Ok(Some(library_input(&found, &options)?.into_owned()))
 }
 
 /// Whether an ELF file has types itself.
@@ -278,20 +278,20 @@ fn has_types(image: &Image) -> Result<bool> {
 
 /// The same; of a program that strip has left no symbols but those that it exports, with those that
 /// it had before and their addresses, where its debug file has them.
-pub fn handed_before_strip<'a>(image: &'a Image, options: &Options) -> Result<Handed<'a>> {
+pub fn handed_before_strip<'a>(image: &'a Image, options: &Options) -> Result<LibraryInput<'a>> {
     let is_stripped = symbols_before_strip(image).is_some();
     match own_or_found(image, options)? {
         None if is_stripped => {
             let options = Options { symbols: SymbolTable::Symtab, ..options.clone() };
-            converted(image, &options)
+            convert(image, &options)
         }
         Some(found) => Ok(found),
-        None => handed(image, options),
+        None => library_input(image, options),
     }
 }
 
 /// The dictionary of a file, unless it has other types that are wanted.
-fn own_dictionary<'a>(image: &'a Image, options: &Options) -> Result<Option<Handed<'a>>> {
+fn own_dictionary<'a>(image: &'a Image, options: &Options) -> Result<Option<LibraryInput<'a>>> {
     let is_plain = matches!(options.form, None | Some(Form::Ctf)) && options.base.is_none();
     if is_plain && !image.is_elf() && has_dictionaries(image.all()?) {
         return in_archive(image, options).map(Some);
@@ -307,7 +307,10 @@ fn own_dictionary<'a>(image: &'a Image, options: &Options) -> Result<Option<Hand
 }
 
 /// The dictionary of a file as it is; None where the file has none of version 2.
-pub fn dictionary_of<'a>(image: &'a Image, number: Option<usize>) -> Result<Option<Handed<'a>>> {
+pub fn dictionary_of<'a>(
+    image: &'a Image,
+    number: Option<usize>,
+) -> Result<Option<LibraryInput<'a>>> {
     if image.is_elf() {
         return match image.elf()?.is_64() {
             true => in_elf::<FileHeader64<Endianness>>(image, number, Model::Lp64),
@@ -323,17 +326,17 @@ pub fn dictionary_of<'a>(image: &'a Image, number: Option<usize>) -> Result<Opti
         false => Cow::Owned(plain_bytes(image, number)?),
     };
     let model = model_named(&ctf);
-    Ok(Some(Handed { model, ..Handed::plain(ctf) }))
+    Ok(Some(LibraryInput { model, ..LibraryInput::of_dictionary(ctf) }))
 }
 
 /// The dictionaries of a program in parts, as `ctfd-convert` writes them; None of other files.
-pub fn parts_of(image: &Image) -> Result<Option<Handed<'_>>> {
+pub fn parts_of(image: &Image) -> Result<Option<LibraryInput<'_>>> {
     let is_archive = !image.is_elf() && has_dictionaries(image.all()?);
     is_archive.then(|| in_archive(image, &Options::default())).transpose()
 }
 
 /// The dictionaries of an archive, as `ctfd-convert` writes them of a program in parts.
-fn in_archive<'a>(image: &'a Image, options: &Options) -> Result<Handed<'a>> {
+fn in_archive<'a>(image: &'a Image, options: &Options) -> Result<LibraryInput<'a>> {
     let path = image.path().display();
     if options.number.is_some() {
         return refuse(format!(
@@ -342,14 +345,14 @@ fn in_archive<'a>(image: &'a Image, options: &Options) -> Result<Handed<'a>> {
         ));
     }
     let mut parts = members(image.all()?).map_err(|error| error.of(&path))?.into_iter();
-    let part = |(name, bytes): (String, &'a [u8])| -> Result<Handed<'a>> {
+    let part = |(name, bytes): (String, &'a [u8])| -> Result<LibraryInput<'a>> {
         if !ctf::Layout::of(bytes).is_some_and(ctf::Layout::is_native) {
             return refuse(format!(
                 "{path}, {name}: no dictionary of CTF version 2: let ctfd-convert make the file anew"
             ));
         }
         let ctf = ctf::inflate(bytes).map_err(|error| error.of(format!("{path}, {name}")))?;
-        Ok(Handed { model: model_named(&ctf), ..Handed::plain(ctf) })
+        Ok(LibraryInput { model: model_named(&ctf), ..LibraryInput::of_dictionary(ctf) })
     };
     let mut made = part(parts.next().unwrap_or_default())?;
     made.children = parts.map(part).collect::<Result<_>>()?;
@@ -366,7 +369,7 @@ fn in_elf<'a, F: FileHeader<Endian = Endianness>>(
     image: &'a Image,
     number: Option<usize>,
     model: Model,
-) -> Result<Option<Handed<'a>>> {
+) -> Result<Option<LibraryInput<'a>>> {
     let file = image.elf()?;
     let has_bytes = |name: &&str| {
         file.section_by_name(name).is_some_and(|section| section.file_range().is_some())
@@ -393,13 +396,12 @@ fn in_elf<'a, F: FileHeader<Endian = Endianness>>(
     let of_ctf = model_named(&ctf).unwrap_or(model);
     if of_ctf != model {
         return refuse(format!(
-            "{place}: it says that it is of {}, and the file is of {}: it was put into another \
-             program",
+            "{place}: its model is {}, but that of the file is {}: it was put into another program",
             labels::model_word(of_ctf),
             labels::model_word(model)
         ));
     }
-    let mut made = Handed { model: Some(model), ..Handed::plain(ctf) };
+    let mut made = LibraryInput { model: Some(model), ..LibraryInput::of_dictionary(ctf) };
     match Sections::of(&made.ctf).ok().and_then(|sections| labels::symbols(&sections)) {
         Some(wanted) => add_named(&mut made, image, wanted.table)?,
         None => add_unnamed::<F>(&mut made, image.data(), name, model)?,
@@ -408,7 +410,7 @@ fn in_elf<'a, F: FileHeader<Endian = Endianness>>(
 }
 
 /// Adds the symbols that a dictionary says that it was written for, if its file has them.
-fn add_named<'a>(made: &mut Handed<'a>, image: &'a Image, table: SymbolTable) -> Result<()> {
+fn add_named<'a>(made: &mut LibraryInput<'a>, image: &'a Image, table: SymbolTable) -> Result<()> {
     if table == SymbolTable::Names {
         made.add_names();
         if made.symbols.is_none() {
@@ -435,7 +437,7 @@ fn add_named<'a>(made: &mut Handed<'a>, image: &'a Image, table: SymbolTable) ->
 /// Adds the symbol table and strings of a section whose dictionary says nothing of them. What strip
 /// leaves in .dynsym is never taken for .symtab.
 fn add_unnamed<'a, F: FileHeader<Endian = Endianness>>(
-    made: &mut Handed<'a>,
+    made: &mut LibraryInput<'a>,
     data: Data<'a>,
     name: &str,
     model: Model,
@@ -475,12 +477,12 @@ fn add_unnamed<'a, F: FileHeader<Endian = Endianness>>(
 }
 
 /// A dictionary that is made of a file's types.
-fn converted<'a>(image: &'a Image, options: &Options) -> Result<Handed<'a>> {
+fn convert<'a>(image: &'a Image, options: &Options) -> Result<LibraryInput<'a>> {
     let is_ilp32 = image.is_elf() && !image.elf()?.is_64();
     with_types(image, options, |found| {
         let named = |error: Error| error.within(&image.path().display().to_string());
         let (found, full) = match options.is_in_full {
-            true => fitted(select_in_full(found, &[]).map_err(named)?.0),
+            true => fit_to_ctf(select_in_full(found, &[]).map_err(named)?.0),
             false => (select(found, &[]).map_err(named)?.0, None),
         };
         if found.table.len() > MOST_TYPES && !options.is_one {
@@ -489,13 +491,13 @@ fn converted<'a>(image: &'a Image, options: &Options) -> Result<Handed<'a>> {
         let mut dictionary = alone(found.table, found.symbols);
         let ctf = dictionary.bytes().map_err(named)?;
         let table = dictionary.symbols.table;
-        let mut made = Handed {
+        let mut made = LibraryInput {
             model: Some(dictionary.table.model()),
             is_made: true,
             beyond: full.and_then(|full| Beyond::of_written(&full, &dictionary.table)),
             sources: std::mem::take(&mut dictionary.table.sources),
             losses: std::mem::take(&mut dictionary.table.losses),
-            ..Handed::plain(Cow::Owned(ctf))
+            ..LibraryInput::of_dictionary(Cow::Owned(ctf))
         };
         let has_places = dictionary.symbols.listed.iter().any(|one| one.address != 0);
         if dictionary.has_label() && table == SymbolTable::Names && !has_places {
@@ -520,16 +522,20 @@ fn converted<'a>(image: &'a Image, options: &Options) -> Result<Handed<'a>> {
 }
 
 /// The dictionaries of a program with more types than one holds.
-fn in_parts<'a>(image: &'a Image, found: ProgramTypes<'_>, is_ilp32: bool) -> Result<Handed<'a>> {
+fn in_parts<'a>(
+    image: &'a Image,
+    found: ProgramTypes<'_>,
+    is_ilp32: bool,
+) -> Result<LibraryInput<'a>> {
     let written = parts::write(found.table, found.symbols, image, image.path())?;
     let mut whole = written.whole;
     let table = whole.symbols.table;
     let made_lists = is_ilp32.then(|| whole.symbols.made_table());
-    let part = |(_, bytes): (String, &[u8])| -> Result<Handed<'a>> {
-        let mut made = Handed {
+    let part = |(_, bytes): (String, &[u8])| -> Result<LibraryInput<'a>> {
+        let mut made = LibraryInput {
             model: Some(whole.table.model()),
             is_made: true,
-            ..Handed::plain(Cow::Owned(bytes.to_vec()))
+            ..LibraryInput::of_dictionary(Cow::Owned(bytes.to_vec()))
         };
         let has_label = labels::symbols(&Sections::of(bytes)?).is_some();
         match &made_lists {
@@ -544,7 +550,8 @@ fn in_parts<'a>(image: &'a Image, found: ProgramTypes<'_>, is_ilp32: bool) -> Re
         Ok(made)
     };
     let mut listed = members(&written.bytes)?.into_iter().map(part);
-    let mut made = listed.next().transpose()?.unwrap_or_else(|| Handed::plain(Cow::default()));
+    let mut made =
+        listed.next().transpose()?.unwrap_or_else(|| LibraryInput::of_dictionary(Cow::default()));
     made.children = listed.collect::<Result<_>>()?;
     made.losses = std::mem::take(&mut whole.table.losses);
     made.sources = std::mem::take(&mut whole.table.sources);
@@ -552,7 +559,7 @@ fn in_parts<'a>(image: &'a Image, found: ProgramTypes<'_>, is_ilp32: bool) -> Re
 }
 
 /// Types as CTF holds them, and all that the file says of them, where CTF does not hold that.
-fn fitted<'a>(found: ProgramTypes<'a>) -> (ProgramTypes<'a>, Option<Table<'a>>) {
+fn fit_to_ctf<'a>(found: ProgramTypes<'a>) -> (ProgramTypes<'a>, Option<Table<'a>>) {
     let full = found.table.clone();
     let mut found = found;
     if found.form != Form::Ctf {

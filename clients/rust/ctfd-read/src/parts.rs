@@ -13,7 +13,7 @@ use std::borrow::Cow;
 use std::path::Path;
 
 /// What is written of a program in parts.
-pub struct Written<'a> {
+pub struct WrittenParts<'a> {
     /// The file.
     pub bytes: Vec<u8>,
     /// The types of all parts, as one that is not written, with the losses.
@@ -22,7 +22,7 @@ pub struct Written<'a> {
     pub counts: Vec<usize>,
 }
 
-impl Written<'_> {
+impl WrittenParts<'_> {
     /// The dictionaries, each child with the parent.
     pub fn dictionaries(&self) -> Result<Vec<WithParent<'_>>> {
         let members = archive::members(&self.bytes)?;
@@ -38,12 +38,12 @@ pub fn write<'a>(
     symbols: Symbols<'a>,
     image: &Image,
     output: &Path,
-) -> Result<Written<'a>> {
+) -> Result<WrittenParts<'a>> {
     let spread = spread(&table);
     let mut losses = std::mem::take(&mut table.losses);
     table.is_cut = !spread.left.is_empty();
     losses.extend(left_out(&table, &spread.left, "a part of the file holds"));
-    let mut parts = Parts { table, symbols, told: Told::default(), losses, image, output };
+    let mut parts = Parts { table, symbols, told: ToldSymbols::default(), losses, image, output };
     let parent = parts.bytes(&spread.parent, &[], None)?;
     let mut members = vec![(PARENT.to_owned(), parent.clone())];
     for (place, own) in spread.children.iter().enumerate() {
@@ -56,14 +56,14 @@ pub fn write<'a>(
     let Parts { mut table, symbols, losses, .. } = parts;
     table.losses = losses;
     let whole = Dictionary { table, symbols, parent: None, has_own_parent: false, plain: None };
-    Ok(Written { bytes, whole, counts })
+    Ok(WrittenParts { bytes, whole, counts })
 }
 
 /// The table that is spread, and what was written of it.
 struct Parts<'p, 'a> {
     table: Table<'a>,
     symbols: Symbols<'a>,
-    told: Told,
+    told: ToldSymbols,
     losses: Vec<String>,
     image: &'p Image,
     output: &'p Path,
@@ -71,12 +71,12 @@ struct Parts<'p, 'a> {
 
 /// Which objects and functions are told of: each is in the first part that has its type.
 #[derive(Default)]
-struct Told {
+struct ToldSymbols {
     objects: Vec<bool>,
     functions: Vec<bool>,
 }
 
-impl Told {
+impl ToldSymbols {
     fn leave_out(&mut self, part: &mut Table<'_>) {
         self.objects.resize(part.objects.len(), false);
         self.functions.resize(part.functions.len(), false);

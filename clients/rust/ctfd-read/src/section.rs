@@ -1,8 +1,8 @@
 //! The bytes of a dictionary of CTF version 2, from a table that says no more than that holds.
 
 use crate::error::{refuse, Result};
+use crate::hashed::Map;
 use crate::table::{Kind, Record, Table};
-use std::collections::HashMap;
 
 const MAGIC: u16 = 0xcff1;
 const VERSION: u8 = 2;
@@ -38,7 +38,7 @@ impl Bytes {
 /// The string section; each name stands there once.
 struct Names<'t> {
     bytes: Vec<u8>,
-    known: HashMap<&'t [u8], u64>,
+    known: Map<&'t [u8], u64>,
 }
 
 impl<'t> Names<'t> {
@@ -74,7 +74,7 @@ pub fn encode(table: &Table<'_>) -> Result<Vec<u8>> {
         return refuse(format!("{count} types are more than the {MOST_TYPES} of a dictionary"));
     }
     let number = |n: u32| if is_child && n > bases { n - bases + CHILD } else { n };
-    let mut names = Names { bytes: vec![0], known: HashMap::new() };
+    let mut names = Names { bytes: vec![0], known: Map::default() };
     let (parent, label) = (names.place(&table.parent_name), names.place(&table.parent_label));
     let mut types = Bytes::default();
     for record in &table.records[bases as usize..] {
@@ -148,31 +148,32 @@ fn write<'t>(
         }
         _ => number(record.of).into(),
     };
-    // The head stands in front, but its name comes behind those of members in the strings.
-    let tail = tail_of(record, number, names)?;
-    made.word(names.place(&record.name));
+    let head = made.0.len();
+    made.word(0); // the name, which comes behind those of members in the strings
     made.half((record.kind as u64) << 11 | u64::from(record.root) << 10 | length as u64);
     made.half(field.min(LONG_SIZE));
     if field >= LONG_SIZE {
         made.two(field);
     }
-    made.0.extend(tail.0);
+    write_tail(record, number, names, made)?;
+    let name = names.place(&record.name) as u32;
+    made.0[head..head + 4].copy_from_slice(&name.to_le_bytes());
     Ok(())
 }
 
-/// What stands behind the head of a record.
-fn tail_of<'t>(
+/// Writes what stands behind the head of a record.
+fn write_tail<'t>(
     record: &'t Record<'_>,
     number: &impl Fn(u32) -> u32,
     names: &mut Names<'t>,
-) -> Result<Bytes> {
-    let mut tail = Bytes::default();
+    tail: &mut Bytes,
+) -> Result<()> {
     match record.kind {
         Kind::Integer | Kind::Float => {
             if record.encoding.bits > 0xffff {
                 return refuse(format!(
                     "{}: a width that no type of C has: damage",
-                    record.tagged()
+                    record.tag_name()
                 ));
             }
             let (flags, offset) =
@@ -191,7 +192,7 @@ fn tail_of<'t>(
                 tail.half(0);
             }
         }
-        Kind::Struct | Kind::Union => members(record, number, names, &mut tail)?,
+        Kind::Struct | Kind::Union => members(record, number, names, tail)?,
         _ => {
             for one in record.values() {
                 tail.word(names.place(&one.name));
@@ -199,7 +200,7 @@ fn tail_of<'t>(
             }
         }
     }
-    Ok(tail)
+    Ok(())
 }
 
 fn members<'t>(
@@ -217,7 +218,7 @@ fn members<'t>(
         } else if one.offset <= 0xffff {
             tail.half(one.offset);
         } else {
-            let tagged = record.tagged();
+            let tagged = record.tag_name();
             return refuse(format!("{tagged}: a member lies outside of it: damage"));
         }
     }

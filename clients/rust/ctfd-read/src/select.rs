@@ -36,13 +36,13 @@ pub fn types_named(table: &Table<'_>, names: &[String]) -> Result<Vec<u32>> {
         }
         let is_named = |&n: &u32| {
             let record = table.get(n);
-            !record.name.is_empty() && record.tagged() == plain
+            !record.name.is_empty() && record.tag_name() == plain
         };
         let before = found.len();
         found.extend((1..=table.len()).filter(is_named));
         if found.len() == before {
             let records = table.records.iter();
-            let names = records.filter(|record| !record.name.is_empty()).map(Record::tagged);
+            let names = records.filter(|record| !record.name.is_empty()).map(Record::tag_name);
             return refuse(format!(
                 "--only {name}: it has no type of this name{}",
                 suggestion(&plain, names)
@@ -174,7 +174,7 @@ pub fn left_out(table: &Table<'_>, left: &[u32], what: &str) -> Option<String> {
         .iter()
         .map(|&n| table.get(n))
         .filter(|record| !record.name.is_empty())
-        .map(Record::tagged)
+        .map(Record::tag_name)
         .collect();
     let mut listed = names[..names.len().min(LISTED)].join(", ");
     if names.len() > LISTED {
@@ -186,7 +186,7 @@ pub fn left_out(table: &Table<'_>, left: &[u32], what: &str) -> Option<String> {
     (!left.is_empty()).then(|| {
         format!(
             "{} types are more than the {MOST_TYPES} that {what}; they are left out, and pointers \
-             to them point to nothing told: {listed}",
+             to them become void *: {listed}",
             left.len()
         )
     })

@@ -6,7 +6,7 @@
 //! stands for nothing from then on. If a declaration was joined by it before, it is a conflict, and
 //! what was joined counts no more.
 
-use crate::join::{Found, NumberHasher, Piece};
+use crate::join::{Identities, NumberHasher, Piece};
 use crate::table::{is_same, Kind, Record, Table};
 use std::collections::{HashMap, HashSet};
 use std::hash::BuildHasherDefault;
@@ -29,7 +29,7 @@ pub struct Slots {
 
 /// What was found of the definitions of a unit.
 #[derive(Default)]
-pub struct Judged {
+pub struct Verdicts {
     /// The keys of tags whose definitions differ.
     pub several: Vec<u64>,
     /// Those of which one tells less than another.
@@ -62,7 +62,7 @@ impl Slots {
     pub fn find(&self, piece: &Piece<'_>, table: &Table<'_>) -> Vec<u32> {
         let mut is = vec![0; piece.records.len() + 1];
         let mut own: ByKey<u32> = HashMap::default();
-        for (number, key) in piece.tagged() {
+        for (number, key) in piece.single_definitions() {
             let record = piece.get(number);
             let (same, of_tag) = match self.number(key) {
                 Some(known) => (known, table.get(known)),
@@ -79,10 +79,10 @@ impl Slots {
     }
 
     /// Compares the definitions of a unit with those that are known.
-    pub fn judge(&self, piece: &Piece<'_>, table: &Table<'_>, found: &Found) -> Judged {
-        let mut judged = Judged::default();
+    pub fn judge(&self, piece: &Piece<'_>, table: &Table<'_>, found: &Identities) -> Verdicts {
+        let mut judged = Verdicts::default();
         let mut first: ByKey<u32> = HashMap::default();
-        for (number, key) in piece.tagged() {
+        for (number, key) in piece.single_definitions() {
             let (record, same) = (piece.get(number), found.is[number as usize]);
             if record.is_forward() || same == 0 {
                 continue;
@@ -95,7 +95,7 @@ impl Slots {
             let likeness = match self.number(key).filter(|&known| known == same) {
                 _ if before != number && !is_first_again => Likeness::Different,
                 Some(known) if !table.get(known).is_forward() => {
-                    likeness(number, known, &Compared { piece, table, found })
+                    likeness(number, known, &Comparison { piece, table, found })
                 }
                 _ => Likeness::Same,
             };
@@ -114,7 +114,8 @@ impl Slots {
 
     /// Marks those that declarations of a unit are taken for, and what tells less.
     pub fn loosen(&mut self, piece: &Piece<'_>, loose: &[u64]) {
-        let declared = piece.tagged().filter(|&(number, _)| piece.get(number).is_forward());
+        let declared =
+            piece.single_definitions().filter(|&(number, _)| piece.get(number).is_forward());
         let keys = declared.map(|(_, key)| key).chain(loose.iter().copied());
         self.loose.extend(keys.chain(piece.loose.iter().copied()));
     }
@@ -150,37 +151,37 @@ fn is_tagged(record: &Record<'_>) -> bool {
 
 /// A type that a unit names: one that it told, or one that stands in the table already.
 #[derive(Clone, Copy)]
-enum Named {
+enum Reference {
     OfUnit(u32),
     OfTable(u32),
 }
 
 /// A unit's types, beside what they were found to be in a table.
-struct Compared<'c, 'a> {
+struct Comparison<'c, 'a> {
     piece: &'c Piece<'a>,
     table: &'c Table<'a>,
-    found: &'c Found,
+    found: &'c Identities,
 }
 
-impl<'c, 'a> Compared<'c, 'a> {
-    fn record(&self, one: Named) -> &'c Record<'a> {
+impl<'c, 'a> Comparison<'c, 'a> {
+    fn record(&self, one: Reference) -> &'c Record<'a> {
         match one {
-            Named::OfUnit(number) => self.piece.get(number),
-            Named::OfTable(number) => self.table.get(number),
+            Reference::OfUnit(number) => self.piece.get(number),
+            Reference::OfTable(number) => self.table.get(number),
         }
     }
 
     /// The pairs of what two types name that were not found to be the same; None where one of them
     /// names nothing.
-    fn open_pairs(&self, one: Named, other: u32) -> Option<Vec<(Named, u32)>> {
+    fn open_pairs(&self, one: Reference, other: u32) -> Option<Vec<(Reference, u32)>> {
         let pairs = self.record(one).references().zip(self.table.get(other).references());
         let open = pairs.filter_map(|(x, y)| {
             let (named, is) = match one {
-                Named::OfUnit(_) => {
-                    let known = self.piece.known(x).map(Named::OfTable);
-                    (known.unwrap_or(Named::OfUnit(x)), self.found.is[x as usize])
+                Reference::OfUnit(_) => {
+                    let known = self.piece.table_number(x).map(Reference::OfTable);
+                    (known.unwrap_or(Reference::OfUnit(x)), self.found.is[x as usize])
                 }
-                Named::OfTable(_) => (Named::OfTable(x), x),
+                Reference::OfTable(_) => (Reference::OfTable(x), x),
             };
             (is != y).then_some((x != 0 && y != 0).then_some((named, y)))
         });
@@ -190,9 +191,9 @@ impl<'c, 'a> Compared<'c, 'a> {
 
 /// How a unit's definition of a tag is alike to the one that is known. What has no tag is compared
 /// with all that it names; what has one is the same, or declared on one side alone.
-fn likeness(number: u32, known: u32, compared: &Compared<'_, '_>) -> Likeness {
+fn likeness(number: u32, known: u32, compared: &Comparison<'_, '_>) -> Likeness {
     let mut likeness = Likeness::Same;
-    let mut todo = vec![(Named::OfUnit(number), known)];
+    let mut todo = vec![(Reference::OfUnit(number), known)];
     let mut at = 0;
     while at < todo.len() {
         let (x, y) = todo[at];

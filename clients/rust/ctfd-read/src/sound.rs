@@ -2,6 +2,10 @@
 
 use crate::error::{refuse, Result};
 use crate::table::{Kind, Record, Table};
+use smallvec::{smallvec, SmallVec};
+
+/// The types that one leads on to.
+type Next = SmallVec<[u32; 8]>;
 
 /// Refuses a table in which a type names one that is not there, or has a place or a size that no
 /// type of C has.
@@ -21,39 +25,42 @@ pub fn judge(table: &Table<'_>) -> Result<()> {
     if table.symbol_roots().iter().any(|&n| n > count) {
         return refuse("a symbol has a type that is not there: damage");
     }
-    judge_depth(table, by_value)?;
-    judge_depth(table, as_declared)
+    let (values, declarations) =
+        rayon::join(|| judge_depth(table, by_value), || judge_depth(table, as_declared));
+    values.and(declarations)
 }
 
 /// What a value of a type is made of.
-fn by_value(record: &Record<'_>) -> Vec<u32> {
+fn by_value(record: &Record<'_>) -> Next {
     match record.kind {
         kind if kind.is_aggregate() => record.members().iter().map(|one| one.of).collect(),
-        Kind::Typedef | Kind::Array => vec![record.of],
-        kind if kind.is_qualifier() => vec![record.of],
-        _ => Vec::new(),
+        Kind::Typedef | Kind::Array => smallvec![record.of],
+        kind if kind.is_qualifier() => smallvec![record.of],
+        _ => Next::new(),
     }
 }
 
 /// What a declaration goes on with.
-fn as_declared(record: &Record<'_>) -> Vec<u32> {
+fn as_declared(record: &Record<'_>) -> Next {
     match record.kind {
-        Kind::Typedef | Kind::Pointer | Kind::Function | Kind::Array => vec![record.of],
-        kind if kind.is_qualifier() => vec![record.of],
-        _ => Vec::new(),
+        Kind::Typedef | Kind::Pointer | Kind::Function | Kind::Array => smallvec![record.of],
+        kind if kind.is_qualifier() => smallvec![record.of],
+        _ => Next::new(),
     }
 }
 
 /// Refuses a table in which types lead on further than those of a program, or without end: all that
 /// looks at them would take a step for each pair of them.
-fn judge_depth(table: &Table<'_>, leads: fn(&Record<'_>) -> Vec<u32>) -> Result<()> {
+fn judge_depth(table: &Table<'_>, leads: fn(&Record<'_>) -> Next) -> Result<()> {
     const BEGUN: u32 = u32::MAX;
     // From each type, and one more; 0 while that is not known.
     let mut steps = vec![0u32; table.len() as usize + 1];
+    let mut todo = Vec::new();
     for number in 1..=table.len() {
-        let mut todo = vec![number];
+        todo.extend(Some(number).filter(|&n| steps[n as usize] == 0));
         while let Some(&here) = todo.last() {
-            let inner: Vec<u32> = leads(table.get(here)).into_iter().filter(|&n| n != 0).collect();
+            let mut inner = leads(table.get(here));
+            inner.retain(|n| *n != 0);
             let place = here as usize;
             if steps[place] == 0 {
                 steps[place] = BEGUN;
@@ -86,7 +93,7 @@ const LONGEST: u64 = 1 << 60;
 fn judge_members(record: &Record<'_>) -> Result<()> {
     let last = if record.size < crate::section::LONG_MEMBERS { 0xffff } else { 8 * LONGEST - 1 };
     for one in record.members() {
-        if one.offset > last || one.width.unwrap_or(0) > 0xffff {
+        if one.offset > last || one.width == Some(u16::MAX) {
             let name = String::from_utf8_lossy(&one.name);
             let name = if name.is_empty() { "(anon)".into() } else { name };
             return refuse(format!(
@@ -100,7 +107,7 @@ fn judge_members(record: &Record<'_>) -> Result<()> {
 }
 
 fn name_of(record: &Record<'_>) -> String {
-    match record.tagged() {
+    match record.tag_name() {
         name if name.is_empty() => format!("a type of kind {}", record.kind.name()),
         name => name,
     }

@@ -22,15 +22,15 @@ pub struct Spread {
 
 /// Spreads the types of a table.
 pub fn spread(table: &Table<'_>) -> Spread {
-    let parent = Shared::of(table);
+    let parent = SharedTypes::of(table);
     let mut parts = Spread { parent: Vec::new(), children: Vec::new(), left: Vec::new() };
     let mut is_placed = parent.is_in.clone();
-    let mut child = Reached::beside(table, &parent.is_in);
+    let mut child = ReachableTypes::beside(table, &parent.is_in);
     for number in 1..=table.len() {
         if is_placed[number as usize] || child.take(number, MOST_TYPES) {
             continue;
         }
-        let mut next = Reached::beside(table, &parent.is_in);
+        let mut next = ReachableTypes::beside(table, &parent.is_in);
         if next.take(number, MOST_TYPES) {
             child.added.iter().for_each(|&n| is_placed[n as usize] = true);
             parts.children.push(std::mem::replace(&mut child, next).added);
@@ -49,14 +49,14 @@ pub fn spread(table: &Table<'_>) -> Spread {
 }
 
 /// The types of the parent.
-struct Shared {
+struct SharedTypes {
     is_in: Vec<bool>,
 }
 
-impl Shared {
+impl SharedTypes {
     /// As many as fit of those that several types name, those first that most do, each with all that
     /// it reaches.
-    fn of(table: &Table<'_>) -> Shared {
+    fn of(table: &Table<'_>) -> SharedTypes {
         let mut users = vec![0u32; table.len() as usize + 1];
         for record in &table.records {
             record.references().for_each(|n| users[n as usize] += 1);
@@ -64,7 +64,7 @@ impl Shared {
         let mut wanted: Vec<u32> = (1..=table.len()).filter(|&n| users[n as usize] > 1).collect();
         wanted.sort_by_key(|&n| std::cmp::Reverse(users[n as usize])); // a stable sort
         let nothing = vec![false; table.len() as usize + 1];
-        let mut shared = Reached::beside(table, &nothing);
+        let mut shared = ReachableTypes::beside(table, &nothing);
         let mut failures = 0;
         for number in wanted {
             failures += u32::from(!shared.take(number, MOST_TYPES));
@@ -72,20 +72,20 @@ impl Shared {
                 break;
             }
         }
-        Shared { is_in: shared.is_in }
+        SharedTypes { is_in: shared.is_in }
     }
 }
 
 /// Types with all that they reach, beside some that are elsewhere.
-struct Reached<'t, 'a> {
+struct ReachableTypes<'t, 'a> {
     table: &'t Table<'a>,
     is_in: Vec<bool>,
     added: Vec<u32>,
 }
 
-impl<'t, 'a> Reached<'t, 'a> {
+impl<'t, 'a> ReachableTypes<'t, 'a> {
     fn beside(table: &'t Table<'a>, elsewhere: &[bool]) -> Self {
-        Reached { table, is_in: elsewhere.to_vec(), added: Vec::new() }
+        ReachableTypes { table, is_in: elsewhere.to_vec(), added: Vec::new() }
     }
 
     /// Adds a type and all that it reaches, or nothing where that is more than there is room for.

@@ -144,7 +144,7 @@ pub struct Member<'a> {
     /// Where it begins, in bits.
     pub offset: u64,
     /// The width of a bit-field, in bits.
-    pub width: Option<u64>,
+    pub width: Option<u16>,
 }
 
 /// A name that an enum gives to a value.
@@ -265,7 +265,7 @@ impl<'a> Record<'a> {
     }
 
     /// The same with other numbers.
-    pub fn renumbered(&self, to: impl FnMut(u32) -> u32) -> Record<'a> {
+    pub fn with_numbers(&self, to: impl FnMut(u32) -> u32) -> Record<'a> {
         let mut made = self.clone();
         made.renumber(to);
         made
@@ -312,7 +312,7 @@ impl<'a> Record<'a> {
     }
 
     /// Its name as C has it, with the word in front.
-    pub fn tagged(&self) -> String {
+    pub fn tag_name(&self) -> String {
         let name = String::from_utf8_lossy(&self.name);
         match self.tag.word() {
             "" => name.into_owned(),
@@ -385,7 +385,7 @@ impl<'a> Table<'a> {
     }
 
     /// Follows typedefs and qualifiers; 0 if they form a cycle.
-    pub fn resolved(&self, mut number: u32) -> u32 {
+    pub fn resolve(&self, mut number: u32) -> u32 {
         for _ in 0..self.records.len() {
             if number == 0 {
                 return 0;
@@ -406,7 +406,7 @@ impl<'a> Table<'a> {
     }
 
     /// For each number, 0 too, whether one of some leads to it.
-    pub fn reached(&self, roots: impl IntoIterator<Item = u32>) -> Vec<bool> {
+    pub fn reachable(&self, roots: impl IntoIterator<Item = u32>) -> Vec<bool> {
         let mut seen = vec![false; self.records.len() + 1];
         let mut todo: Vec<u32> = roots.into_iter().filter(|&root| root != 0).collect();
         while let Some(number) = todo.pop() {
@@ -420,17 +420,17 @@ impl<'a> Table<'a> {
     /// Keeps these types in this order, without labels and without a parent; each reference, symbols'
     /// too, becomes what `to` says. Of a function is told nothing where a type in it is left out.
     pub fn choose(&mut self, order: &[u32], to: &[u32]) {
+        let is_same_order = (0..).zip(to).all(|(n, &to)| n == to);
         let to = |n: u32| to[n as usize];
         self.labels.clear();
         self.bases = 0;
         self.parent_name = Cow::Borrowed(b"");
         self.parent_label = Cow::Borrowed(b"");
-        let mut old: Vec<Option<Record>> = self.records.drain(..).map(Some).collect();
-        for &number in order {
-            let mut record = old[number as usize - 1].take().expect("a number stands here once");
-            record.renumber(to);
-            self.records.push(record);
+        self.arrange(order);
+        if is_same_order {
+            return;
         }
+        self.records.iter_mut().for_each(|record| record.renumber(to));
         self.objects.iter_mut().for_each(|n| *n = to(*n));
         for told in &mut self.functions {
             if let Some(function) = told {
@@ -441,6 +441,21 @@ impl<'a> Table<'a> {
                 }
             }
         }
+    }
+
+    /// Puts the records of these numbers, each of which stands there once, into this order.
+    fn arrange(&mut self, order: &[u32]) {
+        if order.is_sorted() {
+            let (mut number, mut next) = (0, order.iter().peekable());
+            self.records.retain(|_| {
+                number += 1;
+                next.next_if_eq(&&number).is_some()
+            });
+            return;
+        }
+        let mut old: Vec<Option<Record>> = self.records.drain(..).map(Some).collect();
+        let taken = |&n: &u32| old[n as usize - 1].take().expect("a number stands here once");
+        self.records.extend(order.iter().map(taken));
     }
 
     /// Keeps these types alone; what named another names 0.

@@ -56,9 +56,9 @@ impl<'t> Judges<'t> {
             };
             if !is_told && self.extent == Extent::All {
                 return refuse(format!(
-                    "{} is not told as its debug information has it: please report this, with the \
-                     program",
-                    record.tagged()
+                    "{} was converted wrongly (it differs from its debug information): please \
+                     report this, with the program",
+                    record.tag_name()
                 ));
             }
             count += usize::from(is_told);
@@ -75,9 +75,9 @@ impl<'t> Judges<'t> {
         match of_none {
             None => Ok(()),
             Some(record) => refuse(format!(
-                "{} is written, and no unit of the debug information has it so: please report this, \
-                 with the program",
-                record.tagged()
+                "{} was converted wrongly (no unit of the debug information has it so): please \
+                 report this, with the program",
+                record.tag_name()
             )),
         }
     }
@@ -220,7 +220,7 @@ impl Walk<'_, '_> {
                         todo.push((own.of, told.of));
                         true
                     }
-                    Some(width) => self.has_width(told.of, width),
+                    Some(width) => self.has_width(told.of, width.into()),
                 };
                 is_wide && own.name == told.name && own.offset == told.offset
             })
@@ -228,7 +228,7 @@ impl Walk<'_, '_> {
 
     /// Whether a type is an integer or an enum of some bits, behind typedefs and qualifiers.
     fn has_width(&self, number: u32, width: u64) -> bool {
-        let end = self.judge.table.resolved(number);
+        let end = self.judge.table.resolve(number);
         let record = (end != 0).then(|| self.judge.table.get(end));
         record.is_some_and(|record| match record.kind {
             Kind::Integer => record.encoding.bits == width,

@@ -93,7 +93,7 @@ fn what_is_no_core_file_is_refused() {
     let entry = unnamed.windows(8).position(|one| one == (BASE + 16).to_le_bytes()).unwrap();
     unnamed[entry + 4] = 1;
     let said = read(unnamed, Some("/tmp/other")).map(|_| ()).unwrap_err().0;
-    assert_eq!(said, "core does not say where its program was in memory");
+    assert_eq!(said, "core does not record where its program was in memory");
 }
 
 /// Cut at each place, and damaged: what is read is in it, and nothing panics.

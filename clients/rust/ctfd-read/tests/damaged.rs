@@ -92,7 +92,7 @@ fn damaged_btf_is_read_or_refused() {
 fn btf_is_read() {
     let image = Image::of_bytes(PathBuf::from("own.btf"), btf());
     let names = with_types(&image, &Options::default(), |found| {
-        Ok(found.table.records.iter().map(|record| record.tagged()).collect::<Vec<_>>())
+        Ok(found.table.records.iter().map(|record| record.tag_name()).collect::<Vec<_>>())
     });
     assert_eq!(names.unwrap(), ["int", "struct node", ""]);
 }

@@ -14,7 +14,7 @@ use ctfd::Model;
 use ctfd_read::debuggee::{listed_symbols, Debuggee, ProgramSymbol};
 use ctfd_read::error::{Error, Result};
 use ctfd_read::image::Image;
-use ctfd_read::opening::{self, Handed, SECTIONS};
+use ctfd_read::opening::{self, LibraryInput, SECTIONS};
 use object::archive::THIN_MAGIC;
 use object::elf::{ET_CORE, ET_DYN, ET_EXEC, ET_REL, SHT_NOBITS};
 use object::ReadRef as _;
@@ -41,7 +41,7 @@ impl<'a> Lists<'a> {
 }
 
 /// The bundle of what is given for a file.
-pub fn bundle(image: &Image, handed: &Handed<'_>, has_addresses: bool) -> Result<Vec<u8>> {
+pub fn bundle(image: &Image, handed: &LibraryInput<'_>, has_addresses: bool) -> Result<Vec<u8>> {
     let mut lists = Lists::default();
     let mut listed = Vec::new();
     for one in std::iter::once(handed).chain(&handed.children) {
@@ -65,7 +65,7 @@ fn is_thin(image: &Image) -> bool {
 }
 
 fn dictionary<'a>(
-    one: &'a Handed<'_>,
+    one: &'a LibraryInput<'_>,
     lists: &mut Lists<'a>,
     has_addresses: bool,
 ) -> Result<String> {
@@ -129,8 +129,11 @@ fn kind_of(kind: u16) -> &'static str {
 }
 
 /// What the library is given for a file, its own symbols' names among that.
-pub fn handed<'a>(image: &'a Image, reading: &ctfd_read::inputs::Options) -> Result<Handed<'a>> {
-    let mut found = opening::handed(image, reading)?;
+pub fn library_input<'a>(
+    image: &'a Image,
+    reading: &ctfd_read::inputs::Options,
+) -> Result<LibraryInput<'a>> {
+    let mut found = opening::library_input(image, reading)?;
     if found.has_more_names() {
         found.add_names();
     }

@@ -29,6 +29,8 @@ const NAME: &str = "ctfd-convert";
 /// How many lines tell losses of a user, and how to see all.
 const MOST_LINES: usize = 12;
 const ALL_LINES: &str = "--report - lists them all";
+/// The stack of a thread, as large as that of a program's first one.
+const STACK: usize = 8 << 20;
 const ABOUT: &str = "\
 Writes a program's types as a dictionary of CTF version 2.
 
@@ -44,7 +46,7 @@ const OF_TYPES: [&str; 7] =
 
 /// The command; its exit status.
 pub fn main(words: Vec<OsString>) -> ExitCode {
-    let words = Words::of(&wrong_words::matched(options(), words));
+    let words = Words::of(&wrong_words::parse_words(options(), words));
     if standard::is_output_closed() {
         warn(NAME, standard::CLOSED);
         return ExitCode::from(REFUSED);
@@ -141,10 +143,10 @@ impl Words {
     }
 
     /// How much of a program is written.
-    fn extent(&self, made: &Made<'_>) -> Extent {
+    fn extent(&self, made: &Conversion<'_>) -> Extent {
         let is_cut = match made {
-            Made::One(made) => made.table.is_cut,
-            Made::InParts(made) => made.whole.table.is_cut,
+            Conversion::One(made) => made.table.is_cut,
+            Conversion::InParts(made) => made.whole.table.is_cut,
         };
         match self.only.is_empty() && !is_cut {
             true => Extent::All,
@@ -282,13 +284,19 @@ fn of_writing() -> [Arg; 12] {
     ]
 }
 
-/// Runs the command; what was lost, a line each.
+/// Runs the command; what was lost, a line each. All of it runs in the threads that read: what one
+/// of them has freed serves what comes next.
 fn convert(words: &Words) -> Result<Vec<String>> {
     words.judge()?;
     words.outputs().into_iter().try_for_each(output::judge)?;
-    rayon::ThreadPoolBuilder::new()
-        .build_global()
+    let threads = rayon::ThreadPoolBuilder::new()
+        .stack_size(STACK)
+        .build()
         .map_err(|error| Error(format!("the threads can't be started: {error}")))?;
+    threads.install(|| convert_file(words))
+}
+
+fn convert_file(words: &Words) -> Result<Vec<String>> {
     let image = elsewhere::open(&words.input, &words.reading)?;
     match words.answer {
         Answer::Types => {}
@@ -311,14 +319,14 @@ fn convert(words: &Words) -> Result<Vec<String>> {
         let (form, count, verifier) = (found.form, found.table.len(), found.verifier);
         with_dictionary(words, &image, found, |made| {
             let extent = words.extent(&made);
-            let (made, bytes, counts) = match made {
-                Made::One(mut made) => {
+            let (mut made, bytes, counts) = match made {
+                Conversion::One(mut made) => {
                     let bytes = made.checked_bytes(&image, &words.output)?;
                     let written = [(bytes.as_slice(), made.parent.as_deref())];
                     verify(words, &written, extent, verifier)?;
                     (made, bytes, Vec::new())
                 }
-                Made::InParts(made) => {
+                Conversion::InParts(made) => {
                     verify(words, &made.dictionaries()?, extent, verifier)?;
                     (made.whole, made.bytes, made.counts)
                 }
@@ -336,14 +344,17 @@ fn convert(words: &Words) -> Result<Vec<String>> {
                 }
                 write_report(path, &lines)?;
             }
-            Ok(made.table.losses)
+            let losses = std::mem::take(&mut made.table.losses);
+            // The process ends soon, and takes less time over it than this would.
+            std::mem::forget(made);
+            Ok(losses)
         })
     })
 }
 
 /// Writes a bundle, whose reader is told there what was lost.
 fn write_bundle(words: &Words, image: &Image, has_addresses: bool) -> Result<Vec<String>> {
-    let handed = bundle::handed(image, &words.reading)?;
+    let handed = bundle::library_input(image, &words.reading)?;
     output::write(&words.output, &bundle::bundle(image, &handed, has_addresses)?)?;
     Ok(Vec::new())
 }
@@ -371,9 +382,9 @@ fn write_report(path: &Path, lines: &[String]) -> Result<()> {
 }
 
 /// What is made of a program: a dictionary, or several in one file.
-enum Made<'a> {
+enum Conversion<'a> {
     One(Dictionary<'a>),
-    InParts(parts::Written<'a>),
+    InParts(parts::WrittenParts<'a>),
 }
 
 /// Makes the dictionary that the words want, and runs something on it.
@@ -381,24 +392,24 @@ fn with_dictionary<T>(
     words: &Words,
     image: &Image,
     found: ProgramTypes<'_>,
-    run: impl FnOnce(Made<'_>) -> Result<T>,
+    run: impl FnOnce(Conversion<'_>) -> Result<T>,
 ) -> Result<T> {
     let is_plain = words.only.is_empty() && words.parent.is_none() && words.split.is_none();
     if found.form == Form::Ctf && is_plain {
-        return run(Made::One(plain(words, image, found)?));
+        return run(Conversion::One(dictionary_as_it_is(words, image, found)?));
     }
     let named = |error: Error| error.within(&words.input.display().to_string());
     let (found, bases) = dictionary::select(found, &words.only).map_err(named)?;
     let ProgramTypes { table, symbols, .. } = found;
     if let Some(path) = &words.split {
         let made = dictionary::split(dictionary::parent_name(path), table, bases, symbols)?;
-        return run(Made::One(made));
+        return run(Conversion::One(made));
     }
     let Some(path) = &words.parent else {
         if table.len() > dictionary::MOST_TYPES && !words.is_section && !words.reading.is_one {
-            return run(Made::InParts(parts::write(table, symbols, image, &words.output)?));
+            return run(Conversion::InParts(parts::write(table, symbols, image, &words.output)?));
         }
-        return run(Made::One(dictionary::alone(table, symbols)));
+        return run(Conversion::One(dictionary::alone(table, symbols)));
     };
     let parent = Image::open(path)?;
     let reading =
@@ -413,12 +424,16 @@ fn with_dictionary<T>(
         let ctf = plain_bytes(&parent, None)?;
         let name = dictionary::parent_name(path);
         let parent = Parent { table: of_parent.table, ctf: &ctf, name };
-        run(Made::One(dictionary::child(parent, table, symbols)?))
+        run(Conversion::One(dictionary::child(parent, table, symbols)?))
     })
 }
 
 /// A dictionary as it is, inflated; or one with its names in its own strings.
-fn plain<'a>(words: &Words, image: &Image, found: ProgramTypes<'a>) -> Result<Dictionary<'a>> {
+fn dictionary_as_it_is<'a>(
+    words: &Words,
+    image: &Image,
+    found: ProgramTypes<'a>,
+) -> Result<Dictionary<'a>> {
     let ProgramTypes { table, symbols, .. } = found;
     let parent = match &words.reading.base {
         Some(base) => Some(plain_bytes(&Image::open(base)?, None)?),

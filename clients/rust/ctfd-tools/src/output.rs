@@ -99,7 +99,7 @@ impl Beside {
                 Err(error) => return Err(error_of(other, &error)),
             }
         }
-        refuse("no name is left for a file")
+        refuse("no free name for a temporary file")
     }
 }
 
@@ -131,7 +131,7 @@ impl Folder {
                 Err(error) => return Err(error_of(&path, &error)),
             }
         }
-        refuse("no name is left for a folder")
+        refuse("no free name for a temporary folder")
     }
 
     /// Where it is.
@@ -178,7 +178,7 @@ pub fn with_sections(
     }
     let mut said = Vec::new();
     for copier in COPIERS {
-        match copied(copier, &words, input, &copy) {
+        match copy_by_tool(copier, &words, input, &copy) {
             None => {}
             Some(Ok(())) => return fs::read(&copy).map_err(|error| error_of(&copy, &error)),
             Some(Err(words)) => said.push(words),
@@ -205,7 +205,7 @@ pub fn on_path(name: &str) -> Option<PathBuf> {
 }
 
 /// Copies a file by a tool; what that said in vain. None where it is not there.
-fn copied(
+fn copy_by_tool(
     copier: &str,
     words: &[String],
     input: &Path,

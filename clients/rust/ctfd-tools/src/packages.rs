@@ -4,7 +4,7 @@ mod cpio;
 
 use crate::output::on_path;
 use crate::types::failure::{Failure, Outcome};
-use crate::types::open::shown;
+use crate::types::open::display_path;
 use ctfd_read::error::reason;
 use std::fs::{self, File, OpenOptions};
 use std::io::{self, ErrorKind, Read};
@@ -65,7 +65,7 @@ pub fn unpack(
     into: &Path,
     is_wanted: fn(&[u8]) -> bool,
 ) -> Outcome<usize> {
-    let refused = |said: String| Failure::Refused(format!("{}: {said}", shown(package)));
+    let refused = |said: String| Failure::Refused(format!("{}: {said}", display_path(package)));
     let mut child = start(package, format).map_err(refused)?;
     let bytes = fs::metadata(package).map_or(0, |about| about.len());
     let most = MOST_TIMES.saturating_mul(bytes).saturating_add(AT_LEAST);

@@ -7,7 +7,7 @@ use std::ffi::OsString;
 
 /// What a command line says. A wrong one ends the process with status 2; so do `--help` and
 /// `--version`, with status 0.
-pub fn matched(command: Command, words: Vec<OsString>) -> ArgMatches {
+pub fn parse_words(command: Command, words: Vec<OsString>) -> ArgMatches {
     command.clone().try_get_matches_from(words).unwrap_or_else(|error| refuse(&command, &error))
 }
 
@@ -66,7 +66,7 @@ mod tests {
     use super::*;
     use clap::Arg;
 
-    fn refused(words: &[&str]) -> String {
+    fn refusal_of(words: &[&str]) -> String {
         let command = Command::new("tool")
             .arg(Arg::new("file").required(true))
             .arg(Arg::new("size").long("size").value_parser(clap::value_parser!(u8)))
@@ -89,7 +89,7 @@ mod tests {
             ),
         ];
         for (words, line) in rows {
-            assert_eq!(refused(words), line);
+            assert_eq!(refusal_of(words), line);
         }
     }
 }

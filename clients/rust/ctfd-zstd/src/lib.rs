@@ -11,7 +11,7 @@ pub enum Refusal {
 }
 
 /// As many bytes as zstd made these of: no more and no fewer than `length`.
-pub fn decompressed(bytes: &[u8], length: usize) -> Result<Vec<u8>, Refusal> {
+pub fn decompress(bytes: &[u8], length: usize) -> Result<Vec<u8>, Refusal> {
     let mut made = vec![0; length];
     match library::decompress(&mut made, bytes)? {
         count if count == length => Ok(made),
@@ -62,16 +62,16 @@ mod tests {
 
     #[test]
     fn what_was_compressed_comes_back() {
-        assert_eq!(decompressed(MADE, 400), Ok(b"ctfd".repeat(100)));
+        assert_eq!(decompress(MADE, 400), Ok(b"ctfd".repeat(100)));
     }
 
     #[test]
     fn another_length_and_damage_are_refused() {
         for length in [0, 399, 401, 4000] {
-            assert_eq!(decompressed(MADE, length), Err(Refusal::Damaged), "{length}");
+            assert_eq!(decompress(MADE, length), Err(Refusal::Damaged), "{length}");
         }
         for end in 0..MADE.len() {
-            assert_eq!(decompressed(&MADE[..end], 400), Err(Refusal::Damaged), "{end}");
+            assert_eq!(decompress(&MADE[..end], 400), Err(Refusal::Damaged), "{end}");
         }
     }
 }

@@ -1,7 +1,7 @@
 //! Calls of one shape, made in one place each.
 
 use crate::dictionary::Dictionary;
-use crate::faults::{told, Refusal};
+use crate::faults::{outcome_of, Refusal};
 use crate::names::{text, Name};
 use crate::raw::Handle;
 use crate::types::Type;
@@ -35,19 +35,23 @@ pub(crate) type RowsOfType<R> =
 
 impl Dictionary<'_> {
     /// What a call of ctfd.h answers.
-    pub(crate) fn asked<T: Default>(&self, call: OfAll<T>) -> Result<T, Refusal> {
+    pub(crate) fn answer_of<T: Default>(&self, call: OfAll<T>) -> Result<T, Refusal> {
         let mut found = T::default();
         // SAFETY: the call takes a handle that is this value's own, as `handle` says, and writes
         // one value.
-        told(unsafe { call(self.handle(), &mut found) })?;
+        outcome_of(unsafe { call(self.handle(), &mut found) })?;
         Ok(found)
     }
 
     /// What a call answers of a name.
-    pub(crate) fn named<T: Default>(&self, call: OfName<T>, name: &[u8]) -> Result<T, Refusal> {
+    pub(crate) fn answer_for_name<T: Default>(
+        &self,
+        call: OfName<T>,
+        name: &[u8],
+    ) -> Result<T, Refusal> {
         let mut found = T::default();
-        // SAFETY: as in `asked`; the name lives for the call, and its pointer is never null.
-        told(unsafe { call(self.handle(), name.as_ptr(), name.len(), &mut found) })?;
+        // SAFETY: as in `answer_of`; the name lives for the call, and its pointer is never null.
+        outcome_of(unsafe { call(self.handle(), name.as_ptr(), name.len(), &mut found) })?;
         Ok(found)
     }
 
@@ -58,60 +62,64 @@ impl Dictionary<'_> {
         symbol: u32,
     ) -> Result<T, Refusal> {
         let mut found = T::default();
-        // SAFETY: as in `asked`.
-        told(unsafe { call(self.handle(), symbol, &mut found) })?;
+        // SAFETY: as in `answer_of`.
+        outcome_of(unsafe { call(self.handle(), symbol, &mut found) })?;
         Ok(found)
     }
 
     /// The text that a call writes.
-    pub(crate) fn said(&self, call: TextOfAll) -> Result<Name, Refusal> {
-        // SAFETY: as in `asked`; `text` gives room for as many bytes as it says.
+    pub(crate) fn text_of(&self, call: TextOfAll) -> Result<Name, Refusal> {
+        // SAFETY: as in `answer_of`; `text` gives room for as many bytes as it says.
         text(|at, len, told| unsafe { call(self.handle(), at, len, told) })
     }
 
     /// How many rows there are, once those that are given are filled from a number on.
-    pub(crate) fn filled<R>(
+    pub(crate) fn fill_rows<R>(
         &self,
         call: RowsOfAll<R>,
         from: usize,
         rows: &mut [R],
     ) -> Result<u64, Refusal> {
         let mut count = 0;
-        // SAFETY: as in `asked`; the call writes as many rows as there are at most, and a row has
+        // SAFETY: as in `answer_of`; the call writes as many rows as there are at most, and a row has
         // any bits.
-        told(unsafe { call(self.handle(), from, rows.as_mut_ptr(), rows.len(), &mut count) })?;
+        outcome_of(unsafe {
+            call(self.handle(), from, rows.as_mut_ptr(), rows.len(), &mut count)
+        })?;
         Ok(count)
     }
 }
 
 impl Type<'_> {
     /// What a call of ctfd.h answers of this type.
-    pub(crate) fn asked<T: Default>(self, call: OfType<T>) -> Result<T, Refusal> {
+    pub(crate) fn answer_of<T: Default>(self, call: OfType<T>) -> Result<T, Refusal> {
         let mut found = T::default();
         // SAFETY: the call takes a handle that is the dictionary's own, as `Dictionary::handle`
         // says, any number of a type, and writes one value.
-        told(unsafe { call(self.dictionary().handle(), self.number(), &mut found) })?;
+        outcome_of(unsafe { call(self.dictionary().handle(), self.number(), &mut found) })?;
         Ok(found)
     }
 
     /// The text that a call writes.
-    pub(crate) fn said(self, call: TextOfType) -> Result<Name, Refusal> {
+    pub(crate) fn text_of(self, call: TextOfType) -> Result<Name, Refusal> {
         let (handle, number) = (self.dictionary().handle(), self.number());
-        // SAFETY: as in `asked`; `text` gives room for as many bytes as it says.
+        // SAFETY: as in `answer_of`; `text` gives room for as many bytes as it says.
         text(|at, len, told| unsafe { call(handle, number, at, len, told) })
     }
 
     /// How many rows there are, once those that are given are filled from a number on.
-    pub(crate) fn filled<R>(
+    pub(crate) fn fill_rows<R>(
         self,
         call: RowsOfType<R>,
         from: usize,
         rows: &mut [R],
     ) -> Result<u64, Refusal> {
         let (handle, number, mut count) = (self.dictionary().handle(), self.number(), 0);
-        // SAFETY: as in `asked`; the call writes as many rows as there are at most, and a row has
+        // SAFETY: as in `answer_of`; the call writes as many rows as there are at most, and a row has
         // any bits.
-        told(unsafe { call(handle, number, from, rows.as_mut_ptr(), rows.len(), &mut count) })?;
+        outcome_of(unsafe {
+            call(handle, number, from, rows.as_mut_ptr(), rows.len(), &mut count)
+        })?;
         Ok(count)
     }
 }

@@ -1,7 +1,7 @@
 //! Dictionaries that are open.
 
-use crate::faults::{told, told_at, Refusal};
-use crate::given::Given;
+use crate::faults::{outcome_of, told_at, Refusal};
+use crate::input_lists::InputLists;
 use crate::names::{text, Name};
 use crate::raw::{self, LabelRow, SymbolRow, TypeRow};
 use crate::types::Type;
@@ -38,9 +38,9 @@ pub struct Options<'a> {
 pub struct Dictionary<'b> {
     raw: UnsafeCell<raw::Handle>,
     // The lists that the library reads as long as the handle is open, or none of a draft.
-    given: Option<Given<'b>>,
+    given: Option<InputLists<'b>>,
     // Those of the parent that it imported.
-    parents: Option<Given<'b>>,
+    parents: Option<InputLists<'b>>,
 }
 
 // SAFETY: what is open behind a handle may be asked on any thread, one call at a time. Counts that
@@ -57,7 +57,7 @@ impl Dictionary<'static> {
 
     /// Opens the CTF section of a program with what stands beside it.
     pub fn open_with(ctf: &[u8], options: Options<'_>) -> Result<Dictionary<'static>, Refusal> {
-        Dictionary::over(Given::copied(ctf, options))
+        Dictionary::over(InputLists::of_copies(ctf, options))
     }
 }
 
@@ -80,11 +80,11 @@ impl<'b> Dictionary<'b> {
     /// types.count();
     /// ```
     pub fn open_lent(ctf: &'b [u8], options: Options<'b>) -> Result<Dictionary<'b>, Refusal> {
-        Dictionary::over(Given::lent(ctf, options))
+        Dictionary::over(InputLists::of_borrowed(ctf, options))
     }
 
     /// Opens lists, which stay where they are as long as the dictionary is open.
-    fn over(given: Given<'b>) -> Result<Dictionary<'b>, Refusal> {
+    fn over(given: InputLists<'b>) -> Result<Dictionary<'b>, Refusal> {
         let mut made = Dictionary::none();
         let (ctf, symbols, strings) = (given.ctf(), given.symbols(), given.strings());
         let (symbols_at, strings_at) = (symbols.unwrap_or_default(), strings.unwrap_or_default());
@@ -124,7 +124,7 @@ impl<'b> Dictionary<'b> {
             Some(given) => Dictionary::over(given.clone()),
             None => {
                 let options = Options { model: self.model(), ..Options::default() };
-                Dictionary::over(Given::copied(&self.bytes(), options))
+                Dictionary::over(InputLists::of_copies(&self.bytes(), options))
             }
         }
     }
@@ -157,13 +157,13 @@ impl<'b> Dictionary<'b> {
 
     /// How many types it has of its own.
     pub fn count(&self) -> usize {
-        certain(self.asked(raw::ctfd_count)) as usize
+        certain(self.answer_of(raw::ctfd_count)) as usize
     }
 
     /// Fills rows with its own types, from a number on, and answers how many it has. They count
     /// from 0 here. Rows behind the last stay.
     pub fn type_rows(&self, from: usize, rows: &mut [TypeRow]) -> u64 {
-        certain(self.filled(raw::ctfd_types, from, rows))
+        certain(self.fill_rows(raw::ctfd_types, from, rows))
     }
 
     /// The name that a row says stands at a place of a list, where the row is of a type with a
@@ -185,13 +185,13 @@ impl<'b> Dictionary<'b> {
     /// Fills rows with the symbols of the program, from a number on, and answers how many its table
     /// has: also those that nothing is told of. Rows behind the last stay.
     pub fn symbol_rows(&self, from: usize, rows: &mut [SymbolRow]) -> u64 {
-        certain(self.filled(raw::ctfd_symbols, from, rows))
+        certain(self.fill_rows(raw::ctfd_symbols, from, rows))
     }
 
     /// Fills rows with its labels, from a number on, and answers how many it has. Rows behind the
     /// last stay.
     pub fn label_rows(&self, from: usize, rows: &mut [LabelRow]) -> u64 {
-        certain(self.filled(raw::ctfd_labels, from, rows))
+        certain(self.fill_rows(raw::ctfd_labels, from, rows))
     }
 
     /// Fills rows with the numbers of the types that a function of the program takes, by the number
@@ -205,24 +205,26 @@ impl<'b> Dictionary<'b> {
     ) -> Result<u64, Refusal> {
         let (at, len, mut count) = (rows.as_mut_ptr(), rows.len(), 0);
         let handle = self.handle();
-        // SAFETY: as in `filled`.
-        told(unsafe { raw::ctfd_function_arguments(handle, symbol, from, at, len, &mut count) })?;
+        // SAFETY: as in `fill_rows`.
+        outcome_of(unsafe {
+            raw::ctfd_function_arguments(handle, symbol, from, at, len, &mut count)
+        })?;
         Ok(count)
     }
 
     /// Whether its low numbers of types are those of a parent.
     pub fn is_child(&self) -> bool {
-        certain(self.asked(raw::ctfd_child)) != 0
+        certain(self.answer_of(raw::ctfd_child)) != 0
     }
 
     /// How many types its parent has, where it imported one.
     pub fn parent_count(&self) -> Option<usize> {
-        self.asked(raw::ctfd_parent_count).ok().map(|count| count as usize)
+        self.answer_of(raw::ctfd_parent_count).ok().map(|count| count as usize)
     }
 
     /// Its data model.
     pub fn model(&self) -> Model {
-        match certain(self.asked(raw::ctfd_model)) {
+        match certain(self.answer_of(raw::ctfd_model)) {
             0 => Model::Lp64,
             _ => Model::Ilp32,
         }
@@ -230,12 +232,12 @@ impl<'b> Dictionary<'b> {
 
     /// The name of its parent, as its header has it: empty where there is none.
     pub fn parent_name(&self) -> Name {
-        certain(self.said(raw::ctfd_parent_name))
+        certain(self.text_of(raw::ctfd_parent_name))
     }
 
     /// The name of its parent's label, as its header has it.
     pub fn parent_label(&self) -> Name {
-        certain(self.said(raw::ctfd_parent_label))
+        certain(self.text_of(raw::ctfd_parent_label))
     }
 
     /// Its own types, in the order of their numbers.
@@ -251,17 +253,17 @@ impl<'b> Dictionary<'b> {
 
     /// The type of a name, as `struct point *`.
     pub fn find(&self, name: impl AsRef<[u8]>) -> Result<Type<'_>, Refusal> {
-        Ok(Type::known(self, self.named(raw::ctfd_find, name.as_ref())?))
+        Ok(Type::of_answer(self, self.answer_for_name(raw::ctfd_find, name.as_ref())?))
     }
 
     /// The number of the first symbol of a name.
     pub fn symbol(&self, name: impl AsRef<[u8]>) -> Result<u32, Refusal> {
-        self.named(raw::ctfd_symbol, name.as_ref())
+        self.answer_for_name(raw::ctfd_symbol, name.as_ref())
     }
 
     /// The name of a symbol.
     pub fn symbol_name(&self, symbol: u32) -> Result<Name, Refusal> {
-        // SAFETY: as in `said`.
+        // SAFETY: as in `text_of`.
         text(|at, len, told| unsafe { raw::ctfd_symbol_name(self.handle(), symbol, at, len, told) })
     }
 
@@ -281,13 +283,13 @@ impl<'b> Dictionary<'b> {
 
     /// Its labels, in order.
     pub fn labels(&self) -> Labels<'_> {
-        let end = certain(self.asked(raw::ctfd_label_count)) as usize;
+        let end = certain(self.answer_of(raw::ctfd_label_count)) as usize;
         Labels { of: self, next: 0, end }
     }
 
     /// The last type that the first label of a name covers.
     pub fn label(&self, name: impl AsRef<[u8]>) -> Result<u32, Refusal> {
-        self.named(raw::ctfd_label_last, name.as_ref())
+        self.answer_for_name(raw::ctfd_label_last, name.as_ref())
     }
 
     /// The bytes of its CTF section.
@@ -297,8 +299,8 @@ impl<'b> Dictionary<'b> {
             let from = made.len();
             made.resize(from + from.max(4096), 0);
             let (room, mut len) = (&mut made[from..], 0);
-            // SAFETY: as in `filled`.
-            certain(told(unsafe {
+            // SAFETY: as in `fill_rows`.
+            certain(outcome_of(unsafe {
                 raw::ctfd_bytes(self.handle(), from as u64, room.as_mut_ptr(), room.len(), &mut len)
             }));
             if len as usize <= made.len() {
@@ -357,7 +359,7 @@ impl<'d> Iterator for Types<'d> {
             return None;
         }
         self.next += 1;
-        Some(Type::known(self.of, (self.next - 1) as u16))
+        Some(Type::of_answer(self.of, (self.next - 1) as u16))
     }
 
     fn size_hint(&self) -> (usize, Option<usize>) {
@@ -372,7 +374,7 @@ impl DoubleEndedIterator for Types<'_> {
             return None;
         }
         self.end -= 1;
-        Some(Type::known(self.of, self.end as u16))
+        Some(Type::of_answer(self.of, self.end as u16))
     }
 }
 
@@ -401,7 +403,7 @@ impl Labels<'_> {
     fn at(&self, index: usize) -> Result<Label, Refusal> {
         let mut raw = raw::Label::default();
         let name = text(|at, len, told| {
-            // SAFETY: as in `said`.
+            // SAFETY: as in `text_of`.
             let status = unsafe { raw::ctfd_label(self.of.handle(), index, at, len, &mut raw) };
             *told = raw.name_len;
             status

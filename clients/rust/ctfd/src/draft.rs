@@ -2,33 +2,33 @@
 
 use crate::apart::apart;
 use crate::dictionary::{Dictionary, Model};
-use crate::faults::{told, told_at, Refusal};
+use crate::faults::{outcome_of, told_at, Refusal};
 use crate::raw;
 use crate::types::{Encoding, Kind};
 use std::ops::Deref;
 
 /// The name of a new type, and whether it is visible to look-ups by it. A `&str` is visible.
 #[derive(Clone, Copy, Debug)]
-pub struct Named<'a> {
+pub struct NewName<'a> {
     name: &'a [u8],
     root: bool,
 }
 
-impl<'a> Named<'a> {
+impl<'a> NewName<'a> {
     /// A type that look-ups by name find.
-    pub fn visible(name: &'a [u8]) -> Named<'a> {
-        Named { name, root: true }
+    pub fn visible(name: &'a [u8]) -> NewName<'a> {
+        NewName { name, root: true }
     }
 
     /// A type that they do not find.
-    pub fn hidden(name: &'a [u8]) -> Named<'a> {
-        Named { name, root: false }
+    pub fn hidden(name: &'a [u8]) -> NewName<'a> {
+        NewName { name, root: false }
     }
 }
 
-impl<'a> From<&'a str> for Named<'a> {
-    fn from(name: &'a str) -> Named<'a> {
-        Named::visible(name.as_bytes())
+impl<'a> From<&'a str> for NewName<'a> {
+    fn from(name: &'a str) -> NewName<'a> {
+        NewName::visible(name.as_bytes())
     }
 }
 
@@ -63,10 +63,10 @@ impl<'b> Deref for Draft<'b> {
 macro_rules! adds_a_reference {
     ($(#[$what:meta])* $name:ident, $call:ident) => {
         $(#[$what])*
-        pub fn $name<'a>(&mut self, named: impl Into<Named<'a>>, to: u16) -> Result<u16, Refusal> {
-            let Named { name, root } = named.into();
+        pub fn $name<'a>(&mut self, named: impl Into<NewName<'a>>, to: u16) -> Result<u16, Refusal> {
+            let NewName { name, root } = named.into();
             // SAFETY: as `added` says; the name lives for the call.
-            self.added(|handle, t| unsafe {
+            self.add_type(|handle, t| unsafe {
                 raw::$call(handle, name.as_ptr(), name.len(), root, to, t)
             })
         }
@@ -78,12 +78,12 @@ macro_rules! adds_with_a_size {
         $(#[$what])*
         pub fn $name<'a>(
             &mut self,
-            named: impl Into<Named<'a>>,
+            named: impl Into<NewName<'a>>,
             size: u64,
         ) -> Result<u16, Refusal> {
-            let Named { name, root } = named.into();
+            let NewName { name, root } = named.into();
             // SAFETY: as `added` says; the name lives for the call.
-            self.added(|handle, t| unsafe {
+            self.add_type(|handle, t| unsafe {
                 raw::$call(handle, name.as_ptr(), name.len(), root, size, t)
             })
         }
@@ -95,13 +95,13 @@ macro_rules! adds_with_an_encoding {
         $(#[$what])*
         pub fn $name<'a>(
             &mut self,
-            named: impl Into<Named<'a>>,
+            named: impl Into<NewName<'a>>,
             encoding: Encoding,
             size: u64,
         ) -> Result<u16, Refusal> {
-            let (Named { name, root }, is) = (named.into(), encoding);
+            let (NewName { name, root }, is) = (named.into(), encoding);
             // SAFETY: as `added` says; the name lives for the call.
-            self.added(|handle, t| unsafe {
+            self.add_type(|handle, t| unsafe {
                 let (at, len) = (name.as_ptr(), name.len());
                 raw::$call(handle, at, len, root, is.encoding, is.offset, is.bits, size, t)
             })
@@ -144,12 +144,12 @@ impl<'b> Draft<'b> {
 
     /// The number of a type that is added by a call of ctfd.h, which takes the handle that is this
     /// value's own, as [`Dictionary::handle`] says, and a place for the number.
-    fn added(
+    fn add_type(
         &mut self,
         add: impl FnOnce(*mut raw::Handle, *mut u16) -> u32,
     ) -> Result<u16, Refusal> {
         let mut t = 0;
-        told(add(self.0.handle(), &mut t))?;
+        outcome_of(add(self.0.handle(), &mut t))?;
         Ok(t)
     }
 
@@ -207,14 +207,14 @@ impl<'b> Draft<'b> {
     /// Adds an array.
     pub fn array<'a>(
         &mut self,
-        named: impl Into<Named<'a>>,
+        named: impl Into<NewName<'a>>,
         contents: u16,
         index: u16,
         count: u32,
     ) -> Result<u16, Refusal> {
-        let Named { name, root } = named.into();
+        let NewName { name, root } = named.into();
         // SAFETY: as `added` says; what is lent lives for the call.
-        self.added(|handle, t| unsafe {
+        self.add_type(|handle, t| unsafe {
             let (at, len) = (name.as_ptr(), name.len());
             raw::ctfd_add_array(handle, at, len, root, contents, index, count, t)
         })
@@ -223,13 +223,13 @@ impl<'b> Draft<'b> {
     /// Adds a function type; a last argument 0 says that more may follow.
     pub fn function<'a>(
         &mut self,
-        named: impl Into<Named<'a>>,
+        named: impl Into<NewName<'a>>,
         returns: u16,
         arguments: &[u16],
     ) -> Result<u16, Refusal> {
-        let Named { name, root } = named.into();
+        let NewName { name, root } = named.into();
         // SAFETY: as `added` says; what is lent lives for the call.
-        self.added(|handle, t| unsafe {
+        self.add_type(|handle, t| unsafe {
             let (at, len) = (name.as_ptr(), name.len());
             let (args, args_len) = (arguments.as_ptr(), arguments.len());
             raw::ctfd_add_function(handle, at, len, root, returns, args, args_len, t)
@@ -237,19 +237,23 @@ impl<'b> Draft<'b> {
     }
 
     /// Adds the declaration of a struct, a union or an enum.
-    pub fn forward<'a>(&mut self, named: impl Into<Named<'a>>, tag: Kind) -> Result<u16, Refusal> {
-        let Named { name, root } = named.into();
+    pub fn forward<'a>(
+        &mut self,
+        named: impl Into<NewName<'a>>,
+        tag: Kind,
+    ) -> Result<u16, Refusal> {
+        let NewName { name, root } = named.into();
         // SAFETY: as `added` says; what is lent lives for the call.
-        self.added(|handle, t| unsafe {
+        self.add_type(|handle, t| unsafe {
             raw::ctfd_add_forward(handle, name.as_ptr(), name.len(), root, tag as u32, t)
         })
     }
 
     /// Adds a type of which nothing is known.
-    pub fn unknown<'a>(&mut self, named: impl Into<Named<'a>>) -> Result<u16, Refusal> {
-        let Named { name, root } = named.into();
+    pub fn unknown<'a>(&mut self, named: impl Into<NewName<'a>>) -> Result<u16, Refusal> {
+        let NewName { name, root } = named.into();
         // SAFETY: as `added` says; what is lent lives for the call.
-        self.added(|handle, t| unsafe {
+        self.add_type(|handle, t| unsafe {
             raw::ctfd_add_unknown(handle, name.as_ptr(), name.len(), root, t)
         })
     }
@@ -265,7 +269,7 @@ impl<'b> Draft<'b> {
     ) -> Result<u64, Refusal> {
         let mut at = 0;
         // SAFETY: as `added` says; the name lives for the call.
-        told(unsafe {
+        outcome_of(unsafe {
             raw::ctfd_add_member(
                 self.0.handle(),
                 of,
@@ -292,20 +296,22 @@ impl<'b> Draft<'b> {
     ) -> Result<(), Refusal> {
         let (at, len) = (name.as_ptr(), name.len());
         // SAFETY: as `added` says; the name lives for the call.
-        told(unsafe { raw::ctfd_add_member_at(self.0.handle(), of, at, len, kind, offset, size) })
+        outcome_of(unsafe {
+            raw::ctfd_add_member_at(self.0.handle(), of, at, len, kind, offset, size)
+        })
     }
 
     /// Adds an enumerator to a pending enum.
     pub fn enumerator(&mut self, of: u16, name: &str, value: i32) -> Result<(), Refusal> {
         let (at, len) = (name.as_ptr(), name.len());
         // SAFETY: as `added` says; the name lives for the call.
-        told(unsafe { raw::ctfd_add_enumerator(self.0.handle(), of, at, len, value) })
+        outcome_of(unsafe { raw::ctfd_add_enumerator(self.0.handle(), of, at, len, value) })
     }
 
     /// Adds a label that covers the types up to `last`.
     pub fn label(&mut self, name: &str, last: u32) -> Result<(), Refusal> {
         // SAFETY: as `added` says; the name lives for the call.
-        told(unsafe { raw::ctfd_add_label(self.0.handle(), name.as_ptr(), name.len(), last) })
+        outcome_of(unsafe { raw::ctfd_add_label(self.0.handle(), name.as_ptr(), name.len(), last) })
     }
 
     /// Makes all that is pending part of the dictionary. Where it is refused it stays pending.
@@ -320,7 +326,7 @@ impl<'b> Draft<'b> {
     pub fn discard(&mut self) -> Result<(), Refusal> {
         let mut types = 0;
         // SAFETY: as `added` says.
-        told(unsafe { raw::ctfd_discard(self.0.handle(), &mut types) })
+        outcome_of(unsafe { raw::ctfd_discard(self.0.handle(), &mut types) })
     }
 
     /// Takes the dictionary of the last update, as one that is not added to.

@@ -45,7 +45,7 @@ pub enum Fault {
     BadFuncs = 17,
     /// A symbol names a type that is not there.
     BadSymbolType = 18,
-    /// The symbol table is no multiple of 24 bytes.
+    /// The symbol table's size is not a multiple of 24 bytes.
     BadSymtab = 19,
     /// The dictionary names no parent.
     NotChild = 20,
@@ -73,19 +73,19 @@ pub enum Fault {
     TooLong = 31,
     /// No type has this name, or no pointer leads there.
     NotFound = 32,
-    /// The text is no name of a type.
+    /// The text is not the name of a type.
     BadSyntax = 33,
     /// No symbol of this name or number.
     NoSymbol = 34,
-    /// The symbol is no object.
+    /// The symbol is not an object.
     NotData = 35,
-    /// The symbol is no function.
+    /// The symbol is not a function.
     NotFunction = 36,
-    /// Nothing is told of the symbol.
+    /// The symbol has no type information.
     NoInfo = 37,
     /// No label of this name or number.
     NoLabel = 38,
-    /// What is added names a type that is not there.
+    /// The new type refers to a type that does not exist.
     BadRef = 39,
     /// The draft has 32,766 types.
     Full = 40,
@@ -111,7 +111,7 @@ pub enum Fault {
     SlotsFull = 50,
     /// A list of more than 67,108,864 bytes.
     StageFull = 51,
-    /// What is open is no draft.
+    /// The dictionary is not a draft.
     ReadOnly = 52,
     /// The name is published already.
     NameTaken = 53,
@@ -121,9 +121,9 @@ pub enum Fault {
     NotUpdated = 55,
     /// A reply of more than 4,194,304 bytes.
     LongReply = 56,
-    /// The line is no JSON.
+    /// The line is not JSON.
     NotJson = 57,
-    /// The line is no request.
+    /// The line is not a request.
     BadRequest = 58,
     /// A line of more than 1,048,576 bytes.
     LongLine = 59,
@@ -284,9 +284,9 @@ const TEXTS: [(&str, &str); 63] = [
         "is this the symbol table that the section was written for? Else leave it out",
     ),
     (
-        "the symbol table is no multiple of 24 bytes",
-        "a symbol table is a list of 24 bytes each: this is none, or it is cut off, or it is one \
-         of 32 bits, which is not read",
+        "the symbol table's size is not a multiple of 24 bytes",
+        "a symbol table has 24 bytes for each symbol: this is another file, is cut off, or has 32 \
+         bits, which is not supported",
     ),
     (
         "the dictionary names no parent",
@@ -341,7 +341,7 @@ const TEXTS: [(&str, &str); 63] = [
         "is the word in front right (struct, union, enum or none)?",
     ),
     (
-        "the text is no name of a type",
+        "the text is not the name of a type",
         "a name with one blank behind struct, union or enum, and stars behind it",
     ),
     (
@@ -349,24 +349,24 @@ const TEXTS: [(&str, &str); 63] = [
         "no such symbol: were the symbol table and its strings handed in?",
     ),
     (
-        "the symbol is no object",
-        "the symbol is no object",
+        "the symbol is not an object",
+        "the symbol is not an object",
     ),
     (
-        "the symbol is no function",
-        "the symbol is no function",
+        "the symbol is not a function",
+        "the symbol is not a function",
     ),
     (
-        "nothing is told of the symbol",
-        "the compiler told nothing of this symbol",
+        "the symbol has no type information",
+        "the compiler recorded no type for this symbol",
     ),
     (
         "no label of this name or number",
         "no label has this name",
     ),
     (
-        "what is added names a type that is not there",
-        "add the type that it names first; 0 stands for no type",
+        "the new type refers to a type that does not exist",
+        "add that type first; 0 means no type",
     ),
     (
         "the draft has 32,766 types",
@@ -386,7 +386,7 @@ const TEXTS: [(&str, &str); 63] = [
     ),
     (
         "the member's type is more than 512 deep",
-        "a struct can't hold itself: was a pointer to it meant?",
+        "a struct can't contain itself: did you mean a pointer to it?",
     ),
     (
         "the member's place exceeds 64 bits, or the stated size",
@@ -403,7 +403,7 @@ const TEXTS: [(&str, &str); 63] = [
     ),
     (
         "a value lies past the memory",
-        "hand in as many bytes as the type's size says",
+        "pass as many bytes as the type's size",
     ),
     (
         "nothing is open behind the handle",
@@ -415,11 +415,11 @@ const TEXTS: [(&str, &str); 63] = [
     ),
     (
         "a list of more than 67,108,864 bytes",
-        "a list has at most 67,108,864 bytes: this one can't be served",
+        "a list may have at most 67,108,864 bytes",
     ),
     (
-        "what is open is no draft",
-        "the slot has no draft: what was opened or taken is read alone",
+        "the dictionary is not a draft",
+        "the slot has no draft: a dictionary that was opened or taken is read-only",
     ),
     (
         "the name is published already",
@@ -438,11 +438,11 @@ const TEXTS: [(&str, &str); 63] = [
         "ask for fewer items with count",
     ),
     (
-        "the line is no JSON",
-        "the request is no JSON",
+        "the line is not JSON",
+        "the request is not JSON",
     ),
     (
-        "the line is no request",
+        "the line is not a request",
         "the service does not know this word, or a field is missing or out of range",
     ),
     (
@@ -460,7 +460,7 @@ const TEXTS: [(&str, &str); 63] = [
     ),
     (
         "the parent of a draft is fixed",
-        "the parent of a draft is said where it is created",
+        "a draft's parent is chosen when the draft is created",
     ),
 ];
 
@@ -535,6 +535,6 @@ pub(crate) fn told_at(status: u32, place: u64) -> Result<(), Refusal> {
 }
 
 /// The outcome of a call without a place.
-pub(crate) fn told(status: u32) -> Result<(), Refusal> {
+pub(crate) fn outcome_of(status: u32) -> Result<(), Refusal> {
     told_at(status, 0)
 }

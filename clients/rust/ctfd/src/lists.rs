@@ -50,7 +50,7 @@ const AT_ONCE: usize = 16;
 
 /// The items of a list that are left, and some of its rows.
 #[derive(Clone, Debug)]
-struct Left<'d, R> {
+struct RemainingItems<'d, R> {
     of: Type<'d>,
     next: usize,
     end: usize,
@@ -59,15 +59,15 @@ struct Left<'d, R> {
     from: Option<usize>,
 }
 
-impl<'d, R: Row> Left<'d, R> {
+impl<'d, R: Row> RemainingItems<'d, R> {
     /// All items of a type that is of one of these kinds.
-    fn all(of: Type<'d>, kinds: &[Kind]) -> Result<Left<'d, R>, Refusal> {
+    fn all(of: Type<'d>, kinds: &[Kind]) -> Result<RemainingItems<'d, R>, Refusal> {
         let end = of.length()?;
         if !kinds.contains(&of.kind()) {
             let fault = Fault::WrongKind;
             return Err(Refusal { fault, place: 0 });
         }
-        Ok(Left { of, next: 0, end, rows: [R::default(); AT_ONCE], from: None })
+        Ok(RemainingItems { of, next: 0, end, rows: [R::default(); AT_ONCE], from: None })
     }
 
     fn take(&mut self) -> Option<usize> {
@@ -94,7 +94,7 @@ impl<'d, R: Row> Left<'d, R> {
     fn row(&mut self, index: usize) -> R {
         let from = index - index % AT_ONCE;
         if self.from != Some(from) {
-            counted(R::read(self.of, from, &mut self.rows));
+            expect_item(R::read(self.of, from, &mut self.rows));
             self.from = Some(from);
         }
         self.rows[index % AT_ONCE]
@@ -126,7 +126,7 @@ impl Row for u16 {
 }
 
 /// Says what an item that was counted must be.
-fn counted<T>(item: Result<T, Refusal>) -> T {
+fn expect_item<T>(item: Result<T, Refusal>) -> T {
     item.unwrap_or_else(|refused| unreachable!("an item that is counted is there: {refused}"))
 }
 
@@ -134,11 +134,11 @@ macro_rules! list {
     ($(#[$what:meta])* $name:ident, $item:ty, $row:ty, $kinds:expr) => {
         $(#[$what])*
         #[derive(Clone, Debug)]
-        pub struct $name<'d>(Left<'d, $row>);
+        pub struct $name<'d>(RemainingItems<'d, $row>);
 
         impl<'d> $name<'d> {
             pub(crate) fn of(t: Type<'d>) -> Result<Self, Refusal> {
-                Ok($name(Left::all(t, &$kinds)?))
+                Ok($name(RemainingItems::all(t, &$kinds)?))
             }
         }
 
@@ -195,7 +195,7 @@ impl<'d> Members<'d> {
         let (row, of) = (self.0.row(index), self.0.of);
         let name = name_of(of, row.name_list, row.name_at).unwrap_or_else(|| {
             let mut room = Vec::new();
-            counted(of.member_in(index, &mut room));
+            expect_item(of.member_in(index, &mut room));
             Name(room)
         });
         Member { name, offset: row.offset, of_type: Type::some(of.dictionary(), row.tnum) }
@@ -206,7 +206,7 @@ impl Enumerators<'_> {
     fn at(&mut self, index: usize) -> Enumerator {
         let (row, of) = (self.0.row(index), self.0.of);
         let name = name_of(of, row.name_list, row.name_at);
-        let name = name.unwrap_or_else(|| counted(of.enumerator_name_at(index)));
+        let name = name.unwrap_or_else(|| expect_item(of.enumerator_name_at(index)));
         Enumerator { name, value: row.value }
     }
 }

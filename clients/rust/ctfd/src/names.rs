@@ -1,6 +1,6 @@
 //! Names and other texts that are answered.
 
-use crate::faults::{told, Refusal};
+use crate::faults::{outcome_of, Refusal};
 use std::fmt;
 use std::ops::Deref;
 
@@ -78,7 +78,7 @@ pub(crate) fn fill(
     let mut len = 0;
     room.resize(FIRST, 0);
     loop {
-        told(ask(room.as_mut_ptr(), room.len(), &mut len))?;
+        outcome_of(ask(room.as_mut_ptr(), room.len(), &mut len))?;
         let whole = len as usize <= room.len();
         room.resize(len as usize, 0);
         if whole {

@@ -1,6 +1,6 @@
 //! The line protocol in process.
 
-use crate::faults::{told, Fault, Refusal};
+use crate::faults::{outcome_of, Fault, Refusal};
 use crate::names::fill;
 use crate::raw;
 use std::fmt;
@@ -25,7 +25,7 @@ impl Service {
     pub fn new() -> Result<Service, Refusal> {
         let mut raw = raw::Handle::NONE;
         // SAFETY: the handle is this function's own.
-        told(unsafe { raw::ctfd_begin(&mut raw) })?;
+        outcome_of(unsafe { raw::ctfd_begin(&mut raw) })?;
         Ok(Service { raw, room: Vec::with_capacity(4096) })
     }
 
@@ -92,13 +92,13 @@ impl Service {
         let (name, name_len) = (name.as_ptr(), name.len());
         let (at, len) = (section.as_ptr().cast(), section.len());
         // SAFETY: the handle is this value's own, and name and section are lent for the call.
-        told(unsafe { raw::ctfd_load(&mut self.raw, name, name_len, at, len) })
+        outcome_of(unsafe { raw::ctfd_load(&mut self.raw, name, name_len, at, len) })
     }
 
     /// Forgets all that a session holds and has published. Others keep what they took of it.
     pub fn leave(&mut self, session: u32) -> Result<(), Refusal> {
         // SAFETY: the handle is this value's own.
-        told(unsafe { raw::ctfd_leave(&mut self.raw, session) })
+        outcome_of(unsafe { raw::ctfd_leave(&mut self.raw, session) })
     }
 
     /// Appends the reply that a call makes.
@@ -110,13 +110,13 @@ impl Service {
         reserve(replies, ROOM)?;
         let (mut len, room) = (0, replies.spare_capacity_mut());
         let (at, room) = (room.as_mut_ptr().cast::<u8>(), room.len());
-        told(ask(&mut self.raw, at, room, &mut len))?;
+        outcome_of(ask(&mut self.raw, at, room, &mut len))?;
         let len = len as usize;
         if len > room {
             reserve(replies, len)?;
             let (mut same, at) = (0, replies.spare_capacity_mut().as_mut_ptr().cast::<u8>());
             // SAFETY: as above, with room for the whole reply.
-            told(unsafe { raw::ctfd_reply(&mut self.raw, at, len, &mut same) })?;
+            outcome_of(unsafe { raw::ctfd_reply(&mut self.raw, at, len, &mut same) })?;
         }
         // SAFETY: the library wrote so many bytes behind what stands in `replies`.
         unsafe { replies.set_len(replies.len() + len) };

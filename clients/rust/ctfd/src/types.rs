@@ -2,7 +2,7 @@
 
 use crate::declaration::Declaration;
 use crate::dictionary::Dictionary;
-use crate::faults::{told, told_at, Refusal};
+use crate::faults::{outcome_of, told_at, Refusal};
 use crate::lists::{Arguments, Enumerators, Member, Members};
 use crate::names::{fill, text, Name};
 use crate::raw::{self, EnumeratorRow, MemberRow, VisitRow};
@@ -131,7 +131,7 @@ impl fmt::Display for Type<'_> {
 
 impl<'d> Type<'d> {
     /// The type of a number that an answer had.
-    pub(crate) fn known(of: &'d Dictionary<'d>, number: u16) -> Type<'d> {
+    pub(crate) fn of_answer(of: &'d Dictionary<'d>, number: u16) -> Type<'d> {
         Type { of, number }
     }
 
@@ -143,7 +143,7 @@ impl<'d> Type<'d> {
     /// The type of a number that a caller has.
     pub(crate) fn get(of: &'d Dictionary<'d>, number: u16) -> Result<Type<'d>, Refusal> {
         let found = Type { of, number };
-        found.asked(raw::ctfd_kind)?;
+        found.answer_of(raw::ctfd_kind)?;
         Ok(found)
     }
 
@@ -158,17 +158,17 @@ impl<'d> Type<'d> {
 
     /// Its kind. A type of a parent that is not imported is of an unknown kind.
     pub fn kind(self) -> Kind {
-        self.asked(raw::ctfd_kind).map_or(Kind::Unknown, Kind::of)
+        self.answer_of(raw::ctfd_kind).map_or(Kind::Unknown, Kind::of)
     }
 
     /// Its name as C spells it: `struct point *`.
     pub fn name(self) -> Result<Name, Refusal> {
-        self.said(raw::ctfd_name)
+        self.text_of(raw::ctfd_name)
     }
 
     /// The name in its record, without `struct`, `union` or `enum` in front: empty for none.
     pub fn declared_name(self) -> Result<Name, Refusal> {
-        self.said(raw::ctfd_declared_name)
+        self.text_of(raw::ctfd_declared_name)
     }
 
     /// How C declares something of this type: shown, it is `struct point *next`.
@@ -199,47 +199,47 @@ impl<'d> Type<'d> {
 
     /// Whether it is visible to look-ups by name.
     pub fn is_root(self) -> Result<bool, Refusal> {
-        Ok(self.asked(raw::ctfd_root)? != 0)
+        Ok(self.answer_of(raw::ctfd_root)? != 0)
     }
 
     /// Its size in bytes.
     pub fn size(self) -> Result<u64, Refusal> {
-        self.asked(raw::ctfd_size)
+        self.answer_of(raw::ctfd_size)
     }
 
     /// Its alignment in bytes.
     pub fn align(self) -> Result<u64, Refusal> {
-        self.asked(raw::ctfd_align)
+        self.answer_of(raw::ctfd_align)
     }
 
     /// The type that it stands for, along typedefs and qualifiers.
     pub fn resolve(self) -> Result<Option<Type<'d>>, Refusal> {
-        Ok(Type::some(self.of, self.asked(raw::ctfd_resolve)?))
+        Ok(Type::some(self.of, self.answer_of(raw::ctfd_resolve)?))
     }
 
     /// What it points to, renames or qualifies.
     pub fn reference(self) -> Result<Option<Type<'d>>, Refusal> {
-        Ok(Type::some(self.of, self.asked(raw::ctfd_reference)?))
+        Ok(Type::some(self.of, self.answer_of(raw::ctfd_reference)?))
     }
 
     /// The least pointer to it.
     pub fn pointer(self) -> Result<Type<'d>, Refusal> {
-        Ok(Type::known(self.of, self.asked(raw::ctfd_pointer)?))
+        Ok(Type::of_answer(self.of, self.answer_of(raw::ctfd_pointer)?))
     }
 
     /// What a function type returns.
     pub fn returns(self) -> Result<Option<Type<'d>>, Refusal> {
-        Ok(Type::some(self.of, self.asked(raw::ctfd_return)?))
+        Ok(Type::some(self.of, self.answer_of(raw::ctfd_return)?))
     }
 
     /// What a forward declares: a struct, a union or an enum.
     pub fn tag(self) -> Result<Kind, Refusal> {
-        self.asked(raw::ctfd_tag).map(Kind::of)
+        self.answer_of(raw::ctfd_tag).map(Kind::of)
     }
 
     /// How the value of an integer or a float is encoded.
     pub fn encoding(self) -> Result<Encoding, Refusal> {
-        let raw: raw::Encoding = self.asked(raw::ctfd_encoding)?;
+        let raw: raw::Encoding = self.answer_of(raw::ctfd_encoding)?;
         Ok(Encoding {
             encoding: raw.encoding as u8,
             offset: raw.offset as u8,
@@ -249,7 +249,7 @@ impl<'d> Type<'d> {
 
     /// The parts of an array.
     pub fn array(self) -> Result<Array<'d>, Refusal> {
-        let raw: raw::Array = self.asked(raw::ctfd_array)?;
+        let raw: raw::Array = self.answer_of(raw::ctfd_array)?;
         Ok(Array {
             contents: Type::some(self.of, raw.contents),
             index: Type::some(self.of, raw.index),
@@ -259,7 +259,7 @@ impl<'d> Type<'d> {
 
     /// How many members, enumerators or arguments it has.
     pub fn length(self) -> Result<usize, Refusal> {
-        Ok(self.asked(raw::ctfd_length)? as usize)
+        Ok(self.answer_of(raw::ctfd_length)? as usize)
     }
 
     /// The members of a struct or union, in order.
@@ -287,7 +287,7 @@ impl<'d> Type<'d> {
         let mut raw = raw::Member::default();
         fill(room, |at, len, told| {
             let handle = self.of.handle();
-            // SAFETY: as in `asked`; `fill` gives room for as many bytes as it says.
+            // SAFETY: as in `answer_of`; `fill` gives room for as many bytes as it says.
             let status = unsafe { raw::ctfd_member(handle, self.number, index, at, len, &mut raw) };
             *told = raw.name_len;
             status
@@ -298,7 +298,7 @@ impl<'d> Type<'d> {
     /// The name of an enumerator by its number.
     pub(crate) fn enumerator_name_at(self, index: usize) -> Result<Name, Refusal> {
         let (handle, number, mut value) = (self.of.handle(), self.number, 0);
-        // SAFETY: as in `asked`; `text` gives room for as many bytes as it says.
+        // SAFETY: as in `answer_of`; `text` gives room for as many bytes as it says.
         text(|at, len, told| unsafe {
             raw::ctfd_enumerator(handle, number, index, at, len, &mut value, told)
         })
@@ -307,7 +307,7 @@ impl<'d> Type<'d> {
     /// The name of the first enumerator that has a value.
     pub fn enumerator_name(self, value: i32) -> Result<Name, Refusal> {
         let (handle, number) = (self.of.handle(), self.number);
-        // SAFETY: as in `asked`; `text` gives room for as many bytes as it says.
+        // SAFETY: as in `answer_of`; `text` gives room for as many bytes as it says.
         text(|at, len, told| unsafe { raw::ctfd_enum_name(handle, number, value, at, len, told) })
     }
 
@@ -315,8 +315,8 @@ impl<'d> Type<'d> {
     pub fn enumerator_value(self, name: impl AsRef<[u8]>) -> Result<i32, Refusal> {
         let (name, mut value) = (name.as_ref(), 0);
         let handle = self.of.handle();
-        // SAFETY: as in `asked`; the name lives for the call.
-        told(unsafe {
+        // SAFETY: as in `answer_of`; the name lives for the call.
+        outcome_of(unsafe {
             raw::ctfd_enum_value(handle, self.number, name.as_ptr(), name.len(), &mut value)
         })?;
         Ok(value)
@@ -325,19 +325,19 @@ impl<'d> Type<'d> {
     /// Fills rows with the members of a struct or union, from a number on, and answers how many it
     /// has. Rows behind the last stay.
     pub fn member_rows(self, from: usize, rows: &mut [MemberRow]) -> Result<u64, Refusal> {
-        self.filled(raw::ctfd_members, from, rows)
+        self.fill_rows(raw::ctfd_members, from, rows)
     }
 
     /// The same of the enumerators of an enum.
     pub fn enumerator_rows(self, from: usize, rows: &mut [EnumeratorRow]) -> Result<u64, Refusal> {
-        self.filled(raw::ctfd_enumerators, from, rows)
+        self.fill_rows(raw::ctfd_enumerators, from, rows)
     }
 
     /// Fills rows with the numbers of a function type's arguments as they are stored, a last 0
     /// where more may follow, from a number on, and answers how many it has. Rows behind the last
     /// stay.
     pub fn argument_rows(self, from: usize, rows: &mut [u16]) -> Result<u64, Refusal> {
-        self.filled(raw::ctfd_arguments, from, rows)
+        self.fill_rows(raw::ctfd_arguments, from, rows)
     }
 
     /// Fills rows with the type and all that lies in it: the members of the struct or union that
@@ -346,8 +346,8 @@ impl<'d> Type<'d> {
     pub fn visit_rows(self, rows: &mut [VisitRow]) -> Result<u64, Refusal> {
         let (at, len, mut count) = (rows.as_mut_ptr(), rows.len(), 0);
         let handle = self.of.handle();
-        // SAFETY: as in `filled`.
-        told(unsafe { raw::ctfd_visit(handle, self.number, at, len, &mut count) })?;
+        // SAFETY: as in `fill_rows`.
+        outcome_of(unsafe { raw::ctfd_visit(handle, self.number, at, len, &mut count) })?;
         Ok(count)
     }
 
@@ -367,8 +367,8 @@ impl<'d> Type<'d> {
     pub fn field(self, name: impl AsRef<[u8]>) -> Result<(u64, Option<Type<'d>>), Refusal> {
         let (name, mut offset, mut to) = (name.as_ref(), 0, 0);
         let handle = self.of.handle();
-        // SAFETY: as in `asked`; the name lives for the call.
-        told(unsafe {
+        // SAFETY: as in `answer_of`; the name lives for the call.
+        outcome_of(unsafe {
             raw::ctfd_field(handle, self.number, name.as_ptr(), name.len(), &mut offset, &mut to)
         })?;
         Ok((offset, Type::some(self.of, to)))
@@ -381,7 +381,7 @@ impl<'d> Type<'d> {
         let steps: Vec<u8> =
             names.iter().flat_map(|name| name.iter().chain(&[0])).copied().collect();
         let handle = self.of.handle();
-        // SAFETY: as in `asked`; the steps live for the call, and each ends in a zero byte.
+        // SAFETY: as in `answer_of`; the steps live for the call, and each ends in a zero byte.
         let status = unsafe {
             raw::ctfd_path(
                 handle,
@@ -399,7 +399,7 @@ impl<'d> Type<'d> {
 
     /// What a value holds that begins at a bit of some memory, as a debugger shows it.
     pub fn show(self, memory: &[u8], offset: u64) -> Result<Name, Refusal> {
-        // SAFETY: as in `asked`; the memory lives for the call, and the room, which `text` made, is
+        // SAFETY: as in `answer_of`; the memory lives for the call, and the room, which `text` made, is
         // another.
         text(|at, len, told| unsafe {
             let handle = self.of.handle();

@@ -12,7 +12,7 @@ const FIRST: usize = 64;
 
 /// A type in a visit, with where it lies.
 #[derive(Clone, PartialEq, Eq)]
-pub struct Visited<'d> {
+pub struct VisitedType<'d> {
     /// The name of the member, empty of the outermost type.
     pub name: Name,
     /// The member's type; none where that is no type.
@@ -25,7 +25,7 @@ pub struct Visited<'d> {
     pub depth: u32,
 }
 
-impl fmt::Debug for Visited<'_> {
+impl fmt::Debug for VisitedType<'_> {
     fn fmt(&self, to: &mut fmt::Formatter<'_>) -> fmt::Result {
         write!(to, "{} {:?} at {:?}, {} deep", self.name, self.of_type, self.offset, self.depth)
     }
@@ -82,13 +82,13 @@ impl<'d> Visits<'d> {
 }
 
 impl<'d> Iterator for Visits<'d> {
-    type Item = Visited<'d>;
+    type Item = VisitedType<'d>;
 
-    fn next(&mut self) -> Option<Visited<'d>> {
+    fn next(&mut self) -> Option<VisitedType<'d>> {
         let row = self.row()?;
         self.next += 1;
-        let holder = Type::known(self.of.dictionary(), row.holder);
-        Some(Visited {
+        let holder = Type::of_answer(self.of.dictionary(), row.holder);
+        Some(VisitedType {
             name: self.name(&row, holder),
             of_type: Type::some(self.of.dictionary(), row.tnum),
             holder,

@@ -1,6 +1,6 @@
 //! Dictionaries that are made, and parents that are shared.
 
-use ctfd::{Dictionary, Draft, Encoding, Fault, Kind, LabelRow, Model, Named};
+use ctfd::{Dictionary, Draft, Encoding, Fault, Kind, LabelRow, Model, NewName};
 
 const INT: Encoding = Encoding { encoding: 1, offset: 0, bits: 32 };
 
@@ -9,7 +9,7 @@ fn nodes() -> Draft<'static> {
     let mut draft = Draft::new(Model::Lp64).unwrap();
     let int = draft.integer("int", INT, 4).unwrap();
     let node = draft.structure("node", 0).unwrap();
-    let to = draft.pointer(Named::hidden(b""), node).unwrap();
+    let to = draft.pointer(NewName::hidden(b""), node).unwrap();
     assert_eq!(draft.member(node, "value", int, None), Ok(0));
     assert_eq!(draft.member(node, "next", to, None), Ok(64));
     assert_eq!(draft.find("int").unwrap_err().fault, Fault::NotFound);
@@ -194,9 +194,9 @@ fn a_refused_import_changes_nothing() {
 fn a_bit_field_keeps_its_width() {
     let mut draft = nodes();
     let narrow = Encoding { bits: 3, ..INT };
-    let three = draft.integer(Named::hidden(b"int"), narrow, 4).unwrap();
-    let copy = draft.integer(Named::hidden(b"int"), INT, 4).unwrap();
-    let other = draft.integer(Named::hidden(b"other"), INT, 4).unwrap();
+    let three = draft.integer(NewName::hidden(b"int"), narrow, 4).unwrap();
+    let copy = draft.integer(NewName::hidden(b"int"), INT, 4).unwrap();
+    let other = draft.integer(NewName::hidden(b"other"), INT, 4).unwrap();
     let alias = draft.typedef("alias", three).unwrap();
     let flags = draft.structure("flags", 0).unwrap();
     for (name, of) in [("a", three), ("b", alias), ("c", copy), ("d", other), ("e", 1)] {

@@ -21,7 +21,7 @@ fn lua() -> Dictionary<'static> {
     Dictionary::open_with(&read("lua.ctf"), options).expect("lua's dictionary is sound")
 }
 
-fn said<T: ToString>(answer: Result<T, ctfd::Refusal>) -> String {
+fn text_of<T: ToString>(answer: Result<T, ctfd::Refusal>) -> String {
     answer.map_or_else(|refused| refused.fault.to_string(), |value| value.to_string())
 }
 
@@ -35,8 +35,8 @@ fn lines_of_types(types: &Dictionary) -> Vec<String> {
             format!("{:?}", t.kind()).to_lowercase(),
             t.declared_name().unwrap(),
             t.name().unwrap(),
-            said(t.size()),
-            said(t.align()),
+            text_of(t.size()),
+            text_of(t.align()),
         ));
         for member in t.members().into_iter().flatten() {
             let kind = member.of_type.map_or(0, |t| t.number());

@@ -7,13 +7,13 @@ use std::alloc::{AllocError, Global};
 use std::marker::Brand;
 use std::sync::ledger::{Blank, Ledger};
 
-/// Rows of numbers of rows; a number that is no row's leads nowhere.
+/// RowGraph of numbers of rows; a number that is no row's leads nowhere.
 #[derive(Drop)]
-struct Rows {
+struct RowGraph {
     rows: Vec<Vec<usize>>,
 }
 
-impl<L: Ledger> Graph<L> for Rows {
+impl<L: Ledger> Graph<L> for RowGraph {
     type Opened = usize;
 
     ghost use Rattle.std.specs.Prelude.{map, nat_lt, if◌then◌else◌, Some};
@@ -54,7 +54,7 @@ impl<L: Ledger> Graph<L> for Rows {
 /// The first row that leads too far, and what it took to find it, in a ledger of its own.
 fn searched_in<L: Ledger>(
     alloc: Global,
-    rows: &Rows,
+    rows: &RowGraph,
     blank: Blank,
 ) -> Result<(Option<usize>, u64), AllocError>
     requires name { blank.name ≡ L.name }
@@ -76,5 +76,5 @@ pub fn search_rows(
     for _ in 0..words.number::<u16>() {
         rows.push(vec![in alloc; 99, words.number()]?)?;
     }
-    searched_in::<Brand>(alloc, &Rows { rows }, Blank::new(1))
+    searched_in::<Brand>(alloc, &RowGraph { rows }, Blank::new(1))
 }

@@ -11,11 +11,11 @@ use ctf_views::{
 };
 
 /// An item of a view, as answers say it.
-trait Told: Drop {
+trait AnswerItem: Drop {
     fn tell(&self, answer: &mut Answer);
 }
 
-impl Told for Member<'_> {
+impl AnswerItem for Member<'_> {
     fn tell(&self, answer: &mut Answer) {
         answer.name(self.name);
         answer.say(self.tnum.0);
@@ -23,20 +23,20 @@ impl Told for Member<'_> {
     }
 }
 
-impl Told for Enumerator<'_> {
+impl AnswerItem for Enumerator<'_> {
     fn tell(&self, answer: &mut Answer) {
         answer.name(self.name);
         answer.say(self.value);
     }
 }
 
-impl Told for TypeNum {
+impl AnswerItem for TypeNum {
     fn tell(&self, answer: &mut Answer) {
         answer.say(self.0);
     }
 }
 
-fn tell<T: Told>(answer: &mut Answer, item: Option<T>) {
+fn tell<T: AnswerItem>(answer: &mut Answer, item: Option<T>) {
     match item {
         Some(item) => item.tell(answer),
         None => answer.word("none"),
@@ -46,7 +46,7 @@ fn tell<T: Told>(answer: &mut Answer, item: Option<T>) {
 /// Asks of a list that is left; a number asks for the item at that place.
 fn ask<R: Row>(answer: &mut Answer, rows: &mut Rows<'_, R>, word: &str)
 where
-    R::Item: Told,
+    R::Item: AnswerItem,
 {
     match word {
         "len" => answer.say(rows.len()),

@@ -3,7 +3,7 @@
 use crate::collected::Said;
 use crate::serving::cases::Case;
 use crate::serving::{Ran, served_in};
-use crate::transcripts::outcomes::Told;
+use crate::transcripts::outcomes::Exchange;
 use ctf_wire::{Broker, RunFault};
 
 /// More calls of each sort than any of the runs makes.
@@ -25,7 +25,7 @@ fn noted_of(want: &[u8], lines: usize) -> &[u8] {
 }
 
 /// What is noted after so many reads, where no two lines end in the same.
-fn noted_after(told: &Told, size: usize, reads: u32) -> &[u8] {
+fn noted_after(told: &Exchange, size: usize, reads: u32) -> &[u8] {
     let len = size.wrapping_mul(reads as usize).min(told.input.len());
     let read = told.input.get(..len).unwrap_or(b"");
     noted_of(
@@ -35,7 +35,7 @@ fn noted_after(told: &Told, size: usize, reads: u32) -> &[u8] {
 }
 
 /// Whether a run is cut off as it has to be by a call, or behind so many reads.
-fn is_cut(told: &Told, size: usize, word: &str, number: u32, ran: &Ran) -> bool {
+fn is_cut(told: &Exchange, size: usize, word: &str, number: u32, ran: &Ran) -> bool {
     let (end, noted) = ran;
     match word {
         "reads" => {
@@ -55,7 +55,7 @@ fn is_cut(told: &Told, size: usize, word: &str, number: u32, ran: &Ran) -> bool 
 
 /// How many runs are cut off: by the first call of a sort, the second and so on, until one goes on
 /// to its end.
-pub fn each(said: &mut Said, told: &Told, words: &str) {
+pub fn each(said: &mut Said, told: &Exchange, words: &str) {
     let (size, word) = words.split_once(' ').unwrap_or((words, ""));
     let size = size.parse::<usize>().unwrap_or(0);
     let first = if word == "reads" { 0 } else { 1 };

@@ -1,7 +1,7 @@
 //! The calls below `serve` that answer a request: of a library, and of a broker.
 
 use crate::collected::Said;
-use crate::transcripts::outcomes::Told;
+use crate::transcripts::outcomes::Exchange;
 use ctf_answers::Reply;
 use ctf_lines::{FromLine, Scratch, ToLine, write_change};
 use ctf_protocol::Request;
@@ -55,7 +55,7 @@ fn lines(bytes: &[u8]) -> &str {
 }
 
 /// What a library answers the lines, of whatever session they are.
-pub fn library(said: &mut Said, told: &Told) {
+pub fn library(said: &mut Said, told: &Exchange) {
     let mut library = Library::new(said.alloc());
     let mut pool = Pool::new(said.alloc());
     let mut out = Vec::new(said.alloc());
@@ -66,7 +66,7 @@ pub fn library(said: &mut Said, told: &Told) {
 }
 
 /// What a broker answers the lines.
-pub fn broker(said: &mut Said, told: &Told) {
+pub fn broker(said: &mut Said, told: &Exchange) {
     let mut broker = Broker::new(said.alloc());
     let mut out = Vec::new(said.alloc());
     for line in lines(&told.input).lines() {

@@ -2,7 +2,7 @@
 
 use crate::calls::runs::{case_of, put_run};
 use crate::collected::Said;
-use crate::transcripts::outcomes::Told;
+use crate::transcripts::outcomes::Exchange;
 use ctf_protocol::{Bytes, DataModel, Fault, Parts, PublicationName, fault_name};
 use ctf_wire::{Broker, Counts, Loaded};
 use std::alloc::Global;
@@ -59,7 +59,7 @@ fn load_as(said: &mut Said, broker: &mut Broker, sort: &str, name: &str, ctf: &[
 }
 
 /// The digits of a list; then what it is loaded as, and under which name, or a run over the lines.
-pub fn load(said: &mut Said, told: &Told, words: &str) {
+pub fn load(said: &mut Said, told: &Exchange, words: &str) {
     let (digits, steps) = words.split_once(", ").unwrap_or((words, ""));
     let Ok(ctf) = hex::decode(said.alloc(), digits) else {
         return said.word("no digits");

@@ -2,12 +2,12 @@
 
 use crate::calls::runs::put_end;
 use crate::collected::Said;
-use crate::transcripts::outcomes::Told;
+use crate::transcripts::outcomes::Exchange;
 use ctf_protocol::SlotNumber;
 use ctf_wire::{Broker, FromReader, RunFault, Sink, Source, ToWriter, serve_bounded};
 
 /// How a run of two reads ends, how many it made, and which marks it left.
-pub fn marks(said: &mut Said, told: &Told) {
+pub fn marks(said: &mut Said, told: &Exchange) {
     let alloc = said.alloc();
     let mut source = FromReader::new(told.input.as_slice());
     let mut sink = ToWriter::new(Vec::new(alloc));

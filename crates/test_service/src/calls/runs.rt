@@ -3,7 +3,7 @@
 use crate::collected::Said;
 use crate::serving::cases::Case;
 use crate::serving::served_in;
-use crate::transcripts::outcomes::Told;
+use crate::transcripts::outcomes::Exchange;
 use ctf_wire::{Broker, RunFault};
 
 /// The case of words such as `7, reads 9, read 2`.
@@ -27,20 +27,20 @@ pub fn put_end(said: &mut Said, end: Result<(), RunFault>) {
 }
 
 /// Says how a broker's run over the lines ends, and how much of the replies it writes.
-pub fn put_run(said: &mut Said, broker: &mut Broker, told: &Told, case: Case) {
+pub fn put_run(said: &mut Said, broker: &mut Broker, told: &Exchange, case: Case) {
     let (end, written) = served_in(said.alloc(), broker, &told.input, case);
     put_end(said, end);
     said.front(&told.want, &written);
 }
 
 /// A run in a case.
-pub fn run(said: &mut Said, told: &Told, words: &str) {
+pub fn run(said: &mut Said, told: &Exchange, words: &str) {
     let mut broker = Broker::new(said.alloc());
     put_run(said, &mut broker, told, case_of(words));
 }
 
 /// A run in a case, and then once more where no call fails.
-pub fn again(said: &mut Said, told: &Told, words: &str) {
+pub fn again(said: &mut Said, told: &Exchange, words: &str) {
     let mut broker = Broker::new(said.alloc());
     let case = case_of(words);
     put_run(said, &mut broker, told, case);

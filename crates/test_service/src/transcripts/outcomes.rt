@@ -5,21 +5,21 @@ use std::alloc::{AllocError, Global};
 
 /// Lines that go in, and the replies that are wanted.
 #[derive(Drop)]
-pub struct Told {
+pub struct Exchange {
     pub input: Vec<u8>,
     pub want: Vec<u8>,
 }
 
-impl Told {
-    pub fn new(alloc: Global) -> Told {
-        Told {
+impl Exchange {
+    pub fn new(alloc: Global) -> Exchange {
+        Exchange {
             input: Vec::new(alloc),
             want: Vec::new(alloc),
         }
     }
 
     /// Appends requests and their replies.
-    pub fn append(&mut self, more: &Told) -> Result<(), AllocError> {
+    pub fn append(&mut self, more: &Exchange) -> Result<(), AllocError> {
         self.input.extend_from_slice(&more.input)?;
         self.want.extend_from_slice(&more.want)
     }

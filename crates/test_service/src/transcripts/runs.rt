@@ -5,7 +5,7 @@
 //! a reply and a bar behind it; `>| ` is a request that no newline ends.
 
 use crate::transcripts::marks::put_marked;
-use crate::transcripts::outcomes::Told;
+use crate::transcripts::outcomes::Exchange;
 use std::alloc::{AllocError, Global};
 use std::iter::Skip;
 use std::ops::RangeInclusive;
@@ -19,15 +19,15 @@ pub fn runs_of(text: &str) -> Skip<Split<'_, &'static str>> {
 /// What other sessions say: at first, and then behind each reply.
 #[derive(Drop)]
 pub struct Others {
-    first: Told,
-    between: Told,
+    first: Exchange,
+    between: Exchange,
 }
 
 impl Others {
     pub fn none(alloc: Global) -> Others {
         Others {
-            first: Told::new(alloc),
-            between: Told::new(alloc),
+            first: Exchange::new(alloc),
+            between: Exchange::new(alloc),
         }
     }
 
@@ -53,10 +53,10 @@ fn passes(part: &str) -> RangeInclusive<u32> {
 /// Appends a line of a run as it is in the pass of a number.
 fn put_line(
     alloc: Global,
-    told: &mut Told,
+    told: &mut Exchange,
     line: &str,
     number: u32,
-    between: &Told,
+    between: &Exchange,
 ) -> Result<(), AllocError> {
     if let Some(request) = line.strip_prefix("> ") {
         return put_marked(alloc, &mut told.input, request, number, "\n");
@@ -77,10 +77,10 @@ fn put_line(
 /// Appends a part of a run as it is in the pass of a number.
 fn put_pass(
     alloc: Global,
-    told: &mut Told,
+    told: &mut Exchange,
     part: &str,
     number: u32,
-    between: &Told,
+    between: &Exchange,
 ) -> Result<(), AllocError> {
     for line in part.lines() {
         put_line(alloc, told, line, number, between)?;
@@ -89,12 +89,17 @@ fn put_pass(
 }
 
 /// Appends a part of a run in all its passes, with what others say in the first.
-fn put_part(alloc: Global, told: &mut Told, part: &str, between: &Told) -> Result<(), AllocError> {
+fn put_part(
+    alloc: Global,
+    told: &mut Exchange,
+    part: &str,
+    between: &Exchange,
+) -> Result<(), AllocError> {
     let mut numbers = passes(part);
     if let Some(number) = numbers.next() {
         put_pass(alloc, told, part, number, between)?;
     }
-    let nobody = Told::new(alloc);
+    let nobody = Exchange::new(alloc);
     for number in numbers {
         put_pass(alloc, told, part, number, &nobody)?;
     }
@@ -102,8 +107,8 @@ fn put_part(alloc: Global, told: &mut Told, part: &str, between: &Told) -> Resul
 }
 
 /// The requests of a run and its replies, with what others say.
-pub fn told(alloc: Global, run: &str, others: &Others) -> Result<Told, AllocError> {
-    let mut told = Told::new(alloc);
+pub fn told(alloc: Global, run: &str, others: &Others) -> Result<Exchange, AllocError> {
+    let mut told = Exchange::new(alloc);
     told.append(&others.first)?;
     for part in run.split("\n* ") {
         put_part(alloc, &mut told, part, &others.between)?;

@@ -92,12 +92,12 @@ impl Chance {
 fn line(chance: &mut Chance) -> String {
     match chance.below(3) {
         0 => (0..=chance.below(14)).map(|_| chance.of(&PIECES)).collect(),
-        1 => changed(chance),
+        1 => mutated_line(chance),
         _ => request(chance),
     }
 }
 
-fn changed(chance: &mut Chance) -> String {
+fn mutated_line(chance: &mut Chance) -> String {
     let mut text = WHOLE.to_owned();
     for _ in 0..chance.below(5) {
         let place = chance.below(text.len() + 1);

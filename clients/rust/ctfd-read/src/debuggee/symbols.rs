@@ -82,16 +82,16 @@ impl<'a> Debuggee<'a> {
     /// The functions and objects of a table of which a dictionary may tell something, in its order.
     pub fn symbols(&self, table: &Section<'_>) -> Result<Vec<ProgramSymbol<'a>>> {
         let names = Names(self.strings(table)?);
-        described(&self.entries(table)?, names).map_err(|error| error.of(self.path()))
+        symbols_of(&self.entries(table)?, names).map_err(|error| error.of(self.path()))
     }
 }
 
 /// The same of the lists that go with a dictionary, whose table is one of ELF64.
 pub fn listed_symbols<'a>(table: &[u8], strings: &'a [u8]) -> Result<Vec<ProgramSymbol<'a>>> {
-    described(&entries_of::<FileHeader64<Endianness>>(table)?, Names(strings))
+    symbols_of(&entries_of::<FileHeader64<Endianness>>(table)?, Names(strings))
 }
 
-fn described<'a>(entries: &[Entry], names: Names<'a>) -> Result<Vec<ProgramSymbol<'a>>> {
+fn symbols_of<'a>(entries: &[Entry], names: Names<'a>) -> Result<Vec<ProgramSymbol<'a>>> {
     let mut left = MOST_TIMES * (names.0.len() + ENTRY * entries.len()) as u64;
     let mut listed = Vec::new();
     let mut source: &[u8] = &[];

@@ -24,7 +24,11 @@ const OF_MEMBER: &str =
 
 impl<'d, 'a> Reader<'d, 'a> {
     /// Reads what is other than in C of a type that C++ or Rust has; whether that is all of it.
-    pub(super) fn scoped(&mut self, entry: &Entry<'d, 'a>, made: &mut Record<'a>) -> Result<bool> {
+    pub(super) fn read_beyond_c(
+        &mut self,
+        entry: &Entry<'d, 'a>,
+        made: &mut Record<'a>,
+    ) -> Result<bool> {
         match entry.tag {
             dw::DW_TAG_structure_type | dw::DW_TAG_class_type | dw::DW_TAG_union_type
                 if !entry.has(dw::DW_AT_declaration) =>

@@ -1,26 +1,26 @@
 //! All units of a program: read many at a time, and joined one after the other in their order.
 
 use crate::descriptions::{Descriptions, SymbolFilter};
+use crate::dwarf::groups::groups;
 use crate::dwarf::imports::imports;
 use crate::dwarf::line::Line;
 use crate::dwarf::names::Language;
 use crate::dwarf::tags::SingleTags;
 use crate::dwarf::types::Reader;
-use crate::dwarf::unit_types::{JoinedEntries, Losses, UnitTypes};
+use crate::dwarf::unit_types::{JoinedEntries, JoinedUnits, Losses, Numbers, UnitTypes};
 use crate::dwarf::units::{Debug, Entry};
 use crate::error::{refuse, Result};
 use crate::join::{Joiner, Piece};
 use crate::progress::{Listener, Work};
-use crate::symbols::{Symbol, Symbols};
+use crate::symbols::Symbols;
 use crate::table::Table;
 use crate::verify::Judges;
 use gimli::{constants as dw, DwLang};
 use rayon::prelude::*;
 use std::collections::{BTreeMap, HashMap, HashSet};
+use std::ops::Range;
 use std::sync::atomic::{AtomicUsize, Ordering};
 
-/// How many units one thread reads and joins before they are joined with those of others.
-const GROUP: usize = 16;
 /// How often all is read: again where a tag turned out to have several definitions.
 const MOST_ROUNDS: usize = 3;
 /// Files with fewer bytes of entries are read in less time than it takes to find their tags first.
@@ -36,8 +36,8 @@ enum Outcome<'a> {
 #[derive(Default)]
 pub struct Collector<'a> {
     joiner: Joiner<'a>,
-    symbols: Descriptions<'a>,
-    roots: Vec<u32>,
+    symbols: Descriptions,
+    roots: Numbers,
     losses: Losses,
     units: usize,
     foreign: BTreeMap<String, usize>,
@@ -55,7 +55,7 @@ struct Group<'a> {
 /// Reads all units of some files, each with the name that a refusal has in front.
 pub fn collect<'a>(
     files: &[(Debug<'a>, String)],
-    wanted: &[Symbol<'a>],
+    filter: &SymbolFilter<'_>,
     is_ilp32: bool,
     listener: &Listener,
 ) -> Result<Collector<'a>> {
@@ -67,7 +67,7 @@ pub fn collect<'a>(
         let mut collector = Collector::default();
         let work = listener.begin(files.iter().map(|(debug, _)| debug.units() as u64).sum());
         for (debug, name) in files {
-            let read = collector.read(debug, wanted, is_ilp32, &tags, &work);
+            let read = collector.read(debug, filter, is_ilp32, &tags, &work);
             read.map_err(|error| error.of(name))?;
         }
         let conflicts = std::mem::take(collector.joiner.conflicts());
@@ -77,7 +77,7 @@ pub fn collect<'a>(
             _ => tags.remove(conflicts),
         }
     }
-    refuse("its types can't be told apart")
+    refuse("its types can't be distinguished")
 }
 
 /// Refuses a dictionary that does not tell what the units of some files do; how many types of theirs
@@ -110,29 +110,28 @@ impl<'a> Collector<'a> {
     fn read(
         &mut self,
         debug: &Debug<'a>,
-        wanted: &[Symbol<'a>],
+        filter: &SymbolFilter<'_>,
         is_ilp32: bool,
         tags: &SingleTags,
         work: &Work<'_>,
     ) -> Result<()> {
-        let filter = SymbolFilter::new(wanted);
         let imports = imports(debug)?;
         let read = |number: usize, joined: &JoinedEntries| {
             work.add(1);
-            read_unit(debug, number, &filter, &imports, joined, is_ilp32)
+            read_unit(debug, number, filter, &imports, joined, is_ilp32)
         };
-        let numbers: Vec<usize> = (0..debug.units()).collect();
-        let groups: Vec<&[usize]> = numbers.chunks(GROUP).collect();
+        let groups = groups(debug);
         let line = Line::new(|group| self.take(group));
         let next = AtomicUsize::new(0);
         let read_some = |_| loop {
             let place = next.fetch_add(1, Ordering::Relaxed);
             match groups.get(place) {
-                Some(numbers) if line.put(place, || Group::read(numbers, read, tags)) => {}
+                Some(group) if line.put(place, || Group::read(group.clone(), read, tags)) => {}
                 _ => break,
             }
         };
-        (0..rayon::current_num_threads()).into_par_iter().for_each(read_some);
+        let readers = rayon::current_num_threads().min(groups.len());
+        (0..readers).into_par_iter().for_each(read_some);
         line.finish()?;
         self.losses.end_file();
         Ok(())
@@ -145,8 +144,8 @@ impl<'a> Collector<'a> {
         self.units += group.units;
         self.joiner.conflicts().extend(group.conflicts);
         let to = self.joiner.join(group.piece);
-        let UnitTypes { roots, told, losses, .. } = group.unit_types.renumbered(&to);
-        self.roots.extend(roots);
+        let UnitTypes { roots, told, losses, .. } = group.unit_types.with_numbers(&to);
+        self.roots.extend(&roots);
         self.losses.extend(losses);
         told.into_iter().for_each(|told| self.symbols.tell(told));
     }
@@ -155,6 +154,7 @@ impl<'a> Collector<'a> {
     pub fn finish(
         self,
         wanted: &Symbols<'_>,
+        filter: &SymbolFilter<'_>,
         is_linked: bool,
         is_ilp32: bool,
     ) -> Result<(Table<'a>, Vec<u32>)> {
@@ -172,10 +172,10 @@ impl<'a> Collector<'a> {
         let (mut table, to) = self.joiner.into_table();
         let place = |n: u32| to[n as usize];
         for one in &wanted.listed {
-            let said = self.symbols.description_of(one, is_linked);
+            let said = self.symbols.description_of(one, filter, is_linked);
             if one.is_function {
                 let function = said.and_then(|said| said.function.as_ref());
-                table.functions.push(function.map(|record| record.renumbered(place)));
+                table.functions.push(function.map(|function| function.record(place)));
             } else {
                 table.objects.push(said.map_or(0, |said| place(said.of)));
             }
@@ -187,7 +187,7 @@ impl<'a> Collector<'a> {
                 "{one} of the program: types of C, C++ and Rust are read; what it tells is left out"
             )
         }));
-        Ok((table, self.roots.into_iter().map(place).collect()))
+        Ok((table, self.roots.listed.into_iter().map(place).collect()))
     }
 }
 
@@ -195,15 +195,19 @@ impl<'a> Group<'a> {
     /// Reads some units and joins them, in the thread that reads them: what is left of each is freed
     /// where it was made.
     fn read(
-        numbers: &[usize],
+        numbers: Range<usize>,
         read: impl Fn(usize, &JoinedEntries) -> Result<Outcome<'a>>,
         tags: &SingleTags,
     ) -> Result<Group<'a>> {
+        if numbers.len() == 1 {
+            let outcome = read(numbers.start, &JoinedEntries::default())?;
+            return Ok(Group::of_unit(outcome, tags));
+        }
         let mut joiner = Joiner::default();
-        let mut all = UnitTypes::default();
+        let mut all = JoinedUnits::default();
         let mut joined = JoinedEntries::default();
         let (mut units, mut foreign) = (0, Vec::new());
-        for &number in numbers {
+        for number in numbers {
             match read(number, &joined)? {
                 Outcome::Nothing => {}
                 Outcome::Foreign(language) => foreign.push(language),
@@ -213,14 +217,28 @@ impl<'a> Group<'a> {
                     let known = std::mem::take(&mut unit_types.joined);
                     let to = joiner.join(Piece::new(records, known, tags));
                     joined.extend(&unit_types.shared, &to);
-                    all.append(unit_types.renumbered(&to));
+                    all.extend(unit_types.with_numbers(&to));
                 }
             }
         }
         let (piece, to, conflicts) = joiner.into_piece(tags);
-        Ok(Group { piece, conflicts, unit_types: all.renumbered(&to), units, foreign })
+        Ok(Group { piece, conflicts, unit_types: all.with_numbers(&to), units, foreign })
+    }
+
+    /// What a single unit told, as it is: it is joined but once, with those before it.
+    fn of_unit(outcome: Outcome<'a>, tags: &SingleTags) -> Group<'a> {
+        let (unit, foreign) = match outcome {
+            Outcome::Nothing => (None, Vec::new()),
+            Outcome::Foreign(language) => (None, vec![language]),
+            Outcome::OfC(unit) => (Some(unit), Vec::new()),
+        };
+        let units = usize::from(unit.is_some());
+        let mut unit_types = unit.unwrap_or_default();
+        let piece = Piece::new(std::mem::take(&mut unit_types.records), Vec::new(), tags);
+        Group { piece, conflicts: HashSet::new(), unit_types, units, foreign }
     }
 }
+
 /// What a unit tells, and the units that it imports.
 fn read_unit<'a>(
     debug: &Debug<'a>,

@@ -18,8 +18,11 @@ pub(super) fn imports(debug: &Debug<'_>) -> Result<HashMap<u64, Vec<u64>>> {
         let top = Entry::top(&unit)?;
         Ok(top.tag == dw::DW_TAG_partial_unit)
     };
-    let partial: Vec<bool> =
-        numbers.clone().into_par_iter().map(is_partial).collect::<Result<_>>()?;
+    let is_told_by_header = numbers.clone().all(|number| debug.version(number) >= 5);
+    let partial: Vec<bool> = match is_told_by_header {
+        true => numbers.clone().map(is_partial).collect::<Result<_>>()?,
+        false => numbers.clone().into_par_iter().map(is_partial).collect::<Result<_>>()?,
+    };
     if !debug.has_common() && !partial.contains(&true) {
         return Ok(made);
     }

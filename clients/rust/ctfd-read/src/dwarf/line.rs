@@ -5,7 +5,7 @@ use std::collections::BTreeMap;
 use std::sync::{Condvar, Mutex, MutexGuard, PoisonError};
 
 /// How far a thread goes ahead of what is taken in.
-const MOST_AHEAD: usize = 16;
+pub(super) const MOST_AHEAD: usize = 16;
 
 /// A line of things, each of which `take` takes in its turn, in whichever thread has the time.
 pub(super) struct Line<T, F> {

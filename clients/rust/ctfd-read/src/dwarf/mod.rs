@@ -2,9 +2,12 @@
 
 mod classes;
 pub mod collector;
+mod groups;
 mod imports;
 mod line;
 pub mod names;
+mod plain_unit;
+pub mod scopes;
 pub mod sections;
 pub mod tags;
 pub mod types;

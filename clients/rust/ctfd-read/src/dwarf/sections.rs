@@ -1,6 +1,7 @@
 //! The sections of debug information: of a program, of the common file that dwz made, and of the
 //! .dwo files, or the packages of these, that `-gsplit-dwarf` leaves the greater part in.
 
+use crate::dwarf::plain_unit::plain_unit;
 use crate::dwarf::units::Slice;
 use crate::elf;
 use crate::error::{refuse, Result};
@@ -60,10 +61,10 @@ pub fn borrow_all<'a>(
 
 impl<'a> Sections<'a> {
     /// Those of a file, and of the others that it names: dwz's, which is looked for beside it and in
-    /// some folders, and .dwo files.
-    pub fn load(image: &'a Image, folders: &[PathBuf]) -> Result<Self> {
+    /// some folders, and .dwo files. The tables of lines are among them where they are wanted.
+    pub fn load(image: &'a Image, folders: &[PathBuf], has_lines: bool) -> Result<Self> {
         let file = image.elf()?;
-        let mut needed = needed_of(image, &file);
+        let mut needed = needed_of(image, &file, has_lines);
         let main =
             gimli::Dwarf::load(|id| needed.remove(&id).unwrap_or_else(|| Ok(Cow::default())))?;
         let endian = elf::endian(&file);
@@ -71,7 +72,7 @@ impl<'a> Sections<'a> {
         let mut sections = Sections { main, common: None, endian, splits, skeletons };
         if let Some(common) = elf::alternate_file(image, folders)? {
             let file = common.elf()?;
-            let mut needed = needed_of(&common, &file);
+            let mut needed = needed_of(&common, &file, has_lines);
             let owned = |id: SectionId| -> Result<Cow<'a, [u8]>> {
                 let found = needed.remove(&id).unwrap_or_else(|| Ok(Cow::default()))?;
                 Ok(Cow::Owned(found.into_owned()))
@@ -96,7 +97,7 @@ impl<'a> Sections<'a> {
     fn split_of(
         &mut self,
         image: &Image,
-        named: &Named,
+        named: &DwoName,
         places: &mut HashMap<PathBuf, usize>,
     ) -> Result<usize> {
         let beside = image.path().canonicalize()?;
@@ -128,12 +129,11 @@ impl<'a> Sections<'a> {
     }
 }
 
-/// The sections that types and symbols need. Lines are read with each unit.
-const NEEDED: [SectionId; 10] = [
+/// The sections that types and symbols need.
+const NEEDED: [SectionId; 9] = [
     SectionId::DebugAbbrev,
     SectionId::DebugAddr,
     SectionId::DebugInfo,
-    SectionId::DebugLine,
     SectionId::DebugLineStr,
     SectionId::DebugRanges,
     SectionId::DebugRngLists,
@@ -142,20 +142,31 @@ const NEEDED: [SectionId; 10] = [
     SectionId::DebugTypes,
 ];
 
-/// These of a file; the first in gimli's order that can't be had refuses it.
-fn needed_of<'a>(image: &'a Image, file: &Elf<'a>) -> HashMap<SectionId, Result<Cow<'a, [u8]>>> {
-    NEEDED.into_iter().zip(elf::sections(image, file, NEEDED.map(|id| id.name()))).collect()
+/// These of a file, and its lines where they are wanted; the first in gimli's order that can't be
+/// had refuses it.
+fn needed_of<'a>(
+    image: &'a Image,
+    file: &Elf<'a>,
+    has_lines: bool,
+) -> HashMap<SectionId, Result<Cow<'a, [u8]>>> {
+    let found = elf::sections(image, file, NEEDED.map(|id| id.name()));
+    let mut made: HashMap<_, _> = NEEDED.into_iter().zip(found).collect();
+    if has_lines {
+        let lines = SectionId::DebugLine;
+        made.insert(lines, elf::section(image, file, lines.name()));
+    }
+    made
 }
 
 /// What a unit says of the .dwo file that it stands for.
-struct Named {
+struct DwoName {
     name: String,
     folder: String,
     id: DwoId,
 }
 
 /// The units of a program that stand for others, by their offsets.
-fn named_splits(dwarf: &gimli::Dwarf<Slice<'_>>) -> Result<Vec<(u64, Named)>> {
+fn named_splits(dwarf: &gimli::Dwarf<Slice<'_>>) -> Result<Vec<(u64, DwoName)>> {
     let mut found = Vec::new();
     let mut units = dwarf.units();
     while let Some(header) = units.next()? {
@@ -169,7 +180,7 @@ fn named_splits(dwarf: &gimli::Dwarf<Slice<'_>>) -> Result<Vec<(u64, Named)>> {
         if !is_likely {
             continue;
         }
-        let unit = dwarf.unit(header)?;
+        let unit = plain_unit(dwarf, header)?;
         let mut entries = unit.entries();
         let Some((_, top)) = entries.next_dfs()? else { continue };
         let text = |name| -> Result<Option<String>> {
@@ -184,7 +195,7 @@ fn named_splits(dwarf: &gimli::Dwarf<Slice<'_>>) -> Result<Vec<(u64, Named)>> {
         let Some((name, id)) = name.zip(dwo_id(dwarf, &header)?) else { continue };
         let folder = text(dw::DW_AT_comp_dir)?.unwrap_or_default();
         let start = header.offset().as_debug_info_offset().map_or(0, |at| at.0 as u64);
-        found.push((start, Named { name, folder, id }));
+        found.push((start, DwoName { name, folder, id }));
     }
     Ok(found)
 }
@@ -199,7 +210,7 @@ pub fn dwo_id<'a>(
         _ if header.version() >= 5 => return Ok(None),
         _ => {}
     }
-    let unit = dwarf.unit(*header)?;
+    let unit = plain_unit(dwarf, *header)?;
     let mut entries = unit.entries();
     let Some((_, top)) = entries.next_dfs()? else { return Ok(None) };
     Ok(match top.attr_value(dw::DW_AT_GNU_dwo_id)? {
@@ -233,7 +244,7 @@ fn has_slots(index: &[u8]) -> bool {
 impl Split {
     /// The sections of a file that another names; None where it is not there, or is no ELF file.
     fn load(path: &Path) -> Result<Option<Split>> {
-        let Some(image) = Image::linked(path) else { return Ok(None) };
+        let Some(image) = Image::open_linked(path) else { return Ok(None) };
         let Ok(file) = image.elf() else { return Ok(None) };
         let mut data = HashMap::new();
         for id in SPLIT {

@@ -5,7 +5,8 @@
 //! names the tags that turn out to have several.
 
 use crate::dwarf::names::{Language, Prefixes};
-use crate::dwarf::units::{scopes, Debug, Entry, Unit};
+use crate::dwarf::scopes::scopes;
+use crate::dwarf::units::{Debug, Entry, Unit};
 use crate::join::NumberHasher;
 use crate::table::{Kind, Record};
 use gimli::constants as dw;
@@ -109,14 +110,14 @@ fn add<'a>(debug: &Debug<'a>, unit: &Unit<'a>, made: &mut Definitions) -> crate:
         Language::C => Prefixes::default(),
         Language::Scoped => Prefixes::of(debug, unit)?,
     };
-    for (offset, tag) in scopes(unit, language)?.into_iter().flat_map(|scope| scope.entries) {
-        let kind = match tag {
+    for one in scopes(unit, language, 1)?.into_iter().flat_map(|scope| scope.entries) {
+        let kind = match one.tag {
             dw::DW_TAG_structure_type | dw::DW_TAG_class_type => Kind::Struct,
             dw::DW_TAG_union_type => Kind::Union,
             dw::DW_TAG_enumeration_type => Kind::Enum,
             _ => continue,
         };
-        let entry = Entry::read_with_line(unit, offset)?;
+        let entry = Entry::read_with_line(unit, one.offset)?;
         if entry.has(dw::DW_AT_declaration) || entry.has(dw::DW_AT_signature) {
             continue;
         }

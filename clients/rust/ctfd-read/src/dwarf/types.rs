@@ -1,13 +1,15 @@
 //! The types of C in a program's debug information, as a table.
 
-use crate::descriptions::{Description, Statement, SymbolFilter};
+use crate::descriptions::{Description, Signature, Statement, SymbolFilter};
 use crate::dwarf::names::{Language, Prefixes};
+use crate::dwarf::scopes::{scopes, Listed, Scope};
 use crate::dwarf::unit_types::{JoinedEntries, Loss, UnitTypes};
-use crate::dwarf::units::{scopes, Debug, Entry, Scope, Unit};
+use crate::dwarf::units::{Debug, Entry, Unit};
 use crate::error::{refuse, Result};
 use crate::join::NumberHasher;
 use crate::table::{Encoding, Enumerator, Kind, Member, Parts, Record};
 use gimli::{constants as dw, DwTag, Reader as _, RunTimeEndian, UnitOffset};
+use smallvec::SmallVec;
 use std::borrow::Cow;
 use std::collections::HashMap;
 use std::hash::BuildHasherDefault;
@@ -36,6 +38,9 @@ pub(super) struct Reader<'d, 'a> {
     numbers: HashMap<u64, u32, BuildHasherDefault<NumberHasher>>,
     todo: Vec<(&'d Unit<'a>, UnitOffset, u32)>,
     index: u32,
+    /// Room for the parts of a type, until their number is known.
+    members: Vec<Member<'a>>,
+    enumerators: Vec<Enumerator<'a>>,
     /// For each unit that types were read from what their names have in front; None in C.
     prefixes: HashMap<u64, Option<Rc<Prefixes>>, BuildHasherDefault<NumberHasher>>,
 }
@@ -60,6 +65,8 @@ impl<'d, 'a> Reader<'d, 'a> {
             numbers: HashMap::default(),
             todo: Vec::new(),
             index: 0,
+            members: Vec::new(),
+            enumerators: Vec::new(),
             prefixes: HashMap::default(),
         }
     }
@@ -68,8 +75,8 @@ impl<'d, 'a> Reader<'d, 'a> {
     pub(super) fn unit(&mut self, unit: &'d Unit<'a>) -> Result<()> {
         let is_scoped = self.prefixes(unit)?.is_some();
         let language = if is_scoped { Language::Scoped } else { Language::C };
-        let scopes = scopes(unit, language)?;
-        for &(offset, tag) in scopes.iter().flat_map(|scope| &scope.entries) {
+        let scopes = scopes(unit, language, self.debug.threads_for(unit))?;
+        for &Listed { offset, tag, .. } in scopes.iter().flat_map(|scope| &scope.entries) {
             match tag {
                 dw::DW_TAG_variable => self.variable(Entry::read(unit, offset)?)?,
                 dw::DW_TAG_subprogram => {
@@ -133,11 +140,18 @@ impl<'d, 'a> Reader<'d, 'a> {
 
     /// The number of the type that an entry names; 0 where it names none.
     pub(super) fn of(&mut self, entry: &Entry<'d, 'a>) -> Result<u32> {
-        let Some(key) = self.debug.key(entry, dw::DW_AT_type)? else { return Ok(0) };
+        match self.debug.key(entry, dw::DW_AT_type)? {
+            Some(key) => self.of_key(entry.unit, key),
+            None => Ok(0),
+        }
+    }
+
+    /// The number of the entry of a key; `near` is the unit in which it most often is.
+    fn of_key(&mut self, near: &'d Unit<'a>, key: u64) -> Result<u32> {
         if let Some(known) = self.known_number(key) {
             return Ok(known);
         }
-        let unit = if entry.unit.has(key) { entry.unit } else { self.debug.unit_of(key)? };
+        let unit = if near.has(key) { near } else { self.debug.unit_of(key)? };
         Ok(self.fresh_number(unit, key))
     }
 
@@ -153,7 +167,7 @@ impl<'d, 'a> Reader<'d, 'a> {
         };
         let mut made = Record::new(kind, name);
         match kind {
-            _ if prefixes.is_some() && self.scoped(&entry, &mut made)? => {}
+            _ if prefixes.is_some() && self.read_beyond_c(&entry, &mut made)? => {}
             Kind::Struct | Kind::Union | Kind::Enum if entry.has(dw::DW_AT_declaration) => {
                 made.kind = Kind::Forward;
             }
@@ -181,7 +195,7 @@ impl<'d, 'a> Reader<'d, 'a> {
     }
 
     fn members(&mut self, entry: &Entry<'d, 'a>) -> Result<Box<[Member<'a>]>> {
-        let mut made = Vec::new();
+        let mut made = std::mem::take(&mut self.members);
         for one in entry.children()? {
             let one = one?;
             if one.tag == dw::DW_TAG_member && !one.has(dw::DW_AT_external) {
@@ -190,7 +204,9 @@ impl<'d, 'a> Reader<'d, 'a> {
                 self.lost_part(entry, &one)?;
             }
         }
-        Ok(made.into())
+        let listed = made.drain(..).collect();
+        self.members = made;
+        Ok(listed)
     }
 
     pub(super) fn member(
@@ -202,6 +218,7 @@ impl<'d, 'a> Reader<'d, 'a> {
         let width = entry.constant(dw::DW_AT_bit_size).map(natural).transpose()?;
         let of = self.of(entry)?;
         let offset = natural(self.offset(whole, entry, width)?)?;
+        let width = width.map(|width| u16::try_from(width).unwrap_or(u16::MAX));
         Ok(Member { name, of, offset, width })
     }
 
@@ -246,14 +263,16 @@ impl<'d, 'a> Reader<'d, 'a> {
         Ok(0)
     }
 
-    fn enumerators(&self, entry: &Entry<'d, 'a>) -> Result<Box<[Enumerator<'a>]>> {
-        let mut made = Vec::new();
+    fn enumerators(&mut self, entry: &Entry<'d, 'a>) -> Result<Box<[Enumerator<'a>]>> {
+        let mut made = std::mem::take(&mut self.enumerators);
         for one in entry.children_of(|tag| tag == dw::DW_TAG_enumerator)? {
             let one = one?;
             let value = one.constant(dw::DW_AT_const_value).unwrap_or(0);
             made.push(Enumerator { name: self.debug.name(&one)?, value });
         }
-        Ok(made.into())
+        let listed = made.drain(..).collect();
+        self.enumerators = made;
+        Ok(listed)
     }
 
     /// An array, the outermost of several dimensions; the others get numbers here.
@@ -317,22 +336,11 @@ impl<'d, 'a> Reader<'d, 'a> {
 
     /// What a function takes, which stands in an entry, and returns, which another one says.
     fn function_of(&mut self, whole: &Entry<'d, 'a>, of: &Entry<'d, 'a>) -> Result<Record<'a>> {
-        let mut parts = whole.children_of(is_argument)?;
-        let made = self.function(&mut parts, of)?;
-        self.debug.count_entries(parts.steps())?;
-        Ok(made)
-    }
-
-    /// The same, where the entries of its arguments are found.
-    fn function(
-        &mut self,
-        parts: impl Iterator<Item = Result<Entry<'d, 'a>>>,
-        of: &Entry<'d, 'a>,
-    ) -> Result<Record<'a>> {
         let mut made = Record::new(Kind::Function, Cow::Borrowed(b""));
         made.of = self.of(of)?;
-        let mut arguments = Vec::new();
-        for one in parts {
+        let mut arguments: SmallVec<[u32; 16]> = SmallVec::new();
+        let mut parts = whole.children_of(is_argument)?;
+        for one in &mut parts {
             let one = one?;
             match one.tag {
                 dw::DW_TAG_formal_parameter => arguments.push(self.argument(&one)?),
@@ -340,7 +348,34 @@ impl<'d, 'a> Reader<'d, 'a> {
                 _ => {}
             }
         }
-        made.parts = Parts::Arguments(arguments.into());
+        self.debug.count_entries(parts.steps())?;
+        made.parts = Parts::Arguments(arguments.as_slice().into());
+        Ok(made)
+    }
+
+    /// The same, where what stands in its entry is listed.
+    fn function_in(
+        &mut self,
+        unit: &'d Unit<'a>,
+        listed: &[Listed],
+        of: &Entry<'d, 'a>,
+    ) -> Result<Record<'a>> {
+        let mut made = Record::new(Kind::Function, Cow::Borrowed(b""));
+        made.of = self.of(of)?;
+        let mut arguments: SmallVec<[u32; 16]> = SmallVec::new();
+        for one in listed {
+            match (one.tag, one.type_offset()) {
+                (dw::DW_TAG_formal_parameter, Some(offset)) => {
+                    arguments.push(self.of_key(unit, unit.key(offset))?);
+                }
+                (dw::DW_TAG_formal_parameter, None) => {
+                    arguments.push(self.argument(&Entry::read_argument(unit, one.offset)?)?);
+                }
+                (dw::DW_TAG_unspecified_parameters, _) => made.varargs = true,
+                _ => {}
+            }
+        }
+        made.parts = Parts::Arguments(arguments.as_slice().into());
         Ok(made)
     }
 
@@ -404,11 +439,17 @@ impl<'d, 'a> Reader<'d, 'a> {
             return Ok(());
         }
         let name = self.symbol_name(&chain)?;
-        if self.asked.has(&name, place) {
+        if let Some(name) = self.asked.number(&name, place) {
             let of = type_source(&chain).map_or(Ok(0), |one| self.of(one))?;
             let said = Description { of, function: None, is_whole };
             let is_own = place.is_some() && !is_external;
-            self.unit_types.told.push(Statement { name, place, said, others: Vec::new(), is_own });
+            self.unit_types.told.push(Statement {
+                name,
+                place,
+                said,
+                others: Box::default(),
+                is_own,
+            });
         }
         Ok(())
     }
@@ -436,29 +477,22 @@ impl<'d, 'a> Reader<'d, 'a> {
             return Ok(());
         }
         let name = self.symbol_name(&chain)?;
-        if !self.asked.has(&name, place) {
-            return Ok(());
-        }
+        let Some(name) = self.asked.number(&name, place) else { return Ok(()) };
         let is_copy = |one: &&Entry<'d, 'a>| !one.has(dw::DW_AT_abstract_origin);
         let own = chain.iter().find(is_copy).unwrap_or(&chain[chain.len() - 1]);
         let own_scope = scopes.binary_search_by_key(&own.offset, |scope| scope.offset);
         let source = type_source(&chain).unwrap_or(own);
         let function = match own_scope {
             Ok(scope) if std::ptr::eq(own.unit, chain[0].unit) => {
-                let listed = scopes[scope].entries.iter().filter(|(_, tag)| is_argument(*tag));
-                self.function(listed.map(|&(offset, _)| Entry::read(own.unit, offset)), source)?
+                self.function_in(own.unit, &scopes[scope].entries, source)?
             }
             _ => self.function_of(own, source)?,
         };
-        let said = Description { of: 0, function: Some(function), is_whole: place.is_some() };
+        let function = Some(Signature::of_record(function));
+        let said = Description { of: 0, function, is_whole: place.is_some() };
         let is_own = place.is_some() && !is_external;
-        self.unit_types.told.push(Statement {
-            name,
-            place,
-            said,
-            others: starts.collect(),
-            is_own,
-        });
+        let others = starts.collect();
+        self.unit_types.told.push(Statement { name, place, said, others, is_own });
         Ok(())
     }
 

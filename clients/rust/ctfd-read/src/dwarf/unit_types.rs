@@ -3,7 +3,7 @@
 //! A unit may name types in others: those that dwz took out of it, and those of the functions that a
 //! compiler optimised as it linked. Such entries are read for the first unit that names them.
 
-use crate::descriptions::Statement;
+use crate::descriptions::{Statement, Statements};
 use crate::join::NumberHasher;
 use crate::table::Record;
 use std::collections::HashMap;
@@ -19,7 +19,7 @@ pub(super) struct UnitTypes<'a> {
     /// The keys of entries of other units that it read, and its numbers for them.
     pub shared: Vec<(u64, u32)>,
     pub roots: Vec<u32>,
-    pub told: Vec<Statement<'a>>,
+    pub told: Vec<Statement>,
     pub losses: Vec<Loss>,
 }
 
@@ -34,22 +34,55 @@ pub(super) struct Loss {
 
 impl<'a> UnitTypes<'a> {
     /// The same with other numbers for what it names, without its records.
-    pub fn renumbered(mut self, to: &[u32]) -> UnitTypes<'a> {
+    pub fn with_numbers(mut self, to: &[u32]) -> UnitTypes<'a> {
         self.roots.iter_mut().for_each(|n| *n = to[*n as usize]);
-        for told in &mut self.told {
-            told.said.of = to[told.said.of as usize];
-            if let Some(function) = &mut told.said.function {
-                function.renumber(|n| to[n as usize]);
-            }
-        }
+        self.told.iter_mut().for_each(|one| one.said.renumber(|n| to[n as usize]));
         self
     }
+}
 
-    /// Takes in what another tells, but for its records.
-    pub fn append(&mut self, mut other: UnitTypes<'a>) {
-        self.roots.append(&mut other.roots);
-        self.told.append(&mut other.told);
-        self.losses.append(&mut other.losses);
+/// What some units tell that were joined, but for their records: each thing once.
+#[derive(Default)]
+pub(super) struct JoinedUnits {
+    roots: Numbers,
+    statements: Statements,
+    losses: Vec<Loss>,
+}
+
+impl JoinedUnits {
+    /// Takes in what a unit tells, with the numbers of what is joined.
+    pub fn extend(&mut self, unit: UnitTypes<'_>) {
+        self.roots.extend(&unit.roots);
+        self.statements.extend(unit.told);
+        self.losses.extend(unit.losses);
+    }
+
+    /// All of it, with other numbers.
+    pub fn with_numbers<'a>(self, to: &[u32]) -> UnitTypes<'a> {
+        let (roots, told, losses) = (self.roots.listed, self.statements.listed, self.losses);
+        UnitTypes { roots, told, losses, ..UnitTypes::default() }.with_numbers(to)
+    }
+}
+
+/// Numbers of types, each once.
+#[derive(Default)]
+pub(super) struct Numbers {
+    pub listed: Vec<u32>,
+    is_listed: Vec<bool>,
+}
+
+impl Numbers {
+    /// Takes further ones in.
+    pub fn extend(&mut self, numbers: &[u32]) {
+        for &number in numbers {
+            let place = number as usize;
+            if self.is_listed.len() <= place {
+                self.is_listed.resize(place + 1, false);
+            }
+            if !std::mem::replace(&mut self.is_listed[place], true) {
+                self.listed.push(number);
+            }
+        }
     }
 }
 

@@ -3,11 +3,12 @@
 //! Each entry of all files has a number of its own, its key: which file and which section it is in,
 //! and its place there.
 
-use crate::dwarf::names::{self, Language};
+use crate::dwarf::line::MOST_AHEAD;
+use crate::dwarf::plain_unit::plain_unit;
 use crate::dwarf::sections::{borrow_all, dwo_id, Sections, Skeleton};
 use crate::error::{refuse, Result};
 use gimli::Section as _;
-use gimli::{constants as dw, DwAt, DwForm, DwTag, UnitType};
+use gimli::{constants as dw, DwAt, DwTag, UnitType};
 use gimli::{Abbreviation, AttributeValue, EndianSlice, RunTimeEndian, UnitHeader, UnitOffset};
 use smallvec::SmallVec;
 use std::borrow::Cow;
@@ -17,6 +18,7 @@ use std::sync::OnceLock;
 
 pub type Slice<'a> = EndianSlice<'a, RunTimeEndian>;
 pub type Attribute<'a> = gimli::Attribute<Slice<'a>>;
+pub type Lines<'a> = gimli::IncompleteLineProgram<Slice<'a>>;
 
 /// From this bit on a key has the number of a file.
 const FILE: u32 = 40;
@@ -33,6 +35,9 @@ const SHORT_NAME: usize = 64;
 /// How many bytes it counts for to look at an entry.
 const STEP: usize = 16;
 
+/// The bytes from which on a unit is worth several threads.
+const WORTH_THREADS: usize = 1 << 17;
+
 /// A unit that is not opened yet.
 struct Slot<'a> {
     header: UnitHeader<Slice<'a>>,
@@ -40,7 +45,7 @@ struct Slot<'a> {
     end: u64,
     /// The start of the unit of the program that stands for this one, which is in a .dwo file.
     skeleton: Option<u64>,
-    opened: OnceLock<Result<Unit<'a>>>,
+    opened: OnceLock<Result<Box<Unit<'a>>>>,
 }
 
 /// A unit. `start` is the key of its first byte, and `end` that of the byte behind it.
@@ -61,6 +66,11 @@ impl Unit<'_> {
 
     pub fn key(&self, offset: UnitOffset) -> u64 {
         self.start + offset.0 as u64
+    }
+
+    /// How many bytes it has.
+    pub fn bytes(&self) -> usize {
+        (self.end - self.start) as usize
     }
 }
 
@@ -162,7 +172,7 @@ impl<'a> Debug<'a> {
         }
         if own.is_empty() {
             return refuse(format!(
-                "{} is of another build: it has not the unit that {} is named for",
+                "{} is of another build: it lacks the unit that {} refers to",
                 split.path.display(),
                 skeleton.name
             ));
@@ -190,6 +200,12 @@ impl<'a> Debug<'a> {
         self.slot(number).start
     }
 
+    /// How many bytes the unit of a number has.
+    pub fn unit_bytes(&self, number: usize) -> u64 {
+        let slot = self.slot(number);
+        slot.end - slot.start
+    }
+
     pub fn version(&self, number: usize) -> u16 {
         self.slot(number).header.version()
     }
@@ -206,6 +222,17 @@ impl<'a> Debug<'a> {
     /// How many bytes its entries have.
     pub fn entry_bytes(&self) -> usize {
         self.files.iter().map(|file| file.debug_info.reader().len()).sum()
+    }
+
+    /// How many threads go through a unit: of a program with more units than threads one, else as
+    /// many of all as the unit has of the entries. A thread that waits for the others may read
+    /// another unit meanwhile, so there are so few that none waits for its turn.
+    pub fn threads_for(&self, unit: &Unit<'a>) -> usize {
+        let threads = rayon::current_num_threads();
+        if unit.bytes() < WORTH_THREADS || self.units() > threads.min(MOST_AHEAD) {
+            return 1;
+        }
+        (threads * unit.bytes()).div_ceil(self.entry_bytes().max(1)).min(threads)
     }
 
     /// How many bytes the sections have that types are read from.
@@ -252,10 +279,10 @@ impl<'a> Debug<'a> {
     }
 
     fn open_slot(&self, slot: &Slot<'a>) -> Result<Unit<'a>> {
-        let mut inner = self.dwarf(slot.start >> FILE).unit(slot.header)?;
+        let mut inner = plain_unit(self.dwarf(slot.start >> FILE), slot.header)?;
         if let Some(skeleton) = slot.skeleton {
             let place = self.slots.partition_point(|slot| slot.start < skeleton);
-            let skeleton = self.dwarf(0).unit(self.slots[place].header)?;
+            let skeleton = plain_unit(self.dwarf(0), self.slots[place].header)?;
             inner.copy_relocated_attributes(&skeleton);
         }
         Ok(Unit { inner, start: slot.start, end: slot.end })
@@ -267,8 +294,8 @@ impl<'a> Debug<'a> {
         let slot = number.checked_sub(1).map(|number| &self.slots[number]);
         match slot {
             Some(slot) if key < slot.end => {
-                let opened = slot.opened.get_or_init(|| self.open_slot(slot));
-                opened.as_ref().map_err(|error| crate::error::Error(error.0.clone()))
+                let opened = slot.opened.get_or_init(|| self.open_slot(slot).map(Box::new));
+                opened.as_deref().map_err(|error| crate::error::Error(error.0.clone()))
             }
             _ => refuse("an entry outside of all units: damage"),
         }
@@ -321,11 +348,21 @@ impl<'a> Debug<'a> {
         Ok(Cow::Borrowed(found.slice()))
     }
 
+    /// The table of a unit's lines, where it has one and lines were wanted.
+    pub fn lines(&self, unit: &Unit<'a>) -> Result<Option<Lines<'a>>> {
+        Ok(self.dwarf(unit.file()).unit(unit.inner.header)?.line_program)
+    }
+
     /// The name of a source file that a unit's entries have a number of, without folders; empty
     /// where it has none.
-    pub fn file_name(&self, unit: &Unit<'a>, number: i128) -> Result<&'a [u8]> {
-        let file = unit.inner.line_program.as_ref().zip(u64::try_from(number).ok());
-        let file = file.and_then(|(program, number)| program.header().file(number));
+    pub fn file_name(
+        &self,
+        unit: &Unit<'a>,
+        lines: Option<&Lines<'a>>,
+        number: i128,
+    ) -> Result<&'a [u8]> {
+        let file = lines.zip(u64::try_from(number).ok());
+        let file = file.and_then(|(lines, number)| lines.header().file(number));
         let Some(file) = file else { return Ok(&[]) };
         let path = self.dwarf(unit.file()).attr_string(&unit.inner, file.path_name())?.slice();
         let folder = path.iter().rposition(|&byte| byte == b'/').map_or(0, |slash| slash + 1);
@@ -446,6 +483,8 @@ const LINE: Attributes = bit(dw::DW_AT_decl_line);
 const FILE_NUMBER: Attributes = bit(dw::DW_AT_decl_file);
 /// All but these.
 const KEPT: Attributes = !(LINE | FILE_NUMBER);
+/// What tells the type of an argument.
+const OF_ARGUMENT: Attributes = bit(dw::DW_AT_type) | bit(dw::DW_AT_abstract_origin);
 
 /// An entry with those of its attributes that are looked at.
 pub struct Entry<'d, 'a> {
@@ -462,6 +501,11 @@ pub struct Entry<'d, 'a> {
 impl<'d, 'a> Entry<'d, 'a> {
     pub fn read(unit: &'d Unit<'a>, offset: UnitOffset) -> Result<Entry<'d, 'a>> {
         Entry::read_kept(unit, offset, KEPT)
+    }
+
+    /// An argument, with what tells its type alone.
+    pub fn read_argument(unit: &'d Unit<'a>, offset: UnitOffset) -> Result<Entry<'d, 'a>> {
+        Entry::read_kept(unit, offset, OF_ARGUMENT)
     }
 
     /// The same with the line of its declaration too.
@@ -624,7 +668,7 @@ impl<'d, 'a, W: Fn(DwTag) -> bool> Children<'d, 'a, W> {
 }
 
 /// The entries of a unit from one on, which an entry says is behind all that is in it.
-fn entries_behind<'d, 'a>(
+pub(super) fn entries_behind<'d, 'a>(
     unit: &'d Unit<'a>,
     raw: &gimli::EntriesRaw<'d, 'd, Slice<'a>>,
     behind: UnitOffset,
@@ -635,60 +679,8 @@ fn entries_behind<'d, 'a>(
     Ok(unit.inner.entries_raw(Some(behind))?)
 }
 
-/// What stands in a unit, function or block that begins at an offset: where an entry begins, and
-/// its tag.
-pub struct Scope {
-    pub offset: UnitOffset,
-    pub entries: Vec<(UnitOffset, DwTag)>,
-    /// Whether it is a class, whose functions and objects are told elsewhere.
-    is_class: bool,
-}
-
-/// What stands in the unit itself, its functions and the blocks of these, in order of their
-/// beginnings: types that are looked up by name, objects, functions, arguments. In C++ and Rust
-/// namespaces and classes have such too.
-pub fn scopes(unit: &Unit<'_>, language: Language) -> Result<Vec<Scope>> {
-    let is_scoped = language == Language::Scoped;
-    let mut made: Vec<Scope> = Vec::new();
-    let mut outer: Vec<Option<usize>> = Vec::new();
-    let mut inner: Option<usize> = None; // None within what is no scope
-    let mut raw = unit.inner.entries_raw(None)?;
-    while !raw.is_empty() {
-        let offset = raw.next_offset();
-        let Some(shape) = raw.read_abbreviation()? else {
-            if outer.len() < 2 {
-                break;
-            }
-            inner = outer.pop().flatten();
-            continue;
-        };
-        if let Some(scope) = inner.filter(|&scope| is_listed(shape, made[scope].is_class)) {
-            made[scope].entries.push((offset, shape.tag()));
-        }
-        let sibling = behind(shape, &mut raw)?;
-        let is_class = shape.tag() != dw::DW_TAG_namespace && names::is_scope(shape.tag());
-        let is_scope = matches!(shape.tag(), dw::DW_TAG_subprogram | dw::DW_TAG_lexical_block)
-            || is_scoped && names::is_scope(shape.tag());
-        if !shape.has_children() {
-            if outer.is_empty() {
-                break;
-            }
-        } else if is_scope || outer.is_empty() {
-            outer.push(inner);
-            inner = Some(made.len());
-            made.push(Scope { offset, entries: Vec::new(), is_class });
-        } else if let Some(behind) = sibling {
-            raw = entries_behind(unit, &raw, behind)?;
-        } else {
-            outer.push(inner);
-            inner = None;
-        }
-    }
-    Ok(made)
-}
-
 /// Reads over attributes; where what is behind all that is in the entry begins, if it says that.
-fn behind(
+pub(super) fn behind(
     shape: &Abbreviation,
     raw: &mut gimli::EntriesRaw<'_, '_, Slice<'_>>,
 ) -> Result<Option<UnitOffset>> {
@@ -705,43 +697,4 @@ fn behind(
         AttributeValue::UnitRef(at) => Ok(Some(at)),
         _ => Ok(None),
     }
-}
-
-/// Whether entries of a shape can be wanted: of variables those that may be objects, of enums those
-/// that name something.
-fn is_listed(shape: &Abbreviation, is_in_class: bool) -> bool {
-    let form =
-        |name: DwAt| shape.attributes().iter().find(|one| one.name() == name).map(|one| one.form());
-    let has = |name: DwAt| form(name).is_some();
-    match shape.tag() {
-        dw::DW_TAG_structure_type | dw::DW_TAG_class_type | dw::DW_TAG_union_type => {
-            has(dw::DW_AT_name) || has(dw::DW_AT_specification)
-        }
-        dw::DW_TAG_typedef | dw::DW_TAG_template_alias | dw::DW_TAG_base_type => {
-            has(dw::DW_AT_name)
-        }
-        dw::DW_TAG_enumeration_type => shape.has_children() || has(dw::DW_AT_name),
-        _ if is_in_class => false,
-        dw::DW_TAG_variable => {
-            has(dw::DW_AT_external)
-                || has(dw::DW_AT_specification)
-                || form(dw::DW_AT_location).is_some_and(is_block)
-        }
-        dw::DW_TAG_subprogram
-        | dw::DW_TAG_formal_parameter
-        | dw::DW_TAG_unspecified_parameters
-        | dw::DW_TAG_imported_unit => true,
-        _ => false,
-    }
-}
-
-fn is_block(form: DwForm) -> bool {
-    matches!(
-        form,
-        dw::DW_FORM_block1
-            | dw::DW_FORM_block2
-            | dw::DW_FORM_block4
-            | dw::DW_FORM_block
-            | dw::DW_FORM_exprloc
-    )
 }

@@ -62,7 +62,7 @@ impl Aliases {
                 alias.push(b'_');
             }
             let place = *places.entry(&one.key).or_insert_with(|| {
-                made.shared.push((spelled(word, name), Vec::new()));
+                made.shared.push((spelling_of(word, name), Vec::new()));
                 made.shared.len() - 1
             });
             made.shared[place].1.push(String::from_utf8_lossy(&alias).into_owned());
@@ -132,7 +132,7 @@ fn widest<'c>(catalog: &'c Catalog<'_>, listed: &[Number]) -> HashMap<&'c [u8], 
     made
 }
 
-fn spelled(word: &str, name: &[u8]) -> String {
+fn spelling_of(word: &str, name: &[u8]) -> String {
     let name = String::from_utf8_lossy(name);
     if word.is_empty() {
         name.into_owned()

@@ -10,7 +10,7 @@ use ctfd::Model;
 use ctfd_read::debuggee::{Debuggee, Head, Section, Segment};
 use ctfd_read::entry_symbols::identity_of;
 use ctfd_read::error::{Error, Result};
-use ctfd_read::opening::deflated;
+use ctfd_read::opening::deflate;
 use ctfd_read::symbols::SymbolTable;
 use object::elf::{self, SHN_LORESERVE};
 use object::write::elf::{FileHeader, ProgramHeader, Rel, SectionHeader, Writer};
@@ -119,7 +119,7 @@ fn of_dictionary<'a>(
     symbols: &Debuggee<'_>,
     table: usize,
 ) -> Result<OutputSection<'a>> {
-    let bytes = Bytes::Some(deflated(ctf)?);
+    let bytes = Bytes::Some(deflate(ctf)?);
     let mut made = OutputSection::new(DICTIONARY, elf::SHT_PROGBITS, bytes);
     let is_by_table = identity_of(ctf).is_some_and(|one| one.table == SymbolTable::Symtab);
     if is_by_table && symbols.section_of(SymbolTable::Symtab.word()).is_some() {

@@ -236,7 +236,7 @@ mod tests {
     use gimli::constants::{DW_AT_byte_size, DW_AT_name, DW_TAG_base_type};
 
     /// The value of each name of some entries, and whether it stands in `.debug_str`.
-    fn shared(names: &[&str]) -> Vec<bool> {
+    fn shared_names(names: &[&str]) -> Vec<bool> {
         let mut entries = Entries::new(8, 100);
         let unit = entries.add_unit();
         let mut add = |name: &&str| {
@@ -255,10 +255,10 @@ mod tests {
 
     #[test]
     fn names_take_as_few_bytes_as_they_can() {
-        assert_eq!(shared(&["only_one_has_this_name"]), [false]);
-        assert_eq!(shared(&["abc", "abc", "abc", "abc"]), [false; 4]);
-        assert_eq!(shared(&["long_name", "long_name"]), [true; 2]);
-        assert_eq!(shared(&["length", "length"]), [false; 2]); // 14 bytes, and 15 by references
+        assert_eq!(shared_names(&["only_one_has_this_name"]), [false]);
+        assert_eq!(shared_names(&["abc", "abc", "abc", "abc"]), [false; 4]);
+        assert_eq!(shared_names(&["long_name", "long_name"]), [true; 2]);
+        assert_eq!(shared_names(&["length", "length"]), [false; 2]); // 14 bytes, and 15 by references
     }
 
     #[test]

@@ -3,14 +3,14 @@
 use super::debug_file;
 use super::options::Words;
 use crate::types::failure::{Failure, Outcome};
-use crate::types::open::{judge_model, shown};
+use crate::types::open::{display_path, judge_model};
 use ctfd::Model;
 use ctfd_read::debuggee::{Debuggee, Section};
 use ctfd_read::elsewhere::Elsewhere;
 use ctfd_read::entry_symbols::{identity_of, likeness, own_symbols, Likeness};
 use ctfd_read::foreign::why_no_dictionary;
 use ctfd_read::image::Image;
-use ctfd_read::opening::{dictionary_of, parts_of, Handed, Origin, SECTIONS};
+use ctfd_read::opening::{dictionary_of, parts_of, LibraryInput, Origin, SECTIONS};
 use ctfd_read::symbols::SymbolTable;
 use std::path::Path;
 
@@ -46,11 +46,11 @@ impl Files {
     }
 
     fn judge(&self) -> Outcome<()> {
-        let path = shown(self.file.path());
+        let path = display_path(self.file.path());
         let why = match &self.program {
             Some(program) if !program.is_elf() => format!(
                 "{} is no ELF file: --program names the program that the types are of",
-                shown(program.path())
+                display_path(program.path())
             ),
             Some(_) if self.file.is_elf() => format!(
                 "{path} is an ELF file itself: --program is for a section without one, and \
@@ -79,8 +79,8 @@ impl Files {
         match program {
             Some(program) if !program.is_same_build(&copy) => Err(Failure::Refused(format!(
                 "{} is of another build than {}: name the file that this program was stripped from",
-                shown(image.path()),
-                shown(program.image().path())
+                display_path(image.path()),
+                display_path(program.image().path())
             ))),
             _ => Ok(Some(copy)),
         }
@@ -91,13 +91,13 @@ impl Files {
         &self,
         wanted: Option<Model>,
         program: Option<&Debuggee<'_>>,
-    ) -> Outcome<Handed<'_>> {
+    ) -> Outcome<LibraryInput<'_>> {
         let path = self.file.path();
         let read = || match parts_of(&self.file)? {
             Some(parts) => Ok(Some(parts)),
             None => dictionary_of(&self.file, None),
         };
-        let found = read().map_err(|error| error.within(&shown(path)))?;
+        let found = read().map_err(|error| error.within(&display_path(path)))?;
         let mut found = found.ok_or_else(|| why_no_dictionary(&self.file))?;
         judge_model(&mut found, wanted, path)?;
         if let Some(program) = program {
@@ -116,14 +116,14 @@ impl Files {
     /// Gives a dictionary the symbols of a program for which it was written; else says why not.
     pub fn add_symbols<'a>(
         &self,
-        found: &mut Handed<'a>,
+        found: &mut LibraryInput<'a>,
         program: &Debuggee<'a>,
     ) -> Outcome<Numbers<'a>> {
         if !found.children.is_empty() {
             return Ok(Numbers::None(format!(
                 "{}: it has the parts of a program, so the types are written, and nothing of its \
                  symbols: let ctfd-convert write one dictionary by --one",
-                shown(self.file.path())
+                display_path(self.file.path())
             )));
         }
         found.symbols = None;
@@ -173,7 +173,7 @@ fn of_stores(program: &Image, stores: &Elsewhere) -> Outcome<Option<(Image, Opti
         return Err(Failure::Refused(format!(
             "{}: more types than a dictionary holds: let the debugger ask for its debug file, by \
              DEBUGINFOD_URLS",
-            shown(&path)
+            display_path(&path)
         )));
     };
     let symbols = Debuggee::of(&found)?;
@@ -199,12 +199,12 @@ pub enum Numbers<'a> {
 pub fn without_symbols(program: &Debuggee<'_>, why: &str) -> String {
     format!(
         "{}: {why}, so the types are written, and nothing of its symbols: {NAME_IT}",
-        shown(program.image().path())
+        display_path(program.image().path())
     )
 }
 
 /// Refuses a dictionary of another data model than its program.
-fn judge_program(found: &Handed<'_>, path: &Path, program: &Debuggee<'_>) -> Outcome<()> {
+fn judge_program(found: &LibraryInput<'_>, path: &Path, program: &Debuggee<'_>) -> Outcome<()> {
     let word = |model| match model {
         Model::Ilp32 => "ilp32",
         Model::Lp64 => "lp64",
@@ -213,9 +213,9 @@ fn judge_program(found: &Handed<'_>, path: &Path, program: &Debuggee<'_>) -> Out
         None => Ok(()),
         Some(model) => Err(Failure::Refused(format!(
             "{} is of {}, and {} of {}: name the program that the types are of",
-            shown(path),
+            display_path(path),
             word(model),
-            shown(program.image().path()),
+            display_path(program.image().path()),
             word(program.model)
         ))),
     }
@@ -223,7 +223,7 @@ fn judge_program(found: &Handed<'_>, path: &Path, program: &Debuggee<'_>) -> Out
 
 /// The symbols of a dictionary that names none: those that its section links to, else .symtab.
 fn add_unnamed<'a>(
-    found: &mut Handed<'a>,
+    found: &mut LibraryInput<'a>,
     program: &Debuggee<'a>,
     has_others: bool,
 ) -> Outcome<Numbers<'a>> {
@@ -239,7 +239,7 @@ fn add_unnamed<'a>(
 
 /// Gives a dictionary a table, and the names that go with it.
 fn add_table<'a>(
-    found: &mut Handed<'a>,
+    found: &mut LibraryInput<'a>,
     program: &Debuggee<'a>,
     table: Section<'a>,
     origin: Origin,

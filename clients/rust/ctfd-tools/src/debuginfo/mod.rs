@@ -21,7 +21,7 @@ use crate::standard;
 use crate::types::catalog::Catalog;
 use crate::types::crowded::{has_crowded_names, is_crowded, CROWDED};
 use crate::types::failure::{Failure, Outcome};
-use crate::types::open::{shown, with_catalog, without_parent, Opened, Parents};
+use crate::types::open::{display_path, with_catalog, without_parent, OpenDictionary, Parents};
 use crate::types::output as printing;
 use crate::types::text::printable;
 use crate::types::warn_by;
@@ -49,7 +49,7 @@ use units::{Contents, Producer};
 
 /// The command; its exit status.
 pub fn main(words: Vec<OsString>) -> ExitCode {
-    let words = Words::parsed(words);
+    let words = Words::parse(words);
     if standard::is_output_closed() {
         warn_by(NAME, standard::CLOSED);
         return ExitCode::from(REFUSED);
@@ -110,7 +110,7 @@ fn run(words: &Words) -> Outcome<()> {
         return Ok(());
     }
     let mut lines = printing::Output::new();
-    writeln!(lines, "{}: {}", shown(&output), made.counts)?;
+    writeln!(lines, "{}: {}", display_path(&output), made.counts)?;
     if let Some(names) = &made.names {
         writeln!(lines, "{}", printable(names.as_bytes()))?;
     }
@@ -129,8 +129,9 @@ fn in_folder(folder: &Path, build_id: &[u8]) -> Outcome<PathBuf> {
     }
     let (first, rest) = digits.split_at(2);
     let place = folder.join(".build-id").join(first);
-    std::fs::create_dir_all(&place)
-        .map_err(|error| Failure::Refused(format!("{}: {}", shown(&place), reason(&error))))?;
+    std::fs::create_dir_all(&place).map_err(|error| {
+        Failure::Refused(format!("{}: {}", display_path(&place), reason(&error)))
+    })?;
     Ok(place.join(format!("{rest}.debug")))
 }
 
@@ -156,7 +157,7 @@ fn debug_file_from(words: &Words, files: &Files) -> Outcome<DebugFile> {
             Numbers::None(format!(
                 "{}: an object file of machine {}, whose relocations are not known: the types are \
                  written, and nothing of its symbols",
-                shown(symbols.image().path()),
+                display_path(symbols.image().path()),
                 symbols.head.machine
             ))
         }
@@ -184,9 +185,9 @@ fn judge_output(words: &Words) -> Outcome<()> {
 }
 
 /// Refuses a dictionary whose names share their bytes.
-fn judge_names(path: &Path, opened: &Opened<'_, '_>) -> Outcome<()> {
+fn judge_names(path: &Path, opened: &OpenDictionary<'_, '_>) -> Outcome<()> {
     match is_crowded(opened.catalog) || opened.parent.is_some_and(has_crowded_names) {
-        true => Err(Failure::Refused(format!("{}: {CROWDED}", shown(path)))),
+        true => Err(Failure::Refused(format!("{}: {CROWDED}", display_path(path)))),
         false => Ok(()),
     }
 }
@@ -200,7 +201,7 @@ fn model_of(catalog: &Catalog<'_>) -> Model {
 }
 
 /// The bytes of all dictionaries and of the strings beside them.
-fn length_of(opened: &Opened<'_, '_>) -> usize {
+fn length_of(opened: &OpenDictionary<'_, '_>) -> usize {
     opened.catalog.volumes().iter().chain(opened.parent).map(|volume| volume.lists.length()).sum()
 }
 
@@ -216,7 +217,7 @@ struct Parts<'w, 'a> {
 }
 
 impl<'a> Parts<'_, 'a> {
-    fn debug_file(&self, opened: &Opened<'_, '_>) -> Outcome<DebugFile> {
+    fn debug_file(&self, opened: &OpenDictionary<'_, '_>) -> Outcome<DebugFile> {
         let (symbols, note) = match self.typed_symbols(opened)? {
             Ok(symbols) => (symbols, None),
             Err(why) => (Vec::new(), Some(why).filter(|why| !why.is_empty())),
@@ -245,7 +246,7 @@ impl<'a> Parts<'_, 'a> {
     /// The sections of DWARF, compressed where that is wanted.
     fn sections(
         &self,
-        opened: &Opened<'_, '_>,
+        opened: &OpenDictionary<'_, '_>,
         selection: &Selection<'_, '_>,
         symbols: &[TypedSymbol<'a>],
     ) -> Outcome<Vec<DebugSection>> {
@@ -259,7 +260,7 @@ impl<'a> Parts<'_, 'a> {
         let contents = Contents { selection, symbols, arguments: arguments.as_ref(), producer };
         let model = model_of(opened.catalog);
         let address_size = if model == Model::Ilp32 { 4 } else { 8 };
-        let path = shown(&self.words.file);
+        let path = display_path(&self.words.file);
         let entries = Entries::new(address_size, length_of(opened));
         let mut dwarf = contents.write(entries).map_err(|error| error.of(&path))?;
         let kind = self.program.and_then(RelocationKind::of);
@@ -271,7 +272,7 @@ impl<'a> Parts<'_, 'a> {
     }
 
     /// The symbols of which the dictionary says something; else why there are none.
-    fn typed_symbols(&self, opened: &Opened<'_, '_>) -> Outcome<Symbols<'a>> {
+    fn typed_symbols(&self, opened: &OpenDictionary<'_, '_>) -> Outcome<Symbols<'a>> {
         let (program, table) = match (self.symbols, &self.numbers) {
             (Some(program), Numbers::ByNumber(table) | Numbers::ByName(table)) => (program, table),
             (_, Numbers::None(why)) => return Ok(Err(why.clone())),

@@ -63,8 +63,8 @@ impl Words {
     }
 
     /// Those of a command line. What is wrong with it is told, and ends the process.
-    pub fn parsed(words: Vec<OsString>) -> Words {
-        let matches = wrong_words::matched(options(), words);
+    pub fn parse(words: Vec<OsString>) -> Words {
+        let matches = wrong_words::parse_words(options(), words);
         let path = |name: &str| matches.get_one::<PathBuf>(name).cloned();
         let word = |name: &str| matches.get_one::<String>(name).map(String::as_str);
         Words {

@@ -119,7 +119,7 @@ impl<'c, 'd> Passing<'c, 'd> {
 
     /// How a type is passed; None where that is not known.
     fn of(&self, number: Number) -> Option<Passage> {
-        let end = self.catalog.resolved(number);
+        let end = self.catalog.resolve(number);
         if let Some(known) = self.known.borrow().get(&end) {
             return known.clone();
         }
@@ -130,7 +130,7 @@ impl<'c, 'd> Passing<'c, 'd> {
 
     /// Whether the caller hands in where the value goes; None where that is not known.
     fn is_returned_in_memory(&self, returned: Number) -> Option<bool> {
-        let end = self.catalog.resolved(returned);
+        let end = self.catalog.resolve(returned);
         match self.catalog.record(end).is_aggregate() {
             true => self.of(end).map(|passed| passed.classes.is_empty()),
             false => Some(false),
@@ -174,7 +174,7 @@ impl<'c, 'd> Passing<'c, 'd> {
         let mut waiting = vec![(number, 0u64)];
         for _ in 0..MOST_PARTS {
             let Some((one, offset)) = waiting.pop() else { return Some(found) };
-            let end = self.catalog.resolved(one);
+            let end = self.catalog.resolve(one);
             let record = self.catalog.record(end);
             match record.kind {
                 Kind::Struct | Kind::Union => {
@@ -242,7 +242,7 @@ impl<'c, 'd> Passing<'c, 'd> {
     fn align(&self, number: Number) -> u64 {
         let (mut known, mut waiting) = (HashSet::new(), vec![number]);
         while let Some(one) = waiting.pop() {
-            let end = self.catalog.resolved(one);
+            let end = self.catalog.resolve(one);
             if !known.insert(end) {
                 continue;
             }

@@ -1,6 +1,6 @@
 //! The functions and objects of a program with their types, which its dictionary says.
 
-use crate::types::catalog::{Catalog, Signature, Told};
+use crate::types::catalog::{Catalog, Signature, SymbolAnswer};
 use ctfd_read::debuggee::ProgramSymbol;
 use ctfd_read::symbols::Symbols;
 use gimli::write::Address;
@@ -17,7 +17,7 @@ pub struct TypedSymbol<'a> {
     symbol: ProgramSymbol<'a>,
     is_relocated: bool,
     /// What is said of it.
-    pub description: Told,
+    pub description: SymbolAnswer,
 }
 
 impl<'a> TypedSymbol<'a> {
@@ -74,8 +74,8 @@ impl<'a> TypedSymbol<'a> {
     /// What a function takes and returns.
     pub fn signature(&self) -> Option<&Signature> {
         match &self.description {
-            Told::Function(signature) => Some(signature),
-            Told::Object(_) => None,
+            SymbolAnswer::Function(signature) => Some(signature),
+            SymbolAnswer::Object(_) => None,
         }
     }
 
@@ -147,10 +147,10 @@ pub fn by_name<'a>(
 }
 
 /// What a dictionary says of a symbol; None where it has no type.
-fn description_of(catalog: &Catalog<'_>, number: u32, is_function: bool) -> Option<Told> {
+fn description_of(catalog: &Catalog<'_>, number: u32, is_function: bool) -> Option<SymbolAnswer> {
     let told = catalog.told_of(number)?;
-    let is_typed = !matches!(told, Told::Object(0));
-    (is_typed && is_function == matches!(told, Told::Function(_))).then_some(told)
+    let is_typed = !matches!(told, SymbolAnswer::Object(0));
+    (is_typed && is_function == matches!(told, SymbolAnswer::Function(_))).then_some(told)
 }
 
 /// Objects that have a place, then each function once.

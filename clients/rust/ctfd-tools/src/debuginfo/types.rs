@@ -35,9 +35,9 @@ impl<'c, 'd> Selection<'c, 'd> {
     pub fn new(catalog: &'c Catalog<'d>) -> Selection<'c, 'd> {
         let widths = Widths::new(catalog);
         let parents = catalog.all().filter(|&n| !catalog.is_own(n));
-        let is_written = |n: &Number| widths.wide(*n) == *n;
+        let is_written = |n: &Number| widths.full_width(*n) == *n;
         // Look-ups go to a child's types first.
-        let listed: Vec<Number> = catalog.own().chain(parents).filter(is_written).collect();
+        let listed: Vec<Number> = catalog.own_numbers().chain(parents).filter(is_written).collect();
         let aliases = Aliases::new(catalog, &listed);
         let mut made = Selection { catalog, aliases, widths, clashes: HashSet::new() };
         made.clashes = made.clashes();
@@ -45,7 +45,7 @@ impl<'c, 'd> Selection<'c, 'd> {
     }
 
     fn written_types(&self) -> impl Iterator<Item = Number> + use<'_, 'c, 'd> {
-        self.catalog.all().filter(|&n| self.widths.wide(n) == n)
+        self.catalog.all().filter(|&n| self.widths.full_width(n) == n)
     }
 
     /// The types that look-ups by name see, and those without a name.
@@ -80,7 +80,7 @@ impl<'c, 'd> Selection<'c, 'd> {
 
     /// The type that stands for another; 0 for void.
     fn stand_in(&self, number: Number) -> Number {
-        let number = self.widths.wide(number);
+        let number = self.widths.full_width(number);
         if self.is_void(number) {
             0
         } else {
@@ -236,7 +236,7 @@ impl<'w, 'c, 'd> TypeWriter<'w, 'c, 'd> {
     /// Says where a member lies; one of a union that is no bit-field lies at its start.
     fn place(&mut self, member: Entry, part: &Part<'_>, is_in_struct: bool) {
         let catalog = self.catalog();
-        let end = catalog.resolved(part.of);
+        let end = catalog.resolve(part.of);
         let lies = catalog.record(end).encoding.filter(|_| is_narrow(catalog, end));
         let field = match lies {
             Some(lies) => Some((u64::from(lies.bits), part.offset + u64::from(lies.offset))),

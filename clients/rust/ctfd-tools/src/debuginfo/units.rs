@@ -9,7 +9,7 @@ use super::arguments::Arguments;
 use super::entries::{judge_count, Entries, Entry, Value};
 use super::symbols::TypedSymbol;
 use super::types::{Selection, TypeWriter};
-use crate::types::catalog::{Signature, Told};
+use crate::types::catalog::{Signature, SymbolAnswer};
 use ctfd_read::error::Result;
 use gimli::constants::*;
 use gimli::write::{Address, Dwarf, Expression, Range, RangeList};
@@ -110,8 +110,8 @@ impl<'w, 'a> Contents<'w, '_, '_, 'a> {
         name: &[u8],
     ) {
         let (tag, whole) = match one.description {
-            Told::Object(of) => (DW_TAG_variable, types.whole_array(unit, of, one.size())),
-            Told::Function(_) => (DW_TAG_subprogram, None),
+            SymbolAnswer::Object(of) => (DW_TAG_variable, types.whole_array(unit, of, one.size())),
+            SymbolAnswer::Function(_) => (DW_TAG_subprogram, None),
         };
         let entry = types.entries.add(unit, tag);
         types.entries.set(entry, DW_AT_name, Value::name(name));
@@ -120,7 +120,7 @@ impl<'w, 'a> Contents<'w, '_, '_, 'a> {
         }
         let start = one.behind(0, types.entries.address_size());
         match &one.description {
-            Told::Object(of) => {
+            SymbolAnswer::Object(of) => {
                 match whole {
                     Some(whole) => types.entries.set(entry, DW_AT_type, whole),
                     None => types.refer(entry, *of),
@@ -129,7 +129,7 @@ impl<'w, 'a> Contents<'w, '_, '_, 'a> {
                 place.op_addr(start);
                 types.entries.set(entry, DW_AT_location, place);
             }
-            Told::Function(signature) => {
+            SymbolAnswer::Function(signature) => {
                 types.entries.set(entry, DW_AT_prototyped, Value::present());
                 types.refer(entry, signature.returns);
                 types.entries.set(entry, DW_AT_low_pc, start);

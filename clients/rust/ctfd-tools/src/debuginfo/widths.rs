@@ -18,7 +18,7 @@ pub struct Widths<'c, 'd> {
 
 /// Whether a type is an integer that has fewer bits than its storage, or stands for such a one.
 pub fn is_narrow(catalog: &Catalog<'_>, number: Number) -> bool {
-    let end = catalog.resolved(number);
+    let end = catalog.resolve(number);
     let record = catalog.record(end);
     let bits = record.encoding.map_or(0, |lies| u64::from(lies.bits));
     record.kind == Kind::Integer && bits > 0 && bits < 8 * catalog.size(end).unwrap_or(0)
@@ -47,7 +47,7 @@ impl<'c, 'd> Widths<'c, 'd> {
     }
 
     /// The type of full width for a narrow one; itself where there is none.
-    pub fn wide(&self, number: Number) -> Number {
+    pub fn full_width(&self, number: Number) -> Number {
         if number == 0 || !is_narrow(self.catalog, number) {
             return number;
         }

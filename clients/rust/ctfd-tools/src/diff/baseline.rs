@@ -6,7 +6,7 @@
 use super::options::Words;
 use crate::output::{self, with_sections};
 use crate::types::failure::{Failure, Outcome};
-use crate::types::open::shown;
+use crate::types::open::display_path;
 use ctfd_read::baseline::{debug_sections, has_code, OF_EXPORTS};
 use ctfd_read::image::Image;
 use std::path::Path;
@@ -23,7 +23,7 @@ pub fn judge(words: &Words) -> Outcome<()> {
     if words.has_baseline && !words.is_updated && !words.old.exists() {
         return Err(Failure::Refused(format!(
             "{}: there is no baseline yet: --update writes it",
-            shown(&words.old)
+            display_path(&words.old)
         )));
     }
     Ok(())
@@ -31,7 +31,7 @@ pub fn judge(words: &Words) -> Outcome<()> {
 
 /// Refuses to write over the file itself, or over another library.
 fn judge_old(words: &Words) -> Outcome<()> {
-    let refused = |why: &str| Err(Failure::Refused(format!("{}: {why}", shown(&words.old))));
+    let refused = |why: &str| Err(Failure::Refused(format!("{}: {why}", display_path(&words.old))));
     let real = |path: &Path| path.canonicalize().unwrap_or_else(|_| path.to_owned());
     if real(&words.old) == real(&words.new) {
         return refused("it is the file itself, which --update would write over");

@@ -56,7 +56,7 @@ impl<'c> Candidates<'c> {
     }
 
     /// Those that were not taken, in order.
-    pub fn left(self) -> impl Iterator<Item = Number> + 'c {
+    pub fn remaining(self) -> impl Iterator<Item = Number> + 'c {
         let listed = self.listed.iter().copied().zip(self.is_left);
         listed.filter(|(_, is_left)| *is_left).map(|(number, _)| number)
     }

@@ -5,8 +5,8 @@
 //! and return.
 
 use super::candidates::Candidates;
+use super::differences::{kind_word, size, Change, Datum, Difference, Fate};
 use super::members::differences as members;
-use super::said::{kind_word, size, Change, Datum, Fate, Said};
 use super::side::{is_of_base, places, Key, Side};
 use crate::types::catalog::{is_renaming, Number};
 use crate::types::json::word_of;
@@ -53,14 +53,14 @@ impl Sides<'_, '_, '_> {
                 rest.push(number);
             }
         }
-        let mut left = candidates.left().peekable();
+        let mut left = candidates.remaining().peekable();
         if left.peek().is_none() && !new.is_empty() {
             return Vec::new(); // of several of one name some are gone: what was there still is
         }
         let changed = |number: Number| {
             let (fate, said, other) = match left.next() {
                 Some(other) => (Fate::Changed, self.differences(number, other), other),
-                None => (Fate::Removed, vec![Said::breaking("removed", "removed")], 0),
+                None => (Fate::Removed, vec![Difference::breaking("removed", "removed")], 0),
             };
             let change = Change::new(key.1.clone(), word_of(key.0), fate, said);
             Change { pair: Some((number, other)), ..change }
@@ -69,7 +69,7 @@ impl Sides<'_, '_, '_> {
     }
 
     /// What differs in two types of one key.
-    fn differences(&self, old: Number, new: Number) -> Vec<Said> {
+    fn differences(&self, old: Number, new: Number) -> Vec<Difference> {
         let (before, after) = (self.before.kind(old), self.after.kind(new));
         if before != after {
             return vec![other_kind(before, after)];
@@ -90,7 +90,7 @@ impl Sides<'_, '_, '_> {
     }
 
     /// What differs in the enumerators, matched by name.
-    pub fn enums(&self, old: Number, new: Number) -> Vec<Said> {
+    pub fn enums(&self, old: Number, new: Number) -> Vec<Difference> {
         let sizes = (self.before.catalog.size(old), self.after.catalog.size(new));
         let mut said = Vec::from_iter(size(sizes.0, sizes.1));
         let (here, there) = (self.before.values(old), self.after.values(new));
@@ -98,10 +98,10 @@ impl Sides<'_, '_, '_> {
         for name in each_once(&here) {
             let (shown, old) = (printable(name), was[name]);
             let one = match now.get(name) {
-                None => Said::breaking("removed enumerator", format!("{shown} removed"))
+                None => Difference::breaking("removed enumerator", format!("{shown} removed"))
                     .from(Datum::Number(old), Datum::Nothing),
                 Some(&new) if new != old => {
-                    Said::breaking("value", format!("{shown} {old} -> {new}"))
+                    Difference::breaking("value", format!("{shown} {old} -> {new}"))
                         .from(Datum::Number(old), Datum::Number(new))
                 }
                 Some(_) => continue,
@@ -110,28 +110,29 @@ impl Sides<'_, '_, '_> {
         }
         for name in each_once(&there).filter(|name| !was.contains_key(name)) {
             let text = format!("{} = {} added", printable(name), now[name]);
-            let one = Said::harmless("added enumerator", text).of(name);
+            let one = Difference::harmless("added enumerator", text).of(name);
             said.push(one.from(Datum::Nothing, Datum::Number(now[name])));
         }
         said
     }
 
-    fn typedefs(&self, old: Number, new: Number) -> Option<Said> {
+    fn typedefs(&self, old: Number, new: Number) -> Option<Difference> {
         let one = self.before.catalog.record(old).of;
         let other = self.after.catalog.record(new).of;
         let (was, now) = (self.before.text(one), self.after.text(other));
         let breaks = self.before.value(one) != self.after.value(other);
         let is_told = was != now || breaks && !is_told(self.before, one);
-        let said = Said { breaks, ..Said::breaking("type", format!("is {now}, was {was}")) };
+        let said =
+            Difference { breaks, ..Difference::breaking("type", format!("is {now}, was {was}")) };
         is_told.then(|| said.from(Datum::text(&*was), Datum::text(&*now)))
     }
 
-    fn numbers(&self, old: Number, new: Number) -> Vec<Said> {
+    fn numbers(&self, old: Number, new: Number) -> Vec<Difference> {
         let sizes = (self.before.catalog.size(old), self.after.catalog.size(new));
         let mut said = Vec::from_iter(size(sizes.0, sizes.1));
         let (was, now) = (self.before.flags(old), self.after.flags(new));
         if was != now {
-            let one = Said::breaking("encoding", format!("encoding {was} -> {now}"));
+            let one = Difference::breaking("encoding", format!("encoding {was} -> {now}"));
             said.push(one.from(Datum::number(was), Datum::number(now)));
         }
         said
@@ -153,21 +154,21 @@ fn each_once<'v>(values: &[(&'v [u8], i128)]) -> impl Iterator<Item = &'v [u8]> 
 fn addition(side: &Side<'_, '_>, key: &Key, number: Number) -> Change {
     let size = side.catalog.size(number);
     let text = size.map_or("added".to_owned(), |size| format!("added, size {size}"));
-    let said = Said::harmless("added", text).from(Datum::Nothing, Datum::size(size));
+    let said = Difference::harmless("added", text).from(Datum::Nothing, Datum::size(size));
     let change = Change::new(key.1.clone(), word_of(key.0), Fate::Added, vec![said]);
     Change { pair: Some((0, number)), ..change }
 }
 
 /// A forward on one side, or a name that has changed its kind.
-fn other_kind(before: Option<Kind>, after: Option<Kind>) -> Said {
+fn other_kind(before: Option<Kind>, after: Option<Kind>) -> Difference {
     if before == Some(Kind::Forward) {
-        return Said::harmless("defined", "only declared before, now defined");
+        return Difference::harmless("defined", "only declared before, now defined");
     }
     if after == Some(Kind::Forward) {
-        return Said::breaking("undefined", "its definition is gone, only declared now");
+        return Difference::breaking("undefined", "its definition is gone, only declared now");
     }
     let (was, now) = (kind_word(before), kind_word(after));
-    Said::breaking("kind", format!("{was} -> {now}")).from(Datum::text(was), Datum::text(now))
+    Difference::breaking("kind", format!("{was} -> {now}")).from(Datum::text(was), Datum::text(now))
 }
 
 /// Whether a change of what a typedef names is told of that by itself.

@@ -1,13 +1,13 @@
 //! Which types and symbols are told: those of some names, without those that are left out.
 
 use super::changes::Sides;
+use super::differences::Difference;
 use super::headers::Headers;
 use super::options::Words;
-use super::said::Said;
 use super::structure::Pair;
 use super::suppressions::{has_sections, FileNames, Suppressions, SymbolChange, SymbolNamed};
 use crate::types::failure::Outcome;
-use crate::types::open::shown;
+use crate::types::open::display_path;
 use crate::types::text::{patterns_of, Meaning};
 use ctfd_read::declared::SourceFiles;
 use ctfd_read::error::{reason, Error};
@@ -30,11 +30,11 @@ impl Chosen {
         let mut left_out = Vec::new();
         let mut suppressions = Suppressions::default();
         for path in &words.suppressed {
-            let refused = |error| Error(format!("{}: {}", shown(path), reason(&error)));
+            let refused = |error| Error(format!("{}: {}", display_path(path), reason(&error)));
             let bytes = std::fs::read(path).map_err(refused)?;
             match has_sections(&bytes) {
                 true => suppressions.add(path, &bytes)?,
-                false => left_out.extend(listed(&bytes)),
+                false => left_out.extend(listed_patterns(&bytes)),
             }
         }
         let wanted = (!words.names.is_empty()).then_some(wanted);
@@ -117,7 +117,7 @@ impl<'c> Choice<'c> {
     }
 
     /// Leaves differences of a pair of types out that are not told.
-    pub fn prune(&self, sides: &Sides<'_, '_, '_>, pair: Pair, said: &mut Vec<Said>) {
+    pub fn prune(&self, sides: &Sides<'_, '_, '_>, pair: Pair, said: &mut Vec<Difference>) {
         let suppressions = &self.chosen.suppressions;
         suppressions.prune(sides.before, pair.0, self.sources[0], &self.names, said);
     }
@@ -130,7 +130,7 @@ impl<'c> Choice<'c> {
 }
 
 /// The patterns of a file, a name or pattern on each line. `#` begins a comment.
-fn listed(bytes: &[u8]) -> Vec<Vec<u8>> {
+fn listed_patterns(bytes: &[u8]) -> Vec<Vec<u8>> {
     let without_comment = |line: &'_ [u8]| {
         let end = line.iter().position(|&byte| byte == b'#').unwrap_or(line.len());
         line[..end].trim_ascii().to_vec()

@@ -1,19 +1,19 @@
 //! What differs in the symbols that two files export.
 
 use super::changes::Sides;
-use super::said::{Change, Datum, Fate, Said};
-use super::structure::Found;
+use super::differences::{Change, Datum, Difference, Fate};
+use super::structure::Findings;
 use super::UNTOLD;
-use crate::types::catalog::{Catalog, Told};
+use crate::types::catalog::{Catalog, SymbolAnswer};
 use crate::types::text::printable;
 use ctfd_read::exports::{Export, ExportKind, Exports};
 
 /// What the dictionary tells of a symbol; None where it tells nothing.
-fn told_of(catalog: &Catalog<'_>, one: &Export<'_>) -> Option<Told> {
+fn told_of(catalog: &Catalog<'_>, one: &Export<'_>) -> Option<SymbolAnswer> {
     let told = catalog.told_of(one.number?)?;
     let is_of_kind = match told {
-        Told::Function(_) => one.kind == ExportKind::Function,
-        Told::Object(_) => one.kind == ExportKind::Object,
+        SymbolAnswer::Function(_) => one.kind == ExportKind::Function,
+        SymbolAnswer::Object(_) => one.kind == ExportKind::Object,
     };
     is_of_kind.then_some(told)
 }
@@ -30,13 +30,13 @@ pub fn plain_label(one: &Export<'_>) -> Vec<u8> {
 
 /// One that is gone.
 pub fn removal(one: &Export<'_>) -> Change {
-    let said = Said::breaking("removed", "removed").of(one.label());
+    let said = Difference::breaking("removed", "removed").of(one.label());
     Change::new(label(one), one.kind.word(), Fate::Removed, vec![said])
 }
 
 /// One that is new.
 pub fn addition(one: &Export<'_>) -> Change {
-    let said = Said::harmless("added", "added").of(one.label());
+    let said = Difference::harmless("added", "added").of(one.label());
     Change::new(label(one), one.kind.word(), Fate::Added, vec![said])
 }
 
@@ -51,58 +51,60 @@ pub fn soname(old: &Exports<'_>, new: &Exports<'_>) -> Option<Change> {
         "soname {} -> {shown}: programs that were linked with the old do not find the new",
         printable(was)
     );
-    let said = Said::breaking("soname", text).from(Datum::text(was), Datum::text(now));
+    let said = Difference::breaking("soname", text).from(Datum::text(was), Datum::text(now));
     Some(Change::new("the library".to_owned(), "soname", Fate::Changed, vec![said]))
 }
 
 /// What differs in a symbol that is in both.
-pub fn difference(sides: &Sides<'_, '_, '_>, one: &Export<'_>, other: &Export<'_>) -> Found {
+pub fn difference(sides: &Sides<'_, '_, '_>, one: &Export<'_>, other: &Export<'_>) -> Findings {
     let kinds = [one.kind, other.kind];
     if one.kind != other.kind && !kinds.contains(&ExportKind::Symbol) {
         let (was, now) = (one.kind.word(), other.kind.word());
-        let said = Said::breaking("kind", format!("{was} -> {now}")).of(one.label());
-        return Found::of([said.from(Datum::text(was), Datum::text(now))]);
+        let said = Difference::breaking("kind", format!("{was} -> {now}")).of(one.label());
+        return Findings::of([said.from(Datum::text(was), Datum::text(now))]);
     }
     if one.is_of_threads != other.is_of_threads {
         let text = match other.is_of_threads {
             true => "now each thread has its own",
             false => "now all threads have one",
         };
-        let said = Said::breaking("threads", text).of(one.label());
+        let said = Difference::breaking("threads", text).of(one.label());
         let (was, now) = (Datum::Truth(one.is_of_threads), Datum::Truth(other.is_of_threads));
-        return Found::of([said.from(was, now)]);
+        return Findings::of([said.from(was, now)]);
     }
     let (was, now) = (told_of(sides.before.catalog, one), told_of(sides.after.catalog, other));
     match (&was, &now) {
-        (Some(Told::Function(was)), Some(Told::Function(now))) => sides.signature(was, now),
-        (Some(Told::Object(was)), Some(Told::Object(now))) => {
+        (Some(SymbolAnswer::Function(was)), Some(SymbolAnswer::Function(now))) => {
+            sides.signature(was, now)
+        }
+        (Some(SymbolAnswer::Object(was)), Some(SymbolAnswer::Object(now))) => {
             let mut found = sides.value("it", *was, *now, "is");
             found.said.extend(sides.qualifiers(*was, *now));
             found
         }
-        _ => Found::of(untold(one, other, was.is_some(), now.is_some())),
+        _ => Findings::of(untold(one, other, was.is_some(), now.is_some())),
     }
 }
 
 /// That an object has another size.
-pub fn size(one: &Export<'_>, other: &Export<'_>) -> Option<Said> {
+pub fn size(one: &Export<'_>, other: &Export<'_>) -> Option<Difference> {
     (one.kind == ExportKind::Object && one.size != other.size).then(|| {
         let text = format!("size {} -> {}", one.size, other.size);
         let sizes = (Datum::number(one.size), Datum::number(other.size));
-        Said::breaking("size", text).of(one.label()).from(sizes.0, sizes.1)
+        Difference::breaking("size", text).of(one.label()).from(sizes.0, sizes.1)
     })
 }
 
 /// What differs in symbols of which the types are told on one side at most.
-fn untold(one: &Export<'_>, other: &Export<'_>, was_told: bool, is_told: bool) -> Vec<Said> {
-    let mut said: Vec<Said> = size(one, other).into_iter().collect();
+fn untold(one: &Export<'_>, other: &Export<'_>, was_told: bool, is_told: bool) -> Vec<Difference> {
+    let mut said: Vec<Difference> = size(one, other).into_iter().collect();
     if one.is_of_threads && other.is_of_threads {
-        let text = "CTF tells no type of what each thread has its own of: it is not compared";
-        said.push(Said::harmless(UNTOLD, text).of(one.label()));
+        let text = "CTF has no types of thread-local variables: it is not compared";
+        said.push(Difference::harmless(UNTOLD, text).of(one.label()));
     } else if was_told != is_told {
         let which = if is_told { "old" } else { "new" };
-        let text = format!("its type is not told in the {which}, and not compared");
-        said.push(Said::harmless(UNTOLD, text).of(one.label()));
+        let text = format!("its type is missing in the {which}, and not compared");
+        said.push(Difference::harmless(UNTOLD, text).of(one.label()));
     }
     said
 }

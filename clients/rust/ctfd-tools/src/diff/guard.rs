@@ -6,9 +6,9 @@
 
 use super::changes::Sides;
 use super::chosen::Choice;
+use super::differences::{kind_word, Change, Difference, Fate, Reach};
 use super::exported;
-use super::said::{kind_word, Change, Fate, Reach, Said};
-use super::structure::{Found, Pair};
+use super::structure::{Findings, Pair};
 use super::suppressions::SymbolChange;
 use ctfd_read::exports::{Export, Exports};
 use std::collections::hash_map::Entry;
@@ -33,7 +33,7 @@ const TOO_MANY: &str = "more pairs of types are reached than are compared";
 struct Node {
     label: String,
     kind: &'static str,
-    found: Found,
+    found: Findings,
     leads: Vec<Step>,
     /// The node that led here first.
     way: Option<Step>,
@@ -46,11 +46,11 @@ struct Node {
     /// The types, of such a pair.
     pair: Option<Pair>,
     /// Of an object that has another size now, how that is told where its type is not.
-    size: Option<Said>,
+    size: Option<Difference>,
 }
 
 impl Node {
-    fn new(label: String, kind: &'static str, found: Found) -> Node {
+    fn new(label: String, kind: &'static str, found: Findings) -> Node {
         let (leads, way, to) = (Vec::new(), None, None);
         Node { label, kind, found, leads, way, root: 0, to, end: 0, pair: None, size: None }
     }
@@ -190,7 +190,7 @@ impl Guard<'_, '_, '_> {
         let number = self.nodes.len();
         entry.insert(Some(number));
         let kind = kind_word(self.sides.before.kind(pair.0));
-        let mut found = self.sides.found(pair);
+        let mut found = self.sides.compare(pair);
         self.choice.prune(&self.sides, pair, &mut found.said);
         self.nodes.push(Node { pair: Some(pair), ..Node::new(label, kind, found) });
         (Some(number), true)

@@ -3,7 +3,7 @@
 use super::side::Side;
 use crate::types::catalog::Number;
 use crate::types::failure::Outcome;
-use crate::types::open::shown;
+use crate::types::open::display_path;
 use ctfd::Kind;
 use ctfd_read::declared::SourceFiles;
 use ctfd_read::error::{reason, Error};
@@ -27,7 +27,7 @@ impl Headers {
         let mut todo: Vec<PathBuf> = paths.to_vec();
         let mut left = MOST;
         while let Some(path) = todo.pop() {
-            let refused = |error| Error(format!("{}: {}", shown(&path), reason(&error)));
+            let refused = |error| Error(format!("{}: {}", display_path(&path), reason(&error)));
             left = left.checked_sub(1).ok_or_else(|| Error(too_many(paths)))?;
             // A link to a folder leads into it only where it is named itself.
             let is_folder = match paths.contains(&path) {
@@ -85,6 +85,6 @@ pub fn kind_of(kind: Kind) -> table::Kind {
 }
 
 fn too_many(paths: &[PathBuf]) -> String {
-    let first = paths.first().map_or_else(String::new, |path| shown(Path::new(path)));
+    let first = paths.first().map_or_else(String::new, |path| display_path(Path::new(path)));
     format!("{first}: more than {MOST} files are in it: name the folder of the headers alone")
 }

@@ -1,6 +1,6 @@
 //! What differs in the members of a struct or union: matched by name, the others by place.
 
-use super::said::{Datum, Said};
+use super::differences::{Datum, Difference};
 use super::side::{At, Place};
 use std::collections::{HashMap, VecDeque};
 
@@ -8,7 +8,7 @@ use std::collections::{HashMap, VecDeque};
 const RUN: usize = 4;
 
 /// All differences.
-pub fn differences(old: &[&Place], new: &[&Place]) -> Vec<Said> {
+pub fn differences(old: &[&Place], new: &[&Place]) -> Vec<Difference> {
     if old == new {
         return Vec::new();
     }
@@ -33,7 +33,7 @@ fn by_path<'p>(places: &[&'p Place]) -> HashMap<&'p str, &'p Place> {
 }
 
 /// Members that are there once: renamed ones at the same place, those that are gone, and new ones.
-fn others<'p>(gone: impl Iterator<Item = &'p Place>, come: &[&Place]) -> Vec<Said> {
+fn others<'p>(gone: impl Iterator<Item = &'p Place>, come: &[&Place]) -> Vec<Difference> {
     let mut at: HashMap<(u128, &str), VecDeque<usize>> = HashMap::new();
     for (place, one) in come.iter().enumerate() {
         at.entry((one.start, &*one.told.text)).or_default().push_back(place);
@@ -48,26 +48,26 @@ fn others<'p>(gone: impl Iterator<Item = &'p Place>, come: &[&Place]) -> Vec<Sai
                 is_left[place] = false;
                 let now = &come[place].path;
                 let text = format!("{} renamed {now}", one.path);
-                let told = Said::harmless("renamed", text).of(&one.path);
+                let told = Difference::harmless("renamed", text).of(&one.path);
                 said.push(told.from(Datum::text(&one.path), Datum::text(now)));
             }
             None => {
-                let text = format!("{} removed", shown(&one.path));
-                let told = Said::breaking("removed member", text).of(&one.path);
+                let text = format!("{} removed", label_of(&one.path));
+                let told = Difference::breaking("removed member", text).of(&one.path);
                 said.push(told.from(Datum::bits(one.start), Datum::Nothing));
             }
         }
     }
     let left = come.iter().zip(is_left).filter(|(_, is_left)| *is_left);
     said.extend(left.map(|(one, _)| {
-        let text = format!("{} added at {}", shown(&one.path), At(one.start));
-        let told = Said::harmless("added member", text).of(&one.path);
+        let text = format!("{} added at {}", label_of(&one.path), At(one.start));
+        let told = Difference::harmless("added member", text).of(&one.path);
         told.from(Datum::Nothing, Datum::bits(one.start))
     }));
     said
 }
 
-fn shown(path: &str) -> &str {
+fn label_of(path: &str) -> &str {
     match path {
         "" => "a member without a name",
         path => path,
@@ -80,7 +80,7 @@ fn distance((one, other): &(&Place, &Place)) -> i128 {
 }
 
 /// Each move, or one word for members that moved by the same distance one behind the other.
-fn moves(mut pairs: &[(&Place, &Place)]) -> Vec<Said> {
+fn moves(mut pairs: &[(&Place, &Place)]) -> Vec<Difference> {
     let mut said = Vec::new();
     while let Some(first) = pairs.first() {
         let by = distance(first);
@@ -105,18 +105,18 @@ fn moves(mut pairs: &[(&Place, &Place)]) -> Vec<Said> {
     said
 }
 
-fn of_move(text: String, (one, other): &(&Place, &Place)) -> Said {
-    let said = Said::breaking("moved", text).of(&one.path);
+fn of_move(text: String, (one, other): &(&Place, &Place)) -> Difference {
+    let said = Difference::breaking("moved", text).of(&one.path);
     said.from(Datum::bits(one.start), Datum::bits(other.start))
 }
 
 /// What differs in the types of two members of one name.
-fn of_type(one: &Place, other: &Place) -> Option<Said> {
+fn of_type(one: &Place, other: &Place) -> Option<Difference> {
     let (was, now) = (&one.told, &other.told);
     let is_of_bits = was.bits % 8 != 0 || now.bits % 8 != 0;
     if was.bits != now.bits && (was.text == now.text || is_of_bits) {
         let text = format!("{} {} -> {}", one.path, width(was.bits), width(now.bits));
-        let said = Said::breaking("width", text).of(&one.path);
+        let said = Difference::breaking("width", text).of(&one.path);
         return Some(said.from(Datum::bits(was.bits), Datum::bits(now.bits)));
     }
     if (&was.text, &was.value) == (&now.text, &now.value) {
@@ -125,7 +125,7 @@ fn of_type(one: &Place, other: &Place) -> Option<Said> {
     let is_gone = || !was.named.is_within(&now.named);
     let breaks = was.value != now.value || !now.named.is_empty() && is_gone();
     let text = format!("{} is {}, was {}", one.path, now.text, was.text);
-    let said = Said { breaks, ..Said::breaking("type", text) }.of(&one.path);
+    let said = Difference { breaks, ..Difference::breaking("type", text) }.of(&one.path);
     Some(said.from(Datum::text(&*was.text), Datum::text(&*now.text)))
 }
 
@@ -139,18 +139,18 @@ fn width(bits: u128) -> String {
 #[cfg(test)]
 mod tests {
     use super::*;
-    use crate::diff::side::Told;
+    use crate::diff::side::MemberText;
     use std::rc::Rc;
 
     fn places(listed: &[(&str, u128, &str)]) -> Vec<Place> {
         let place = |&(path, start, text): &(&str, u128, &str)| {
-            let told = Told { bits: 32, text: text.into(), ..Told::default() };
+            let told = MemberText { bits: 32, text: text.into(), ..MemberText::default() };
             Place { path: path.to_owned(), start, told: Rc::new(told) }
         };
         listed.iter().map(place).collect()
     }
 
-    fn told(old: &[(&str, u128, &str)], new: &[(&str, u128, &str)]) -> Vec<String> {
+    fn difference_lines(old: &[(&str, u128, &str)], new: &[(&str, u128, &str)]) -> Vec<String> {
         let (old, new) = (places(old), places(new));
         let (old, new) = (Vec::from_iter(&old), Vec::from_iter(&new));
         differences(&old, &new).into_iter().map(|one| one.text).collect()
@@ -159,7 +159,7 @@ mod tests {
     #[test]
     fn members_are_matched_by_name_and_then_by_place() {
         let old = [("a", 0, "int"), ("b", 32, "int"), ("", 64, "int")];
-        assert!(told(&old, &old).is_empty());
+        assert!(difference_lines(&old, &old).is_empty());
         let new = [("a", 35, "int"), ("c", 32, "int"), ("d", 96, "char")];
         let wanted = [
             "a moved from 0 to 4:3",
@@ -167,7 +167,7 @@ mod tests {
             "a member without a name removed",
             "d added at 12",
         ];
-        assert_eq!(told(&old, &new), wanted);
+        assert_eq!(difference_lines(&old, &new), wanted);
     }
 
     #[test]
@@ -180,8 +180,8 @@ mod tests {
         let moved = |by: u128| -> Vec<(&str, u128, &str)> {
             old.iter().map(|&(name, at, text)| (name, at - by, text)).collect()
         };
-        assert_eq!(told(&old, &moved(32)), ["4 members from a to d moved by -4"]);
-        assert_eq!(told(&old, &moved(1)), ["4 members from a to d moved by -1 bits"]);
-        assert_eq!(told(&old[..3], &moved(32)[..3]).len(), 3);
+        assert_eq!(difference_lines(&old, &moved(32)), ["4 members from a to d moved by -4"]);
+        assert_eq!(difference_lines(&old, &moved(1)), ["4 members from a to d moved by -1 bits"]);
+        assert_eq!(difference_lines(&old[..3], &moved(32)[..3]).len(), 3);
     }
 }

@@ -5,6 +5,7 @@ mod candidates;
 mod changes;
 mod chosen;
 mod complete;
+mod differences;
 mod exported;
 mod guard;
 mod headers;
@@ -13,7 +14,6 @@ mod open;
 mod options;
 mod packages;
 mod report;
-mod said;
 mod side;
 mod structure;
 mod suppressions;
@@ -23,13 +23,13 @@ mod type_names;
 use crate::interrupts;
 use crate::standard;
 use crate::types::failure::{Failure, Outcome};
-use crate::types::output::{self, Output, Titled};
+use crate::types::output::{self, Output, TitledOutput};
 use crate::types::warn_by;
 use chosen::Chosen;
 use ctfd_read::inputs::Options;
-use open::{with_file, Opened};
+use open::{with_file, OpenFile};
 use options::{Words, NAME};
-use packages::{Side, Unpacked};
+use packages::{Side, UnpackedPackage};
 use report::Tally;
 use std::ffi::OsString;
 use std::io::Write;
@@ -46,7 +46,7 @@ const UNCOMPARED: [&str; 2] = [UNTOLD, "undefined"];
 
 /// The command; its exit status.
 pub fn main(words: Vec<OsString>) -> ExitCode {
-    let mut words = Words::parsed(words);
+    let mut words = Words::parse(words);
     interrupts::watch();
     if standard::is_output_closed() {
         warn_by(NAME, standard::CLOSED);
@@ -93,7 +93,7 @@ fn run(words: &mut Words, output: &mut Output) -> Outcome<u8> {
 struct Read<'r> {
     path: &'r Path,
     reading: &'r Options,
-    unpacked: Option<&'r Unpacked>,
+    unpacked: Option<&'r UnpackedPackage>,
     /// Whether it is a library of a package or folder: nothing but its exports counts.
     is_library: bool,
 }
@@ -106,7 +106,7 @@ impl<'r> Read<'r> {
     fn of_library(
         path: &'r Path,
         reading: &'r Options,
-        unpacked: Option<&'r Unpacked>,
+        unpacked: Option<&'r UnpackedPackage>,
     ) -> Read<'r> {
         Read { path, reading, unpacked, is_library: true }
     }
@@ -151,13 +151,13 @@ fn compare_packages(
             Read::of_library(&one.path, &readings[0], old.unpacked.as_ref()),
             Read::of_library(&other.path, &readings[1], new.unpacked.as_ref()),
         ];
-        let mut titled = Titled::new(output, Some(packages::title(words, one)));
+        let mut titled = TitledOutput::new(output, Some(packages::title(words, one)));
         match compare(words, files, chosen, &mut titled, tally) {
             Err(Failure::Unknown(said) | Failure::Refused(said)) => {
                 output.flush()?;
                 tally.leave_out();
                 let unpacked = sides.iter().filter_map(|side| side.unpacked.as_ref());
-                let said = unpacked.fold(said, |said, unpacked| unpacked.named(&said));
+                let said = unpacked.fold(said, |said, unpacked| unpacked.with_package_name(&said));
                 warn_by(NAME, &format!("{}: not compared: {said}", one.printable_name()));
             }
             done => done?,
@@ -167,7 +167,7 @@ fn compare_packages(
 }
 
 /// Whether both are the same bytes, over the same parent: nothing differs then.
-fn are_one(words: &Words, old: &Opened<'_, '_>, new: &Opened<'_, '_>) -> Outcome<bool> {
+fn are_one(words: &Words, old: &OpenFile<'_, '_>, new: &OpenFile<'_, '_>) -> Outcome<bool> {
     let is_of_one = words.parent_of_old() == words.parent_of_new();
     Ok(is_of_one && old.image.all()? == new.image.all()?)
 }

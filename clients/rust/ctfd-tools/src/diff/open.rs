@@ -1,7 +1,7 @@
 //! Opens the two files, each over its parent.
 
 use super::options::NAME;
-use super::packages::Unpacked;
+use super::packages::UnpackedPackage;
 use super::Read;
 use crate::elsewhere;
 use crate::progress::with_bar;
@@ -9,13 +9,13 @@ use crate::types::catalog::Catalog;
 use crate::types::crowded::{is_crowded, CROWDED};
 use crate::types::failure::{Failure, Outcome};
 use crate::types::names::Names;
-use crate::types::open::{judge_model, shown, with_catalog, without_parent, Parents};
-use crate::types::told::is_told;
+use crate::types::open::{display_path, judge_model, with_catalog, without_parent, Parents};
+use crate::types::symbol_lists::is_told;
 use ctfd_read::beyond::Beyond;
 use ctfd_read::declared::SourceFiles;
 use ctfd_read::exports::{exports, Exports};
 use ctfd_read::image::Image;
-use ctfd_read::opening::{self, Handed};
+use ctfd_read::opening::{self, LibraryInput};
 use std::borrow::Cow;
 use std::path::Path;
 
@@ -24,26 +24,26 @@ const ALONE: &str = "a parent goes with a dictionary, and this file's types are 
                      a child)";
 
 /// A file that is open.
-pub struct Opened<'o, 'd> {
+pub struct OpenFile<'o, 'd> {
     /// Its bytes.
     pub image: &'o Image,
     /// Its types.
     pub names: &'o Names<'o, 'd>,
-    unpacked: Option<&'o Unpacked>,
+    unpacked: Option<&'o UnpackedPackage>,
     is_library: bool,
     /// What its dictionary was given.
-    pub handed: &'o Handed<'o>,
+    pub handed: &'o LibraryInput<'o>,
     losses: &'o [String],
     beyond: Option<&'o Beyond>,
     /// In which source files its types are defined, where that was asked for.
     pub sources: &'o SourceFiles,
 }
 
-impl<'o, 'd> Opened<'o, 'd> {
+impl<'o, 'd> OpenFile<'o, 'd> {
     /// The file, as a line on it begins.
     pub fn path(&self) -> String {
-        let path = shown(self.image.path());
-        self.unpacked.map_or(path.clone(), |unpacked| unpacked.named(&path))
+        let path = display_path(self.image.path());
+        self.unpacked.map_or(path.clone(), |unpacked| unpacked.with_package_name(&path))
     }
 
     /// Its types.
@@ -78,12 +78,12 @@ impl<'o, 'd> Opened<'o, 'd> {
 pub fn with_file<T>(
     &Read { path, reading, unpacked, is_library }: &Read<'_>,
     parent: Option<&Path>,
-    run: impl FnOnce(&Opened<'_, '_>) -> Outcome<T>,
+    run: impl FnOnce(&OpenFile<'_, '_>) -> Outcome<T>,
 ) -> Outcome<T> {
     let image = elsewhere::open(path, reading)?;
-    let mut found = opening::handed(&image, &with_bar(reading, path))?;
+    let mut found = opening::library_input(&image, &with_bar(reading, path))?;
     if found.is_made && parent.is_some() {
-        return Err(Failure::Refused(format!("{}: {ALONE}", shown(path))));
+        return Err(Failure::Refused(format!("{}: {ALONE}", display_path(path))));
     }
     judge_model(&mut found, reading.model, path)?;
     if found.has_more_names() {
@@ -97,11 +97,11 @@ pub fn with_file<T>(
         }
         let handed = opened.handed;
         if is_crowded(catalog) {
-            return Err(Failure::Refused(format!("{}: {CROWDED}", shown(path))));
+            return Err(Failure::Refused(format!("{}: {CROWDED}", display_path(path))));
         }
         let names = Names::new(catalog);
         let (losses, beyond, sources) = (&found.losses, found.beyond.as_ref(), &found.sources);
-        run(&Opened {
+        run(&OpenFile {
             is_library,
             unpacked,
             image: &image,

@@ -59,8 +59,8 @@ pub struct Words {
 
 impl Words {
     /// Those of a command line. What is wrong with it is told, and ends the process.
-    pub fn parsed(words: Vec<OsString>) -> Words {
-        Words::of(&wrong_words::matched(options(), words))
+    pub fn parse(words: Vec<OsString>) -> Words {
+        Words::of(&wrong_words::parse_words(options(), words))
     }
 
     fn of(matches: &ArgMatches) -> Words {

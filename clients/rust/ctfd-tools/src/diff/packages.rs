@@ -5,7 +5,7 @@ use crate::output::Folder;
 use crate::packages::{self, Format};
 use crate::types::failure::{Failure, Outcome};
 use crate::types::json::Object;
-use crate::types::open::shown;
+use crate::types::open::display_path;
 use crate::types::text::printable;
 use crate::types::warn_by;
 use ctfd_read::error::{reason, Error};
@@ -51,15 +51,15 @@ impl Library {
 }
 
 /// A package that was unpacked: lines tell of it, and not of the folder that it is in for now.
-pub struct Unpacked {
+pub struct UnpackedPackage {
     folder: Folder,
     package: String,
 }
 
-impl Unpacked {
+impl UnpackedPackage {
     /// A line in which the folder is the package.
-    pub fn named(&self, line: &str) -> String {
-        line.replace(&shown(self.folder.path()), &self.package)
+    pub fn with_package_name(&self, line: &str) -> String {
+        line.replace(&display_path(self.folder.path()), &self.package)
     }
 }
 
@@ -68,7 +68,7 @@ pub struct Side {
     /// The folders of debug files, in front of those that the command line names.
     pub folders: Vec<PathBuf>,
     /// Where it was unpacked, if it was.
-    pub unpacked: Option<Unpacked>,
+    pub unpacked: Option<UnpackedPackage>,
     libraries: Vec<Library>,
 }
 
@@ -79,7 +79,7 @@ impl Side {
         let mut unpacked = None;
         let own = is_package(path).then_some(path);
         if own.is_some() || !debug.is_empty() {
-            let made = Unpacked { folder: Folder::new()?, package: shown(path) };
+            let made = UnpackedPackage { folder: Folder::new()?, package: display_path(path) };
             let packages = own.into_iter().chain(debug.iter().map(PathBuf::as_path));
             packages.into_iter().try_for_each(|one| unpack(one, made.folder.path()))?;
             if own.is_some() {
@@ -140,7 +140,7 @@ pub fn sides(words: &Words) -> Outcome<[Side; 2]> {
         if side.libraries.is_empty() {
             return Err(Failure::Refused(format!(
                 "{}: there is no shared library in it",
-                shown(path)
+                display_path(path)
             )));
         }
     }
@@ -149,7 +149,7 @@ pub fn sides(words: &Words) -> Outcome<[Side; 2]> {
 
 /// Adds the libraries below a folder. Links lead to files that are met by themselves, or elsewhere.
 fn find(folder: &Path, passed: &Path, depth: usize, found: &mut Vec<Library>) -> Outcome<()> {
-    let refused = |error| Error(format!("{}: {}", shown(folder), reason(&error)));
+    let refused = |error| Error(format!("{}: {}", display_path(folder), reason(&error)));
     let mut entries: Vec<_> = fs::read_dir(folder)
         .and_then(|entries| entries.collect::<std::io::Result<Vec<_>>>())
         .map_err(refused)?;
@@ -180,11 +180,11 @@ fn library(path: PathBuf) -> Option<Library> {
 /// Unpacks the regular files of a package.
 fn unpack(package: &Path, into: &Path) -> Outcome<()> {
     if !is_package(package) {
-        let path = shown(package);
+        let path = display_path(package);
         return Err(Failure::Refused(format!("{path}: it is no package of Debian (.deb)")));
     }
     if packages::unpack(package, Format::Debian, into, |_| true)? == 0 {
-        warn_by(NAME, &format!("{}: it has no files", shown(package)));
+        warn_by(NAME, &format!("{}: it has no files", display_path(package)));
     }
     Ok(())
 }

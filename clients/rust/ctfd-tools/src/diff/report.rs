@@ -3,11 +3,11 @@
 use super::changes::Sides;
 use super::chosen::{Choice, Chosen};
 use super::complete::incomparable;
+use super::differences::{Change, Difference, Fate};
 use super::guard;
-use super::open::Opened;
+use super::open::OpenFile;
 use super::options::{Words, NAME};
 use super::packages;
-use super::said::{Change, Fate, Said};
 use super::side::Side;
 use super::suppressions::{SymbolChange, SymbolNamed};
 use super::symbol_changes::{self, Symbols};
@@ -23,8 +23,8 @@ use ctfd_read::opening::Origin;
 use std::io::Write;
 
 const NO_SOURCES: &str =
-    "it does not say in which source files its types are defined, by which some \
-                          are left out: name a file with debug information";
+    "it does not record in which source files its types are defined, which the choice by headers \
+     needs: name a file with debug information";
 
 /// How many changes were told, and the status that comes of them.
 #[derive(Clone, Copy, Debug, Default)]
@@ -67,11 +67,11 @@ impl Tally {
         let label = format!("library {}", printable(name));
         let change = match old {
             Some(_) => {
-                let said = Said::breaking("removed", "removed").of(name);
+                let said = Difference::breaking("removed", "removed").of(name);
                 Change::new(label, "library", Fate::Removed, vec![said])
             }
             None => {
-                let said = Said::harmless("added", "added").of(name);
+                let said = Difference::harmless("added", "added").of(name);
                 Change::new(label, "library", Fate::Added, vec![said])
             }
         };
@@ -80,7 +80,7 @@ impl Tally {
             self.add(&change);
             match (words.is_json, words.has_verdict) {
                 (true, _) => writeln!(output, "{}", change.json(None))?,
-                (false, true) => writeln!(output, "{}", change.judged())?,
+                (false, true) => writeln!(output, "{}", change.with_verdict())?,
                 (false, false) => writeln!(output, "{}", change.lines())?,
             }
         }
@@ -130,7 +130,7 @@ pub fn tell(
     chosen: &Chosen,
     output: &mut dyn Write,
     tally: &mut Tally,
-    (old, new): (&Opened<'_, '_>, &Opened<'_, '_>),
+    (old, new): (&OpenFile<'_, '_>, &OpenFile<'_, '_>),
 ) -> Outcome<()> {
     let exports = match words.is_all {
         true => (None, None),
@@ -167,8 +167,8 @@ struct Report<'r> {
 impl Report<'_> {
     fn on(
         mut self,
-        old: &Opened<'_, '_>,
-        new: &Opened<'_, '_>,
+        old: &OpenFile<'_, '_>,
+        new: &OpenFile<'_, '_>,
         exports: (Option<Exports<'_>>, Option<Exports<'_>>),
     ) -> Outcome<()> {
         if old.catalog().is_ilp32() != new.catalog().is_ilp32() {
@@ -222,8 +222,8 @@ impl Report<'_> {
     fn all(
         &mut self,
         sides: &Sides<'_, '_, '_>,
-        old: &Opened<'_, '_>,
-        new: &Opened<'_, '_>,
+        old: &OpenFile<'_, '_>,
+        new: &OpenFile<'_, '_>,
     ) -> Outcome<()> {
         for mut change in sides.changes() {
             let pair = change.pair.unwrap_or_default();
@@ -241,7 +241,7 @@ impl Report<'_> {
             ));
         }
         for change in symbol_changes::changes(&were, &are) {
-            if !self.choice.leaves_out_named(&named(&change)) {
+            if !self.choice.leaves_out_named(&symbol_of(&change)) {
                 self.tell(sides, change)?;
             }
         }
@@ -254,7 +254,7 @@ impl Report<'_> {
             return Ok(());
         }
         if self.words.is_breaking {
-            let is_left = |one: &&Said| UNCOMPARED.contains(&one.what) && !one.breaks;
+            let is_left = |one: &&Difference| UNCOMPARED.contains(&one.what) && !one.breaks;
             let left = change.said.iter().filter(is_left);
             self.left.extend(left.map(|one| format!("{}: {}", change.label, one.text)));
             change = change.breaking();
@@ -266,18 +266,18 @@ impl Report<'_> {
         let full = change.pair.filter(|_| self.words.is_in_full).map(|pair| both(sides, pair));
         match (self.words.is_json, self.words.has_verdict) {
             (true, _) => writeln!(self.output, "{}", change.json(full.as_ref()))?,
-            (false, true) => writeln!(self.output, "{}", change.judged())?,
+            (false, true) => writeln!(self.output, "{}", change.with_verdict())?,
             (false, false) => writeln!(self.output, "{}", change.lines())?,
         }
         if let (Some([was, is]), false) = (full, self.words.is_json) {
-            write!(self.output, "{}{}", marked('-', &was), marked('+', &is))?;
+            write!(self.output, "{}{}", with_sign('-', &was), with_sign('+', &is))?;
         }
         Ok(())
     }
 }
 
 /// A symbol of which a change tells without its version.
-fn named(change: &Change) -> SymbolNamed<'_> {
+fn symbol_of(change: &Change) -> SymbolNamed<'_> {
     let name = change.said.first().map_or(&[][..], |one| one.name.as_slice());
     let change_kind = match change.fate {
         Fate::Added => SymbolChange::Added,
@@ -299,6 +299,6 @@ fn both(sides: &Sides<'_, '_, '_>, (old, new): (Number, Number)) -> [String; 2] 
 }
 
 /// Lines with a sign in front, below a change.
-fn marked(sign: char, text: &str) -> String {
+fn with_sign(sign: char, text: &str) -> String {
     text.lines().map(|line| format!("    {sign} {line}").trim_end().to_owned() + "\n").collect()
 }

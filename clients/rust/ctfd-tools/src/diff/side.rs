@@ -75,7 +75,7 @@ pub struct Meaning {
 
 /// What is told of a member by its type alone.
 #[derive(Debug, Default, PartialEq)]
-pub struct Told {
+pub struct MemberText {
     /// How many bits it takes.
     pub bits: u128,
     /// How its type is written.
@@ -131,16 +131,16 @@ impl NamedValues {
 /// A type as something has it: of a bit-field with the enum that it is of, which no type of a
 /// dictionary tells.
 #[derive(Clone, Copy, Debug, PartialEq, Eq, Hash)]
-pub struct Used {
+pub struct TypeUse {
     /// The type.
     pub number: Number,
     /// The enum, where it is one's bit-field.
     pub of_enum: Option<Number>,
 }
 
-impl From<Number> for Used {
-    fn from(number: Number) -> Used {
-        Used { number, of_enum: None }
+impl From<Number> for TypeUse {
+    fn from(number: Number) -> TypeUse {
+        TypeUse { number, of_enum: None }
     }
 }
 
@@ -152,11 +152,11 @@ pub struct Place {
     /// Where it begins.
     pub start: u128,
     /// What its type tells.
-    pub told: Rc<Told>,
+    pub told: Rc<MemberText>,
 }
 
 /// The places of some members without their types.
-pub fn places(parts: &[(Place, Used)]) -> Vec<&Place> {
+pub fn places(parts: &[(Place, TypeUse)]) -> Vec<&Place> {
     parts.iter().map(|(place, _)| place).collect()
 }
 
@@ -184,7 +184,7 @@ pub struct Side<'s, 'd> {
     beyond: &'s Beyond,
     embeds: Embeds<'s, 'd>,
     written: TypeNames<'s, 'd>,
-    told: RefCell<HashMap<Used, (u64, Rc<Told>)>>,
+    told: RefCell<HashMap<TypeUse, (u64, Rc<MemberText>)>>,
     named: RefCell<HashMap<Number, Rc<NamedValues>>>,
     enums: HashMap<(Vec<u8>, u64), Number>,
     bytes: usize,
@@ -199,7 +199,7 @@ impl<'s, 'd> Side<'s, 'd> {
             let record = catalog.record(number);
             if record.kind == Kind::Enum && !record.name.is_empty() {
                 let size = catalog.size(number).unwrap_or(4);
-                enums.entry((record.called(), size)).or_insert(number);
+                enums.entry((record.tag_name(), size)).or_insert(number);
             }
         }
         let mut made = Side {
@@ -294,16 +294,16 @@ impl<'s, 'd> Side<'s, 'd> {
 
     /// What a value of it is to a program.
     pub fn value(&self, number: Number) -> Meaning {
-        let mut end = self.catalog.resolved(number);
+        let mut end = self.catalog.resolve(number);
         let mut lengths = Vec::new();
         while self.kind(end) == Some(Kind::Array) {
             let array = self.catalog.record(end);
             lengths.push(self.elements(end));
-            end = self.catalog.resolved(array.of);
+            end = self.catalog.resolve(array.of);
         }
         let core = match self.kind(end) {
             Some(Kind::Pointer) => {
-                let target = self.catalog.resolved(self.catalog.record(end).of);
+                let target = self.catalog.resolve(self.catalog.record(end).of);
                 let is_function = self.kind(target) == Some(Kind::Function);
                 Core::Pointer(is_function.then(|| self.text(target)))
             }
@@ -345,48 +345,48 @@ impl<'s, 'd> Side<'s, 'd> {
     }
 
     /// The members of a struct or union, those of unnamed parts too, each with its type.
-    pub fn parts(&self, number: Number) -> Vec<(Place, Used)> {
+    pub fn parts(&self, number: Number) -> Vec<(Place, TypeUse)> {
         let parts = self.catalog.members(number);
         let mut made = Vec::with_capacity(parts.len());
         if !parts.iter().any(|part| self.embeds.is_walked_through(part.of)) {
             let of_part = |(place, part): (usize, &Part<'_>)| {
-                let used = self.used(part.of, (number, place));
+                let used = self.type_use(part.of, (number, place));
                 (self.place(part.name, used, part.offset.into()), used)
             };
             made.extend(parts.iter().enumerate().map(of_part));
             return made;
         }
         self.embeds.walk(number, |held| {
-            let used = self.used(held.of, held.within);
+            let used = self.type_use(held.of, held.within);
             made.push((self.place(&held.name(), used, held.offset), used));
         });
         made
     }
 
     /// The type of a member of some struct or union.
-    fn used(&self, number: Number, within: (Number, usize)) -> Used {
-        let end = self.catalog.resolved(number);
+    fn type_use(&self, number: Number, within: (Number, usize)) -> TypeUse {
+        let end = self.catalog.resolve(number);
         let of_enum = self.beyond.fields.get(&within).copied();
         match of_enum.filter(|_| self.kind(end) == Some(Kind::Integer)) {
-            Some(of_enum) => Used { number: end, of_enum: Some(of_enum) },
+            Some(of_enum) => TypeUse { number: end, of_enum: Some(of_enum) },
             None => number.into(),
         }
     }
 
-    fn place(&self, name: &[u8], of: Used, offset: u128) -> Place {
-        let (lies, told) = self.told(of);
+    fn place(&self, name: &[u8], of: TypeUse, offset: u128) -> Place {
+        let (lies, told) = self.member_text(of);
         Place { path: printable(name).into_owned(), start: offset + u128::from(lies), told }
     }
 
     /// What is told of a member by its type alone, behind where it lies in its storage.
-    fn told(&self, of: Used) -> (u64, Rc<Told>) {
+    fn member_text(&self, of: TypeUse) -> (u64, Rc<MemberText>) {
         if let Some(known) = self.told.borrow().get(&of) {
             return known.clone();
         }
         let span = self.catalog.span(of.number);
-        let of_enum = of.of_enum.or_else(|| self.enum_of(self.catalog.resolved(of.number)));
-        let named = of_enum.map_or_else(Rc::default, |number| self.named(number));
-        let told = Rc::new(Told {
+        let of_enum = of.of_enum.or_else(|| self.enum_of(self.catalog.resolve(of.number)));
+        let named = of_enum.map_or_else(Rc::default, |number| self.named_values(number));
+        let told = Rc::new(MemberText {
             bits: span.bits,
             text: self.text(of.number),
             value: self.value(of.number),
@@ -396,7 +396,7 @@ impl<'s, 'd> Side<'s, 'd> {
         (span.lies, told)
     }
 
-    fn named(&self, of_enum: Number) -> Rc<NamedValues> {
+    fn named_values(&self, of_enum: Number) -> Rc<NamedValues> {
         let mut known = self.named.borrow_mut();
         let made = known.entry(of_enum);
         made.or_insert_with(|| Rc::new(NamedValues::of(&self.values(of_enum)))).clone()

@@ -5,9 +5,9 @@
 //! the old types goes wrong with the new.
 
 use super::changes::Sides;
+use super::differences::{kind_word, size, Datum, Difference};
 use super::members::differences as members;
-use super::said::{kind_word, size, Datum, Said};
-use super::side::{places, Side, Used};
+use super::side::{places, Side, TypeUse};
 use crate::types::catalog::{is_renaming, Number, Signature};
 use ctfd::Kind;
 use std::collections::{HashMap, HashSet};
@@ -30,20 +30,20 @@ pub struct Lead {
 
 /// What differs of a pair by itself, and the pairs that it leads to.
 #[derive(Clone, Debug, Default)]
-pub struct Found {
+pub struct Findings {
     /// What differs.
-    pub said: Vec<Said>,
+    pub said: Vec<Difference>,
     /// Where it leads.
     pub leads: Vec<Lead>,
 }
 
-impl Found {
+impl Findings {
     /// Some differences that lead nowhere.
-    pub fn of(said: impl IntoIterator<Item = Said>) -> Found {
-        Found { said: said.into_iter().collect(), leads: Vec::new() }
+    pub fn of(said: impl IntoIterator<Item = Difference>) -> Findings {
+        Findings { said: said.into_iter().collect(), leads: Vec::new() }
     }
 
-    fn add(&mut self, other: Found) {
+    fn add(&mut self, other: Findings) {
         self.said.extend(other.said);
         self.leads.extend(other.leads);
     }
@@ -125,18 +125,18 @@ struct Ends {
 
 impl Sides<'_, '_, '_> {
     /// What differs in two structs, unions, enums or functions.
-    pub fn found(&self, pair: Pair) -> Found {
+    pub fn compare(&self, pair: Pair) -> Findings {
         let (one, other) = (self.before.kind(pair.0), self.after.kind(pair.1));
         if other == Some(Kind::Forward) {
-            let said = Said::harmless("undefined", "only declared now, and not compared");
+            let said = Difference::harmless("undefined", "only declared now, and not compared");
             let kinds = (Datum::text(kind_word(one)), Datum::text(kind_word(other)));
-            return Found::of([said.from(kinds.0, kinds.1)]);
+            return Findings::of([said.from(kinds.0, kinds.1)]);
         }
         match one {
             Some(Kind::Forward) => {
-                Found::of([Said::harmless("defined", "only declared before, now defined")])
+                Findings::of([Difference::harmless("defined", "only declared before, now defined")])
             }
-            Some(Kind::Enum) => Found::of(self.enums(pair.0, pair.1)),
+            Some(Kind::Enum) => Findings::of(self.enums(pair.0, pair.1)),
             Some(Kind::Function) => {
                 self.signature(&self.before.signature(pair.0), &self.after.signature(pair.1))
             }
@@ -148,14 +148,14 @@ impl Sides<'_, '_, '_> {
     pub fn value(
         &self,
         what: &str,
-        old: impl Into<Used>,
-        new: impl Into<Used>,
+        old: impl Into<TypeUse>,
+        new: impl Into<TypeUse>,
         step: &str,
-    ) -> Found {
+    ) -> Findings {
         let (old, new) = (old.into(), new.into());
         let ends = self.ends(old, new);
         let was = self.before.text(old.number);
-        let mut made = Found::default();
+        let mut made = Findings::default();
         if ends.harm != Harm::Same {
             let now = self.after.text(new.number);
             let text = match was == now {
@@ -163,7 +163,7 @@ impl Sides<'_, '_, '_> {
                 false => format!("{what} is {now}, was {was}"),
             };
             let breaks = ends.harm == Harm::Breaking;
-            let said = Said { breaks, ..Said::breaking("type", text) }.of(what);
+            let said = Difference { breaks, ..Difference::breaking("type", text) }.of(what);
             made.said.push(said.from(Datum::text(&*was), Datum::text(&*now)));
         }
         let lead = |pair| Lead { text: format!("{step} {was}").into(), pair };
@@ -172,7 +172,7 @@ impl Sides<'_, '_, '_> {
     }
 
     /// Walks both types in step, as far as they go the same way.
-    fn ends(&self, one: Used, other: Used) -> Ends {
+    fn ends(&self, one: TypeUse, other: TypeUse) -> Ends {
         let (mut old, mut new) = (one.number, other.number);
         let fields = (one.of_enum, other.of_enum);
         let mut is_pointed = false;
@@ -266,29 +266,30 @@ impl Sides<'_, '_, '_> {
 
     /// What differs in how an object itself, or each of its elements, may be used: one that is
     /// const is in memory that is not written to, and its value is one that does not change.
-    pub fn qualifiers(&self, old: Number, new: Number) -> Vec<Said> {
+    pub fn qualifiers(&self, old: Number, new: Number) -> Vec<Difference> {
         let (was, now) = (kinds_on_way(self.before, old), kinds_on_way(self.after, new));
         let mut said = Vec::new();
         for (word, kind) in [("const", Kind::Const), ("volatile", Kind::Volatile)] {
             let (before, after) = (was.contains(&kind), now.contains(&kind));
             if before != after {
                 let text = format!("it is {}{word}", if after { "" } else { "no longer " });
-                let one = Said { breaks: word == "const", ..Said::breaking(word, text) };
+                let one =
+                    Difference { breaks: word == "const", ..Difference::breaking(word, text) };
                 said.push(one.of("it").from(Datum::Truth(before), Datum::Truth(after)));
             }
         }
         said
     }
 
-    fn aggregate(&self, pair: Pair) -> Found {
+    fn aggregate(&self, pair: Pair) -> Findings {
         let (old, new) = (self.before.parts(pair.0), self.after.parts(pair.1));
         let sizes = (self.before.catalog.size(pair.0), self.after.catalog.size(pair.1));
-        let mut made = Found::of(size(sizes.0, sizes.1));
+        let mut made = Findings::of(size(sizes.0, sizes.1));
         let told = members(&places(&old), &places(&new));
         made.said.extend(told.into_iter().filter(|one| one.what != "type"));
         let wider = made.said.iter().filter(|one| one.what == "width");
         let wider: HashSet<Vec<u8>> = wider.map(|one| one.name.clone()).collect();
-        let there: HashMap<&str, Used> =
+        let there: HashMap<&str, TypeUse> =
             new.iter().map(|(place, number)| (place.path.as_str(), *number)).collect();
         for (place, number) in &old {
             let path = place.path.as_str();
@@ -303,20 +304,21 @@ impl Sides<'_, '_, '_> {
     }
 
     /// What differs in what two functions take and return.
-    pub fn signature(&self, one: &Signature, other: &Signature) -> Found {
+    pub fn signature(&self, one: &Signature, other: &Signature) -> Findings {
         let mut made = self.value("what it returns", one.returns, other.returns, "returns");
         for (place, (&old, &new)) in one.arguments.iter().zip(&other.arguments).enumerate() {
             made.add(self.value(&format!("argument {}", place + 1), old, new, "takes"));
         }
         let (were, are) = (one.arguments.len(), other.arguments.len());
         if were != are {
-            let said = Said::breaking("arguments", format!("takes {are} arguments, took {were}"));
+            let said =
+                Difference::breaking("arguments", format!("takes {are} arguments, took {were}"));
             made.said.push(said.from(Datum::Number(were as i128), Datum::Number(are as i128)));
         }
         if one.is_open != other.is_open {
             let text =
                 if other.is_open { "takes more arguments" } else { "takes no more arguments" };
-            let said = Said::breaking("varargs", text);
+            let said = Difference::breaking("varargs", text);
             made.said.push(said.from(Datum::Truth(one.is_open), Datum::Truth(other.is_open)));
         }
         made

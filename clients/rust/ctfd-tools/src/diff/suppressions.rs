@@ -1,18 +1,18 @@
 //! What is not told of two files, as suppression files of libabigail say it: sections of properties.
 
+use super::differences::Difference;
 use super::headers::kind_of;
-use super::said::Said;
 use super::side::Side;
 use crate::types::catalog::Number;
 use crate::types::failure::{Failure, Outcome};
-use crate::types::open::shown;
+use crate::types::open::display_path;
 use crate::types::text::printable;
 use ctfd::Kind;
 use ctfd_read::declared::SourceFiles;
 use regex::bytes::{Regex, RegexBuilder};
 use std::path::Path;
 
-const BARE: &str = "a section says nothing of what it is about: give it a name, or leave it out";
+const BARE: &str = "a section names nothing to suppress: give it a name, or leave it out";
 
 /// What a section is about.
 #[derive(Clone, Copy, Debug, PartialEq, Eq)]
@@ -169,11 +169,13 @@ impl Rule {
             "symbol_version" if is_of_symbol => self.versions.push(is()),
             "symbol_version_regexp" if is_of_symbol => self.versions.push(has()?),
             "change_kind" if is_of_symbol => self.change = change_of(value)?,
-            "source_location_not_in" if is_of_type => self.kept_sources = Some(listed(value)),
+            "source_location_not_in" if is_of_type => {
+                self.kept_sources = Some(value_patterns(value))
+            }
             "source_location_not_regexp" if is_of_type => self.sources.push(has_not()?),
             "type_kind" if is_of_type => self.kind = Some(kinds_of(value)?),
             "has_size_change" if is_of_type => self.has_size_change = value == "yes",
-            "changed_enumerators" if is_of_type => self.enumerators.extend(listed(value)),
+            "changed_enumerators" if is_of_type => self.enumerators.extend(value_patterns(value)),
             "has_data_member_inserted_at" if is_of_type => self.ranges.push(place(value)?),
             "has_data_member_inserted_between" | "has_data_members_inserted_between"
                 if is_of_type =>
@@ -237,7 +239,7 @@ impl Rule {
     }
 
     /// Whether a difference of a type is one that is not told.
-    fn covers(&self, said: &Said, ranges: &[(u128, u128)]) -> bool {
+    fn covers(&self, said: &Difference, ranges: &[(u128, u128)]) -> bool {
         if said.what == "size" {
             return self.has_size_change;
         }
@@ -251,7 +253,7 @@ fn pattern(value: &str) -> Result<Regex, String> {
     made.map_err(|_| format!("{value} is no regular expression"))
 }
 
-fn listed(value: &str) -> Vec<Vec<u8>> {
+fn value_patterns(value: &str) -> Vec<Vec<u8>> {
     value.split(',').map(|one| one.trim().as_bytes().to_vec()).collect()
 }
 
@@ -315,7 +317,7 @@ impl Suppressions {
         for (number, line) in text.lines().enumerate() {
             let line = line.trim();
             let refused = |why: String| {
-                let place = format!("{}:{}", shown(path), number + 1);
+                let place = format!("{}:{}", display_path(path), number + 1);
                 Failure::Refused(format!("{place}: {}", printable(why.as_bytes())))
             };
             if line.is_empty() || line.starts_with(['#', ';']) {
@@ -338,7 +340,7 @@ impl Suppressions {
             rule.take(name.trim(), value.trim()).map_err(refused)?;
         }
         match self.rules.last().is_some_and(Rule::is_bare) {
-            true => Err(Failure::Refused(format!("{}: {BARE}", shown(path)))),
+            true => Err(Failure::Refused(format!("{}: {BARE}", display_path(path)))),
             false => Ok(()),
         }
     }
@@ -384,7 +386,7 @@ impl Suppressions {
         number: Number,
         sources: &SourceFiles,
         names: &FileNames,
-        said: &mut Vec<Said>,
+        said: &mut Vec<Difference>,
     ) {
         for rule in self.about(Subject::Type, names).filter(|rule| rule.is_of_parts()) {
             if !rule.is_about_type(side, number, sources) {

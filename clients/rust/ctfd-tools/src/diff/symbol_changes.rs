@@ -1,29 +1,29 @@
 //! What differs in the functions and objects of two programs.
 
-use super::said::{Change, Datum, Fate, Said};
+use super::differences::{Change, Datum, Difference, Fate};
 use crate::types::catalog::Catalog;
-use crate::types::catalog::Told;
+use crate::types::catalog::SymbolAnswer;
 use crate::types::declare;
-use crate::types::text::{printable, shortened, usual};
-use crate::types::told::{told_symbols, ToldSymbol};
-use ctfd_read::opening::Handed;
+use crate::types::symbol_lists::{told_symbols, ToldSymbol};
+use crate::types::text::{printable, shorten, usual};
+use ctfd_read::opening::LibraryInput;
 use std::collections::HashMap;
 
 /// How C declares a symbol, and the word for its kind.
-struct Declared {
+struct SymbolDeclaration {
     kind: &'static str,
     text: String,
 }
 
-impl Declared {
-    fn of(catalog: &Catalog<'_>, one: &ToldSymbol) -> Declared {
+impl SymbolDeclaration {
+    fn of(catalog: &Catalog<'_>, one: &ToldSymbol) -> SymbolDeclaration {
         let (kind, text) = match &one.told {
-            Told::Function(signature) => {
+            SymbolAnswer::Function(signature) => {
                 ("function", declare::function(catalog, signature, &one.name))
             }
-            Told::Object(of) => ("object", declare::declaration(catalog, *of, &one.name)),
+            SymbolAnswer::Object(of) => ("object", declare::declaration(catalog, *of, &one.name)),
         };
-        Declared { kind, text: shortened(with_usual_names(&text)) }
+        SymbolDeclaration { kind, text: shorten(with_usual_names(&text)) }
     }
 }
 
@@ -31,15 +31,15 @@ impl Declared {
 #[derive(Default)]
 pub struct Symbols {
     names: Vec<Vec<u8>>,
-    declared: HashMap<Vec<u8>, Declared>,
+    declared: HashMap<Vec<u8>, SymbolDeclaration>,
 }
 
 impl Symbols {
     /// Those of a dictionary that was given these.
-    pub fn of(catalog: &Catalog<'_>, handed: &Handed<'_>) -> Symbols {
+    pub fn of(catalog: &Catalog<'_>, handed: &LibraryInput<'_>) -> Symbols {
         let mut made = Symbols::default();
         for one in told_symbols(catalog, handed) {
-            let declared = Declared::of(catalog, &one);
+            let declared = SymbolDeclaration::of(catalog, &one);
             made.names.push(one.name.clone());
             made.declared.insert(one.name, declared);
         }
@@ -51,7 +51,7 @@ impl Symbols {
         self.names.is_empty()
     }
 
-    fn iter(&self) -> impl Iterator<Item = (&Vec<u8>, &Declared)> {
+    fn iter(&self) -> impl Iterator<Item = (&Vec<u8>, &SymbolDeclaration)> {
         self.names.iter().map(|name| (name, &self.declared[name]))
     }
 }
@@ -109,26 +109,27 @@ pub fn changes(old: &Symbols, new: &Symbols) -> Vec<Change> {
         let text = Datum::text(&was.text);
         match new.declared.get(name) {
             None => {
-                let said = Said::breaking("removed", "removed").from(text, Datum::Nothing);
+                let said = Difference::breaking("removed", "removed").from(text, Datum::Nothing);
                 made.push(change(name, was.kind, Fate::Removed, said));
             }
             Some(now) if now.text != was.text => {
                 let both = format!("{} -> {}", was.text, now.text);
-                let said = Said::breaking("signature", both).from(text, Datum::text(&now.text));
+                let said =
+                    Difference::breaking("signature", both).from(text, Datum::text(&now.text));
                 made.push(change(name, was.kind, Fate::Changed, said));
             }
             Some(_) => {}
         }
     }
     for (name, now) in new.iter().filter(|(name, _)| !old.declared.contains_key(*name)) {
-        let said = Said::harmless("added", format!("added: {}", now.text));
+        let said = Difference::harmless("added", format!("added: {}", now.text));
         let said = said.from(Datum::Nothing, Datum::text(&now.text));
         made.push(change(name, now.kind, Fate::Added, said));
     }
     made
 }
 
-fn change(name: &[u8], kind: &'static str, fate: Fate, said: Said) -> Change {
+fn change(name: &[u8], kind: &'static str, fate: Fate, said: Difference) -> Change {
     let label = format!("{kind} {}", printable(name));
     Change::new(label, kind, fate, vec![said.of(name)])
 }

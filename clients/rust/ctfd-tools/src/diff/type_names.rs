@@ -6,7 +6,7 @@
 use crate::types::catalog::{is_qualifier, Catalog, Number};
 use crate::types::declare;
 use crate::types::json::word_of;
-use crate::types::text::{printable, shortened, usual};
+use crate::types::text::{printable, shorten, usual};
 use ctfd::Kind;
 use ctfd_read::beyond::Beyond;
 use std::cell::RefCell;
@@ -17,7 +17,7 @@ const QUALIFIERS: [&str; 3] = ["volatile", "const", "restrict"];
 
 /// A declaration in its parts: `base left NAME right`, as `const int (*NAME)[2]`.
 #[derive(Clone)]
-struct Written {
+struct Declaration {
     base: String,
     left: String,
     right: String,
@@ -31,7 +31,7 @@ struct Written {
 pub struct TypeNames<'n, 'd> {
     catalog: &'n Catalog<'d>,
     beyond: &'n Beyond,
-    written: RefCell<HashMap<Number, Rc<Written>>>,
+    written: RefCell<HashMap<Number, Rc<Declaration>>>,
     names: RefCell<HashMap<Number, Rc<str>>>,
 }
 
@@ -46,7 +46,7 @@ impl<'n, 'd> TypeNames<'n, 'd> {
         if let Some(known) = self.names.borrow().get(&number) {
             return known.clone();
         }
-        let made = self.written(number);
+        let made = self.declaration_of(number);
         let is_closed = made.right.starts_with(')'); // as in "(*const)()"
         let left = if is_closed { made.left.trim_end() } else { &made.left };
         let name: Rc<str> = format!("{} {left}{}", made.base, made.right).trim_end().into();
@@ -55,7 +55,7 @@ impl<'n, 'd> TypeNames<'n, 'd> {
     }
 
     /// The parts of a type's declaration.
-    fn written(&self, mut number: Number) -> Rc<Written> {
+    fn declaration_of(&self, mut number: Number) -> Rc<Declaration> {
         let mut layers = Vec::new();
         let mut made = loop {
             if let Some(known) = self.written.borrow().get(&number) {
@@ -78,15 +78,15 @@ impl<'n, 'd> TypeNames<'n, 'd> {
     }
 
     /// A type that is neither pointer, array nor qualifier.
-    fn end(&self, number: Number) -> Written {
+    fn end(&self, number: Number) -> Declaration {
         let record = self.catalog.record(number);
         let kind = (number != 0).then_some(record.kind);
         if kind == Some(Kind::Function) {
-            let named = |number| shortened(declare::base(self.catalog, number));
+            let named = |number| shorten(declare::base(self.catalog, number));
             let made = declare::declarator_by(self.catalog, number, &named, false);
-            let base = made.spelled();
-            let (left, right) = (shortened(made.left), shortened(made.right));
-            return Written { base, left, right, kind, element: kind };
+            let base = made.spelling();
+            let (left, right) = (shorten(made.left), shorten(made.right));
+            return Declaration { base, left, right, kind, element: kind };
         }
         let name = printable(&record.name);
         let base = match (kind, record.word()) {
@@ -96,21 +96,21 @@ impl<'n, 'd> TypeNames<'n, 'd> {
             (_, word) if name.is_empty() => format!("{word} {{...}}"),
             (_, word) => format!("{word} {name}"),
         };
-        let base = if base.is_empty() { "(anon)".to_owned() } else { shortened(base) };
-        Written { base, left: String::new(), right: String::new(), kind, element: kind }
+        let base = if base.is_empty() { "(anon)".to_owned() } else { shorten(base) };
+        Declaration { base, left: String::new(), right: String::new(), kind, element: kind }
     }
 
     /// A layer round what it leads to.
-    fn around(&self, number: Number, inside: &Written) -> Written {
+    fn around(&self, number: Number, inside: &Declaration) -> Declaration {
         let record = self.catalog.record(number);
         let kind = Some(record.kind);
-        let Written { left, right, .. } = inside;
+        let Declaration { left, right, .. } = inside;
         match record.kind {
             Kind::Array => {
                 let known = self.beyond.elements.get(&number).copied();
                 let elements = known.unwrap_or(record.elements.into());
-                let right = shortened(format!("[{elements}]{right}"));
-                Written { right, kind, ..inside.clone() }
+                let right = shorten(format!("[{elements}]{right}"));
+                Declaration { right, kind, ..inside.clone() }
             }
             Kind::Pointer => {
                 let is_bound = matches!(inside.kind, Some(Kind::Array | Kind::Function));
@@ -118,26 +118,26 @@ impl<'n, 'd> TypeNames<'n, 'd> {
                     true => (format!("{left}(*"), format!("){right}")),
                     false => (format!("{left}*"), right.clone()),
                 };
-                Written { base: inside.base.clone(), left, right, kind, element: kind }
+                Declaration { base: inside.base.clone(), left, right, kind, element: kind }
             }
-            qualifier => qualified(word_of(qualifier), inside),
+            qualifier => with_qualifier(word_of(qualifier), inside),
         }
     }
 }
 
 /// A type with a qualifier, which is said once: of a pointer behind its star, else in front.
-fn qualified(word: &str, inside: &Written) -> Written {
+fn with_qualifier(word: &str, inside: &Declaration) -> Declaration {
     if inside.element == Some(Kind::Pointer) {
         let behind = inside.left.rfind('*').map_or(0, |star| star + 1);
         let (stars, own) = inside.left.split_at(behind);
         let own = own.split_whitespace().filter(|one| *one != word).chain([word]);
         let left = format!("{stars}{} ", own.collect::<Vec<_>>().join(" "));
-        return Written { left, ..inside.clone() };
+        return Declaration { left, ..inside.clone() };
     }
     let words: Vec<&str> = inside.base.split(' ').collect();
     let is_other = |one: &&str| !QUALIFIERS.contains(one);
     let count = words.iter().position(is_other).unwrap_or(words.len());
     let front = words[..count].iter().copied().filter(|one| *one != word);
     let kept = std::iter::once(word).chain(front).chain(words[count..].iter().copied());
-    Written { base: kept.collect::<Vec<_>>().join(" "), ..inside.clone() }
+    Declaration { base: kept.collect::<Vec<_>>().join(" "), ..inside.clone() }
 }

@@ -33,7 +33,7 @@ const ABSENT: &str = "No such file or directory";
 
 /// What is asked for of a build.
 #[derive(Clone, Copy)]
-pub enum Wanted {
+pub enum Request {
     /// A section by its name.
     Section(&'static str),
     /// The debug file.
@@ -41,7 +41,7 @@ pub enum Wanted {
 }
 
 /// What a server has of a build; None where it has nothing.
-pub fn fetch(urls: &str, id: &BuildId, wanted: Wanted, below: &Path) -> Result<Option<Vec<u8>>> {
+pub fn fetch(urls: &str, id: &BuildId, wanted: Request, below: &Path) -> Result<Option<Vec<u8>>> {
     let Some(finder) = on_path(FINDER) else {
         return refuse(format!(
             "{FINDER} (Debian: debuginfod), which asks servers, is not on the PATH: install it, or \
@@ -51,8 +51,8 @@ pub fn fetch(urls: &str, id: &BuildId, wanted: Wanted, below: &Path) -> Result<O
     let Some(shell) = on_path(SHELL) else { return refuse("sh is not on the PATH") };
     let folder = Folder::within(below)?;
     let words: Vec<&str> = match wanted {
-        Wanted::Section(name) => vec!["section", id.digits(), name],
-        Wanted::DebugFile => vec!["debuginfo", id.digits()],
+        Request::Section(name) => vec!["section", id.digits(), name],
+        Request::DebugFile => vec!["debuginfo", id.digits()],
     };
     let mut command = Command::new(shell);
     command
@@ -74,13 +74,13 @@ pub fn fetch(urls: &str, id: &BuildId, wanted: Wanted, below: &Path) -> Result<O
         .stdout(File::create(folder.path().join("said"))?)
         .stderr(File::create(folder.path().join("errors"))?);
     let child = command.spawn().map_err(Error::from)?;
-    let status = ended(child)?;
+    let status = exit_status(child)?;
     let said = |name: &str| text_of(&folder.path().join(name));
     match status {
         None => refuse(format!("the server took more than {} s", PATIENCE.as_secs())),
         Some(status) if status.success() => fetched_bytes(&folder, &said("said")).map(Some),
         Some(status) if status.signal() == Some(TOO_LONG) => refuse(too_long()),
-        Some(_) => failed(&said("errors")),
+        Some(_) => failure_of(&said("errors")),
     }
 }
 
@@ -89,7 +89,7 @@ fn too_long() -> String {
 }
 
 /// How a child ended; None where it had to be killed.
-fn ended(mut child: Child) -> Result<Option<ExitStatus>> {
+fn exit_status(mut child: Child) -> Result<Option<ExitStatus>> {
     let begun = Instant::now();
     loop {
         if let Some(status) = child.try_wait()? {
@@ -120,7 +120,7 @@ fn fetched_bytes(folder: &Folder, said: &str) -> Result<Vec<u8>> {
 }
 
 /// Why the child has found nothing.
-fn failed(errors: &str) -> Result<Option<Vec<u8>>> {
+fn failure_of(errors: &str) -> Result<Option<Vec<u8>>> {
     let line = errors.lines().last().unwrap_or("no word on why");
     let why = line.rsplit(": ").next().unwrap_or(line);
     match why {

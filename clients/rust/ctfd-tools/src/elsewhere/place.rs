@@ -2,10 +2,10 @@
 //! with the debug information of distributions.
 
 use super::cache::Cache;
-use super::child::{self, Wanted};
+use super::child::{self, Request};
 use crate::debuginfo::debug_file::of_dictionary_alone;
 use crate::store::{BuildId, Store, DEBUG_FILE, DICTIONARY, SECTIONS};
-use crate::types::failure::told;
+use crate::types::failure::refusal_text;
 use crate::types::text::printable;
 use ctfd::Model;
 use ctfd_read::dictionary;
@@ -13,7 +13,7 @@ use ctfd_read::entry_symbols::identity_of;
 use ctfd_read::error::{refuse, Error, Result};
 use ctfd_read::image::Image;
 use ctfd_read::inputs::{with_types, Options};
-use ctfd_read::opening::{self, Handed, Origin};
+use ctfd_read::opening::{self, LibraryInput, Origin};
 use ctfd_read::symbols::SymbolTable;
 use object::Object as _;
 use std::env;
@@ -72,24 +72,24 @@ impl Place {
         let path = self.path(id);
         let found = match self {
             Place::Folder(root) => in_folder(root, id),
-            Place::Url(url) | Place::Distribution(url) => self.fetched(url, id),
+            Place::Url(url) | Place::Distribution(url) => self.fetch(url, id),
         };
         let found = found.map_err(|error| error.within(&path.display().to_string()))?;
         Ok(found.map(|bytes| Image::of_bytes(path, bytes)))
     }
 
     /// The same from a server, or from what was kept of it.
-    fn fetched(&self, url: &str, id: &BuildId) -> Result<Option<Vec<u8>>> {
+    fn fetch(&self, url: &str, id: &BuildId) -> Result<Option<Vec<u8>>> {
         let cache = Cache::open(url)?;
         if let Some(kept) = cache.bytes(id)? {
             return Ok(Some(kept));
         }
         let fetch = |wanted| child::fetch(url, id, wanted, cache.folder());
         let found = match self {
-            Place::Distribution(_) => fetch(Wanted::DebugFile)?.map(|bytes| converted(id, bytes)),
-            _ => match fetch(Wanted::Section(DICTIONARY))? {
+            Place::Distribution(_) => fetch(Request::DebugFile)?.map(|bytes| convert(id, bytes)),
+            _ => match fetch(Request::Section(DICTIONARY))? {
                 Some(ctf) => Some(self.with_symbols(id, ctf, fetch)),
-                None => fetch(Wanted::DebugFile)?.map(|bytes| converted(id, bytes)),
+                None => fetch(Request::DebugFile)?.map(|bytes| convert(id, bytes)),
             },
         };
         let found = found.transpose()?;
@@ -104,13 +104,13 @@ impl Place {
         &self,
         id: &BuildId,
         ctf: Vec<u8>,
-        fetch: impl Fn(Wanted) -> Result<Option<Vec<u8>>>,
+        fetch: impl Fn(Request) -> Result<Option<Vec<u8>>>,
     ) -> Result<Vec<u8>> {
         let mut copies = Copies { ctf, symbols: None };
         let judge = |name: &str, bytes: &[u8]| judge_by_index(id, name, bytes);
         judge(DICTIONARY, &copies.ctf)?;
         if copies.has_symbols()? {
-            let listed = [fetch(Wanted::Section(".symtab"))?, fetch(Wanted::Section(".strtab"))?];
+            let listed = [fetch(Request::Section(".symtab"))?, fetch(Request::Section(".strtab"))?];
             if let [Some(table), Some(strings)] = listed {
                 judge(".symtab", &table)?;
                 judge(".strtab", &strings)?;
@@ -123,7 +123,7 @@ impl Place {
 
 impl Copies {
     /// The dictionary, inflated.
-    fn handed<'a>(image: &'a Image) -> Result<Handed<'a>> {
+    fn library_input<'a>(image: &'a Image) -> Result<LibraryInput<'a>> {
         match opening::dictionary_of(image, None)? {
             Some(handed) => Ok(handed),
             None => refuse(foreign(image.all()?)),
@@ -133,14 +133,15 @@ impl Copies {
     /// Whether its entries go by a symbol table.
     fn has_symbols(&self) -> Result<bool> {
         let image = Image::of_bytes(DICTIONARY.into(), self.ctf.clone());
-        let handed = Copies::handed(&image)?;
+        let handed = Copies::library_input(&image)?;
         Ok(identity_of(&handed.ctf).is_some_and(|one| one.table == SymbolTable::Symtab))
     }
 
     /// A file of them, once the library has accepted the dictionary.
     fn file(&self) -> Result<Vec<u8>> {
         let image = Image::of_bytes(DICTIONARY.into(), self.ctf.clone());
-        let model = opening::model_named(&Copies::handed(&image)?.ctf).unwrap_or(Model::Lp64);
+        let model =
+            opening::model_named(&Copies::library_input(&image)?.ctf).unwrap_or(Model::Lp64);
         let symbols = self.symbols.as_ref().map(|[table, strings]| (&table[..], &strings[..]));
         let made = of_dictionary_alone(model, &self.ctf, symbols)?;
         judge(&made)?;
@@ -151,12 +152,12 @@ impl Copies {
 /// Refuses a file whose dictionary the library refuses.
 fn judge(bytes: &[u8]) -> Result<()> {
     let image = Image::of_bytes(DICTIONARY.into(), bytes.to_vec());
-    let handed = Copies::handed(&image)?;
+    let handed = Copies::library_input(&image)?;
     if handed.origin == Origin::Differs {
         return refuse("its symbols are not those that its dictionary was written for");
     }
     let opened = ctfd::Dictionary::open_lent(&handed.ctf, handed.options()).map(drop);
-    opened.map_err(|refusal| Error(told(DICTIONARY, refusal)))
+    opened.map_err(|refusal| Error(refusal_text(DICTIONARY, refusal)))
 }
 
 /// What bytes are in place of a dictionary.
@@ -166,7 +167,7 @@ fn foreign(bytes: &[u8]) -> String {
 }
 
 /// The types of debug information, as a file of a dictionary; of what no dictionary holds, as it is.
-fn converted(id: &BuildId, bytes: Vec<u8>) -> Result<Vec<u8>> {
+fn convert(id: &BuildId, bytes: Vec<u8>) -> Result<Vec<u8>> {
     let image = Image::of_bytes(format!("the debug file of {id}").into(), bytes);
     judge_id(id, &image)?;
     if opening::dictionary_of(&image, None)?.is_some() {
@@ -221,7 +222,7 @@ fn in_folder(root: &Path, id: &BuildId) -> Result<Option<Vec<u8>>> {
     };
     let Some(ctf) = section(DICTIONARY)? else {
         let found = build.bytes(DEBUG_FILE, LONGEST)?;
-        return found.map(|bytes| converted(id, bytes)).transpose();
+        return found.map(|bytes| convert(id, bytes)).transpose();
     };
     let mut copies = Copies { ctf, symbols: None };
     if copies.has_symbols()? {

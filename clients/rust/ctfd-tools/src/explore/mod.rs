@@ -7,7 +7,7 @@ use crate::elsewhere;
 use crate::standard;
 use crate::types::crowded::{is_crowded, CROWDED};
 use crate::types::failure::{Failure, Outcome};
-use crate::types::open::{handed_by, shown, with_catalog, without_parent, Parents};
+use crate::types::open::{display_path, handed_by, with_catalog, without_parent, Parents};
 use crate::types::output::{self, Output};
 use crate::types::warn_by;
 use ctfd_read::error::reason;
@@ -27,7 +27,7 @@ const PLACE: &str = "\"{types}\"";
 
 /// The command; its exit status.
 pub fn main(words: Vec<OsString>) -> ExitCode {
-    let words = Words::parsed(words);
+    let words = Words::parse(words);
     if standard::is_output_closed() {
         warn_by(NAME, standard::CLOSED);
         return ExitCode::from(FAILED);
@@ -60,8 +60,9 @@ fn run(words: &Words) -> Outcome<()> {
         parts.iter().try_for_each(|part| output.write_all(part.as_bytes()))?;
         return Ok(output.flush()?);
     }
-    std::fs::write(&words.output, parts.concat())
-        .map_err(|error| Failure::Refused(format!("{}: {}", shown(&words.output), reason(&error))))
+    std::fs::write(&words.output, parts.concat()).map_err(|error| {
+        Failure::Refused(format!("{}: {}", display_path(&words.output), reason(&error)))
+    })
 }
 
 /// Adds the types of a file.
@@ -77,7 +78,7 @@ fn add(words: &Words, parents: &Parents<'_>, path: &Path, rows: &mut Rows) -> Ou
             return Err(without_parent(path, catalog));
         }
         if is_crowded(catalog) {
-            return Err(Failure::Refused(format!("{}: {CROWDED}", shown(path))));
+            return Err(Failure::Refused(format!("{}: {CROWDED}", display_path(path))));
         }
         rows.add(path, catalog, opened.handed);
         Ok(())

@@ -29,8 +29,8 @@ pub struct Words {
 
 impl Words {
     /// Those of a command line. What is wrong with it is told, and ends the process.
-    pub fn parsed(words: Vec<OsString>) -> Words {
-        let matches = wrong_words::matched(options(), words);
+    pub fn parse(words: Vec<OsString>) -> Words {
+        let matches = wrong_words::parse_words(options(), words);
         Words {
             files: matches.get_many("FILE").unwrap_or_default().cloned().collect(),
             output: matches.get_one::<PathBuf>("output").cloned().unwrap_or_default(),

@@ -1,13 +1,13 @@
 //! All types of some files as rows of JSON, which name each other by their places; row 0 is void.
 //! Functions and variables are rows of their own.
 
-use crate::types::catalog::{Catalog, Number, Record, Told};
+use crate::types::catalog::{Catalog, Number, Record, SymbolAnswer};
 use crate::types::json::{list, text, word_of, Object};
-use crate::types::open::shown;
+use crate::types::open::display_path;
+use crate::types::symbol_lists::told_symbols;
 use crate::types::text::printable;
-use crate::types::told::told_symbols;
 use ctfd::Kind;
-use ctfd_read::opening::Handed;
+use ctfd_read::opening::LibraryInput;
 use std::collections::HashMap;
 use std::path::Path;
 
@@ -49,7 +49,7 @@ impl Rows {
     /// None but void's; those of a parent stand under its name.
     pub fn new(parent: Option<&Path>) -> Rows {
         Rows {
-            parent: parent.map_or("the parent".to_owned(), shown),
+            parent: parent.map_or("the parent".to_owned(), display_path),
             rows: vec![VOID.to_owned()],
             files: Vec::new(),
             copies: Vec::new(),
@@ -60,14 +60,14 @@ impl Rows {
     }
 
     /// Adds the types of a file, and its functions and variables.
-    pub fn add(&mut self, path: &Path, catalog: &Catalog<'_>, handed: &Handed<'_>) {
+    pub fn add(&mut self, path: &Path, catalog: &Catalog<'_>, handed: &LibraryInput<'_>) {
         let above: Vec<Number> = catalog.all().filter(|&number| !catalog.is_own(number)).collect();
         if !above.is_empty() && self.parents.is_empty() {
-            self.parents = self.numbered(catalog, &above, &self.parent.clone());
+            self.parents = self.reserve_rows(catalog, &above, &self.parent.clone());
         }
-        let own: Vec<Number> = catalog.own().collect();
+        let own: Vec<Number> = catalog.own_numbers().collect();
         let mut places = self.parents.clone();
-        places.extend(self.numbered(catalog, &own, &shown(path)));
+        places.extend(self.reserve_rows(catalog, &own, &display_path(path)));
         for number in catalog.all() {
             let place = places[&number];
             if catalog.is_own(number) || self.rows[place].is_empty() {
@@ -80,14 +80,16 @@ impl Rows {
         self.add_symbols(catalog, handed, &places);
     }
 
-    fn add_symbols(&mut self, catalog: &Catalog<'_>, handed: &Handed<'_>, places: &Places) {
+    fn add_symbols(&mut self, catalog: &Catalog<'_>, handed: &LibraryInput<'_>, places: &Places) {
         let place = |number: Number| places.get(&number).copied().unwrap_or(0);
         let file = self.files.len() - 1;
         for one in told_symbols(catalog, handed) {
             let name = text(printable(&one.name).as_bytes());
             match one.told {
-                Told::Object(of) => self.objects.push(format!("[{name},{},{file}]", place(of))),
-                Told::Function(signature) => {
+                SymbolAnswer::Object(of) => {
+                    self.objects.push(format!("[{name},{},{file}]", place(of)))
+                }
+                SymbolAnswer::Function(signature) => {
                     let takes = signature.arguments.iter().map(|&one| place(one).to_string());
                     let (takes, returns) = (list(takes), place(signature.returns));
                     let is_open = u8::from(signature.is_open);
@@ -98,7 +100,7 @@ impl Rows {
     }
 
     /// Makes room for some types. The page has a file for each run of numbers that follow each other.
-    fn numbered(&mut self, catalog: &Catalog<'_>, numbers: &[Number], path: &str) -> Places {
+    fn reserve_rows(&mut self, catalog: &Catalog<'_>, numbers: &[Number], path: &str) -> Places {
         let first = self.rows.len();
         let pointer = if catalog.is_ilp32() { 4 } else { 8 };
         let path = text(path.as_bytes());
@@ -175,6 +177,6 @@ fn behind(catalog: &Catalog<'_>, number: Number, record: &Record<'_>, places: &P
 
 /// Whether it is a hidden copy of a type, which only bit-fields have.
 fn is_copy(catalog: &Catalog<'_>, number: Number) -> bool {
-    let end = catalog.record(catalog.resolved(number));
+    let end = catalog.record(catalog.resolve(number));
     !catalog.record(number).is_root && end.kind == Kind::Integer && !end.is_root
 }

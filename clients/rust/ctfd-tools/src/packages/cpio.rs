@@ -94,7 +94,7 @@ mod tests {
         made
     }
 
-    fn listed(archive: &[u8]) -> std::io::Result<Vec<(String, Vec<u8>)>> {
+    fn files_of(archive: &[u8]) -> std::io::Result<Vec<(String, Vec<u8>)>> {
         let mut found = Vec::new();
         each_file(archive, &mut |name, bytes| {
             let mut held = Vec::new();
@@ -115,20 +115,20 @@ mod tests {
             entry(0, "TRAILER!!!", b""),
         ];
         let wanted = [("./usr/a".to_owned(), b"123".to_vec()), ("b".to_owned(), b"1".to_vec())];
-        assert_eq!(listed(&parts.concat()).unwrap(), wanted);
+        assert_eq!(files_of(&parts.concat()).unwrap(), wanted);
     }
 
     #[test]
     fn damage_is_refused() {
         let whole = [entry(0o100_644, "a", b"12345"), entry(0, "TRAILER!!!", b"")].concat();
         for end in [1, 100, 113, 120, 124, 200] {
-            assert!(listed(&whole[..end]).is_err(), "{end}");
+            assert!(files_of(&whole[..end]).is_err(), "{end}");
         }
         let mut other = whole.clone();
         other[0] = b'x';
-        assert!(listed(&other).is_err());
+        assert!(files_of(&other).is_err());
         let mut long = whole;
         long[6 + 11 * 8..][..8].copy_from_slice(b"ffffffff");
-        assert!(listed(&long).is_err());
+        assert!(files_of(&long).is_err());
     }
 }

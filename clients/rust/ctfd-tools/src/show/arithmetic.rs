@@ -4,7 +4,7 @@ use super::operand::{Operand, Scalar};
 use super::syntax::Operator;
 use super::target::Target;
 use super::value_type::{
-    long, Basic, Class, Shape, ValueType, DOUBLE, FLOAT, INT, LONG_LONG, UNSIGNED,
+    long_integer, Basic, Class, Shape, ValueType, DOUBLE, FLOAT, INT, LONG_LONG, UNSIGNED,
     UNSIGNED_LONG_LONG,
 };
 use ctfd_read::error::{refuse, Result};
@@ -71,7 +71,7 @@ impl Target<'_> {
 
     /// The type of 64 bits that comes first.
     fn widest(&self, is_signed: bool) -> Basic {
-        let one = long(self.model, is_signed);
+        let one = long_integer(self.model, is_signed);
         match one.size {
             8 => one,
             _ => basic(LONG_LONG, UNSIGNED_LONG_LONG, is_signed),
@@ -119,7 +119,7 @@ impl Target<'_> {
             Operator::BitOr => first | second,
             _ => first ^ second,
         };
-        Ok(Operand::whole(of, truncate_to(of, value)))
+        Ok(Operand::of_integer(of, truncate_to(of, value)))
     }
 
     fn of_pointer(
@@ -158,7 +158,7 @@ impl Target<'_> {
         if step != self.step(&other)? {
             return refuse("the two pointers are to types of other sizes");
         }
-        Ok(Operand::whole(long(self.model, true), (left - right) / i128::from(step)))
+        Ok(Operand::of_integer(long_integer(self.model, true), (left - right) / i128::from(step)))
     }
 
     /// So many values in a row, from one in memory on.
@@ -193,11 +193,11 @@ impl Target<'_> {
                     Sign::Plus => number,
                     Sign::Complement => !number,
                 };
-                Ok(Operand::whole(of, truncate_to(of, value)))
+                Ok(Operand::of_integer(of, truncate_to(of, value)))
             }
             (Term::Point(of, number), Sign::Minus) => Ok(point(of, -number)),
             (Term::Point(of, number), Sign::Plus) => Ok(point(of, number)),
-            (Term::Pointer(of, number), Sign::Plus) => Ok(Operand::whole(of, number)),
+            (Term::Pointer(of, number), Sign::Plus) => Ok(Operand::of_integer(of, number)),
             (_, Sign::Complement) => refuse("~ is for whole numbers"),
             _ => no_pointers(),
         }
@@ -252,7 +252,7 @@ fn comparison<T: PartialOrd>(operator: Operator, left: T, right: T) -> Option<Op
         Operator::NotBelow => left >= right,
         _ => return None,
     };
-    Some(Operand::whole(INT, is_so.into()))
+    Some(Operand::of_integer(INT, is_so.into()))
 }
 
 fn shift(operator: Operator, of: Basic, number: i128, count: i128) -> Result<i128> {

@@ -7,7 +7,8 @@ use super::syntax::{Derivation, Expression, Postfix, Prefix, TypeName};
 use super::target::Target;
 use super::tokens::Literal;
 use super::value_type::{
-    long, Basic, Shape, Signature, ValueType, CHAR, INT, LONG_LONG, UNSIGNED, UNSIGNED_LONG_LONG,
+    long_integer, Basic, Shape, Signature, ValueType, CHAR, INT, LONG_LONG, UNSIGNED,
+    UNSIGNED_LONG_LONG,
 };
 use crate::types::text::printable;
 use ctfd_read::error::{refuse, Result};
@@ -36,12 +37,12 @@ impl Target<'_> {
     fn value_of(&self, expression: &Expression) -> Result<Operand> {
         match expression {
             Expression::Whole(literal) => {
-                Ok(Operand::whole(self.type_of_literal(*literal), literal.value.into()))
+                Ok(Operand::of_integer(self.type_of_literal(*literal), literal.value.into()))
             }
             Expression::Point(number, of) => {
                 Ok(Operand::Number { of: (*of).into(), value: Scalar::Point(*number) })
             }
-            Expression::Character(code) => Ok(Operand::whole(CHAR, *code)),
+            Expression::Character(code) => Ok(Operand::of_integer(CHAR, *code)),
             Expression::Name(name) => self.symbol(name),
             Expression::Register(name) => refuse(format!(
                 "${}: registers are not read, since nothing is stopped for them: gdb has them",
@@ -60,11 +61,11 @@ impl Target<'_> {
             }
             Expression::And(left, right) => {
                 let is_so = self.truth(left)? && self.truth(right)?;
-                Ok(Operand::whole(INT, is_so.into()))
+                Ok(Operand::of_integer(INT, is_so.into()))
             }
             Expression::Or(left, right) => {
                 let is_so = self.truth(left)? || self.truth(right)?;
-                Ok(Operand::whole(INT, is_so.into()))
+                Ok(Operand::of_integer(INT, is_so.into()))
             }
             Expression::Choice(condition, first, second) => {
                 self.value_of(if self.truth(condition)? { first } else { second })
@@ -84,7 +85,7 @@ impl Target<'_> {
             Prefix::Minus => self.unary_sign(&operand, Sign::Minus),
             Prefix::Plus => self.unary_sign(&operand, Sign::Plus),
             Prefix::Complement => self.unary_sign(&operand, Sign::Complement),
-            Prefix::Not => Ok(Operand::whole(INT, (!self.is_true(&operand)?).into())),
+            Prefix::Not => Ok(Operand::of_integer(INT, (!self.is_true(&operand)?).into())),
             Prefix::Cast(name) => self.cast(&self.type_of_name(name)?, &operand),
             Prefix::Size => match &operand {
                 Operand::Memory { of, .. } if self.is_bit_field(of) => {
@@ -104,7 +105,7 @@ impl Target<'_> {
             _ => self.size(of),
         };
         match size {
-            Some(size) => Ok(Operand::whole(long(self.model, false), size.into())),
+            Some(size) => Ok(Operand::of_integer(long_integer(self.model, false), size.into())),
             None => refuse(format!("{} has no size", self.spelling(of))),
         }
     }
@@ -112,7 +113,7 @@ impl Target<'_> {
     /// The first of C's types that a number fits in.
     fn type_of_literal(&self, literal: Literal) -> Basic {
         let Literal { value, is_decimal, is_unsigned, longs } = literal;
-        let (signed, unsigned) = (long(self.model, true), long(self.model, false));
+        let (signed, unsigned) = (long_integer(self.model, true), long_integer(self.model, false));
         let may_be_unsigned = is_unsigned || !is_decimal;
         let candidates = [
             (INT, 0, 31, false),

@@ -5,8 +5,8 @@ use super::options::NAME;
 use crate::elsewhere;
 use crate::progress::with_bar;
 use crate::types::catalog::{Catalog, Lists, Volume};
-use crate::types::failure::told;
-use crate::types::open::shown;
+use crate::types::failure::refusal_text;
+use crate::types::open::display_path;
 use crate::types::warn_by;
 use ctfd::{Dictionary, Fault, Model};
 use ctfd_read::beside::is_same_build;
@@ -14,7 +14,7 @@ use ctfd_read::dictionary::notice;
 use ctfd_read::error::{refuse, Error, Result};
 use ctfd_read::image::Image;
 use ctfd_read::inputs::Options;
-use ctfd_read::opening::{self, Handed, Origin};
+use ctfd_read::opening::{self, LibraryInput, Origin};
 use std::cell::RefCell;
 use std::path::Path;
 
@@ -49,7 +49,7 @@ struct OwnLists {
 }
 
 impl OwnLists {
-    fn of(handed: &Handed<'_>) -> OwnLists {
+    fn of(handed: &LibraryInput<'_>) -> OwnLists {
         OwnLists {
             ctf: handed.ctf.to_vec(),
             strings: handed.strings.as_deref().unwrap_or_default().to_vec(),
@@ -72,7 +72,7 @@ struct Part {
 impl Part {
     fn of(
         types: Dictionary<'static>,
-        handed: &Handed<'_>,
+        handed: &LibraryInput<'_>,
         place: usize,
         has_first_symbols: bool,
     ) -> Part {
@@ -166,12 +166,12 @@ impl FileTypes {
         FileTypes::open(handed, path, parent)
     }
 
-    fn open(mut handed: Handed<'_>, path: &Path, parent: Option<&Path>) -> Result<FileTypes> {
+    fn open(mut handed: LibraryInput<'_>, path: &Path, parent: Option<&Path>) -> Result<FileTypes> {
         if handed.has_more_names() {
             handed.add_names();
         }
         warn_of_symbols(&handed, path);
-        let mut types = opened(&mut handed, path)?;
+        let mut types = open_dictionary(&mut handed, path)?;
         let losses = RefCell::new(losses(&handed, path));
         let is_alone = handed.children.is_empty();
         let parent = match types.is_child() && is_alone {
@@ -180,8 +180,8 @@ impl FileTypes {
         };
         let mut parts = Vec::new();
         for (place, child) in handed.children.iter().enumerate() {
-            let what = format!("{}, part {}", shown(path), place + 1);
-            let refusal = |refusal| Error(told(&what, refusal));
+            let what = format!("{}, part {}", display_path(path), place + 1);
+            let refusal = |refusal| Error(refusal_text(&what, refusal));
             let mut own = Dictionary::open_with(&child.ctf, child.options()).map_err(refusal)?;
             own.import(&types).map_err(refusal)?;
             let has_first_symbols = child.symbols == handed.symbols;
@@ -194,8 +194,8 @@ impl FileTypes {
 
 /// The dictionary of a file: without symbols where those that were guessed do not fit, or those of
 /// what was converted.
-fn opened(handed: &mut Handed<'_>, path: &Path) -> Result<Dictionary<'static>> {
-    let refusal = |refusal| Error(told(shown(path), refusal));
+fn open_dictionary(handed: &mut LibraryInput<'_>, path: &Path) -> Result<Dictionary<'static>> {
+    let refusal = |refusal| Error(refusal_text(display_path(path), refusal));
     match Dictionary::open_with(&handed.ctf, handed.options()) {
         Err(refused) => {
             let is_of_symbols =
@@ -218,15 +218,15 @@ fn judge_build(image: &Image, program: &Module) -> Result<()> {
         false => refuse(format!(
             "{} is of another build than {}, so its types may not be those of the program: name a \
              file of that build, or a section by itself",
-            shown(image.path()),
-            shown(program.path())
+            display_path(image.path()),
+            display_path(program.path())
         )),
     }
 }
 
 /// A line on what CTF can't hold of a file that is converted.
-fn losses(handed: &Handed<'_>, path: &Path) -> Vec<String> {
-    let path = shown(path);
+fn losses(handed: &LibraryInput<'_>, path: &Path) -> Vec<String> {
+    let path = display_path(path);
     let how = format!("`ctfd-convert --report - {path} /dev/null` lists them all");
     if handed.losses.is_empty() {
         return Vec::new();
@@ -236,9 +236,9 @@ fn losses(handed: &Handed<'_>, path: &Path) -> Vec<String> {
 }
 
 /// A line on symbols that may not be those that a dictionary was written for.
-fn warn_of_symbols(handed: &Handed<'_>, path: &Path) {
+fn warn_of_symbols(handed: &LibraryInput<'_>, path: &Path) {
     if !handed.origin.warning().is_empty() {
-        warn_by(NAME, &format!("{}: {}", shown(path), handed.origin.warning()));
+        warn_by(NAME, &format!("{}: {}", display_path(path), handed.origin.warning()));
     }
 }
 
@@ -248,17 +248,17 @@ fn import(types: &mut Dictionary<'static>, path: &Path, parent: Option<&Path>) -
     let Some(parent) = parent else {
         return refuse(format!(
             "{} is a child of {name}: name the parent's file by --parent",
-            shown(path)
+            display_path(path)
         ));
     };
-    let what = format!("{}, as the parent of {}", shown(parent), shown(path));
+    let what = format!("{}, as the parent of {}", display_path(parent), display_path(path));
     let image = Image::open(parent)?;
-    let mut handed = opening::handed(&image, &Options::default())?;
+    let mut handed = opening::library_input(&image, &Options::default())?;
     handed.model = Some(types.model());
     if let Some(why) = opening::why_not_parent(types, &handed.ctf) {
         return refuse(format!("{what}: {why}"));
     }
-    let refusal = |refusal| Error(told(&what, refusal));
+    let refusal = |refusal| Error(refusal_text(&what, refusal));
     let opened = Dictionary::open_with(&handed.ctf, handed.options()).map_err(refusal)?;
     types.import(&opened).map_err(refusal)?;
     Ok(OwnLists::of(&handed))
@@ -274,7 +274,7 @@ struct SymbolList {
 }
 
 impl SymbolList {
-    fn of(handed: &Handed<'_>, place: usize) -> SymbolList {
+    fn of(handed: &LibraryInput<'_>, place: usize) -> SymbolList {
         let mut made = SymbolList::default();
         let (Some(table), Some(strings)) = (&handed.symbols, &handed.strings) else { return made };
         let most = MOST_TIMES * (table.len() + strings.len());

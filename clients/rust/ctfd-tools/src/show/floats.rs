@@ -155,7 +155,7 @@ impl Decimal {
 /// All digits of a whole number times a power of two.
 fn decimal(whole: u64, power: i32) -> Decimal {
     // A negative power: times so many fives, and as many places behind the point.
-    let mut large = Large(vec![whole % PART, whole / PART % PART, whole / PART / PART]);
+    let mut large = LargeNumber(vec![whole % PART, whole / PART % PART, whole / PART / PART]);
     let (factor, count) = if power < 0 { (5, -power) } else { (2, power) };
     large.multiply(factor, count as u32);
     let digits = large.digits();
@@ -165,9 +165,9 @@ fn decimal(whole: u64, power: i32) -> Decimal {
 }
 
 /// A large whole number in parts of nine digits, the lowest first.
-struct Large(Vec<u64>);
+struct LargeNumber(Vec<u64>);
 
-impl Large {
+impl LargeNumber {
     /// Multiplies by a small number so many times.
     fn multiply(&mut self, factor: u64, count: u32) {
         let at_once = if factor == 5 { 12 } else { 28 }; // below 2^30 each time

@@ -138,7 +138,7 @@ impl Printer<'_, '_> {
 
     /// What stands in front of texts of a wide character's type.
     fn wide_prefix(&self, of: &ValueType, integer: Integer) -> Option<&'static str> {
-        let ValueType::Dictionary { home, mut number } = self.target.unqualified(of) else {
+        let ValueType::Dictionary { home, mut number } = self.target.without_qualifiers(of) else {
             return None;
         };
         let catalog = self.target.catalog(home);
@@ -158,7 +158,7 @@ impl Printer<'_, '_> {
 
     /// Whether a pointer is one to a text, which is shown without its type.
     pub fn is_text_pointer(&self, of: &ValueType) -> bool {
-        let to = match self.target.unqualified(of) {
+        let to = match self.target.without_qualifiers(of) {
             ValueType::Pointer(to) => (*to).clone(),
             ValueType::Dictionary { home, number } if number != 0 => {
                 let record = self.target.catalog(home).record(number);
@@ -175,7 +175,7 @@ impl Printer<'_, '_> {
 
     /// Whether a type is `char` itself, perhaps with qualifiers.
     fn is_char(&self, of: &ValueType) -> bool {
-        match self.target.unqualified(of) {
+        match self.target.without_qualifiers(of) {
             ValueType::Basic(basic) => {
                 basic.name == "char" && matches!(basic.class, Class::Character { .. })
             }

@@ -5,7 +5,7 @@ use super::modules::{Definition, Module};
 use super::operand::Operand;
 use super::target::{Home, Target};
 use super::value_type::{basic_of, Basic, Signature, ValueType};
-use crate::types::catalog::{Catalog, Told};
+use crate::types::catalog::{Catalog, SymbolAnswer};
 use crate::types::lookup;
 use crate::types::text::{normal, printable};
 use ctfd::Kind;
@@ -41,7 +41,7 @@ impl Target<'_> {
             Some(Definition { address, .. }) => Ok(Operand::Untyped {
                 name: name.to_vec(),
                 address,
-                why: refused.map_or("no dictionary tells its type".to_owned(), |error| error.0),
+                why: refused.map_or("no dictionary has its type".to_owned(), |error| error.0),
             }),
             None => match self.enumerator(name) {
                 Some(found) => Ok(found),
@@ -71,7 +71,7 @@ impl Target<'_> {
                 let mut enums = catalog.all().filter(|&one| catalog.kind(one) == Kind::Enum);
                 enums.find_map(|number| {
                     let value = catalog.values(number).iter().find(|one| one.name == name)?.value;
-                    Some(Operand::whole(ValueType::Dictionary { home, number }, value.into()))
+                    Some(Operand::of_integer(ValueType::Dictionary { home, number }, value.into()))
                 })
             },
         )
@@ -207,7 +207,7 @@ impl Target<'_> {
 }
 
 /// A type that was found, with its stars.
-fn with_stars(home: usize, found: lookup::Found) -> ValueType {
+fn with_stars(home: usize, found: lookup::FoundType) -> ValueType {
     let base = ValueType::Dictionary { home, number: found.number };
     (0..found.stars).fold(base, |of, _| of.pointer())
 }
@@ -225,7 +225,7 @@ fn operand_of(
         place => catalog.told_in(place, symbol.number),
     };
     match told {
-        Some(Told::Function(found)) if symbol.is_function => {
+        Some(SymbolAnswer::Function(found)) if symbol.is_function => {
             let signature = Signature {
                 returns: listed(found.returns),
                 arguments: found.arguments.into_iter().map(listed).collect(),
@@ -233,9 +233,9 @@ fn operand_of(
             };
             Ok(Operand::Code { of: signature.into(), address })
         }
-        Some(Told::Object(number)) if number != 0 && !symbol.is_function => {
+        Some(SymbolAnswer::Object(number)) if number != 0 && !symbol.is_function => {
             Ok(Operand::Memory { of: listed(number), address, bit: 0 })
         }
-        _ => refuse("no dictionary tells its type"),
+        _ => refuse("no dictionary has its type"),
     }
 }

@@ -71,7 +71,7 @@ impl From<io::Error> for Failure {
 
 /// The command; its exit status.
 pub fn main(words: Vec<OsString>) -> ExitCode {
-    let words = Words::parsed(words);
+    let words = Words::parse(words);
     if standard::is_output_closed() {
         warn_by(NAME, standard::CLOSED);
         return ExitCode::from(REFUSED);

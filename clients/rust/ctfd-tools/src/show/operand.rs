@@ -26,7 +26,7 @@ pub enum Operand {
 
 impl Operand {
     /// A whole number of a type.
-    pub fn whole(of: impl Into<ValueType>, value: i128) -> Operand {
+    pub fn of_integer(of: impl Into<ValueType>, value: i128) -> Operand {
         Operand::Number { of: of.into(), value: Scalar::Whole(value) }
     }
 }

@@ -74,8 +74,8 @@ pub struct Words {
 
 impl Words {
     /// Those of a command line. What is wrong with it is told, and ends the process.
-    pub fn parsed(words: Vec<OsString>) -> Words {
-        let matches = wrong_words::matched(options(), words);
+    pub fn parse(words: Vec<OsString>) -> Words {
+        let matches = wrong_words::parse_words(options(), words);
         let path = |name: &str| matches.get_one::<PathBuf>(name).cloned();
         let place = match (matches.get_one::<u32>("pid"), path("core")) {
             (Some(&pid), _) => Place::Process(pid),

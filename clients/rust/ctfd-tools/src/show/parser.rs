@@ -69,7 +69,7 @@ pub fn parse(expression: &[u8], names: &dyn Names) -> Result<Expression> {
     let made = parser.choice()?;
     match parser.next() {
         None => Ok(made),
-        Some(_) => Err(parser.unexpected()),
+        Some(_) => Err(parser.unexpected_token()),
     }
 }
 
@@ -79,7 +79,7 @@ pub fn parse_type(name: &[u8], names: &dyn Names) -> Result<TypeName> {
     let made = parser.type_name()?;
     match parser.next() {
         None => Ok(made),
-        Some(_) => Err(parser.unexpected()),
+        Some(_) => Err(parser.unexpected_token()),
     }
 }
 
@@ -149,7 +149,7 @@ impl<'p> Parser<'p> {
     }
 
     /// That what follows does not belong there.
-    pub fn unexpected(&self) -> Error {
+    pub fn unexpected_token(&self) -> Error {
         let rest = self.rest();
         Error(match self.next() {
             Some(Token::Sign("(")) if self.at != 0 => {
@@ -239,7 +239,7 @@ impl<'p> Parser<'p> {
                     prefixes.push(Prefix::Minus);
                     Prefix::Minus
                 }
-                Some(Token::Sign("&&")) => return Err(self.unexpected()),
+                Some(Token::Sign("&&")) => return Err(self.unexpected_token()),
                 Some(Token::Name(name)) if name == b"sizeof" => {
                     self.at += 1;
                     if !self.is_cast(true) {

@@ -45,7 +45,7 @@ impl Target<'_> {
 
     fn dictionary_shape(&self, home: usize, number: Number) -> Shape {
         let catalog = self.catalog(home);
-        let number = catalog.resolved(number);
+        let number = catalog.resolve(number);
         let record = catalog.record(number);
         let listed = |number| ValueType::Dictionary { home, number };
         match record.kind {
@@ -97,10 +97,10 @@ impl Target<'_> {
     }
 
     /// A type without the qualifiers in front.
-    pub fn unqualified(&self, of: &ValueType) -> ValueType {
+    pub fn without_qualifiers(&self, of: &ValueType) -> ValueType {
         let (home, mut number) = match of {
             ValueType::Dictionary { home, number } => (*home, *number),
-            ValueType::Qualifier(_, of) => return self.unqualified(of),
+            ValueType::Qualifier(_, of) => return self.without_qualifiers(of),
             _ => return of.clone(),
         };
         while number != 0 && is_qualifier(self.catalog(home).kind(number)) {
@@ -135,7 +135,7 @@ impl Target<'_> {
         match self.shape(&ValueType::Dictionary { home, number }) {
             Shape::Float { .. } => bits_of(&text).map_or_else(|| leaf_of(&text), Leaf::Bits),
             Shape::Enum { number, .. } => enumerator(catalog, number, &text),
-            Shape::Integer(integer) => whole(&text, integer),
+            Shape::Integer(integer) => integer_leaf(&text, integer),
             _ => number_of(&text).map_or(Leaf::Missing("not read"), Leaf::Whole),
         }
     }
@@ -220,7 +220,7 @@ fn leaf_of(text: &[u8]) -> Leaf {
 }
 
 /// A whole number; one of an odd width is shown by its bits.
-fn whole(text: &[u8], integer: Integer) -> Leaf {
+fn integer_leaf(text: &[u8], integer: Integer) -> Leaf {
     if let (Some(bits), false, 128..) = (bits_of(text), integer.is_signed, integer.bits) {
         return Leaf::Text(bits.to_string());
     }

@@ -76,7 +76,7 @@ impl Target<'_> {
             return refuse("only a pointer can be followed: cast it, as (TYPE *) EXPR");
         };
         let address = self.wrap_address(number);
-        Ok(match self.unqualified(&to) {
+        Ok(match self.without_qualifiers(&to) {
             of @ ValueType::Function(_) => Operand::Code { of, address },
             _ => Operand::Memory { of: to, address, bit: 0 },
         })
@@ -94,17 +94,17 @@ impl Target<'_> {
     pub fn address_of(&self, operand: &Operand) -> Result<Operand> {
         match operand {
             Operand::Code { of, address } => {
-                Ok(Operand::whole(of.clone().pointer(), (*address).into()))
+                Ok(Operand::of_integer(of.clone().pointer(), (*address).into()))
             }
             Operand::Untyped { address, .. } => {
-                Ok(Operand::whole(ValueType::VOID.pointer(), (*address).into()))
+                Ok(Operand::of_integer(ValueType::VOID.pointer(), (*address).into()))
             }
             Operand::Number { .. } => refuse("only what lies in memory has an address"),
             Operand::Memory { of, bit, .. } if *bit != 0 || self.is_bit_field(of) => {
                 refuse("a bit-field has no address")
             }
             Operand::Memory { of, address, .. } => {
-                Ok(Operand::whole(of.clone().pointer(), (*address).into()))
+                Ok(Operand::of_integer(of.clone().pointer(), (*address).into()))
             }
         }
     }
@@ -152,7 +152,7 @@ impl Target<'_> {
         while let Some(number) = todo.pop() {
             for part in catalog.members(number) {
                 match part.name.is_empty() {
-                    true => todo.push(catalog.resolved(part.of)),
+                    true => todo.push(catalog.resolve(part.of)),
                     false => made.push(printable(part.name).into_owned()),
                 }
             }
@@ -181,7 +181,7 @@ impl Target<'_> {
         let Shape::Pointer(to) = self.shape(of) else { return Ok(None) };
         let step = i128::from(self.step(&to)?);
         let address = self.wrap_address(number.wrapping_add(count.wrapping_mul(step)));
-        Ok(Some(Operand::whole(of.clone(), address.into())))
+        Ok(Some(Operand::of_integer(of.clone(), address.into())))
     }
 
     /// An element of an array, or behind a pointer.
@@ -220,13 +220,16 @@ impl Target<'_> {
         match self.shape(to) {
             Shape::Integer(integer) if integer.is_boolean => {
                 let is_true = value != Scalar::Whole(0) && value != Scalar::Point(0.0);
-                Ok(Operand::whole(to.clone(), is_true.into()))
+                Ok(Operand::of_integer(to.clone(), is_true.into()))
             }
-            Shape::Integer(integer) if integer.size <= 8 => {
-                Ok(Operand::whole(to.clone(), super::reading::sign_extend(number as u128, integer)))
+            Shape::Integer(integer) if integer.size <= 8 => Ok(Operand::of_integer(
+                to.clone(),
+                super::reading::sign_extend(number as u128, integer),
+            )),
+            Shape::Enum { .. } => Ok(Operand::of_integer(to.clone(), (number as i32).into())),
+            Shape::Pointer(_) => {
+                Ok(Operand::of_integer(to.clone(), self.wrap_address(number).into()))
             }
-            Shape::Enum { .. } => Ok(Operand::whole(to.clone(), (number as i32).into())),
-            Shape::Pointer(_) => Ok(Operand::whole(to.clone(), self.wrap_address(number).into())),
             _ => refuse(format!(
                 "there is no cast to {}: cast to a pointer to it",
                 self.spelling(to)

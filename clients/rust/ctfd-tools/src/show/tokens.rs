@@ -124,7 +124,7 @@ fn number(rest: &[u8]) -> Result<(Token, usize)> {
     let is_point = text.contains('.') || !is_hexadecimal && text.contains(['e', 'E']);
     let made = match is_point && !text.starts_with("0b") {
         true => point(text),
-        false => whole(text).map(Token::Whole),
+        false => integer_literal(text).map(Token::Whole),
     };
     made.map(|token| (token, length)).ok_or_else(no_number)
 }
@@ -139,7 +139,7 @@ fn point(text: &str) -> Option<Token> {
     Some(Token::Point(number, of))
 }
 
-fn whole(text: &str) -> Option<Literal> {
+fn integer_literal(text: &str) -> Option<Literal> {
     let lower = text.to_ascii_lowercase();
     let (digits, base) = match (lower.strip_prefix("0x"), lower.strip_prefix("0b")) {
         (Some(digits), _) => (digits, 16),

@@ -28,18 +28,18 @@ pub struct Basic {
     pub class: Class,
 }
 
-const fn whole(name: &'static str, size: u64, is_signed: bool) -> Basic {
+const fn integer(name: &'static str, size: u64, is_signed: bool) -> Basic {
     Basic { name, size, class: Class::Integer { is_signed } }
 }
 
 /// The type of most results.
-pub const INT: Basic = whole("int", 4, true);
+pub const INT: Basic = integer("int", 4, true);
 /// The same without a sign.
-pub const UNSIGNED: Basic = whole("unsigned int", 4, false);
+pub const UNSIGNED: Basic = integer("unsigned int", 4, false);
 /// A number of 64 bits, where `long` has less.
-pub const LONG_LONG: Basic = whole("long long", 8, true);
+pub const LONG_LONG: Basic = integer("long long", 8, true);
 /// The same without a sign.
-pub const UNSIGNED_LONG_LONG: Basic = whole("unsigned long long", 8, false);
+pub const UNSIGNED_LONG_LONG: Basic = integer("unsigned long long", 8, false);
 /// A number with a point.
 pub const DOUBLE: Basic = Basic { name: "double", size: 8, class: Class::Float };
 /// A shorter one.
@@ -49,9 +49,9 @@ pub const CHAR: Basic =
     Basic { name: "char", size: 1, class: Class::Character { is_signed: true } };
 
 /// `long`, with a sign or without.
-pub fn long(model: Model, is_signed: bool) -> Basic {
+pub fn long_integer(model: Model, is_signed: bool) -> Basic {
     let size = pointer_size(model);
-    whole(if is_signed { "long" } else { "unsigned long" }, size, is_signed)
+    integer(if is_signed { "long" } else { "unsigned long" }, size, is_signed)
 }
 
 /// The bytes of a pointer.
@@ -70,12 +70,12 @@ pub fn basic_of(name: &[u8], model: Model) -> Option<Basic> {
         b"char" => CHAR,
         b"signed char" => character("signed char", true),
         b"unsigned char" => character("unsigned char", false),
-        b"short int" => whole("short", 2, true),
-        b"short unsigned int" => whole("unsigned short", 2, false),
+        b"short int" => integer("short", 2, true),
+        b"short unsigned int" => integer("unsigned short", 2, false),
         b"int" => INT,
         b"unsigned int" => UNSIGNED,
-        b"long int" => long(model, true),
-        b"long unsigned int" => long(model, false),
+        b"long int" => long_integer(model, true),
+        b"long unsigned int" => long_integer(model, false),
         b"long long int" => LONG_LONG,
         b"long long unsigned int" => UNSIGNED_LONG_LONG,
         b"float" => FLOAT,

@@ -19,7 +19,7 @@ pub struct About {
 
 impl About {
     /// What stands in a file; what is not told there is none.
-    pub fn parsed(text: &str) -> About {
+    pub fn parse(text: &str) -> About {
         let word = |name: &str| {
             let mut lines = text.lines();
             lines.find_map(|line| line.strip_prefix(name)?.strip_prefix(' ')).unwrap_or_default()
@@ -60,7 +60,7 @@ mod tests {
             losses: 4,
             original: 5,
         };
-        assert_eq!(About::parsed(&about.to_string()), about);
-        assert_eq!(About::parsed("nonsense\nname\ntypes many"), About::default());
+        assert_eq!(About::parse(&about.to_string()), about);
+        assert_eq!(About::parse("nonsense\nname\ntypes many"), About::default());
     }
 }

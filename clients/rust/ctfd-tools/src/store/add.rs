@@ -10,7 +10,7 @@ use super::stage::{Change, Stage};
 use crate::messages::{LOSSY, REFUSED};
 use crate::progress::Bar;
 use crate::types::failure::Outcome;
-use crate::types::open::shown;
+use crate::types::open::display_path;
 use crate::types::output::Output;
 use crate::types::warn_by;
 use ctfd_read::error::Result;
@@ -80,7 +80,7 @@ pub fn run(words: &Adding) -> Outcome<u8> {
     refusals.extend(std::mem::take(&mut inputs.refusals));
     refusals.sort_unstable();
     for Refusal { path, why } in &refusals {
-        warn_by(NAME, &format!("{}: {}", shown(path), inputs.named(why)));
+        warn_by(NAME, &format!("{}: {}", display_path(path), inputs.with_package_name(why)));
     }
     done.and(put)?;
     tell(words, waiting.tally, refusals.len())
@@ -95,7 +95,7 @@ fn write_all(
 ) -> Result<()> {
     let folders = inputs.folders.iter().chain(&words.folders).cloned().collect();
     let reading = Options { folders, is_one: true, ..Options::default() };
-    let bar = Bar::new(format!("adding to {}", shown(&words.store)));
+    let bar = Bar::new(format!("adding to {}", display_path(&words.store)));
     let (count, total) = (AtomicU64::new(0), inputs.groups.len() as u64);
     let groups: Vec<&Group> = inputs.groups.values().collect();
     let done = groups.par_iter().try_for_each(|group| {
@@ -120,7 +120,7 @@ fn write_all(
 fn tell(words: &Adding, tally: Tally, refused: usize) -> Outcome<u8> {
     let Tally { added, replaced, same } = tally;
     let mut lines = Output::new();
-    let store = shown(&words.store);
+    let store = display_path(&words.store);
     writeln!(
         lines,
         "{store}: {added} added, {replaced} replaced, {same} the same, {refused} refused"

@@ -3,7 +3,7 @@
 use super::build_id::BuildId;
 use super::entry::{ABOUT, DEBUG_FILE, DICTIONARY, SECTIONS};
 use super::folder::Folder;
-use super::index::{self, changed, sum_of, Sums, BUILD_IDS};
+use super::index::{self, sum_of, with_changes, Sums, BUILD_IDS};
 use ctfd_read::error::{refuse, Error, Result};
 use rayon::prelude::*;
 use std::collections::BTreeMap;
@@ -99,7 +99,8 @@ impl Store {
 
     /// Writes the index anew, with other sums of some builds.
     pub fn change_index(&self, stage: &Folder, changes: &BTreeMap<BuildId, Sums>) -> Result<()> {
-        let made = changed(&self.index()?, changes).map_err(|error| self.index_error(error))?;
+        let made =
+            with_changes(&self.index()?, changes).map_err(|error| self.index_error(error))?;
         stage.write(INDEX, made.as_bytes())?;
         stage.move_to(INDEX, &self.root, INDEX)?;
         self.root.sync()

@@ -6,11 +6,11 @@ use super::entry::{copy_of, ABOUT, DEBUG_FILE, DICTIONARY, PROGRAM, SECTIONS, SY
 use super::folder::Folder;
 use super::index::{Sums, BUILD_IDS};
 use super::options::NAME;
-use super::stage::{abandoned, STAGES};
+use super::stage::{abandoned_folders, STAGES};
 use crate::messages::LOSSY;
 use crate::progress::Bar;
 use crate::types::failure::{Failure, Outcome};
-use crate::types::open::shown;
+use crate::types::open::display_path;
 use crate::types::output::Output;
 use crate::types::warn_by;
 use ctfd_read::debuggee::Debuggee;
@@ -33,7 +33,7 @@ pub fn run(path: &Path) -> Outcome<u8> {
     let store = Store::open(path)?;
     let sums = store.sums()?;
     let names = store.names()?;
-    let bar = Bar::new(format!("checking {}", shown(path)));
+    let bar = Bar::new(format!("checking {}", display_path(path)));
     let (count, total) = (AtomicU64::new(0), names.len() as u64);
     let judged = |name: &String| {
         let found = judge_name(&store, name, &sums).err().map(|error| error.to_string());
@@ -47,9 +47,9 @@ pub fn run(path: &Path) -> Outcome<u8> {
         missing(&sums, &names)
             .map(|id| format!("{BUILD_IDS}/{id}: {INDEX} has it, and it is not there: {MENDED}")),
     );
-    wrong.iter().for_each(|line| warn_by(NAME, &format!("{}/{line}", shown(path))));
+    wrong.iter().for_each(|line| warn_by(NAME, &format!("{}/{line}", display_path(path))));
     let mut lines = Output::new();
-    writeln!(lines, "{}: {} builds, {} wrong", shown(path), names.len(), wrong.len())?;
+    writeln!(lines, "{}: {} builds, {} wrong", display_path(path), names.len(), wrong.len())?;
     lines.flush()?;
     Ok(if wrong.is_empty() { 0 } else { LOSSY })
 }
@@ -64,7 +64,7 @@ fn missing<'s>(
 
 /// What stands in a store beside its builds, its index and the folders of commands that run.
 fn strangers(store: &Store) -> Result<Vec<String>> {
-    let left = abandoned(store)?;
+    let left = abandoned_folders(store)?;
     let told = |name: String| match name.as_str() {
         BUILD_IDS | INDEX | LOCK => None,
         name if name.starts_with(INDEX) => None, // as a signature of it

@@ -2,7 +2,7 @@
 
 use super::about::About;
 use super::build_id::BuildId;
-use super::inputs::{Found, Group};
+use super::inputs::{BuildFile, Group};
 use crate::debuginfo::{self, DebugFile, Files};
 use crate::types::failure::{Failure, Outcome};
 use ctfd_read::debuggee::Debuggee;
@@ -47,7 +47,7 @@ impl Entry {
         let about =
             About { name: group.name().to_owned(), counts: made.counts, losses, original: length };
         let mut files = copies(&made.bytes)?;
-        files.push((format!("{SECTIONS}/{DICTIONARY}"), opening::deflated(&ctf)?.into_owned()));
+        files.push((format!("{SECTIONS}/{DICTIONARY}"), opening::deflate(&ctf)?.into_owned()));
         files.push((DEBUG_FILE.to_owned(), made.bytes));
         if let Some(program) = group.program.as_ref().filter(|_| has_program) {
             files.push((PROGRAM.to_owned(), image_of(program)?.all()?.to_vec()));
@@ -58,8 +58,8 @@ impl Entry {
 }
 
 /// A file that was found.
-fn image_of(found: &Found) -> Outcome<Image> {
-    let image = Image::linked(&found.place);
+fn image_of(found: &BuildFile) -> Outcome<Image> {
+    let image = Image::open_linked(&found.place);
     image.ok_or_else(|| Failure::Refused("it can't be read any more".to_owned()))
 }
 

@@ -6,7 +6,7 @@ use super::options::{Fetching, NAME};
 use crate::elsewhere;
 use crate::output;
 use crate::types::failure::{Failure, Outcome};
-use crate::types::open::shown;
+use crate::types::open::display_path;
 use crate::types::warn_by;
 use ctfd_read::debuggee::Debuggee;
 use ctfd_read::image::Image;
@@ -43,9 +43,9 @@ fn id_of(word: &Path) -> Outcome<BuildId> {
     }
     let program = Image::open(word)?;
     if !program.is_elf() {
-        let why = format!("{}: neither a build-id nor an ELF file", shown(word));
+        let why = format!("{}: neither a build-id nor an ELF file", display_path(word));
         return Err(Failure::Refused(why));
     }
     let id = BuildId::of_bytes(Debuggee::of(&program)?.build_id());
-    Ok(id.map_err(|error| error.of(shown(word)))?)
+    Ok(id.map_err(|error| error.of(display_path(word)))?)
 }

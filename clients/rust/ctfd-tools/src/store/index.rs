@@ -32,7 +32,7 @@ pub fn sum_of(bytes: &[u8]) -> Sum {
 pub type Sums = BTreeMap<String, Sum>;
 
 /// A line: the sum of a file, the build-id, and the name in its folder.
-fn parsed(line: &str) -> Option<(Sum, BuildId, &str)> {
+fn parse_line(line: &str) -> Option<(Sum, BuildId, &str)> {
     let (sum, path) = line.split_once(BETWEEN)?;
     let is_sum = sum.len() == DIGITS && sum.bytes().all(|byte| byte.is_ascii_hexdigit());
     let rest = path.strip_prefix(BUILD_IDS)?.strip_prefix('/')?;
@@ -49,12 +49,12 @@ fn write(made: &mut String, id: &BuildId, sums: &Sums) {
 
 /// An index with the lines of some build-ids in place of those that it had; none, where they have no
 /// sums.
-pub fn changed(index: &str, changes: &BTreeMap<BuildId, Sums>) -> Result<String> {
+pub fn with_changes(index: &str, changes: &BTreeMap<BuildId, Sums>) -> Result<String> {
     judge_end(index)?;
     let mut made = String::with_capacity(index.len());
     let mut left = changes.iter().peekable();
     for line in index.lines() {
-        let Some((_, id, _)) = parsed(line) else { return refuse(damage(line)) };
+        let Some((_, id, _)) = parse_line(line) else { return refuse(damage(line)) };
         while let Some((earlier, sums)) = left.next_if(|(other, _)| **other < id) {
             write(&mut made, earlier, sums);
         }
@@ -79,7 +79,7 @@ pub fn sums(index: &str) -> Result<BTreeMap<BuildId, Sums>> {
     judge_end(index)?;
     let mut made: BTreeMap<BuildId, Sums> = BTreeMap::new();
     for line in index.lines() {
-        let Some((sum, id, name)) = parsed(line) else { return refuse(damage(line)) };
+        let Some((sum, id, name)) = parse_line(line) else { return refuse(damage(line)) };
         made.entry(id).or_default().insert(name.to_owned(), sum);
     }
     Ok(made)
@@ -153,7 +153,7 @@ mod tests {
             (id("bbbb"), of(&["debuginfo", "section/.symtab"], "1")),
             (id("dddd"), of(&["debuginfo"], "2")),
         ]);
-        let index = changed("", &first).unwrap();
+        let index = with_changes("", &first).unwrap();
         assert_eq!(sums(&index).unwrap(), first);
         let second = BTreeMap::from([
             (id("aaaa"), of(&["debuginfo"], "3")),
@@ -162,7 +162,7 @@ mod tests {
             (id("dddd"), Sums::new()),
             (id("eeee"), of(&["debuginfo"], "6")),
         ]);
-        let index = changed(&index, &second).unwrap();
+        let index = with_changes(&index, &second).unwrap();
         let ids: Vec<&str> = index.lines().map(|line| &line[74..78]).collect();
         assert_eq!(ids, ["aaaa", "bbbb", "cccc", "eeee"]);
         assert!(index.lines().all(|line| !line.starts_with('1')));
@@ -180,7 +180,7 @@ mod tests {
                 .chain((0..count).map(|n| (id(&format!("{:04x}", 2 * n + 1)), sums(n))))
                 .collect();
             let path = std::env::temp_dir().join(format!("index-{}-{count}", std::process::id()));
-            std::fs::write(&path, changed("", &listed).unwrap()).unwrap();
+            std::fs::write(&path, with_changes("", &listed).unwrap()).unwrap();
             let file = File::open(&path).unwrap();
             std::fs::remove_file(&path).unwrap();
             for (id, sums) in &listed {

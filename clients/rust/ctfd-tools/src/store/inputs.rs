@@ -4,7 +4,7 @@ use super::build_id::BuildId;
 use crate::output;
 use crate::packages::{self, Format};
 use crate::types::failure::Outcome;
-use crate::types::open::shown;
+use crate::types::open::display_path;
 use ctfd_read::debuggee::{Debuggee, Section};
 use ctfd_read::error::{reason, refuse, Result};
 use ctfd_read::image::Image;
@@ -26,7 +26,7 @@ const TYPES: [&str; 5] = [".debug_info", ".zdebug_info", ".SUNW_ctf", ".ctf", ".
 
 /// A file of a build.
 #[derive(Clone, Debug, PartialEq, Eq, PartialOrd, Ord)]
-pub struct Found {
+pub struct BuildFile {
     /// What a user knows it by: of a file of a package, the package is in front.
     pub shown: PathBuf,
     /// Where it is.
@@ -45,16 +45,16 @@ pub struct Found {
 #[derive(Debug)]
 pub struct Group {
     /// The one with its types, or that names such a one elsewhere.
-    pub types: Found,
+    pub types: BuildFile,
     /// The one with its code.
-    pub program: Option<Found>,
+    pub program: Option<BuildFile>,
 }
 
 impl Group {
     /// That of some files: a debug file comes before a program that has types too.
-    fn of(mut listed: Vec<Found>) -> Option<Group> {
+    fn of(mut listed: Vec<BuildFile>) -> Option<Group> {
         listed.sort_unstable();
-        let is_better = |one: &&Found| (!one.has_types, one.has_code);
+        let is_better = |one: &&BuildFile| (!one.has_types, one.has_code);
         let types = listed.iter().min_by_key(is_better)?.clone();
         let program = match types.has_code {
             true => Some(types.clone()),
@@ -84,11 +84,11 @@ impl Refusal {
         let why = why.to_string();
         let front = format!("{}: ", place.display());
         let why = why.strip_prefix(&front).map(str::to_owned).unwrap_or(why);
-        Refusal { why: why.replace(&shown(place), &shown(&path)), path }
+        Refusal { why: why.replace(&display_path(place), &display_path(&path)), path }
     }
 
     /// That of a file that was found.
-    pub fn of(found: &Found, why: impl ToString) -> Refusal {
+    pub fn of(found: &BuildFile, why: impl ToString) -> Refusal {
         Refusal::new(&found.place, found.shown.clone(), why)
     }
 }
@@ -110,7 +110,7 @@ impl Inputs {
     /// Those of some paths.
     pub fn of(paths: &[PathBuf]) -> Inputs {
         let mut made = Inputs::default();
-        let mut builds: BTreeMap<BuildId, Vec<Found>> = BTreeMap::new();
+        let mut builds: BTreeMap<BuildId, Vec<BuildFile>> = BTreeMap::new();
         let scanned: Vec<Scan> = paths.par_iter().map(|path| Scan::of(path)).collect();
         for scan in scanned {
             for found in scan.found {
@@ -126,9 +126,9 @@ impl Inputs {
     }
 
     /// What is told of files, with a package in place of where it was unpacked.
-    pub fn named(&self, told: &str) -> String {
+    pub fn with_package_name(&self, told: &str) -> String {
         let named = |told: String, (folder, package): &(output::Folder, PathBuf)| {
-            told.replace(&shown(folder.path()), &shown(package))
+            told.replace(&display_path(folder.path()), &display_path(package))
         };
         self.unpacked.iter().fold(told.to_owned(), named)
     }
@@ -139,7 +139,7 @@ struct Scan {
     /// What is told of files below the path, in place of where they are.
     front: PathBuf,
     root: PathBuf,
-    found: Vec<Found>,
+    found: Vec<BuildFile>,
     refusals: Vec<Refusal>,
     debug: Option<PathBuf>,
     unpacked: Option<output::Folder>,
@@ -221,7 +221,7 @@ impl Scan {
 
     /// Takes a file, if it is a program.
     fn file(&mut self, path: &Path) {
-        let is_program = Image::linked(path).is_none_or(|image| image.is_elf());
+        let is_program = Image::open_linked(path).is_none_or(|image| image.is_elf());
         if !is_program {
             return;
         }
@@ -243,7 +243,7 @@ fn is_by_build_id(path: &Path) -> bool {
 }
 
 /// The file of a build at some place; None of one with what other debug files share.
-fn debug_file_at(place: &Path, shown: &Path) -> Result<Option<Found>> {
+fn debug_file_at(place: &Path, shown: &Path) -> Result<Option<BuildFile>> {
     let image = Image::open(place)?;
     if !image.is_elf() {
         return refuse("it is no program: an ELF file, a folder or a package is added");
@@ -262,7 +262,7 @@ fn debug_file_at(place: &Path, shown: &Path) -> Result<Option<Found>> {
     let mut with_bytes =
         file.sections.iter().filter(has_bytes).map(|one| (is_code(one), is_of_types(one)));
     let flags = with_bytes.clone();
-    Ok(Some(Found {
+    Ok(Some(BuildFile {
         shown: shown.to_owned(),
         place: place.to_owned(),
         name: text(shown.file_name().unwrap_or_default()),

@@ -37,7 +37,7 @@ impl Build {
             None => 0,
         };
         Ok(Build {
-            about: About::parsed(&String::from_utf8_lossy(&text)),
+            about: About::parse(&String::from_utf8_lossy(&text)),
             days: age_of(folder)?,
             debug_file: length(folder, DEBUG_FILE)?,
             sections,

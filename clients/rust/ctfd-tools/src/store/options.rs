@@ -64,8 +64,8 @@ pub struct Removing {
 
 impl Words {
     /// Those of a command line. What is wrong with it is told, and ends the process.
-    pub fn parsed(words: Vec<OsString>) -> Words {
-        let matches = wrong_words::matched(options(), words);
+    pub fn parse(words: Vec<OsString>) -> Words {
+        let matches = wrong_words::parse_words(options(), words);
         let (word, matches) = matches.subcommand().unwrap_or(("", &matches));
         let store =
             matches.try_get_one::<PathBuf>("DIR").ok().flatten().cloned().unwrap_or_default();

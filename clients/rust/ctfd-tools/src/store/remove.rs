@@ -5,7 +5,7 @@ use super::builds::{age_of, Store};
 use super::options::Removing;
 use super::stage::Stage;
 use crate::types::failure::{Failure, Outcome};
-use crate::types::open::shown;
+use crate::types::open::display_path;
 use crate::types::output::Output;
 use ctfd_read::error::Result;
 use std::io::Write as _;
@@ -16,8 +16,8 @@ pub fn run(words: &Removing) -> Outcome<u8> {
     let store = Store::open_to_write(&words.store)?;
     let mut ids = Vec::new();
     for word in &words.ids {
-        let Some(id) = known(&store, word)? else {
-            let store = shown(&words.store);
+        let Some(id) = build_of(&store, word)? else {
+            let store = display_path(&words.store);
             return Err(Failure::Refused(format!("{store} has no build {word}")));
         };
         ids.push(id);
@@ -27,13 +27,13 @@ pub fn run(words: &Removing) -> Outcome<u8> {
     }
     let count = Stage::new(&store)?.take(&ids)?;
     let mut lines = Output::new();
-    writeln!(lines, "{}: {count} removed", shown(&words.store))?;
+    writeln!(lines, "{}: {count} removed", display_path(&words.store))?;
     lines.flush()?;
     Ok(0)
 }
 
 /// The build of a store that a word names.
-fn known(store: &Store, word: &str) -> Result<Option<BuildId>> {
+fn build_of(store: &Store, word: &str) -> Result<Option<BuildId>> {
     let Some(id) = BuildId::of_digits(&word.to_lowercase()) else { return Ok(None) };
     Ok(store.build(&id)?.map(|_| id))
 }

@@ -62,7 +62,7 @@ impl<'s> Stage<'s> {
     /// Removes what other commands have left that were ended. One may have put builds that the index
     /// does not have yet, or not as they are.
     fn take_over(&self) -> Result<()> {
-        let left = abandoned(self.store)?;
+        let left = abandoned_folders(self.store)?;
         let mut doubted = Vec::new();
         for name in &left {
             if let Some(stage) = self.store.root().child(name)? {
@@ -186,7 +186,7 @@ fn free_name(store: &Store) -> String {
 }
 
 /// The folders of commands that run no more.
-pub fn abandoned(store: &Store) -> Result<Vec<String>> {
+pub fn abandoned_folders(store: &Store) -> Result<Vec<String>> {
     let mut made = Vec::new();
     for name in store.root().names()?.into_iter().filter(|name| name.starts_with(STAGES)) {
         if let Some(stage) = store.root().child(&name)? {

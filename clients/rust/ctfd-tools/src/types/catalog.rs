@@ -3,7 +3,9 @@
 //! What a type is, its size, what it stands for and where a value of it lies are the library's
 //! answers; nothing here works any of that out of bytes.
 
-pub use super::record::{is_qualifier, is_renaming, Part, Reached, Record, Signature, Span, Value};
+pub use super::record::{
+    is_qualifier, is_renaming, Part, Record, Signature, Span, UnderlyingType, Value,
+};
 use super::volumes::{Entry, Volumes};
 pub use super::volumes::{Lists, Number, Volume};
 use ctfd::{Dictionary, Kind, MemberRow, Model, Refusal, Type};
@@ -16,7 +18,7 @@ const CHILD: Number = 0x8000;
 const ROWS: usize = 64;
 
 /// What is told of a symbol.
-pub enum Told {
+pub enum SymbolAnswer {
     /// What a function takes and returns.
     Function(Signature),
     /// The type of an object; 0 is none.
@@ -52,14 +54,14 @@ impl<'d> Catalog<'d> {
             cells.resize_with(count.saturating_sub(usize::from(first_of(place))), OnceCell::new);
             cells
         };
-        let records = volumes.listed().iter().enumerate().map(cells).collect();
+        let records = volumes.all().iter().enumerate().map(cells).collect();
         let rows = RefCell::new(vec![MemberRow::default(); ROWS]);
         Catalog { volumes, records, rows, lacks: Cell::new(false) }
     }
 
     /// Its dictionaries: one, or the parent and then its children.
     pub fn volumes(&self) -> &[Volume<'d>] {
-        self.volumes.listed()
+        self.volumes.all()
     }
 
     fn first(&self) -> &'d Dictionary<'d> {
@@ -77,8 +79,8 @@ impl<'d> Catalog<'d> {
     }
 
     /// The numbers of its own types, in order: those of all parts.
-    pub fn own(&self) -> impl DoubleEndedIterator<Item = Number> + use<'_, 'd> {
-        (0..self.volumes().len()).flat_map(|place| self.volumes.own(place))
+    pub fn own_numbers(&self) -> impl DoubleEndedIterator<Item = Number> + use<'_, 'd> {
+        (0..self.volumes().len()).flat_map(|place| self.volumes.own_numbers_at(place))
     }
 
     /// Whether a type is one of its own, and not of its parent.
@@ -89,7 +91,7 @@ impl<'d> Catalog<'d> {
     /// The numbers of all types: those of its parent, and its own.
     pub fn all(&self) -> impl Iterator<Item = Number> + use<'_, 'd> {
         let parents = self.first().parent_count().unwrap_or(0) as Number;
-        (1..=parents).chain(self.own())
+        (1..=parents).chain(self.own_numbers())
     }
 
     /// Whether a type was asked for that is one of a parent which is not there.
@@ -108,28 +110,28 @@ impl<'d> Catalog<'d> {
     }
 
     /// What is said of the first symbol of a name.
-    pub fn symbol(&self, name: &[u8]) -> Result<Told, Refusal> {
+    pub fn symbol(&self, name: &[u8]) -> Result<SymbolAnswer, Refusal> {
         self.volumes.symbol(name).map(|found| self.symbol_type(found))
     }
 
     /// What is said of a symbol by its number among those of the file; None where nothing is.
-    pub fn told_of(&self, symbol: u32) -> Option<Told> {
+    pub fn told_of(&self, symbol: u32) -> Option<SymbolAnswer> {
         self.volumes.entry(symbol).map(|found| self.symbol_type(found))
     }
 
     /// What one part says of a symbol by its number there.
-    pub fn told_in(&self, place: usize, symbol: u32) -> Option<Told> {
+    pub fn told_in(&self, place: usize, symbol: u32) -> Option<SymbolAnswer> {
         self.volumes.entry_in(place, symbol).map(|found| self.symbol_type(found))
     }
 
-    fn symbol_type(&self, (place, entry): (usize, Entry<'d>)) -> Told {
+    fn symbol_type(&self, (place, entry): (usize, Entry<'d>)) -> SymbolAnswer {
         match entry {
-            Entry::Function(found) => Told::Function(Signature {
+            Entry::Function(found) => SymbolAnswer::Function(Signature {
                 returns: self.volumes.number_of(place, found.returns),
                 arguments: self.numbers(place, found.arguments.iter().copied()),
                 is_open: found.varargs,
             }),
-            Entry::Object(of) => Told::Object(self.volumes.number_of(place, of)),
+            Entry::Object(of) => SymbolAnswer::Object(self.volumes.number_of(place, of)),
         }
     }
 
@@ -194,7 +196,7 @@ impl<'d> Catalog<'d> {
     }
 
     /// Without typedefs and qualifiers.
-    pub fn resolved(&self, number: Number) -> Number {
+    pub fn resolve(&self, number: Number) -> Number {
         let record = self.record(number);
         if !is_renaming(record.kind) {
             return number;
@@ -217,14 +219,15 @@ impl<'d> Catalog<'d> {
     }
 
     /// Without typedefs, qualifiers and arrays.
-    pub fn reached(&self, number: Number) -> Reached {
+    pub fn underlying(&self, number: Number) -> UnderlyingType {
         *self.record(number).reached.get_or_init(|| {
-            let mut made = Reached { number: self.resolved(number), elements: 1, is_array: false };
+            let mut made =
+                UnderlyingType { number: self.resolve(number), elements: 1, is_array: false };
             while self.kind(made.number) == Kind::Array {
                 let array = self.record(made.number);
                 made.elements = made.elements.saturating_mul(array.elements.into());
                 made.is_array = true;
-                made.number = self.resolved(array.of);
+                made.number = self.resolve(array.of);
             }
             made
         })
@@ -232,7 +235,7 @@ impl<'d> Catalog<'d> {
 
     /// Where in its storage a value lies.
     pub fn span(&self, number: Number) -> Span {
-        let end = self.resolved(number);
+        let end = self.resolve(number);
         *self.record(end).span.get_or_init(|| {
             let is_integer = self.kind(end) == Kind::Integer;
             let field = is_integer.then(|| self.get(end)).flatten().and_then(Type::bit_field);
@@ -284,7 +287,7 @@ impl<'d> Catalog<'d> {
                 return Some((start + offset, of));
             }
             let unnamed = self.members(holder).iter().filter(|part| part.name.is_empty());
-            todo.extend(unnamed.map(|part| (start + part.offset, self.resolved(part.of))));
+            todo.extend(unnamed.map(|part| (start + part.offset, self.resolve(part.of))));
         }
         None
     }
@@ -320,7 +323,7 @@ impl<'d> Catalog<'d> {
 
     /// Its own structs and unions, in order.
     pub fn aggregates(&self) -> impl Iterator<Item = Number> + use<'_, 'd> {
-        self.own().filter(|&number| self.record(number).is_aggregate())
+        self.own_numbers().filter(|&number| self.record(number).is_aggregate())
     }
 }
 

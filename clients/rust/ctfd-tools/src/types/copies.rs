@@ -6,7 +6,7 @@
 
 use super::crowded::has_crowded_names;
 use super::record::is_renaming;
-use super::volumes::{unmapped, Number, Volumes};
+use super::volumes::{child_number, Number, Volumes};
 use ctfd::{Kind, MemberRow, Type};
 use std::collections::HashMap;
 use std::hash::Hash;
@@ -23,7 +23,7 @@ struct Shape {
 
 /// Of each type that stands in an earlier child too, the number there.
 pub fn originals(volumes: &Volumes<'_>) -> HashMap<Number, Number> {
-    let children = &volumes.listed()[1..];
+    let children = &volumes.all()[1..];
     if children.iter().any(has_crowded_names) {
         return HashMap::new();
     }
@@ -34,7 +34,7 @@ pub fn originals(volumes: &Volumes<'_>) -> HashMap<Number, Number> {
         for of in volume.types.types() {
             let (says, names) = shape(volumes, place + 1, of);
             classes.push(first.number(says));
-            shapes.push(Shape { number: unmapped(place + 1, of.number()), names });
+            shapes.push(Shape { number: child_number(place + 1, of.number()), names });
         }
     }
     if !divide(&shapes, &mut classes, first.count()) {
@@ -120,7 +120,7 @@ fn shape(volumes: &Volumes<'_>, place: usize, of: Type<'_>) -> (Vec<u8>, Vec<Num
             let mut rows = vec![MemberRow::default(); of.length().unwrap_or(0)];
             let _ = of.member_rows(0, &mut rows);
             for row in rows {
-                let lists = volumes.listed()[place].lists;
+                let lists = volumes.all()[place].lists;
                 push(&mut says, lists.name(row.name_list, row.name_at));
                 push_number(&mut says, row.offset);
                 names.push(volumes.number(place, row.tnum));

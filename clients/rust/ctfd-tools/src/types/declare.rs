@@ -31,7 +31,7 @@ pub struct Declarator {
 
 impl Declarator {
     /// The base with its qualifiers.
-    pub fn spelled(&self) -> String {
+    pub fn spelling(&self) -> String {
         let mut made = String::with_capacity(32);
         for word in &self.qualifiers {
             made += word;
@@ -45,7 +45,7 @@ impl Declarator {
     pub fn around(&self, name: &str) -> String {
         let is_closed = name.is_empty() && self.right.starts_with(')'); // as in "(*const)()"
         let left = if is_closed { self.left.trim_end() } else { &self.left };
-        let made = format!("{} {left}{name}{}", self.spelled(), self.right);
+        let made = format!("{} {left}{name}{}", self.spelling(), self.right);
         made.trim_end().to_owned()
     }
 
@@ -175,14 +175,14 @@ impl Maker<'_, '_> {
 
     /// Brackets round the stars of a pointer to an array or a function.
     fn enclose(&self, to: Number, left: &mut String, right: &mut String) {
-        let to = self.unqualified(to);
+        let to = self.without_qualifiers(to);
         if matches!(self.catalog.kind(to), Kind::Array | Kind::Function) {
             left.insert(0, '(');
             right.push(')');
         }
     }
 
-    fn unqualified(&self, mut number: Number) -> Number {
+    fn without_qualifiers(&self, mut number: Number) -> Number {
         while is_qualifier(self.catalog.kind(number)) {
             number = self.catalog.record(number).of;
         }
@@ -192,7 +192,7 @@ impl Maker<'_, '_> {
     /// What a qualifier of a type is said of: of an array its elements.
     fn element(&self, mut number: Number) -> Number {
         for _ in 0..STEPS {
-            number = self.unqualified(number);
+            number = self.without_qualifiers(number);
             if self.catalog.kind(number) != Kind::Array {
                 break;
             }

@@ -44,7 +44,7 @@ fn light(sort: &str) -> &'static str {
 }
 
 /// A number with six digits at most, as C prints it by `%g`.
-pub fn short(number: f64) -> String {
+pub fn six_digits(number: f64) -> String {
     if number == 0.0 {
         return "0".to_owned();
     }
@@ -113,7 +113,7 @@ fn hatch() -> String {
 
 /// A whole picture, as wide as what shows it allows.
 pub fn page(wide: f64, high: f64, title: &str, parts: &[String]) -> String {
-    let (wide, high) = (short(wide), short(high));
+    let (wide, high) = (six_digits(wide), six_digits(high));
     let mut made = format!(
         "<svg xmlns=\"http://www.w3.org/2000/svg\" viewBox=\"0 0 {wide} {high}\" width=\"{wide}\" \
          height=\"{high}\" role=\"img\" font-family=\"{FONT}\" font-size=\"11\">\n<title>{}\
@@ -141,12 +141,12 @@ pub fn note(x: f64, y: f64, said: &str, sort: &str) -> String {
         "left-out" => " font-style=\"italic\"",
         _ => "",
     };
-    let (x, y, said) = (short(x), short(y), clean(said));
+    let (x, y, said) = (six_digits(x), six_digits(y), clean(said));
     format!("<text {named}x=\"{x}\" y=\"{y}\" fill=\"{ink}\"{manner}>{said}</text>")
 }
 
 /// How a box of a sort is filled and drawn round.
-fn filled(sort: &str) -> String {
+fn fill_of(sort: &str) -> String {
     if sort == "group" {
         return format!("fill=\"none\" stroke=\"{}\" stroke-width=\"1.6\"", light("ink"));
     }
@@ -212,11 +212,11 @@ pub fn rectangle(sort: &str, at: Rectangle, label: &Label<'_>, extent: &Extent<'
         extent.start,
         extent.bits,
         clean(label.told),
-        short(x),
-        short(y),
-        short(wide),
-        short(high),
-        filled(sort)
+        six_digits(x),
+        six_digits(y),
+        six_digits(wide),
+        six_digits(high),
+        fill_of(sort)
     );
     if !HATCHED.contains(&sort) && high >= LOW && fits(label.name, wide) {
         made += &note(x + 3.0, y + 11.0, &cut(label.name, wide), "");
@@ -229,7 +229,7 @@ pub fn rectangle(sort: &str, at: Rectangle, label: &Label<'_>, extent: &Extent<'
 
 #[cfg(test)]
 mod tests {
-    use super::short;
+    use super::six_digits;
 
     #[test]
     fn numbers_are_as_c_prints_them() {
@@ -245,7 +245,7 @@ mod tests {
             (999999.5, "1e+06"),
             (0.5, "0.5"),
         ] {
-            assert_eq!(short(number), shown);
+            assert_eq!(six_digits(number), shown);
         }
     }
 }

@@ -14,7 +14,7 @@ const EACH: i64 = 64;
 
 /// A member, and members of members, of a struct or union; `offset` is in bits.
 #[derive(Clone, Debug)]
-pub struct Embedded<'d> {
+pub struct EmbeddedMember<'d> {
     /// The struct or union.
     pub owner: Number,
     /// The names of the member and of those that it lies in, the outermost first.
@@ -29,7 +29,7 @@ pub struct Embedded<'d> {
     pub elements: u128,
 }
 
-impl Embedded<'_> {
+impl EmbeddedMember<'_> {
     /// The path as C writes it: members without a name are left out.
     pub fn name(&self) -> Vec<u8> {
         let named: Vec<&[u8]> = self.path.iter().copied().filter(|name| !name.is_empty()).collect();
@@ -94,7 +94,7 @@ impl<'e, 'd> Embeds<'e, 'd> {
     }
 
     /// Where some types stand by value, or with `is_pointer` where pointers to these stand.
-    pub fn of(&self, targets: &BTreeSet<Number>, is_pointer: bool) -> Vec<Embedded<'d>> {
+    pub fn of(&self, targets: &BTreeSet<Number>, is_pointer: bool) -> Vec<EmbeddedMember<'d>> {
         let reaching = Reaching { catalog: self.catalog(), targets, is_pointer };
         let mut known = HashMap::new();
         let mut leads = |number: &Number| {
@@ -118,15 +118,15 @@ impl<'e, 'd> Embeds<'e, 'd> {
 
     /// Its own structs and unions but those that are walked through in others.
     fn owners(&self) -> Vec<Number> {
-        let reached = |&number: &Number| self.catalog().reached(number).number;
+        let reached = |&number: &Number| self.catalog().underlying(number).number;
         let inner: HashSet<Number> = self.member_types.iter().map(reached).collect();
         let is_owner = |number: &Number| !inner.contains(number) || self.names.has_name(*number);
         self.catalog().aggregates().filter(is_owner).collect()
     }
 
     /// Visits each member, and those of the structs that are walked through, in order of members.
-    pub fn walk(&self, owner: Number, mut visit: impl FnMut(&Embedded<'d>)) {
-        let mut todo = vec![Embedded {
+    pub fn walk(&self, owner: Number, mut visit: impl FnMut(&EmbeddedMember<'d>)) {
+        let mut todo = vec![EmbeddedMember {
             owner,
             path: Vec::new(),
             of: owner,
@@ -151,15 +151,15 @@ impl<'e, 'd> Embeds<'e, 'd> {
     /// Whether the members of a member of this type are walked too.
     pub fn is_walked_through(&self, number: Number) -> bool {
         *self.through.borrow_mut().entry(number).or_insert_with(|| {
-            let end = self.catalog().reached(number).number;
+            let end = self.catalog().underlying(number).number;
             let is_named = self.names.has_name(end);
             self.catalog().record(end).is_aggregate() && (self.is_deep || !is_named)
         })
     }
 
     /// Pushes the members of a member, the first last, where it is walked through.
-    fn push_inside(&self, here: &Embedded<'d>, todo: &mut Vec<Embedded<'d>>) {
-        let reached = self.catalog().reached(here.of);
+    fn push_inside(&self, here: &EmbeddedMember<'d>, todo: &mut Vec<EmbeddedMember<'d>>) {
+        let reached = self.catalog().underlying(here.of);
         if !self.catalog().record(reached.number).is_aggregate() {
             return;
         }
@@ -177,7 +177,7 @@ impl<'e, 'd> Embeds<'e, 'd> {
             let mut path = Vec::with_capacity(here.path.len() + 1);
             path.extend(&here.path);
             path.push(part.name);
-            todo.push(Embedded {
+            todo.push(EmbeddedMember {
                 owner: here.owner,
                 path,
                 of: part.of,

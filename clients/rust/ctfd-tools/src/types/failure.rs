@@ -30,12 +30,12 @@ pub type Outcome<T> = Result<T, Failure>;
 impl Failure {
     /// A refusal by the library, of some file.
     pub fn of_library(what: impl Display, refusal: ctfd::Refusal) -> Failure {
-        Failure::Refused(told(what, refusal))
+        Failure::Refused(refusal_text(what, refusal))
     }
 }
 
 /// What the library refuses of a file, and what to do.
-pub fn told(what: impl Display, ctfd::Refusal { fault, place }: ctfd::Refusal) -> String {
+pub fn refusal_text(what: impl Display, ctfd::Refusal { fault, place }: ctfd::Refusal) -> String {
     match place {
         0 => format!("{what}: {fault}: {}", fault.advice()),
         _ => format!("{what}: {fault} at {place}: {}", fault.advice()),

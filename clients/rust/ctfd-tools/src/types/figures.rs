@@ -106,12 +106,17 @@ impl<'s, 'd> Sizes<'s, 'd> {
             in_holes: whole.holes().sum(),
             bit_holes: whole.bit_holes().count(),
             padding: whole.padding / 8,
-            saved: self.saved(number, &whole),
+            saved: self.saving(number, &whole),
         }
     }
 
     /// The figures of the structs and unions that are wanted, sorted.
-    pub fn listed(&self, patterns: &[Vec<u8>], least: i64, order: Order) -> Outcome<Vec<Figures>> {
+    pub fn sorted_figures(
+        &self,
+        patterns: &[Vec<u8>],
+        least: i64,
+        order: Order,
+    ) -> Outcome<Vec<Figures>> {
         let all = self.catalog().aggregates();
         let chosen = match patterns {
             [] => all.collect(),
@@ -125,7 +130,7 @@ impl<'s, 'd> Sizes<'s, 'd> {
 
     /// The greatest alignment of what a type holds by value, as C aligns numbers.
     pub fn alignment(&self, number: Number) -> u64 {
-        let whole = self.catalog().reached(number).number;
+        let whole = self.catalog().underlying(number).number;
         let mut known = self.alignments.borrow_mut();
         let mut todo = vec![whole]; // no recursion: types may hold each other deep
         while let Some(&here) = todo.last() {
@@ -134,7 +139,7 @@ impl<'s, 'd> Sizes<'s, 'd> {
             todo.extend(inner.iter().filter(|one| !known.contains_key(one)));
             if todo.len() == before {
                 let greatest = inner.iter().map(|one| known[one]).max();
-                known.insert(here, greatest.unwrap_or_else(|| self.plain(here)));
+                known.insert(here, greatest.unwrap_or_else(|| self.plain_alignment(here)));
                 todo.pop();
             }
         }
@@ -144,11 +149,11 @@ impl<'s, 'd> Sizes<'s, 'd> {
     /// The types of which the members of a struct or union, or their elements, are.
     fn inner(&self, number: Number) -> BTreeSet<Number> {
         let members = self.catalog().members(number).iter();
-        members.map(|part| self.catalog().reached(part.of).number).collect()
+        members.map(|part| self.catalog().underlying(part.of).number).collect()
     }
 
     /// A number's alignment is its size, as far as that is a power of two up to 16.
-    fn plain(&self, number: Number) -> u64 {
+    fn plain_alignment(&self, number: Number) -> u64 {
         if self.catalog().record(number).is_aggregate() {
             return 1;
         }
@@ -157,7 +162,7 @@ impl<'s, 'd> Sizes<'s, 'd> {
     }
 
     /// What is left over once all stand close, the last one up to the struct's alignment.
-    fn saved(&self, number: Number, whole: &Layout<'_>) -> u128 {
+    fn saving(&self, number: Number, whole: &Layout<'_>) -> u128 {
         let has_holes = whole.places.iter().any(|place| place.gap != 0);
         if self.catalog().kind(number) != Kind::Struct || !has_holes {
             return 0;

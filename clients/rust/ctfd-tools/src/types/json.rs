@@ -3,10 +3,10 @@
 //! `offset` and `bits` of members are in bits, as the library has them; all else is in bytes.
 
 use super::catalog::Number;
-use super::embeds::Embedded;
+use super::embeds::EmbeddedMember;
+use super::file_types::FileTypes;
 use super::layout::Layout;
 use super::text::code_points;
-use super::whole::Whole;
 use ctfd::Kind;
 use std::fmt::Write as _;
 
@@ -70,7 +70,7 @@ pub fn list(items: impl Iterator<Item = String>) -> String {
 }
 
 /// A type with all that it says.
-pub fn of_type(whole: &Whole<'_, '_>, number: Number) -> String {
+pub fn of_type(whole: &FileTypes<'_, '_>, number: Number) -> String {
     let catalog = whole.names.catalog;
     let record = catalog.record(number);
     let size = catalog.size(number).map_or("null".to_owned(), |size| size.to_string());
@@ -85,10 +85,10 @@ pub fn of_type(whole: &Whole<'_, '_>, number: Number) -> String {
     made.end()
 }
 
-fn add_details(whole: &Whole<'_, '_>, number: Number, made: &mut Object) {
+fn add_details(whole: &FileTypes<'_, '_>, number: Number, made: &mut Object) {
     let catalog = whole.names.catalog;
     let record = catalog.record(number);
-    let spelled = |of: Number| text(whole.names.spelled(of).as_bytes());
+    let spelled = |of: Number| text(whole.names.spelling(of).as_bytes());
     match record.kind {
         Kind::Struct | Kind::Union => {
             let figures = whole.sizes.figures(number);
@@ -128,13 +128,13 @@ fn add_details(whole: &Whole<'_, '_>, number: Number, made: &mut Object) {
     }
 }
 
-fn members(whole: &Whole<'_, '_>, number: Number) -> String {
+fn members(whole: &FileTypes<'_, '_>, number: Number) -> String {
     let layout = Layout::of(whole.names.catalog, number);
     list(layout.places.iter().map(|place| {
         let of = place.part.of;
         let mut made = Object::default();
         made.text("name", place.part.name)
-            .text("type", whole.names.spelled(of).as_bytes())
+            .text("type", whole.names.spelling(of).as_bytes())
             .field("number", of)
             .field("offset", place.start)
             .field("bits", place.bits);
@@ -146,20 +146,20 @@ fn members(whole: &Whole<'_, '_>, number: Number) -> String {
 }
 
 /// Where a struct or union holds a type or a pointer to it.
-pub fn embedded(whole: &Whole<'_, '_>, one: &Embedded<'_>) -> String {
+pub fn embedded_member(whole: &FileTypes<'_, '_>, one: &EmbeddedMember<'_>) -> String {
     Object::default()
         .text("file", whole.path)
         .field("number", one.owner)
         .text("label", whole.names.label(one.owner).as_bytes())
         .field("path", list(one.path.iter().map(|name| text(name))))
-        .text("type", whole.names.spelled(one.of).as_bytes())
+        .text("type", whole.names.spelling(one.of).as_bytes())
         .field("offset", one.offset)
         .field("elements", one.elements)
         .end()
 }
 
 /// A function, and how it has to do with a type.
-pub fn function(whole: &Whole<'_, '_>, name: &[u8], how: &[&str], declared: &str) -> String {
+pub fn function(whole: &FileTypes<'_, '_>, name: &[u8], how: &[&str], declared: &str) -> String {
     Object::default()
         .text("file", whole.path)
         .text("function", name)

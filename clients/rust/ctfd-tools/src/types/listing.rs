@@ -136,7 +136,7 @@ impl<'l, 'd> Listing<'l, 'd> {
             return Some(said.base);
         }
         let is_open = self.manner.is_expanded && !said.has_star();
-        let end = is_open.then(|| self.catalog.resolved(said.base));
+        let end = is_open.then(|| self.catalog.resolve(said.base));
         end.filter(|&end| self.catalog.record(end).is_aggregate())
     }
 
@@ -164,7 +164,7 @@ impl<'l, 'd> Listing<'l, 'd> {
         self.members(&Layout::of(self.catalog, inner).places, depth + 1, begins);
         let name = format!("{}{}{}", said.left, printable(place.part.name), said.right);
         let end = if name.is_empty() { "};".to_owned() } else { format!("}} {name};") };
-        self.placed(&end, place, depth, start);
+        self.push_with_place(&end, place, depth, start);
     }
 
     /// One member: its type in a column of its own, then its name, and where it lies.
@@ -178,7 +178,7 @@ impl<'l, 'd> Listing<'l, 'd> {
         if let Some(width) = place.width {
             let _ = write!(declared, ":{width}");
         }
-        let mut spelled = said.spelled();
+        let mut spelled = said.spelling();
         let _ = write!(spelled, " {outer}");
         spelled.truncate(spelled.trim_end().len());
         if !self.manner.has_places {
@@ -188,10 +188,10 @@ impl<'l, 'd> Listing<'l, 'd> {
         }
         let column = TYPE.saturating_sub(TAB * (depth - 1));
         let written = format!("{spelled:<column$} {declared}");
-        self.placed(&format!("{};", written.trim_end()), place, depth, start);
+        self.push_with_place(&format!("{};", written.trim_end()), place, depth, start);
     }
 
-    fn placed(&mut self, written: &str, place: &Place<'_>, depth: usize, start: u128) {
+    fn push_with_place(&mut self, written: &str, place: &Place<'_>, depth: usize, start: u128) {
         if !self.manner.has_places {
             return self.push(depth, written);
         }

@@ -6,7 +6,7 @@ use ctfd::{Fault, Kind, Refusal};
 
 /// A type, or so many pointers to it. Pointers need not be in the dictionary.
 #[derive(Clone, Copy, Debug, PartialEq, Eq)]
-pub struct Found {
+pub struct FoundType {
     /// The type: 0 for void.
     pub number: Number,
     /// How many stars the name has.
@@ -15,20 +15,20 @@ pub struct Found {
 
 /// The type of a name; the least, where several have it. Qualifiers are left out. Another one of the
 /// name is found by that and its number, as `struct dict__17`.
-pub fn find(catalog: &Catalog<'_>, name: &[u8]) -> Result<Option<Found>, Refusal> {
+pub fn find(catalog: &Catalog<'_>, name: &[u8]) -> Result<Option<FoundType>, Refusal> {
     let (base, stars) = normal(name);
     if base == b"void" {
-        return Ok(Some(Found { number: 0, stars }));
+        return Ok(Some(FoundType { number: 0, stars }));
     }
     let mut refusals = Vec::new();
     for spelling in spellings(&base) {
         match catalog.find(&spelling) {
-            Ok(number) => return Ok(Some(Found { number, stars })),
+            Ok(number) => return Ok(Some(FoundType { number, stars })),
             Err(refusal) => refusals.push(refusal),
         }
     }
     if let Some(number) = other_of(catalog, &base) {
-        return Ok(Some(Found { number, stars }));
+        return Ok(Some(FoundType { number, stars }));
     }
     match refusals.first() {
         Some(refusal) if refusal.fault != Fault::NotFound => Err(*refusal),
@@ -41,7 +41,7 @@ fn other_of(catalog: &Catalog<'_>, base: &[u8]) -> Option<Number> {
     let (name, number) = name_and_number(base)?;
     let record = catalog.get(number).map(|_| catalog.record(number))?;
     let usual = normal(name).0;
-    spellings(&usual).contains(&record.called()).then_some(number)
+    spellings(&usual).contains(&record.tag_name()).then_some(number)
 }
 
 /// The only struct, union or enum that has a tag.
@@ -63,7 +63,7 @@ pub fn find_all(catalog: &Catalog<'_>, name: &[u8]) -> Vec<Number> {
     let wanted = spellings(&base);
     let apart: Vec<(&str, &[u8])> = wanted.iter().map(|name| without_tag(name)).collect();
     let mut found = Vec::new();
-    for number in catalog.own() {
+    for number in catalog.own_numbers() {
         let declared = catalog.get(number).and_then(|of| of.declared_name().ok());
         let Some(declared) = declared else { continue };
         if apart.iter().any(|(_, bare)| **bare == *declared) {
@@ -79,7 +79,7 @@ pub fn find_all(catalog: &Catalog<'_>, name: &[u8]) -> Vec<Number> {
 
 /// Whether a type is a hidden integer, or a hidden typedef of one.
 fn is_copy(catalog: &Catalog<'_>, number: Number) -> bool {
-    let end = catalog.record(catalog.resolved(number));
+    let end = catalog.record(catalog.resolve(number));
     !catalog.record(number).is_root && !end.is_root && end.kind == Kind::Integer
 }
 
@@ -103,14 +103,14 @@ pub fn names(catalog: &Catalog<'_>) -> Vec<Vec<u8>> {
         let record = catalog.record(*number);
         record.is_root && !record.name.is_empty()
     };
-    catalog.all().filter(is_found).map(|number| catalog.record(number).called()).collect()
+    catalog.all().filter(is_found).map(|number| catalog.record(number).tag_name()).collect()
 }
 
 /// Resolves a typedef to the struct, union or enum that it names; other types are returned as they
 /// are.
 pub fn worth_listing(catalog: &Catalog<'_>, number: Number) -> Number {
     let has_end = catalog.get(number).is_some_and(|of| matches!(of.resolve(), Ok(Some(_))));
-    let end = if has_end { catalog.resolved(number) } else { 0 };
+    let end = if has_end { catalog.resolve(number) } else { 0 };
     match catalog.kind(end) {
         Kind::Struct | Kind::Union | Kind::Enum => end,
         _ => number,

@@ -4,10 +4,10 @@ use super::catalog::{is_renaming, Catalog, Number};
 use super::declare::declaration;
 use super::embeds::Embeds;
 use super::failure::{Failure, Outcome};
+use super::file_types::FileTypes;
 use super::json;
 use super::names::Names;
 use super::text::{printable, Meaning};
-use super::whole::Whole;
 use ctfd::Kind;
 use std::collections::BTreeSet;
 use std::io::Write;
@@ -56,7 +56,7 @@ pub fn offset(written: &str) -> Outcome<u128> {
 
 /// Tells what a struct or union has at an offset: each member, the innermost last.
 pub fn at(
-    whole: &Whole<'_, '_>,
+    whole: &FileTypes<'_, '_>,
     name: &[u8],
     written: &str,
     output: &mut dyn Write,
@@ -89,8 +89,8 @@ pub fn at(
 
 /// The structs and unions that a name means, those behind typedefs too.
 fn aggregates(names: &Names<'_, '_>, name: &[u8]) -> Outcome<BTreeSet<Number>> {
-    let meant = names.meant(name)?;
-    let ends = meant.into_iter().map(|number| names.catalog.resolved(number));
+    let meant = names.types_of_name(name)?;
+    let ends = meant.into_iter().map(|number| names.catalog.resolve(number));
     let kept: BTreeSet<Number> = ends.filter(|&n| names.catalog.record(n).is_aggregate()).collect();
     match kept.is_empty() {
         true => Err(Failure::Refused(format!(
@@ -112,7 +112,9 @@ fn members_at(catalog: &Catalog<'_>, number: Number, bit: u128, is_bit: bool) ->
         let inside = inside(catalog, &here, bit);
         let meets = |one: &Here| one.start < end && bit < one.start + one.bits;
         todo.extend(inside.into_iter().rev().filter(meets));
-        if !here.path.is_empty() && catalog.kind(unqualified(catalog, here.of)) != Kind::Array {
+        if !here.path.is_empty()
+            && catalog.kind(without_qualifiers(catalog, here.of)) != Kind::Array
+        {
             found.push(here);
         }
     }
@@ -121,7 +123,7 @@ fn members_at(catalog: &Catalog<'_>, number: Number, bit: u128, is_bit: bool) ->
 
 /// The members of what stands somewhere, or the element of an array that is meant.
 fn inside(catalog: &Catalog<'_>, here: &Here, bit: u128) -> Vec<Here> {
-    let number = unqualified(catalog, here.of);
+    let number = without_qualifiers(catalog, here.of);
     let record = catalog.record(number);
     if record.kind == Kind::Array {
         let bits = 8 * u128::from(catalog.size(record.of).unwrap_or(0));
@@ -147,9 +149,9 @@ fn inside(catalog: &Catalog<'_>, here: &Here, bit: u128) -> Vec<Here> {
     catalog.members(number).iter().map(member).collect()
 }
 
-fn unqualified(catalog: &Catalog<'_>, mut number: Number) -> Number {
+fn without_qualifiers(catalog: &Catalog<'_>, mut number: Number) -> Number {
     while is_renaming(catalog.kind(number)) {
-        number = catalog.resolved(number);
+        number = catalog.resolve(number);
     }
     number
 }
@@ -171,8 +173,8 @@ fn in_bytes(bits: u128) -> String {
 }
 
 /// Tells where members of a name or a pattern stand.
-pub fn named(
-    whole: &Whole<'_, '_>,
+pub fn list_members_of_name(
+    whole: &FileTypes<'_, '_>,
     name: &[u8],
     is_json: bool,
     output: &mut dyn Write,
@@ -193,7 +195,7 @@ pub fn named(
     }
     let mut bound = Bound::new(whole);
     for one in &found {
-        let line = if is_json { json::embedded(whole, one) } else { one.line(names) };
+        let line = if is_json { json::embedded_member(whole, one) } else { one.line(names) };
         if !bound.write(&line, output)? {
             break;
         }
@@ -203,12 +205,12 @@ pub fn named(
 
 /// As many lines as a reader may want: a hostile type has members of members without end.
 struct Bound<'b, 'w, 'd> {
-    whole: &'b Whole<'w, 'd>,
+    whole: &'b FileTypes<'w, 'd>,
     count: usize,
 }
 
 impl<'b, 'w, 'd> Bound<'b, 'w, 'd> {
-    fn new(whole: &'b Whole<'w, 'd>) -> Bound<'b, 'w, 'd> {
+    fn new(whole: &'b FileTypes<'w, 'd>) -> Bound<'b, 'w, 'd> {
         Bound { whole, count: 0 }
     }
 

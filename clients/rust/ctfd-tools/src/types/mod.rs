@@ -8,6 +8,7 @@ mod drawing;
 pub mod embeds;
 pub mod failure;
 mod figures;
+mod file_types;
 mod header;
 pub mod json;
 mod layout;
@@ -23,19 +24,18 @@ mod record;
 mod records;
 mod reorganize;
 mod report;
+pub mod symbol_lists;
 pub mod symbols;
 pub mod text;
-pub mod told;
 mod treemap;
 mod volumes;
-mod whole;
 
 use crate::messages;
 use crate::standard;
 use failure::{Failure, Outcome};
 use open::Parents;
 use options::{Words, NAME};
-use output::{Output, Titled};
+use output::{Output, TitledOutput};
 use std::ffi::OsString;
 use std::io::Write as _;
 use std::os::unix::ffi::OsStrExt as _;
@@ -45,7 +45,7 @@ const FAILED: u8 = 1;
 
 /// The command; its exit status.
 pub fn main(words: Vec<OsString>) -> ExitCode {
-    let words = Words::parsed(words);
+    let words = Words::parse(words);
     if standard::is_output_closed() {
         warn(standard::CLOSED);
         return ExitCode::from(FAILED);
@@ -79,7 +79,7 @@ fn run(words: &Words, output: &mut Output) -> Outcome<u8> {
     let mut missed = Vec::new();
     let mut status = 0;
     for path in &words.files {
-        let mut titled = Titled::new(output, title(words, path.as_os_str().as_bytes()));
+        let mut titled = TitledOutput::new(output, title(words, path.as_os_str().as_bytes()));
         match report::file(words, &parents, path, &mut titled) {
             Ok(is_whole) => {
                 titled.begin()?;

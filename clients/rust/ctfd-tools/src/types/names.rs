@@ -20,7 +20,7 @@ impl<'c, 'd> Names<'c, 'd> {
         let mut typedefs: HashMap<Number, Vec<Number>> = HashMap::new();
         for number in catalog.all() {
             if catalog.kind(number) == ctfd::Kind::Typedef {
-                let named = catalog.resolved(number);
+                let named = catalog.resolve(number);
                 if catalog.record(named).is_tagged() {
                     typedefs.entry(named).or_default().push(number);
                 }
@@ -45,7 +45,7 @@ impl<'c, 'd> Names<'c, 'd> {
         let name = printable(&record.name);
         if !record.is_tagged() {
             return match name.is_empty() {
-                true => self.spelled(number),
+                true => self.spelling(number),
                 false => name.into_owned(),
             };
         }
@@ -59,7 +59,7 @@ impl<'c, 'd> Names<'c, 'd> {
     }
 
     /// As C spells it.
-    pub fn spelled(&self, number: Number) -> String {
+    pub fn spelling(&self, number: Number) -> String {
         declaration(self.catalog, number, b"")
     }
 
@@ -77,7 +77,7 @@ impl<'c, 'd> Names<'c, 'd> {
         if !record.name.is_empty() {
             names.push(record.name.as_slice().into());
             if record.is_tagged() {
-                names.push(record.called().into());
+                names.push(record.tag_name().into());
             }
         }
         names
@@ -99,7 +99,7 @@ impl<'c, 'd> Names<'c, 'd> {
     }
 
     /// The types that one name says; of a typedef of a struct, union or enum that too.
-    pub fn meant(&self, name: &[u8]) -> Outcome<BTreeSet<Number>> {
+    pub fn types_of_name(&self, name: &[u8]) -> Outcome<BTreeSet<Number>> {
         let names = [name.to_vec()];
         Ok(self.matching(&names, self.catalog.all())?.into_iter().collect())
     }

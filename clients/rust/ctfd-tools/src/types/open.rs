@@ -1,7 +1,7 @@
 //! Opens the dictionaries that a command line names, over their parents.
 
 use super::catalog::{Catalog, Lists, Volume};
-use super::failure::{told, Failure, Outcome};
+use super::failure::{refusal_text, Failure, Outcome};
 use super::options::{Words, NAME};
 use super::text::printable;
 use super::warn_by;
@@ -9,7 +9,7 @@ use crate::progress::with_bar;
 use ctfd::{Dictionary, Fault, Model, Refusal};
 use ctfd_read::dictionary::notice;
 use ctfd_read::image::Image;
-use ctfd_read::opening::{self, Handed, Origin};
+use ctfd_read::opening::{self, LibraryInput, Origin};
 use std::borrow::Cow;
 use std::cell::OnceCell;
 use std::os::unix::ffi::OsStrExt as _;
@@ -30,7 +30,7 @@ const IN_PARTS: &str =
                         leave --parent out";
 
 /// A file, as a line on it begins.
-pub fn shown(path: &Path) -> String {
+pub fn display_path(path: &Path) -> String {
     printable(path.as_os_str().as_bytes()).into_owned()
 }
 
@@ -49,7 +49,7 @@ impl<'w> Parents<'w> {
     }
 
     /// What is given for the parent; None where none is named.
-    fn handed(&self) -> Outcome<Option<(&Path, Handed<'_>)>> {
+    fn parent_input(&self) -> Outcome<Option<(&Path, LibraryInput<'_>)>> {
         let Some(path) = self.path else { return Ok(None) };
         if self.image.get().is_none() {
             let _ = self.image.set(Image::open(path)?);
@@ -59,9 +59,9 @@ impl<'w> Parents<'w> {
             model: self.model,
             ..ctfd_read::inputs::Options::default()
         };
-        let mut handed = opening::handed(image, &reading)?;
+        let mut handed = opening::library_input(image, &reading)?;
         if !handed.children.is_empty() {
-            let path = shown(path);
+            let path = display_path(path);
             return Err(Failure::Refused(format!("{path}: {NO_PARENT}")));
         }
         judge_model(&mut handed, self.model, path)?;
@@ -70,7 +70,7 @@ impl<'w> Parents<'w> {
 }
 
 /// What is given for a file, with what the command line says of it.
-pub fn handed<'i>(image: &'i Image, words: &Words) -> Outcome<Handed<'i>> {
+pub fn library_input<'i>(image: &'i Image, words: &Words) -> Outcome<LibraryInput<'i>> {
     let is_given = words.parent.is_some() || words.symbols.is_some() || words.strings.is_some();
     handed_by(NAME, image, &words.reading, is_given)
 }
@@ -81,22 +81,22 @@ pub fn handed_by<'i>(
     image: &'i Image,
     reading: &ctfd_read::inputs::Options,
     is_given: bool,
-) -> Outcome<Handed<'i>> {
+) -> Outcome<LibraryInput<'i>> {
     let path = image.path();
-    let mut found = opening::handed(image, &with_bar(reading, path))?;
+    let mut found = opening::library_input(image, &with_bar(reading, path))?;
     for line in losses(&found, path) {
-        warn_by(command, &format!("{}: {line}", shown(path)));
+        warn_by(command, &format!("{}: {line}", display_path(path)));
     }
     if found.is_made && is_given {
-        return Err(Failure::Refused(format!("{}: {ALONE}", shown(path))));
+        return Err(Failure::Refused(format!("{}: {ALONE}", display_path(path))));
     }
     judge_model(&mut found, reading.model, path)?;
     Ok(found)
 }
 
 /// What CTF can't hold of a file: each where it is little.
-fn losses(found: &Handed<'_>, path: &Path) -> Vec<String> {
-    let how = format!("`ctfd-convert --report - {} /dev/null` lists them all", shown(path));
+fn losses(found: &LibraryInput<'_>, path: &Path) -> Vec<String> {
+    let how = format!("`ctfd-convert --report - {} /dev/null` lists them all", display_path(path));
     match found.losses.is_empty() {
         true => Vec::new(),
         false => notice(&found.losses, FEW, &how),
@@ -104,7 +104,11 @@ fn losses(found: &Handed<'_>, path: &Path) -> Vec<String> {
 }
 
 /// Refuses a dictionary that says another model than the one that is asked for.
-pub fn judge_model(found: &mut Handed<'_>, wanted: Option<Model>, path: &Path) -> Outcome<()> {
+pub fn judge_model(
+    found: &mut LibraryInput<'_>,
+    wanted: Option<Model>,
+    path: &Path,
+) -> Outcome<()> {
     let Some(wanted) = wanted else { return Ok(()) };
     let word = |model| match model {
         ctfd::Model::Ilp32 => "ilp32",
@@ -112,8 +116,8 @@ pub fn judge_model(found: &mut Handed<'_>, wanted: Option<Model>, path: &Path) -
     };
     if let Some(said) = opening::model_named(&found.ctf).filter(|&said| said != wanted) {
         return Err(Failure::Refused(format!(
-            "{}: it says that it is of {}, and {} was asked for: leave the model out",
-            shown(path),
+            "{}: its model is {}, but {} was asked for: leave the model out",
+            display_path(path),
             word(said),
             word(wanted)
         )));
@@ -124,29 +128,29 @@ pub fn judge_model(found: &mut Handed<'_>, wanted: Option<Model>, path: &Path) -
 }
 
 /// A symbol table and its strings, each in place of what the file has.
-pub struct Given {
+pub struct GivenSymbols {
     symbols: Option<Image>,
     strings: Option<Image>,
 }
 
-impl Given {
+impl GivenSymbols {
     /// Those that the command line names.
-    pub fn of(words: &Words) -> Outcome<Given> {
+    pub fn of(words: &Words) -> Outcome<GivenSymbols> {
         let open = |path: &Option<std::path::PathBuf>| {
             path.as_deref().map(Image::open).transpose().map_err(Failure::from)
         };
-        Ok(Given { symbols: open(&words.symbols)?, strings: open(&words.strings)? })
+        Ok(GivenSymbols { symbols: open(&words.symbols)?, strings: open(&words.strings)? })
     }
 
     /// Puts them in place. A whole program stands for its symbol table.
-    pub fn put<'a>(&'a self, found: &mut Handed<'a>) -> Outcome<()> {
+    pub fn put<'a>(&'a self, found: &mut LibraryInput<'a>) -> Outcome<()> {
         if let Some(image) = &self.symbols {
             found.origin = Origin::Given;
             if image.is_elf() {
                 let Some((symbols, strings)) = opening::table_of_program(image) else {
                     return Err(Failure::Refused(format!(
                         "{}: it has no symbol table of 64 bits",
-                        shown(image.path())
+                        display_path(image.path())
                     )));
                 };
                 found.symbols = Some(symbols.into());
@@ -164,22 +168,22 @@ impl Given {
 }
 
 /// A dictionary that is open, and how its symbols were found.
-pub struct Opened<'o, 'd> {
+pub struct OpenDictionary<'o, 'd> {
     /// The types.
     pub catalog: &'o Catalog<'d>,
     /// The parent that the command line names.
     pub parent: Option<&'o Volume<'d>>,
     /// What the dictionary was given.
-    pub handed: &'o Handed<'o>,
+    pub handed: &'o LibraryInput<'o>,
 }
 
 /// Opens what is given for a file, and runs something on it. Where guessed symbols do not fit, or
 /// those of what was converted, it is opened without.
 pub fn with_catalog<T>(
     path: &Path,
-    handed: &Handed<'_>,
+    handed: &LibraryInput<'_>,
     parents: &Parents<'_>,
-    run: impl FnOnce(&Opened<'_, '_>) -> Outcome<T>,
+    run: impl FnOnce(&OpenDictionary<'_, '_>) -> Outcome<T>,
 ) -> Outcome<T> {
     let refusal = match Dictionary::open_lent(&handed.ctf, handed.options()) {
         Ok(types) => return over_parent(path, types, handed, parents, run),
@@ -187,19 +191,19 @@ pub fn with_catalog<T>(
     };
     let is_guess = handed.origin == Origin::Guessed;
     if !is_of_symbols(&refusal) || !(is_guess || handed.is_made) {
-        return Err(Failure::of_library(shown(path), refusal));
+        return Err(Failure::of_library(display_path(path), refusal));
     }
     if handed.is_made {
         let line = "the types of its symbols do not fit its symbol table: symbols are left out";
-        warn_by(parents.command, &format!("{}: {line}", shown(path)));
+        warn_by(parents.command, &format!("{}: {line}", display_path(path)));
     }
-    let bare = Handed {
+    let bare = LibraryInput {
         strings: handed.strings.as_deref().filter(|_| is_guess).map(Cow::Borrowed),
         origin: if is_guess { Origin::Refused } else { Origin::None },
-        ..handed.bare()
+        ..handed.without_symbols()
     };
     let types = Dictionary::open_lent(&bare.ctf, bare.options())
-        .map_err(|refusal| Failure::of_library(shown(path), refusal))?;
+        .map_err(|refusal| Failure::of_library(display_path(path), refusal))?;
     over_parent(path, types, &bare, parents, run)
 }
 
@@ -211,46 +215,46 @@ fn is_of_symbols(refusal: &Refusal) -> bool {
 fn over_parent<T>(
     path: &Path,
     types: Dictionary<'_>,
-    handed: &Handed<'_>,
+    handed: &LibraryInput<'_>,
     parents: &Parents<'_>,
-    run: impl FnOnce(&Opened<'_, '_>) -> Outcome<T>,
+    run: impl FnOnce(&OpenDictionary<'_, '_>) -> Outcome<T>,
 ) -> Outcome<T> {
     if !handed.children.is_empty() {
         return in_parts(path, &types, handed, parents, run);
     }
-    let Some((parent_path, parent)) = parents.handed()? else {
+    let Some((parent_path, parent)) = parents.parent_input()? else {
         let catalog = Catalog::new(volume(&types, handed), None);
-        return run(&Opened { catalog: &catalog, parent: None, handed });
+        return run(&OpenDictionary { catalog: &catalog, parent: None, handed });
     };
-    let what = format!("{}, as the parent of {}", shown(parent_path), shown(path));
+    let what = format!("{}, as the parent of {}", display_path(parent_path), display_path(path));
     if let Some(why) = opening::why_not_parent(&types, &parent.ctf) {
         return Err(Failure::Refused(format!("{what}: {why}")));
     }
     let opened = Dictionary::open_lent(&parent.ctf, parent.options())
-        .map_err(|refusal| Failure::of_library(shown(parent_path), refusal))?;
+        .map_err(|refusal| Failure::of_library(display_path(parent_path), refusal))?;
     let mut types = types; // which lives no longer than what its parent borrows
-    types.import(&opened).map_err(|refusal| Failure::Refused(told(what, refusal)))?;
+    types.import(&opened).map_err(|refusal| Failure::Refused(refusal_text(what, refusal)))?;
     let catalog = Catalog::new(volume(&types, handed), Some(lists(&parent)));
     let beneath = volume(&opened, &parent);
-    run(&Opened { catalog: &catalog, parent: Some(&beneath), handed })
+    run(&OpenDictionary { catalog: &catalog, parent: Some(&beneath), handed })
 }
 
 /// Opens the children of a program in parts too, all as one.
 fn in_parts<T>(
     path: &Path,
     parent: &Dictionary<'_>,
-    handed: &Handed<'_>,
+    handed: &LibraryInput<'_>,
     parents: &Parents<'_>,
-    run: impl FnOnce(&Opened<'_, '_>) -> Outcome<T>,
+    run: impl FnOnce(&OpenDictionary<'_, '_>) -> Outcome<T>,
 ) -> Outcome<T> {
     if parents.path.is_some() {
-        return Err(Failure::Refused(format!("{}: {IN_PARTS}", shown(path))));
+        return Err(Failure::Refused(format!("{}: {IN_PARTS}", display_path(path))));
     }
-    let open = |(place, child): (usize, &Handed<'_>)| {
-        let what = || format!("{}, part {}", shown(path), place + 1);
+    let open = |(place, child): (usize, &LibraryInput<'_>)| {
+        let what = || format!("{}, part {}", display_path(path), place + 1);
         let mut types = Dictionary::open_with(&child.ctf, child.options())
             .map_err(|refusal| Failure::of_library(what(), refusal))?;
-        types.import(parent).map_err(|refusal| Failure::Refused(told(what(), refusal)))?;
+        types.import(parent).map_err(|refusal| Failure::Refused(refusal_text(what(), refusal)))?;
         Ok(types)
     };
     let children: Vec<Dictionary<'_>> =
@@ -261,14 +265,14 @@ fn in_parts<T>(
         ..volume(types, child)
     });
     let catalog = Catalog::in_parts(volume(parent, handed), listed.collect());
-    run(&Opened { catalog: &catalog, parent: None, handed })
+    run(&OpenDictionary { catalog: &catalog, parent: None, handed })
 }
 
-fn volume<'h>(types: &'h Dictionary<'h>, handed: &'h Handed<'_>) -> Volume<'h> {
+fn volume<'h>(types: &'h Dictionary<'h>, handed: &'h LibraryInput<'_>) -> Volume<'h> {
     Volume { types, lists: lists(handed), has_first_symbols: true }
 }
 
-fn lists<'h>(handed: &'h Handed<'_>) -> Lists<'h> {
+fn lists<'h>(handed: &'h LibraryInput<'_>) -> Lists<'h> {
     Lists { ctf: &handed.ctf, strings: handed.strings.as_deref().unwrap_or_default() }
 }
 
@@ -281,6 +285,6 @@ pub fn without_parent(path: &Path, catalog: &Catalog<'_>) -> Failure {
     };
     Failure::Refused(format!(
         "{} is a child of {name}, whose types it names: name the parent's file by --parent",
-        shown(path)
+        display_path(path)
     ))
 }

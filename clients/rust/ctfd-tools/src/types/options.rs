@@ -92,8 +92,8 @@ pub struct Words {
 
 impl Words {
     /// Those of a command line. What is wrong with it is told, and ends the process.
-    pub fn parsed(words: Vec<OsString>) -> Words {
-        let made = Words::of(&wrong_words::matched(options(), with_counts(words)));
+    pub fn parse(words: Vec<OsString>) -> Words {
+        let made = Words::of(&wrong_words::parse_words(options(), with_counts(words)));
         let refuse = |said: &str| -> ! { wrong_words::refuse_because(&options(), said) };
         let is_of_one =
             matches!(made.question, Question::Header | Question::Picture(_) | Question::Treemap);

@@ -77,15 +77,15 @@ pub fn lost(command: &str, trouble: u8, error: &io::Error) -> ExitCode {
 }
 
 /// An answer with a line in front of it, which is written once there is an answer.
-pub struct Titled<'o> {
+pub struct TitledOutput<'o> {
     output: &'o mut Output,
     title: Option<String>,
 }
 
-impl<'o> Titled<'o> {
+impl<'o> TitledOutput<'o> {
     /// One with this title, or without.
-    pub fn new(output: &'o mut Output, title: Option<String>) -> Titled<'o> {
-        Titled { output, title }
+    pub fn new(output: &'o mut Output, title: Option<String>) -> TitledOutput<'o> {
+        TitledOutput { output, title }
     }
 
     /// Writes the title, if it is not written yet.
@@ -97,7 +97,7 @@ impl<'o> Titled<'o> {
     }
 }
 
-impl Write for Titled<'_> {
+impl Write for TitledOutput<'_> {
     fn write(&mut self, bytes: &[u8]) -> io::Result<usize> {
         self.begin()?;
         self.output.write(bytes)

@@ -37,7 +37,7 @@ pub struct Signature {
 
 /// What a type comes to, behind typedefs, qualifiers and arrays.
 #[derive(Clone, Copy, Debug)]
-pub struct Reached {
+pub struct UnderlyingType {
     /// The type.
     pub number: Number,
     /// In how many elements of arrays it stands.
@@ -75,7 +75,7 @@ pub struct Record<'d> {
     pub encoding: Option<Encoding>,
     pub(super) size: OnceCell<Option<u64>>,
     pub(super) resolved: OnceCell<Number>,
-    pub(super) reached: OnceCell<Reached>,
+    pub(super) reached: OnceCell<UnderlyingType>,
     pub(super) span: OnceCell<Span>,
     pub(super) members: OnceCell<Vec<Part<'d>>>,
     pub(super) values: OnceCell<Vec<Value>>,
@@ -124,7 +124,7 @@ impl Record<'_> {
     }
 
     /// Its name as C has it, with the word in front.
-    pub fn called(&self) -> Vec<u8> {
+    pub fn tag_name(&self) -> Vec<u8> {
         match self.word() {
             "" => self.name.clone(),
             word => [word.as_bytes(), b" ", &self.name].concat(),

@@ -1,9 +1,9 @@
 //! The values of a type that follow each other in a file.
 
 use super::failure::{Failure, Outcome};
+use super::file_types::FileTypes;
 use super::members::{number, offset};
 use super::text::printable;
-use super::whole::Whole;
 use ctfd_read::error::reason;
 use std::fs::File;
 use std::io::{Read, Seek, SeekFrom, Write};
@@ -13,7 +13,7 @@ use std::path::Path;
 const PIECE: usize = 1 << 22;
 
 /// Which records are wanted: `TYPE FILE [OFFSET] [COUNT]`.
-pub struct Wanted<'w> {
+pub struct RecordRequest<'w> {
     /// The name of the type.
     pub name: &'w [u8],
     /// The file.
@@ -26,8 +26,8 @@ pub struct Wanted<'w> {
 
 /// Tells the values, a line each.
 pub fn records(
-    whole: &Whole<'_, '_>,
-    wanted: &Wanted<'_>,
+    whole: &FileTypes<'_, '_>,
+    wanted: &RecordRequest<'_>,
     is_hexadecimal: bool,
     output: &mut dyn Write,
 ) -> Outcome<()> {
@@ -66,9 +66,9 @@ pub fn records(
 }
 
 /// The type of a name, and its bytes.
-fn type_wanted<'d>(whole: &Whole<'_, 'd>, name: &[u8]) -> Outcome<(ctfd::Type<'d>, usize)> {
+fn type_wanted<'d>(whole: &FileTypes<'_, 'd>, name: &[u8]) -> Outcome<(ctfd::Type<'d>, usize)> {
     let catalog = whole.names.catalog;
-    let number = whole.names.meant(name)?.into_iter().next().unwrap_or(0);
+    let number = whole.names.types_of_name(name)?.into_iter().next().unwrap_or(0);
     let size = catalog.size(number).and_then(|size| usize::try_from(size).ok());
     match (catalog.get(number), size) {
         (Some(of), Some(size @ 1..)) => Ok((of, size)),
@@ -97,14 +97,14 @@ struct Pieces<'p> {
 
 impl<'p> Pieces<'p> {
     fn open(path: &'p Path, start: u64) -> Outcome<Pieces<'p>> {
-        let mut made = Pieces { path, file: File::open(path).map_err(|e| refused(path, &e))? };
-        made.file.seek(SeekFrom::Start(start)).map_err(|error| refused(path, &error))?;
+        let mut made = Pieces { path, file: File::open(path).map_err(|e| read_failure(path, &e))? };
+        made.file.seek(SeekFrom::Start(start)).map_err(|error| read_failure(path, &error))?;
         Ok(made)
     }
 
     /// Refuses a file that has fewer records than are asked for.
     fn judge(&self, start: u64, count: u64, size: usize) -> Outcome<()> {
-        let about = self.file.metadata().map_err(|error| refused(self.path, &error))?;
+        let about = self.file.metadata().map_err(|error| read_failure(self.path, &error))?;
         let length = about.len().saturating_sub(start);
         if !about.is_file() || u128::from(length) >= u128::from(count) * size as u128 {
             return Ok(());
@@ -120,11 +120,11 @@ impl<'p> Pieces<'p> {
     fn next(&mut self, length: usize) -> Outcome<Vec<u8>> {
         let mut piece = Vec::new();
         let read = (&mut self.file).take(length as u64).read_to_end(&mut piece);
-        read.map_err(|error| refused(self.path, &error))?;
+        read.map_err(|error| read_failure(self.path, &error))?;
         Ok(piece)
     }
 }
 
-fn refused(path: &Path, error: &std::io::Error) -> Failure {
+fn read_failure(path: &Path, error: &std::io::Error) -> Failure {
     Failure::Refused(format!("{}: {}", path.display(), reason(error)))
 }

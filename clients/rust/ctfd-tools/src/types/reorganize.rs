@@ -3,10 +3,10 @@
 use super::catalog::{Catalog, Number};
 use super::declare::base;
 use super::failure::{Failure, Outcome};
+use super::file_types::FileTypes;
 use super::layout::{Layout, Place};
 use super::listing;
 use super::text::printable;
-use super::whole::Whole;
 use ctfd::Kind;
 use std::cmp::Reverse;
 use std::collections::HashSet;
@@ -19,8 +19,8 @@ const MOST_ALIGNED: u32 = 12;
 const NONE_SMALLER: &str = "/* no struct has an order of its members that is smaller */";
 
 /// Tells the structs that are named in a better order; of all, those alone that have one.
-pub fn reorganized(
-    whole: &Whole<'_, '_>,
+pub fn list_better_orders(
+    whole: &FileTypes<'_, '_>,
     patterns: &[Vec<u8>],
     output: &mut dyn Write,
 ) -> Outcome<()> {
@@ -28,8 +28,8 @@ pub fn reorganized(
     let all = [b"*".to_vec()];
     let wanted = if patterns.is_empty() { &all[..] } else { patterns };
     let (mut structs, mut known) = (Vec::new(), HashSet::new());
-    for number in whole.names.matching(wanted, catalog.own())? {
-        let end = catalog.resolved(number);
+    for number in whole.names.matching(wanted, catalog.own_numbers())? {
+        let end = catalog.resolve(number);
         if catalog.kind(end) == Kind::Struct && known.insert(end) {
             structs.push(end);
         }
@@ -59,7 +59,7 @@ pub fn reorganized(
 }
 
 /// A struct in an order that is smaller, and what that saves; else a line that says that none is.
-fn order_of(whole: &Whole<'_, '_>, number: Number) -> Result<String, String> {
+fn order_of(whole: &FileTypes<'_, '_>, number: Number) -> Result<String, String> {
     let catalog = whole.names.catalog;
     let layout = Layout::of(catalog, number);
     let order = Order { whole, catalog };
@@ -102,7 +102,7 @@ fn bytes(run: &[Place<'_>]) -> u128 {
 
 /// What the order of members goes by.
 struct Order<'o, 'w, 'd> {
-    whole: &'o Whole<'w, 'd>,
+    whole: &'o FileTypes<'w, 'd>,
     catalog: &'o Catalog<'d>,
 }
 

@@ -3,16 +3,18 @@
 use super::catalog::{Catalog, Number};
 use super::crowded::{is_crowded, CROWDED};
 use super::embeds::Embeds;
-use super::failure::{told, Failure, Outcome};
+use super::failure::{refusal_text, Failure, Outcome};
 use super::figures::{table, Order};
+use super::file_types::FileTypes;
 use super::listing::{definition, Manner};
-use super::lookup::{self, Found};
+use super::lookup::{self, FoundType};
 use super::names::Names;
-use super::open::{handed, shown, with_catalog, Given, Opened, Parents};
+use super::open::{
+    display_path, library_input, with_catalog, GivenSymbols, OpenDictionary, Parents,
+};
 use super::options::{Question, Words};
+use super::symbol_lists::symbol_lists;
 use super::text::{is_pattern, printable, without_tag, TAGS};
-use super::told::symbol_lists;
-use super::whole::Whole;
 use super::{declare, header, json, members, picture, records, reorganize, symbols, treemap, warn};
 use crate::elsewhere;
 use ctfd_read::nearest::suggestion;
@@ -31,15 +33,15 @@ pub fn file(
     output: &mut dyn Write,
 ) -> Outcome<bool> {
     let image = elsewhere::open(path, &words.reading)?;
-    let given = Given::of(words)?;
-    let mut found = handed(&image, words)?;
+    let given = GivenSymbols::of(words)?;
+    let mut found = library_input(&image, words)?;
     given.put(&mut found)?;
     if matches!(words.question, Question::Functions(_)) && found.has_more_names() {
         found.add_names();
     }
     with_catalog(path, &found, parents, |opened| {
         if matches!(opened.handed.origin, Origin::Refused | Origin::Differs) {
-            warn(&format!("{}: {}", shown(path), opened.handed.origin.warning()));
+            warn(&format!("{}: {}", display_path(path), opened.handed.origin.warning()));
         }
         let answer = Answer { words, parents, path, opened };
         match words.is_of_all() {
@@ -54,7 +56,7 @@ struct Answer<'a, 'd> {
     words: &'a Words,
     parents: &'a Parents<'a>,
     path: &'a Path,
-    opened: &'a Opened<'a, 'd>,
+    opened: &'a OpenDictionary<'a, 'd>,
 }
 
 impl<'a, 'd> Answer<'a, 'd> {
@@ -83,7 +85,7 @@ impl<'a, 'd> Answer<'a, 'd> {
         is_alone.then(|| {
             format!(
                 "{} is a child of {name}, whose types it names: name the parent's file by --parent",
-                shown(self.path)
+                display_path(self.path)
             )
         })
     }
@@ -94,17 +96,17 @@ impl<'a, 'd> Answer<'a, 'd> {
             return Err(Failure::Refused(why));
         }
         if is_crowded(self.catalog()) {
-            return Err(Failure::Refused(format!("{}: {CROWDED}", shown(self.path))));
+            return Err(Failure::Refused(format!("{}: {CROWDED}", display_path(self.path))));
         }
         let names = Names::new(self.catalog());
-        let whole = Whole::new(self.path.as_os_str().as_bytes(), &names);
+        let whole = FileTypes::new(self.path.as_os_str().as_bytes(), &names);
         self.answer(&whole, output)?;
         let cuts = whole.cuts();
-        cuts.iter().for_each(|cut| warn(&format!("{}: {cut}", shown(self.path))));
+        cuts.iter().for_each(|cut| warn(&format!("{}: {cut}", display_path(self.path))));
         Ok(cuts.is_empty())
     }
 
-    fn answer(&self, whole: &Whole<'_, 'd>, output: &mut dyn Write) -> Outcome<()> {
+    fn answer(&self, whole: &FileTypes<'_, 'd>, output: &mut dyn Write) -> Outcome<()> {
         let words = self.words;
         let of_names = &words.names;
         match &words.question {
@@ -113,13 +115,15 @@ impl<'a, 'd> Answer<'a, 'd> {
                 members::at(whole, name, offset, &mut held)?;
                 Ok(output.write_all(&held)?)
             }
-            Question::Members(name) => members::named(whole, name, words.is_json, output),
+            Question::Members(name) => {
+                members::list_members_of_name(whole, name, words.is_json, output)
+            }
             Question::Functions(name) => {
                 let lists = symbol_lists(self.opened.handed);
                 symbols::functions(whole, &lists, name, words.is_json, output)
             }
             Question::Show(listed) => self.records(whole, listed, output),
-            Question::Reorganize => reorganize::reorganized(whole, of_names, output),
+            Question::Reorganize => reorganize::list_better_orders(whole, of_names, output),
             Question::Contains(name) => self.holders(whole, name, false, output),
             Question::Uses(name) => self.holders(whole, name, true, output),
             Question::Header => header::write(whole, of_names, output),
@@ -136,13 +140,13 @@ impl<'a, 'd> Answer<'a, 'd> {
 
     fn records(
         &self,
-        whole: &Whole<'_, 'd>,
+        whole: &FileTypes<'_, 'd>,
         listed: &[std::ffi::OsString],
         output: &mut dyn Write,
     ) -> Outcome<()> {
         let text = |place: usize| listed.get(place).map(|word| word.to_string_lossy());
         let (offset, count) = (text(2), text(3));
-        let wanted = records::Wanted {
+        let wanted = records::RecordRequest {
             name: listed[0].as_bytes(),
             file: Path::new(&listed[1]),
             offset: offset.as_deref(),
@@ -154,12 +158,12 @@ impl<'a, 'd> Answer<'a, 'd> {
     /// Who holds a type, or points to it: a line for each member.
     fn holders(
         &self,
-        whole: &Whole<'_, 'd>,
+        whole: &FileTypes<'_, 'd>,
         name: &[u8],
         is_pointer: bool,
         output: &mut dyn Write,
     ) -> Outcome<()> {
-        let targets = whole.names.meant(name)?;
+        let targets = whole.names.types_of_name(name)?;
         let embeds = Embeds::new(whole.names, self.words.is_recursive);
         let found = embeds.of(&targets, is_pointer);
         for owner in embeds.cut() {
@@ -168,7 +172,7 @@ impl<'a, 'd> Answer<'a, 'd> {
         }
         for one in found {
             match self.words.is_json {
-                true => writeln!(output, "{}", json::embedded(whole, &one))?,
+                true => writeln!(output, "{}", json::embedded_member(whole, &one))?,
                 false => writeln!(output, "{}", one.line(whole.names))?,
             }
         }
@@ -177,13 +181,13 @@ impl<'a, 'd> Answer<'a, 'd> {
 
     fn sizes(
         &self,
-        whole: &Whole<'_, 'd>,
+        whole: &FileTypes<'_, 'd>,
         least: Option<i64>,
         output: &mut dyn Write,
     ) -> Outcome<()> {
         let usual = if least.is_none() { Order::Size } else { Order::Holes };
         let order = self.words.order.unwrap_or(usual);
-        let found = whole.sizes.listed(&self.words.names, least.unwrap_or(0), order)?;
+        let found = whole.sizes.sorted_figures(&self.words.names, least.unwrap_or(0), order)?;
         if !self.words.is_json {
             return table(&found, output);
         }
@@ -194,11 +198,11 @@ impl<'a, 'd> Answer<'a, 'd> {
     }
 
     /// Types in full, each once, a blank line between them; or as objects.
-    fn matching(&self, whole: &Whole<'_, 'd>, output: &mut dyn Write) -> Outcome<()> {
+    fn matching(&self, whole: &FileTypes<'_, 'd>, output: &mut dyn Write) -> Outcome<()> {
         let catalog = self.catalog();
         let numbers: Vec<Number> = match &self.words.names[..] {
-            [] => catalog.own().collect(),
-            names => whole.names.matching(names, catalog.own())?,
+            [] => catalog.own_numbers().collect(),
+            names => whole.names.matching(names, catalog.own_numbers())?,
         };
         if self.words.is_json {
             for number in numbers {
@@ -246,12 +250,12 @@ impl<'a, 'd> Answer<'a, 'd> {
             return self.all(output);
         }
         for name in &self.words.names {
-            text += &self.named(name)?;
+            text += &self.types_of_name(name)?;
         }
         if self.catalog().lacks_parent() {
             let fault = ctfd::Fault::NoParent;
             let refusal = ctfd::Refusal { fault, place: 0 };
-            return Err(Failure::Refused(told(shown(self.path), refusal)));
+            return Err(Failure::Refused(refusal_text(display_path(self.path), refusal)));
         }
         Ok(output.write_all(text.as_bytes())?)
     }
@@ -260,7 +264,7 @@ impl<'a, 'd> Answer<'a, 'd> {
         let catalog = self.catalog();
         let known = Number::try_from(number).ok().filter(|&number| catalog.get(number).is_some());
         known.ok_or_else(|| {
-            let mut own = catalog.own();
+            let mut own = catalog.own_numbers();
             Failure::Refused(match (own.next(), own.next_back()) {
                 (Some(first), last) => format!(
                     "no type has the number {number}: they go from {first} to {}",
@@ -274,7 +278,7 @@ impl<'a, 'd> Answer<'a, 'd> {
     /// A line for each type: its number, its size in bytes ("-" where it has none), its name.
     fn all(&self, output: &mut dyn Write) -> Outcome<()> {
         let catalog = self.catalog();
-        for (number, of) in catalog.own().filter_map(|n| Some((n, catalog.get(n)?))) {
+        for (number, of) in catalog.own_numbers().filter_map(|n| Some((n, catalog.get(n)?))) {
             let size = of.size().map_or("-".to_owned(), |size| size.to_string());
             match of.name() {
                 Ok(name) => writeln!(output, "{number:>6} {size:>8}  {}", printable(&name))?,
@@ -287,7 +291,7 @@ impl<'a, 'd> Answer<'a, 'd> {
     }
 
     /// A type of a name in full, or all of them, or how C declares a symbol.
-    fn named(&self, name: &[u8]) -> Outcome<String> {
+    fn types_of_name(&self, name: &[u8]) -> Outcome<String> {
         let catalog = self.catalog();
         let all = lookup::find_all(catalog, name);
         if self.words.is_all && !all.is_empty() {
@@ -297,10 +301,10 @@ impl<'a, 'd> Answer<'a, 'd> {
             lookup::others(&all, name).iter().for_each(|line| warn(line));
         }
         let found = lookup::find(catalog, name)
-            .map_err(|refusal| Failure::of_library(shown(self.path), refusal))?;
+            .map_err(|refusal| Failure::of_library(display_path(self.path), refusal))?;
         match found {
-            Some(Found { number, stars: 0 }) if number != 0 => Ok(self.listing(number)),
-            Some(Found { number, stars }) => {
+            Some(FoundType { number, stars: 0 }) if number != 0 => Ok(self.listing(number)),
+            Some(FoundType { number, stars }) => {
                 Ok(format!("{};\n", declare::declarator(catalog, number, stars).around("")))
             }
             None => self.symbol_or_tag(name),
@@ -332,16 +336,16 @@ impl<'a, 'd> Answer<'a, 'd> {
     fn symbol(&self, name: &[u8]) -> Outcome<Result<String, String>> {
         let handed = self.opened.handed;
         if handed.has_more_names() {
-            let mut whole = handed.bare();
+            let mut whole = handed.without_symbols();
             whole.add_names();
             return with_catalog(self.path, &whole, self.parents, |opened| {
-                Ok(symbols::declared(opened.catalog, name).map_err(|r| r.fault.to_string()))
+                Ok(symbols::declaration_of(opened.catalog, name).map_err(|r| r.fault.to_string()))
             });
         }
         if matches!(handed.origin, Origin::Unread | Origin::Differs | Origin::Stripped) {
             return Ok(Err(handed.origin.warning().to_owned()));
         }
-        let declared = symbols::declared(self.catalog(), name);
+        let declared = symbols::declaration_of(self.catalog(), name);
         if declared.is_ok() && handed.origin == Origin::Guessed {
             warn(handed.origin.warning());
         }

@@ -1,12 +1,12 @@
 //! Functions and objects of the program: what C declares of one, and which take or return a type.
 
-use super::catalog::{Catalog, Number, Signature, Told};
+use super::catalog::{Catalog, Number, Signature, SymbolAnswer};
 use super::declare;
 use super::failure::{Failure, Outcome};
+use super::file_types::FileTypes;
 use super::json;
+use super::symbol_lists::SymbolList;
 use super::text::printable;
-use super::told::SymbolList;
-use super::whole::Whole;
 use ctfd::{Kind, Refusal};
 use std::collections::BTreeSet;
 use std::io::Write;
@@ -17,18 +17,18 @@ const LONGEST_NAME: usize = 4096;
 const FUNCTION: u8 = 2;
 
 /// How C declares the first symbol of a name.
-pub fn declared(catalog: &Catalog<'_>, name: &[u8]) -> Result<String, Refusal> {
+pub fn declaration_of(catalog: &Catalog<'_>, name: &[u8]) -> Result<String, Refusal> {
     Ok(match catalog.symbol(name)? {
-        Told::Function(signature) => {
+        SymbolAnswer::Function(signature) => {
             format!("{};", declare::function(catalog, &signature, name))
         }
-        Told::Object(of) => format!("{};", declare::object(catalog, of, name)),
+        SymbolAnswer::Object(of) => format!("{};", declare::object(catalog, of, name)),
     })
 }
 
 /// Tells the functions that take or return a type, or a pointer to it, by their names.
 pub fn functions(
-    whole: &Whole<'_, '_>,
+    whole: &FileTypes<'_, '_>,
     lists: &[SymbolList<'_>],
     name: &[u8],
     is_json: bool,
@@ -39,11 +39,11 @@ pub fn functions(
         return Err(Failure::Refused(format!("{path}: it has no types of functions")));
     }
     let catalog = whole.names.catalog;
-    let targets = whole.names.meant(name)?;
+    let targets = whole.names.types_of_name(name)?;
     let mut found: Vec<(&[u8], Signature)> = Vec::new();
     for list in lists {
         for (number, name) in function_symbols(list.table, list.strings) {
-            if let Some(Told::Function(signature)) = catalog.told_in(list.place, number) {
+            if let Some(SymbolAnswer::Function(signature)) = catalog.told_in(list.place, number) {
                 found.push((name, signature));
             }
         }

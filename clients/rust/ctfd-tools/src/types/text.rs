@@ -36,11 +36,11 @@ const SPELLINGS: [(&str, &str); 15] = [
 pub fn printable(name: &[u8]) -> Cow<'_, str> {
     match std::str::from_utf8(name) {
         Ok(text) if text.bytes().all(|byte| matches!(byte, b' '..=b'~')) => Cow::Borrowed(text),
-        _ => Cow::Owned(escaped(name)),
+        _ => Cow::Owned(escape_name(name)),
     }
 }
 
-fn escaped(name: &[u8]) -> String {
+fn escape_name(name: &[u8]) -> String {
     let mut made = String::with_capacity(name.len());
     for chunk in name.utf8_chunks() {
         for letter in chunk.valid().chars() {
@@ -79,7 +79,7 @@ pub fn code_points(name: &[u8]) -> Vec<u32> {
 }
 
 /// A text that is told: of a very long one the beginning, and a number that no other has.
-pub fn shortened(text: String) -> String {
+pub fn shorten(text: String) -> String {
     if text.len() <= LONGEST {
         return text;
     }
@@ -270,7 +270,7 @@ fn is_in_set(set: &[u32], one: u32) -> bool {
 mod tests {
     use super::*;
 
-    fn meant(pattern: &str, name: &str) -> bool {
+    fn matches_name(pattern: &str, name: &str) -> bool {
         Meaning::of([pattern.as_bytes().to_vec()]).has(name.as_bytes())
     }
 
@@ -288,12 +288,12 @@ mod tests {
             ("a[", "a["),
             ("struct ?*", "struct s"),
         ] {
-            assert!(meant(pattern, name), "{pattern} {name}");
+            assert!(matches_name(pattern, name), "{pattern} {name}");
         }
         for (pattern, name) in
             [("tcp_*", "udp"), ("?", ""), ("[a-c]x", "dx"), ("[!a-c]", "b"), ("struct ?*", "s")]
         {
-            assert!(!meant(pattern, name), "{pattern} {name}");
+            assert!(!matches_name(pattern, name), "{pattern} {name}");
         }
     }
 

@@ -3,8 +3,8 @@
 use super::catalog::Number;
 use super::drawing::{self, Extent, Label, Rectangle};
 use super::failure::Outcome;
+use super::file_types::FileTypes;
 use super::text::printable;
-use super::whole::Whole;
 use ctfd::Kind;
 use std::cmp::Reverse;
 
@@ -22,7 +22,7 @@ struct Tile {
 }
 
 /// The picture of the own types, or of those that are meant; the least of many as one.
-pub fn svg(whole: &Whole<'_, '_>, patterns: &[Vec<u8>]) -> Outcome<String> {
+pub fn svg(whole: &FileTypes<'_, '_>, patterns: &[Vec<u8>]) -> Outcome<String> {
     let all = whole.names.catalog.aggregates();
     let chosen: Vec<Number> = match patterns {
         [] => all.collect(),
@@ -46,12 +46,12 @@ pub fn svg(whole: &Whole<'_, '_>, patterns: &[Vec<u8>]) -> Outcome<String> {
         drawing::note(8.0, 36.0, &said, "key"),
     ];
     let room = Rectangle { x: 8.0, y: TOP, wide: WIDTH, high: HIGH };
-    parts.extend(laid(&tiles, room).into_iter().map(|(tile, room)| drawn(tile, room)));
+    parts.extend(laid(&tiles, room).into_iter().map(|(tile, room)| drawing_of(tile, room)));
     let title = format!("{path}: {said}");
     Ok(drawing::page(WIDTH + 16.0, TOP + HIGH + 8.0, &title, &parts))
 }
 
-fn tile(whole: &Whole<'_, '_>, number: Number) -> Tile {
+fn tile(whole: &FileTypes<'_, '_>, number: Number) -> Tile {
     let catalog = whole.names.catalog;
     let sort = match catalog.kind(number) {
         Kind::Union => "union",
@@ -61,7 +61,7 @@ fn tile(whole: &Whole<'_, '_>, number: Number) -> Tile {
     Tile { sort, label: whole.names.label(number), bytes }
 }
 
-fn drawn(tile: &Tile, room: Rectangle) -> String {
+fn drawing_of(tile: &Tile, room: Rectangle) -> String {
     let told = format!("{}: {} bytes", tile.label, tile.bytes);
     let bare = tile.label.replacen("struct ", "", 1);
     let bytes = tile.bytes.to_string();
@@ -81,7 +81,7 @@ fn laid(tiles: &[Tile], mut room: Rectangle) -> Vec<(&Tile, Rectangle)> {
         let (strip, rest) = left.split_at(strip(left, short, scale));
         let bytes: u128 = strip.iter().map(|one| one.bytes).sum();
         let deep = bytes as f64 * scale / short;
-        made.extend(placed(strip, room, deep, scale));
+        made.extend(place_strip(strip, room, deep, scale));
         let Rectangle { x, y, wide, high } = room;
         room = match wide >= high {
             true => Rectangle { x: x + deep, wide: wide - deep, ..room },
@@ -112,7 +112,7 @@ fn flatness(one: f64, other: f64) -> f64 {
     (one / other).max(other / one)
 }
 
-fn placed(
+fn place_strip(
     strip: &[Tile],
     room: Rectangle,
     deep: f64,

@@ -99,7 +99,7 @@ impl<'d> Volumes<'d> {
     }
 
     /// All of them; the parent of the only one is not among them.
-    pub fn listed(&self) -> &[Volume<'d>] {
+    pub fn all(&self) -> &[Volume<'d>] {
         &self.listed
     }
 
@@ -143,10 +143,13 @@ impl<'d> Volumes<'d> {
     }
 
     /// The numbers of the types of the one at a place, in order; each type once.
-    pub fn own(&self, place: usize) -> impl DoubleEndedIterator<Item = Number> + use<'_, 'd> {
+    pub fn own_numbers_at(
+        &self,
+        place: usize,
+    ) -> impl DoubleEndedIterator<Item = Number> + use<'_, 'd> {
         let own = self.listed[place].types.types().map(Type::number);
         own.filter(move |&own| place == 0 || own >= CHILD)
-            .map(move |own| if place == 0 { own.into() } else { unmapped(place, own) })
+            .map(move |own| if place == 0 { own.into() } else { child_number(place, own) })
             .filter(|number| !self.originals.contains_key(number))
     }
 
@@ -162,13 +165,13 @@ impl<'d> Volumes<'d> {
     pub fn symbol(&self, name: &[u8]) -> Result<(usize, Entry<'d>), Refusal> {
         self.first_of(|(place, volume)| {
             let symbol = volume.types.symbol(name)?;
-            Ok((place, self.judged(entry(volume.types, symbol)?)?))
+            Ok((place, self.check_object(entry(volume.types, symbol)?)?))
         })
     }
 
     /// Refuses an object without a type where several dictionaries may tell it: one that does not
     /// has 0 there.
-    fn judged(&self, found: Entry<'d>) -> Result<Entry<'d>, Refusal> {
+    fn check_object(&self, found: Entry<'d>) -> Result<Entry<'d>, Refusal> {
         match found {
             Entry::Object(None) if self.listed.len() > 1 => {
                 Err(Refusal { fault: Fault::NotFound, place: 0 })
@@ -194,7 +197,7 @@ impl<'d> Volumes<'d> {
     ) -> Option<(usize, Entry<'d>)> {
         let asked = self.listed.iter().enumerate().filter(|(place, one)| is_asked(*place, one));
         let mut told = asked.filter_map(|(place, one)| {
-            let found = entry(one.types, symbol).and_then(|found| self.judged(found));
+            let found = entry(one.types, symbol).and_then(|found| self.check_object(found));
             Some((place, found.ok()?))
         });
         told.next()
@@ -217,7 +220,7 @@ impl<'d> Volumes<'d> {
 }
 
 /// The number of a child's type, be it a copy or not.
-pub(super) fn unmapped(place: usize, own: u16) -> Number {
+pub(super) fn child_number(place: usize, own: u16) -> Number {
     (place as Number) << PLACE | Number::from(own)
 }
 

@@ -20,7 +20,9 @@ returns-then-found-ne0-clause-bound c =
 pub loop-i-preserved : goal.loop-i-preserved
 loop-i-preserved c =
     let run = run_through is_stop is_plain (λ x. refl) c.args.text.now c.loop-i.i 16 (omega arith) (omega (arith, c.stops_16-found.ensures)) in
-    (omega (arith, run, c.loop-i.invariant.0), omega arith, omega (arith, c.loop-i.invariant.2))
+    let same = c.next_place-i.ensures.same in
+    let bound = c.next_place-i.ensures.bound in
+    (omega (arith, run, same, c.loop-i.invariant.0), omega (arith, bound), omega (arith, bound, c.loop-i.invariant.2))
 
 pub returns-clause-bound : goal.returns-clause-bound
 returns-clause-bound c =

@@ -28,10 +28,10 @@ pub returns-else-line-le-LONGEST_KEPT-clause-ok : goal.returns-else-line-le-LONG
 returns-else-line-le-LONGEST_KEPT-clause-ok c =
     let cases = c.in-Ok.ensures.cases in
     let is = ask_or-text c.args.given c.args.line.now c.in-Ok.text.now (read c.in-Ok.text.now) c.if-line-gt-LONGEST_LINE.false cases.0 cases.1 refl in
-    rw is c.read_text-else-line-le-LONGEST_KEPT.ensures.ok
+    rw is c.read_long.ensures.ok
 
 pub returns-else-line-le-LONGEST_KEPT-clause-refused : goal.returns-else-line-le-LONGEST_KEPT-clause-refused
 returns-else-line-le-LONGEST_KEPT-clause-refused c =
     let cases = c.in-Ok.ensures.cases in
     let is = ask_or-text c.args.given c.args.line.now c.in-Ok.text.now (read c.in-Ok.text.now) c.if-line-gt-LONGEST_LINE.false cases.0 cases.1 refl in
-    rw is c.read_text-else-line-le-LONGEST_KEPT.ensures.refused
+    rw is c.read_long.ensures.refused

@@ -15,4 +15,4 @@ returns g c =
     let end = codes "},\"s\":" ++ (decimal c.args.session ++ codes "}\n") in
     let text = append_assoc c.args.under.now (codes "\":{") (fields ++ end) in
     as_text Took (ap (λ (t : List ℕ). codes "{\"" ++ t) text)
-    (join _ _ _ _ _ under (join _ _ _ _ _ c.put_series.ensures session))
+    (join _ _ _ _ _ under (join _ _ _ _ _ c.put_fields.ensures session))

@@ -212,7 +212,7 @@ impl Growing {
         self.is_by_user |= is_by_user;
         self.at = self.at.div_ceil(align) * align;
         if let (true, false, Some(width @ 1..)) = (is_bits, is_packed, field.width) {
-            let unit = self.eased(field.shape);
+            let unit = self.alignment_in_struct(field.shape);
             let units = (self.at % unit + u128::from(width)).div_ceil(unit);
             if units > 8 * field.shape.size / unit {
                 self.round_within(unit);
@@ -267,14 +267,14 @@ impl Growing {
         if field.width.is_none() {
             self.align = self.align.max(align);
         } else if field.is_named {
-            let unit = self.eased(field.shape);
+            let unit = self.alignment_in_struct(field.shape);
             let unit = if self.attributes.is_packed { unit.min(8) } else { unit };
             self.align = self.align.max(align).max(unit);
             self.is_by_user |= field.shape.is_by_user;
         }
     }
 
-    fn eased(&self, shape: Shape) -> u128 {
+    fn alignment_in_struct(&self, shape: Shape) -> u128 {
         let align = 8 * shape.align;
         match shape.is_by_user {
             true => align,

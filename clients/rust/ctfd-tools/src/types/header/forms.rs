@@ -16,7 +16,7 @@ const HIGHEST: u128 = 4096;
 
 /// A member as it is written: a part of the record, or a hole of so many bytes or bits.
 #[derive(Clone, Copy, Debug)]
-pub enum Said<'d> {
+pub enum MemberForm<'d> {
     /// A member, with its width where it is a bit-field.
     Part(Part<'d>, Option<u64>),
     /// So many bytes that no member has.
@@ -29,7 +29,7 @@ pub enum Said<'d> {
 #[derive(Clone, Debug)]
 pub struct Form<'d> {
     /// Its members.
-    pub members: Vec<Said<'d>>,
+    pub members: Vec<MemberForm<'d>>,
     /// What stands behind the closing brace.
     pub attributes: Attributes,
     /// What the compiler makes of it.
@@ -83,7 +83,7 @@ impl<'f, 'd> Forms<'f, 'd> {
 
     /// None for what has no size in C.
     fn shape(&self, number: Number) -> Option<Shape> {
-        let reached = self.catalog.reached(number);
+        let reached = self.catalog.underlying(number);
         let record = self.catalog.record(reached.number);
         let shape = match record.kind {
             Kind::Pointer => abi::pointer(self.is_ilp32),
@@ -142,8 +142,8 @@ impl<'f, 'd> Forms<'f, 'd> {
         let record = self.catalog.record(number);
         let members = self.catalog.members(number);
         let size = self.size(number);
-        let part = |part: &Part<'d>| Said::Part(*part, self.catalog.span(part.of).width);
-        let natural: Vec<Said<'d>> = members.iter().map(part).collect();
+        let part = |part: &Part<'d>| MemberForm::Part(*part, self.catalog.span(part.of).width);
+        let natural: Vec<MemberForm<'d>> = members.iter().map(part).collect();
         let bytes = Form {
             members: Vec::new(),
             attributes: Attributes::default(),
@@ -173,12 +173,12 @@ impl<'f, 'd> Forms<'f, 'd> {
     fn fitting(
         &self,
         size: u128,
-        members: &[Said<'d>],
+        members: &[MemberForm<'d>],
         attributes: Attributes,
     ) -> Option<Form<'d>> {
         let laid = self.lay(members, attributes);
-        let is_there = |(said, place): (&Said<'_>, &u128)| match said {
-            Said::Part(part, _) => self.start(part) == *place,
+        let is_there = |(said, place): (&MemberForm<'_>, &u128)| match said {
+            MemberForm::Part(part, _) => self.start(part) == *place,
             _ => true,
         };
         let fits = laid.shape.size == size && members.iter().zip(&laid.places).all(is_there);
@@ -190,18 +190,18 @@ impl<'f, 'd> Forms<'f, 'd> {
         })
     }
 
-    fn lay(&self, members: &[Said<'_>], attributes: Attributes) -> Laid {
+    fn lay(&self, members: &[MemberForm<'_>], attributes: Attributes) -> Laid {
         let fields: Vec<Field> = members.iter().map(|said| self.field(said)).collect();
         abi::lay(&fields, self.is_ilp32, attributes)
     }
 
-    fn field(&self, said: &Said<'_>) -> Field {
+    fn field(&self, said: &MemberForm<'_>) -> Field {
         match *said {
-            Said::Bytes(size) => {
+            MemberForm::Bytes(size) => {
                 Field { is_named: true, shape: Shape { size, ..BYTE }, width: None }
             }
-            Said::Bits(width) => Field { is_named: true, shape: WORD, width: Some(width) },
-            Said::Part(part, width) => {
+            MemberForm::Bits(width) => Field { is_named: true, shape: WORD, width: Some(width) },
+            MemberForm::Part(part, width) => {
                 let shape = self.shape(part.of).unwrap_or(BYTE);
                 Field { is_named: !part.name.is_empty() || width.is_none(), shape, width }
             }
@@ -213,7 +213,7 @@ impl<'f, 'd> Forms<'f, 'd> {
     }
 
     /// Each hole a member of its own, in front of what it stands before.
-    fn with_holes(&self, number: Number) -> Vec<Said<'d>> {
+    fn with_holes(&self, number: Number) -> Vec<MemberForm<'d>> {
         let is_struct = self.catalog.kind(number) == Kind::Struct;
         let size = self.size(number);
         let (mut made, mut end) = (Vec::new(), 0);
@@ -224,12 +224,12 @@ impl<'f, 'd> Forms<'f, 'd> {
                 made.extend(holes(end, start));
                 end = end.max(start + span.bits);
             }
-            made.push(Said::Part(*part, span.width));
+            made.push(MemberForm::Part(*part, span.width));
         }
         if is_struct {
             made.extend(holes(end, 8 * size));
         } else {
-            made.push(Said::Bytes(size));
+            made.push(MemberForm::Bytes(size));
         }
         made
     }
@@ -258,13 +258,13 @@ fn is_narrow(record: &Record<'_>, size: u128) -> bool {
 }
 
 /// Bits up to a byte, whole bytes, and bits again; nothing where members overlap.
-fn holes<'d>(start: u128, end: u128) -> Vec<Said<'d>> {
+fn holes<'d>(start: u128, end: u128) -> Vec<MemberForm<'d>> {
     let length = end.saturating_sub(start);
     let bits = ((8 - start % 8) % 8).min(length);
     let rest = length - bits;
     let mut made = Vec::new();
-    made.extend((bits != 0).then_some(Said::Bits(bits as u64)));
-    made.extend((rest / 8 != 0).then_some(Said::Bytes(rest / 8)));
-    made.extend((rest % 8 != 0).then_some(Said::Bits((rest % 8) as u64)));
+    made.extend((bits != 0).then_some(MemberForm::Bits(bits as u64)));
+    made.extend((rest / 8 != 0).then_some(MemberForm::Bytes(rest / 8)));
+    made.extend((rest % 8 != 0).then_some(MemberForm::Bits((rest % 8) as u64)));
     made
 }

@@ -10,10 +10,10 @@ mod order;
 use super::catalog::{Catalog, Number, Part, Record, Value};
 use super::declare::{declarator_by, Declarator};
 use super::failure::Outcome;
+use super::file_types::FileTypes;
 use super::text::printable;
-use super::whole::Whole;
 use ctfd::Kind;
-use forms::{Forms, Said};
+use forms::{Forms, MemberForm};
 use naming::{comment, identifier};
 use std::cell::RefCell;
 use std::collections::{HashMap, HashSet};
@@ -22,8 +22,12 @@ use std::io::Write;
 const MOST_IN_PLACE: usize = 512;
 const DEEPEST: usize = 16;
 /// Writes the declarations of all own types, or of the named ones, with what these need.
-pub fn write(whole: &Whole<'_, '_>, patterns: &[Vec<u8>], output: &mut dyn Write) -> Outcome<()> {
-    let own = whole.names.catalog.own();
+pub fn write(
+    whole: &FileTypes<'_, '_>,
+    patterns: &[Vec<u8>],
+    output: &mut dyn Write,
+) -> Outcome<()> {
+    let own = whole.names.catalog.own_numbers();
     let wanted = match patterns {
         [] => own.collect(),
         patterns => whole.names.matching(patterns, own)?,
@@ -115,7 +119,7 @@ impl<'h, 'd> Header<'h, 'd> {
         }
         let mut length = 0;
         for part in self.catalog.members(number) {
-            let inner = self.catalog.reached(part.of).number;
+            let inner = self.catalog.underlying(part.of).number;
             let record = self.record(inner);
             let is_open = record.is_aggregate() && record.name.is_empty();
             length += match is_open {
@@ -173,7 +177,7 @@ impl<'h, 'd> Header<'h, 'd> {
     /// A member; the last of a struct may be an array whose length is not known.
     fn add_member(
         &self,
-        said: &Said<'d>,
+        said: &MemberForm<'d>,
         member: Member,
         names: &mut HashSet<&'d [u8]>,
         depth: usize,
@@ -182,15 +186,15 @@ impl<'h, 'd> Header<'h, 'd> {
         let tabs = "\t".repeat(depth);
         let place = member.place;
         let part = match said {
-            Said::Bytes(size) => {
+            MemberForm::Bytes(size) => {
                 *text += &format!("{tabs}char ctfd_hole_{place}[{size}];\n");
                 return;
             }
-            Said::Bits(width) => {
+            MemberForm::Bits(width) => {
                 *text += &format!("{tabs}unsigned int : {width};\n");
                 return;
             }
-            Said::Part(part, width) => {
+            MemberForm::Part(part, width) => {
                 if let Some(width) = width {
                     let (name, why) = member_name(part, place, names);
                     let told = format!("{} {name}", self.bit_field(part));
@@ -201,7 +205,7 @@ impl<'h, 'd> Header<'h, 'd> {
             }
         };
         let (name, why) = member_name(part, place, names);
-        let called = |one| self.called(one);
+        let called = |one| self.base_name(one);
         let declarator = declarator_by(self.catalog, part.of, &called, member.is_last);
         if self.is_open(&declarator) && depth <= DEEPEST {
             let head = opening(&declarator, self.record(declarator.base).word(), "");
@@ -223,18 +227,18 @@ impl<'h, 'd> Header<'h, 'd> {
 
     /// The type of a bit-field, without its typedefs: these name one of its width.
     fn bit_field(&self, part: &Part<'_>) -> &'static str {
-        let end = self.catalog.resolved(part.of);
+        let end = self.catalog.resolve(part.of);
         self.forms.alike(self.record(end), end).map_or("unsigned int", |alike| alike.name)
     }
 
     /// The base of a declaration, by a name that is declared by then.
-    fn called(&self, number: Number) -> String {
+    fn base_name(&self, number: Number) -> String {
         if number == 0 {
             return "void".to_owned();
         }
         match self.record(number).kind {
             Kind::Typedef if !self.written.borrow().contains(&number) => {
-                let end = self.catalog.resolved(number);
+                let end = self.catalog.resolve(number);
                 match self.record(end).is_aggregate() {
                     true => self.name(end),
                     false => "void *".to_owned(),
@@ -288,7 +292,7 @@ impl<'h, 'd> Header<'h, 'd> {
         if other != number && !name.ends_with(&format!("__{number}")) {
             return; // the same typedef once more
         }
-        let called = |one| self.called(one);
+        let called = |one| self.base_name(one);
         let of = self.record(number).of;
         let declarator = declarator_by(self.catalog, of, &called, false);
         if self.is_open(&declarator) {

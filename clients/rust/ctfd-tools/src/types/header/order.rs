@@ -64,7 +64,7 @@ impl Header<'_, '_> {
 
     /// What a declaration names; the struct that it holds by value first, if it is needed.
     fn add_named_in(&self, number: Number, is_renamed: bool, needs: &mut Needs) {
-        let reached = self.catalog.reached(number);
+        let reached = self.catalog.underlying(number);
         let end = self.record(reached.number);
         let is_whole = !is_renamed || reached.is_array || end.name.is_empty();
         if end.is_aggregate() && is_whole {

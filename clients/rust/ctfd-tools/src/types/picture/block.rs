@@ -32,7 +32,7 @@ impl Block {
     }
 
     /// The name in full where there is room for it.
-    pub fn named(&self, wide: f64) -> &str {
+    pub fn name_within(&self, wide: f64) -> &str {
         match drawing::cut(&self.name, wide) == self.name {
             true => &self.name,
             false => self.label(),
@@ -40,7 +40,7 @@ impl Block {
     }
 
     /// All of it in words.
-    pub fn told(&self) -> String {
+    pub fn description(&self) -> String {
         let (byte, bit) = (self.start / 8, self.start % 8);
         let at = match bit != 0 || self.bits % 8 != 0 {
             true => format!("{byte}:{bit}"),

@@ -9,10 +9,10 @@ use super::catalog::{Catalog, Number};
 use super::declare::declaration;
 use super::drawing::{self, Extent, Label, Rectangle};
 use super::failure::{Failure, Outcome};
+use super::file_types::FileTypes;
 use super::layout::{Layout, Place};
 use super::names::Names;
 use super::text::printable;
-use super::whole::Whole;
 use block::Block;
 use ctfd::Kind;
 use std::cell::RefCell;
@@ -47,9 +47,9 @@ struct Room {
 }
 
 /// The picture of the first struct or union of a name.
-pub fn svg(whole: &Whole<'_, '_>, name: &[u8], cache_line: u64) -> Outcome<String> {
+pub fn svg(whole: &FileTypes<'_, '_>, name: &[u8], cache_line: u64) -> Outcome<String> {
     let catalog = whole.names.catalog;
-    let mut meant: Vec<Number> = whole.names.meant(name)?.into_iter().collect();
+    let mut meant: Vec<Number> = whole.names.types_of_name(name)?.into_iter().collect();
     meant.sort_by_key(|&number| !catalog.is_own(number)); // a stable sort
     let found = meant.into_iter().find(|&number| catalog.record(number).is_aggregate());
     let Some(number) = found else {
@@ -206,7 +206,7 @@ impl<'p, 'd> Picture<'p, 'd> {
 
     /// The struct or union that is drawn by its members; none of what is one box.
     fn inner(&self, place: &Place<'_>, depth: usize) -> Option<Number> {
-        let reached = self.catalog.reached(place.part.of);
+        let reached = self.catalog.underlying(place.part.of);
         let is_open = self.catalog.record(reached.number).is_aggregate()
             && reached.elements == 1
             && depth < DEEPEST
@@ -218,7 +218,7 @@ impl<'p, 'd> Picture<'p, 'd> {
         if place.width.is_some() {
             return "bits";
         }
-        match self.catalog.kind(self.catalog.resolved(place.part.of)) {
+        match self.catalog.kind(self.catalog.resolve(place.part.of)) {
             Kind::Integer => "integer",
             Kind::Float => "float",
             Kind::Pointer => "pointer",
@@ -358,8 +358,8 @@ impl<'p, 'd> Picture<'p, 'd> {
                 high: block.high * high,
             };
             let goes_on = if first == block.start { "" } else { ".. " };
-            let name = format!("{goes_on}{}", block.named(wide));
-            let told = block.told();
+            let name = format!("{goes_on}{}", block.name_within(wide));
+            let told = block.description();
             let label = match block.strip * block.high * high < drawing::LOW {
                 true => Label { name: "", of: "", told: &told },
                 false => Label { name: &name, of: &block.of, told: &told },

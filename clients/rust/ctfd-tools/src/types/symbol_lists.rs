@@ -1,0 +1,90 @@
+//! The functions and objects of a program whose types its dictionary has.
+
+use super::catalog::{Catalog, SymbolAnswer};
+use ctfd_read::opening::{LibraryInput, Origin};
+use std::collections::HashSet;
+
+/// Bytes of a symbol of ELF64, and of its name at most.
+const ENTRY: usize = 24;
+const LONGEST_NAME: usize = 4096;
+const OBJECT: u8 = 1;
+const FUNCTION: u8 = 2;
+
+/// Whether symbols that were found in this way have types.
+pub fn is_told(origin: Origin) -> bool {
+    matches!(origin, Origin::Named | Origin::Linked | Origin::Guessed | Origin::Given)
+}
+
+/// A symbol that has a type.
+pub struct ToldSymbol {
+    /// Its name, of what is no UTF-8 the escapes.
+    pub name: Vec<u8>,
+    /// Its type.
+    pub told: SymbolAnswer,
+}
+
+/// The symbols that one dictionary of a file was given.
+#[derive(Clone, Copy)]
+pub struct SymbolList<'h> {
+    /// The dictionary's place.
+    pub place: usize,
+    /// The table, of 64 bits.
+    pub table: &'h [u8],
+    /// Its strings.
+    pub strings: &'h [u8],
+}
+
+/// Those of each dictionary that was given some.
+pub fn symbol_lists<'h>(handed: &'h LibraryInput<'_>) -> Vec<SymbolList<'h>> {
+    let each = std::iter::once(handed).chain(&handed.children).enumerate();
+    let list = |(place, one): (usize, &'h LibraryInput<'_>)| {
+        let (table, strings) = (one.symbols.as_deref()?, one.strings.as_deref()?);
+        Some(SymbolList { place, table, strings })
+    };
+    each.filter_map(list).collect()
+}
+
+/// Those of a dictionary that was given some symbols, the first of each name.
+pub fn told_symbols(catalog: &Catalog<'_>, handed: &LibraryInput<'_>) -> Vec<ToldSymbol> {
+    if !is_told(handed.origin) {
+        return Vec::new();
+    }
+    let mut known = HashSet::new();
+    let mut made = Vec::new();
+    for list in symbol_lists(handed) {
+        for (number, entry) in list.table.chunks_exact(ENTRY).enumerate() {
+            let at = u32::from_le_bytes([entry[0], entry[1], entry[2], entry[3]]);
+            let kind = entry[4] & 15;
+            let is_nowhere = entry[6..8] == [0, 0];
+            if at == 0 || is_nowhere || !matches!(kind, OBJECT | FUNCTION) {
+                continue;
+            }
+            let Some(told) = catalog.told_in(list.place, number as u32) else { continue };
+            let name = name_at(list.strings, at as usize);
+            if is_of(&told, kind) && known.insert(name.clone()) {
+                made.push(ToldSymbol { name, told });
+            }
+        }
+    }
+    made
+}
+
+fn is_of(told: &SymbolAnswer, kind: u8) -> bool {
+    match told {
+        SymbolAnswer::Function(_) => kind == FUNCTION,
+        SymbolAnswer::Object(_) => kind == OBJECT,
+    }
+}
+
+/// A name in the strings of a table, of what is no UTF-8 the escapes.
+fn name_at(strings: &[u8], at: usize) -> Vec<u8> {
+    let rest = strings.get(at..).unwrap_or_default();
+    let rest = &rest[..rest.len().min(LONGEST_NAME)];
+    let end = rest.iter().position(|&byte| byte == 0).unwrap_or(rest.len());
+    let mut made = Vec::with_capacity(end);
+    for chunk in rest[..end].utf8_chunks() {
+        made.extend(chunk.valid().bytes());
+        chunk.invalid().iter().for_each(|byte| made.extend(format!("\\x{byte:02x}").bytes()));
+    }
+    made
+}

@@ -1,0 +1,1 @@
+"""The library for C, and libctf's calls over it."""

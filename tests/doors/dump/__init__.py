@@ -1,0 +1,1 @@
+"""`ctfd dump`: a dictionary as text, and dictionaries that other programs read."""

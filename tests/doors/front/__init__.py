@@ -1,0 +1,1 @@
+"""`ctfd-front`: many clients on one socket."""

@@ -1,0 +1,1 @@
+"""The reader of programs, by which `ctfd-convert` and others read them."""

@@ -1,0 +1,1 @@
+"""`ctfd serve`: lines in, a reply to each out."""

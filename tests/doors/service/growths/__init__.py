@@ -1,0 +1,1 @@
+"""Memory that is refused: each call of a service for it, in turn."""

@@ -1,0 +1,99 @@
+/* Refuses memory: a library that is preloaded into ctfd, for tests/doors/service/growths.
+ *
+ * The calls that ask for memory are counted from 1, from the first read of standard input on, or
+ * from the program's start on where REFUSE_AT_START is not 0. Those from the number REFUSE_FROM on,
+ * REFUSE_COUNT of them, are answered as where there is none. At the end a line on standard error
+ * tells how many there were and how many were refused.
+ *
+ * The calls of glibc below have no other names that a preloaded library could use before it can
+ * look any up.
+ */
+#include <errno.h>
+#include <stddef.h>
+#include <stdio.h>
+#include <stdlib.h>
+#include <sys/syscall.h>
+#include <unistd.h>
+
+void *__libc_malloc(size_t size);
+void *__libc_calloc(size_t count, size_t size);
+void *__libc_realloc(void *old, size_t size);
+void *__libc_memalign(size_t alignment, size_t size);
+
+static int counts;
+static unsigned long first, many, asked, refused;
+
+/* Counts a call, and says whether it is refused. */
+static int is_refused(void)
+{
+    if (!counts)
+        return 0;
+    asked++;
+    if (first == 0 || asked < first || asked - first >= many)
+        return 0;
+    refused++;
+    errno = ENOMEM;
+    return 1;
+}
+
+void *malloc(size_t size)
+{
+    return is_refused() ? NULL : __libc_malloc(size);
+}
+
+void *calloc(size_t count, size_t size)
+{
+    return is_refused() ? NULL : __libc_calloc(count, size);
+}
+
+void *realloc(void *old, size_t size)
+{
+    return is_refused() ? NULL : __libc_realloc(old, size);
+}
+
+void *memalign(size_t alignment, size_t size)
+{
+    return is_refused() ? NULL : __libc_memalign(alignment, size);
+}
+
+void *aligned_alloc(size_t alignment, size_t size)
+{
+    return memalign(alignment, size);
+}
+
+int posix_memalign(void **where, size_t alignment, size_t size)
+{
+    void *memory = memalign(alignment, size);
+
+    if (memory == NULL)
+        return ENOMEM;
+    *where = memory;
+    return 0;
+}
+
+ssize_t read(int file, void *buffer, size_t size)
+{
+    if (file == STDIN_FILENO)
+        counts = 1;
+    return syscall(SYS_read, file, buffer, size);
+}
+
+static unsigned long number(const char *name)
+{
+    const char *text = getenv(name);
+
+    return text == NULL ? 0 : strtoul(text, NULL, 10);
+}
+
+__attribute__((constructor)) static void begin(void)
+{
+    first = number("REFUSE_FROM");
+    many = number("REFUSE_COUNT");
+    counts = number("REFUSE_AT_START") != 0;
+}
+
+__attribute__((destructor)) static void tell(void)
+{
+    counts = 0;
+    fprintf(stderr, "refuse: %lu asked, %lu refused\n", asked, refused);
+}

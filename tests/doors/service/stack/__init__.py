@@ -1,0 +1,1 @@
+"""As little stack as docs/LIMITS.md says is enough."""

@@ -1,0 +1,1 @@
+"""Streams that give little, break or never end."""

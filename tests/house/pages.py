@@ -1,0 +1,155 @@
+#!/usr/bin/env python3
+"""Checks that pages are short: each page, all of docs/ together, and each sentence for users.
+
+usage: tests/house/pages.py
+
+The words of a page are those that `wc -w` counts. `MOST` has how many each may have; a page that it
+does not name is wrong, and so is one that it names and that is not there.
+
+A sentence of a page for users has at most 35 words, one of another page 40, and the mean of a page
+is at most 25. No text outside of crates/ has one of the phrases in `RIDDLES`. Blocks of code,
+tables, headings and comments are left out. Each paragraph and each item of a list is a text of its
+own, whatever lines it is written in. A sentence of it ends at `.`, `!` or `?`, with the quote or
+parenthesis that closes behind that, where the text ends or a blank and no small letter follow. A link counts as its text,
+and what stands in backquotes as one word; a word has a letter or a digit, and blanks end it.
+
+Prints each page, sentence and phrase that is wrong; the status is 1 where one is.
+"""
+from __future__ import annotations
+
+import re
+import subprocess
+import sys
+from pathlib import Path
+from typing import Iterator
+
+from links import CODE, LINK, TOP, prose
+
+FOR_USERS = {
+    "README.md": 1290,
+    "clients/gdb/README.md": 3170,
+    "clients/python/README.md": 3750,
+    "docs/C.md": 4670,
+    "docs/COMING-FROM.md": 2880,
+    "docs/COOKBOOK.md": 4320,
+    "docs/DUMP.md": 1150,
+    "docs/FAULTS.md": 3170,
+    "docs/FORMAT.md": 2160,
+    "docs/GLOSSARY.md": 860,
+    "docs/LIMITS.md": 1580,
+    "docs/PROTOCOL.md": 7200,
+    "docs/SERVING.md": 3740,
+    "docs/STORE.md": 1440,
+    "docs/THEOREM.md": 1720,
+}
+FOR_MAINTAINERS = {
+    "docs/ARCHITECTURE.md": 5040,
+    "docs/CONTRIBUTING.md": 2160,
+    "docs/DECISIONS.md": 6260,
+    "docs/GATE.md": 1310,
+    "docs/PERFORMANCE.md": 4900,
+    "docs/PROMISES.md": 3170,
+    "docs/PROVING.md": 4320,
+    "docs/READING.md": 1010,
+}
+MOST = {**FOR_USERS, **FOR_MAINTAINERS}
+MOST_OF_A_CRATE = 200
+MOST_OF_DOCS = 56_600
+MOST_OF_A_SENTENCE = {**dict.fromkeys(FOR_USERS, 35), **dict.fromkeys(FOR_MAINTAINERS, 40)}
+MOST_IN_THE_MEAN = 25
+# Phrases that a reader has to guess at; each stood somewhere once.
+RIDDLES = (
+    "want of memory", "what a name of an enum stands for", "is told of it", "a body is turned",
+    "cut at its first", "hangs on its own", "of the second sort alone", "lead round", "leads round",
+    "can't be got", "is said later what", "declared and not told", "to which the way is halved",
+    "are answered, in one round", "no type of C with a name", "it was not run beside",
+)
+TEXTS = (".md", ".py", ".rs", ".c", ".h", ".sh", ".1", ".toml", ".js", ".html")
+
+LEFT_OUT = re.compile(r"\||#|<!--|!\[")
+ITEM = re.compile(r"^\s*(?:[-*]|\d+\.)\s+")
+END = re.compile(r"(?<=[.!?])[\"')\]*_]*\s+(?![a-z])")
+
+
+def words(page: Path) -> int:
+    """How many words a page has, as `wc -w` counts."""
+    return len(page.read_text(encoding="utf-8").split())
+
+
+def too_long() -> Iterator[str]:
+    """What is wrong with how long the pages are."""
+    seen = {str(page.relative_to(TOP)): words(page)
+            for page in (*TOP.glob("*.md"), *(TOP / "docs").glob("*.md"),
+                         TOP / "clients/gdb/README.md", TOP / "clients/python/README.md")}
+    seen.pop("CHANGELOG.md", None)
+    for name in sorted({*seen, *MOST}):
+        if name not in MOST:
+            yield f"{name}: no number of words is given for it in tests/house/pages.py"
+        elif name not in seen:
+            yield f"{name}: there is no such page"
+        elif seen[name] > MOST[name]:
+            yield f"{name}: {seen[name]} words, and at most {MOST[name]}"
+    for page in sorted((TOP / "crates").glob("*/README.md")):
+        if words(page) > MOST_OF_A_CRATE:
+            yield f"{page.relative_to(TOP)}: {words(page)} words, and at most {MOST_OF_A_CRATE}"
+    of_docs = sum(count for name, count in seen.items() if name.startswith("docs/"))
+    if of_docs > MOST_OF_DOCS:
+        yield f"docs/*.md: {of_docs} words, and at most {MOST_OF_DOCS}"
+
+
+def texts(page: Path) -> Iterator[tuple[int, str]]:
+    """The paragraphs and items of lists of a page, each with the number of its first line."""
+    began, text, last = 0, "", 0
+    for number, line in prose(page):
+        goes_on = bool(text) and number == last + 1 and not ITEM.match(line)
+        last = number
+        if line.strip() and not LEFT_OUT.match(line) and goes_on:
+            text += " " + line.strip()
+            continue
+        if text:
+            yield began, text
+        is_text = bool(line.strip()) and not LEFT_OUT.match(line)
+        began, text = number, ITEM.sub("", line.strip(), count=1) if is_text else ""
+    if text:
+        yield began, text
+
+
+def sentences(text: str) -> Iterator[tuple[int, str]]:
+    """The sentences of a text, each with how many words it has."""
+    plain = LINK.sub(lambda link: link[0].split("](")[0][1:], CODE.sub("Code", text))
+    for sentence in END.split(plain):
+        yield sum(any(map(str.isalnum, word)) for word in sentence.split()), sentence
+
+
+def long_sentences() -> Iterator[str]:
+    """The sentences that are too long, and the pages whose sentences are so in the mean."""
+    for name, most in MOST_OF_A_SENTENCE.items():
+        counts = []
+        for number, text in texts(TOP / name):
+            for count, sentence in sentences(text):
+                counts.append(count)
+                if count > most:
+                    yield f"{name}:{number}: {count} words: {sentence}"
+        if sum(counts) > MOST_IN_THE_MEAN * len(counts):
+            yield f"{name}: {sum(counts) / len(counts):.1f} words a sentence in the mean"
+
+
+def riddles() -> Iterator[str]:
+    """The phrases of `RIDDLES` that stand in a text, with the text."""
+    listed = subprocess.run(["git", "ls-files"], cwd=TOP, capture_output=True, text=True, check=True)
+    for name in listed.stdout.splitlines():
+        if name.startswith("crates/") or not name.endswith(TEXTS) or name == "tests/house/pages.py":
+            continue
+        text = " ".join((TOP / name).read_text("utf-8", errors="replace").split())
+        yield from (f"{name}: {phrase!r}" for phrase in RIDDLES if phrase in text)
+
+
+def main() -> int:
+    wrong = [*too_long(), *long_sentences(), *riddles()]
+    print(*wrong, sep="\n", end="\n" if wrong else "")
+    print(f"pages: {len(MOST)} have a number of words, {len(wrong)} texts are wrong")
+    return 1 if wrong else 0
+
+
+if __name__ == "__main__":
+    sys.exit(main())
