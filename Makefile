@@ -1,4 +1,4 @@
-# What is done by hand and by the gate, by name. `make help` lists it.
+# The targets for people and for the gate. `make help` lists them.
 JOBS ?= $(shell nproc)
 PREFIX ?= /usr/local
 CTFD_ARCHIVE ?= crates/ctf_c/out/libctfd.a
@@ -6,25 +6,25 @@ CTFD_ARCHIVE ?= crates/ctf_c/out/libctfd.a
 PROGRAM = $(if $(CTFD),$(CTFD),crates/ctfd/out/ctfd)
 .PHONY: all check check-all prove install uninstall deb dist release help
 
-# The program and the library, without checking proofs, and the compiled commands; nothing where
-# they are built.
+# Builds the program and the library, without checking proofs, and the compiled commands. Does
+# nothing if they are up to date.
 all:
 	@nice scripts/rust.py --ahead & scripts/quick.py; status=$$?; wait; exit $$status
 	@scripts/rust.py --quiet
 
-# Over what is built, or over the program that CTFD names.
+# Tests what is built, or the program that CTFD names.
 check: $(if $(CTFD),,all)
 	@tests/all.py --lanes $(JOBS) $(if $(CTFD),--program $(CTFD))
 
-# The same, where tests that try a share of their cases try all.
+# The same, with all cases of those tests that by default run only a share of theirs.
 check-all: $(if $(CTFD),,all)
 	@tests/all.py --whole --lanes $(JOBS) $(if $(CTFD),--program $(CTFD))
 
-# All proofs. What the kit builds takes the place of what `make` built.
+# Checks all proofs. The builds of the kit replace those of `make`.
 prove:
 	@tests/all.py --prove-only
 
-# Below PREFIX, in DESTDIR if it is given.
+# Installs below PREFIX, inside DESTDIR if it is set.
 PLACE = scripts/tree.py --prefix "$(PREFIX)" $(if $(DESTDIR),--root "$(DESTDIR)")
 
 install:
@@ -33,7 +33,7 @@ install:
 uninstall:
 	@$(PLACE) --remove
 
-# `release` packages the proved build alone.
+# `release` packages only a proved build.
 deb dist release:
 	@scripts/package.py $@ --program $(PROGRAM) --archive $(CTFD_ARCHIVE)
 

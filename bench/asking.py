@@ -1,11 +1,11 @@
-"""A service that is asked through pipes, and the processor time that it takes for a request."""
+"""A service that is asked through pipes, with the processor time of each request."""
 import itertools
 import resource
 import subprocess
 import time
 from typing import Iterable, Iterator
 
-# How many requests stand in the pipe at a time: their replies fit into the other one.
+# The number of requests in the pipe at a time; their replies fit into the other pipe.
 AT_ONCE = 100
 
 
@@ -18,7 +18,7 @@ def until_last(lines: Iterable[str]) -> Iterator[tuple[str, bool]]:
 
 
 class Service:
-    """A `ctfd serve`."""
+    """A process of `ctfd serve`."""
 
     def __init__(self, program: str, *words: str) -> None:
         self._child = subprocess.Popen([program, "serve", *words], stdin=subprocess.PIPE,
@@ -33,7 +33,7 @@ class Service:
         self._child.wait()
 
     def _replies(self, requests: list[str]) -> bytes:
-        """The last of the replies to so few requests, or nothing where none was sent."""
+        """The last of the replies to a few requests, or nothing without any."""
         self._child.stdin.write("".join(requests).encode())
         self._child.stdin.flush()
         reply = b""
@@ -42,14 +42,14 @@ class Service:
         return reply
 
     def _spent(self) -> float:
-        """The processor time of the service in seconds, once it waits for a request."""
+        """The processor time of the service in seconds, read when it waits for a request."""
         while self._state() != "S":
             time.sleep(0.0005)
         with open(f"/proc/{self._child.pid}/schedstat") as file:
             return int(file.read().split()[0]) / 1e9
 
     def memory(self) -> int:
-        """The bytes of memory that the service has."""
+        """The resident memory of the service in bytes."""
         with open(f"/proc/{self._child.pid}/statm") as file:
             return int(file.read().split()[1]) * resource.getpagesize()
 
@@ -57,8 +57,9 @@ class Service:
         with open(f"/proc/{self._child.pid}/stat") as file:
             return file.read().rsplit(")", 1)[1].split()[0]
 
-    def timed(self, lines: Iterable[str]) -> tuple[float, int, bytes]:
-        """What the last request takes, in seconds, the bytes of it and its reply, and the reply."""
+    def request_time(self, lines: Iterable[str]) -> tuple[float, int, bytes]:
+        """The seconds that the last request takes, its bytes with those of its reply, and the
+        reply."""
         waiting: list[str] = []
         for line, is_last in until_last(lines):
             if is_last or len(waiting) == AT_ONCE:
@@ -70,7 +71,7 @@ class Service:
         return self._spent() - before, len(waiting[0]) + len(reply), reply
 
     def ask_all(self, lines: Iterable[str]) -> float:
-        """What all requests take together, in seconds."""
+        """The seconds that all requests take together."""
         lines = iter(lines)
         before = self._spent()
         while some := list(itertools.islice(lines, AT_ONCE)):

@@ -1,10 +1,10 @@
-/* Asks one question again and again by the calls of ctfd.h, for bench/c_library.py.
+/* Asks one question repeatedly through the calls of ctfd.h, for bench/c_library.py.
  *
  * usage: c_library CTF QUESTION ROUNDS
  *
- * A round asks it of each type, member or name that it is for: of all types, of members, of
- * enumerators and of all that lies in a struct by the row. Prints how many calls a round has, or rows, how many
- * nanoseconds all rounds took, and how many bytes the dictionary has.
+ * A round asks it about each type, member or name for which it makes sense; types, members,
+ * enumerators and visits of structs are read in rows. Prints the number of calls or rows in a
+ * round, the nanoseconds that all rounds took, and the size of the dictionary in bytes.
  */
 #include "c_library.h"
 
@@ -38,7 +38,7 @@ static void collect_members(uint16_t t)
     }
 }
 
-/* Each enumerator of an enum, and its value at the same place. */
+/* Collects each enumerator of an enum, with its value at the same index. */
 static void collect_enumerators(uint16_t t)
 {
     char name[256];
@@ -87,10 +87,10 @@ static void collect(void)
     }
 }
 
-/* How many rows a call fills. */
+/* The number of rows that a call fills. */
 #define ROWS 64
 
-/* The first byte of a name, which stands in the section. */
+/* The first byte of a name in the section; 0 for names in other lists. */
 static unsigned char begins(uint32_t list, uint64_t at)
 {
     return list == CTFD_IN_SECTION ? (unsigned char)bytes[at] : 0;
@@ -140,7 +140,7 @@ static size_t ask_types(void)
     return (size_t)count;
 }
 
-/* A struct with all that lies in it, in one call where the room suffices. */
+/* Visits each struct with everything nested in it, in one call if the buffer is large enough. */
 static size_t ask_visit(void)
 {
     static struct ctfd_visit_row *rows;
@@ -164,7 +164,7 @@ static size_t ask_visit(void)
     return calls;
 }
 
-/* What a function returns, and how many arguments it takes. */
+/* Asks for the return type and the number of arguments of each function. */
 static size_t ask_signatures(void)
 {
     size_t i;
@@ -215,7 +215,7 @@ static size_t ask_named(const char *question)
     return members.len;
 }
 
-/* Enumerators by their values, or by their names. */
+/* Looks up each enumerator by its value ("value"), or by its name. */
 static size_t ask_firsts(const char *question)
 {
     char text[256];
@@ -249,7 +249,7 @@ static uint64_t ask_type(char question, uint16_t t)
     }
 }
 
-/* Asks of everything once, and counts the calls: 0 where there is no such call. */
+/* Asks the question once about everything. Returns the number of calls; 0 if nothing suits it. */
 static size_t round_of(const char *question)
 {
     size_t i;

@@ -1,5 +1,5 @@
-/* c_library.h - what the programs of bench/c_library.py share: the dictionary's bytes, what is
- * asked of, and how long rounds take. */
+/* c_library.h - shared by the programs of bench/c_library.py: the dictionary's bytes, lists of what
+ * to ask about, and the measurement of rounds. */
 #ifndef CTFD_BENCH_C_LIBRARY_H
 #define CTFD_BENCH_C_LIBRARY_H
 
@@ -61,7 +61,7 @@ static inline void add_named(struct named_list *list, const char *text, size_t l
         free(made.text);
 }
 
-/* Whether a question is one of some words. */
+/* Whether a question is one of the words, which are separated by blanks. */
 static inline int is_one_of(const char *question, const char *words)
 {
     size_t len = strlen(question);
@@ -73,8 +73,8 @@ static inline int is_one_of(const char *question, const char *words)
     return 0;
 }
 
-/* Asks in rounds, and prints how many calls a round has, how many nanoseconds all rounds took, and
- * how many bytes the dictionary has. */
+/* Runs rounds, and prints the number of calls in a round, the nanoseconds that all rounds took, and
+ * the size of the dictionary in bytes. */
 static inline void measure(const char *question, long rounds, size_t (*round_of)(const char *))
 {
     struct timespec from, to;

@@ -1,18 +1,18 @@
 #!/usr/bin/env python3
-"""Measures calls of libctfd.a by both headers, beside those of GNU libctf, on real dictionaries.
+"""Measures calls of libctfd.a through both headers, and those of GNU libctf, on real dictionaries.
 
 usage: bench/c_library.py [--profile QUESTION] [--no-gnu] [--first] [CTF..]
 
-Each CTF is a dictionary of version 2, by itself: examples/lua.ctf where none is named. The archive
-is the one that CTFD_ARCHIVE names, else crates/ctf_c/out/libctfd.a. The same types are written by
-GNU libctf for itself (gnu_dictionary.py), so both are asked of the same.
+Each CTF is a dictionary of version 2, by itself; the default is examples/lua.ctf. The archive is
+the one that CTFD_ARCHIVE names, else crates/ctf_c/out/libctfd.a. GNU libctf writes the same types
+for itself (gnu_dictionary.py), so both are asked about the same types.
 
-Each question is asked of all that it is for, again and again for some 0.2 s of processor time, five
-times, and the least counts; instructions are what callgrind counts more for more rounds. So what is
-kept of a first round helps the others, in each library. Through ctfd.h all types, members,
-enumerators and visits are asked by the row. With --first only instructions are counted, those of
-the first round of a file that was just opened. Prints a table in Markdown for each dictionary. With
---profile it prints where callgrind says that a question's instructions go, by the calls of libctf.
+Each question is asked about all types for which it makes sense, in rounds that take about 0.2 s of
+processor time, five times, and the least counts. Instructions are the difference that callgrind
+counts between more rounds and fewer, so what a library caches in a first round helps it. Through
+ctfd.h, types, members, enumerators and visits are read in rows. With --first, only the instructions
+of the first round on a newly opened file are counted. Prints a table in Markdown for each
+dictionary. With --profile it prints callgrind's profile of a question through the calls of libctf.
 
 Needs cc, valgrind, the Debian package binutils-dev, and the Python client.
 """
@@ -43,8 +43,8 @@ TRIES = 5
 ENOUGH = 200_000_000
 
 
-def compiled(work: Path, name: str, source: str, *words: str) -> Path:
-    """A program that asks."""
+def compiled_program(work: Path, name: str, source: str, *words: str) -> Path:
+    """Compiles a program that asks questions."""
     made = work / name
     subprocess.run(["cc", "-O2", "-g", *words[:-1], TOP / "bench" / source, words[-1], "-o", made],
                    check=True)
@@ -52,42 +52,43 @@ def compiled(work: Path, name: str, source: str, *words: str) -> Path:
 
 
 def build(work: Path, archive: str, ctf: Path, is_gnu: bool) -> dict[str, list[str]]:
-    """The commands that ask of the same types, by the door that they come through."""
+    """The commands that ask about the same types, by header or library."""
     headers = f"-I{TOP / 'clients' / 'c'}"
-    ours = compiled(work, "ours", "c_library.c", headers, archive)
-    theirs = compiled(work, "calls", "c_library_libctf.c", headers, archive)
+    ours = compiled_program(work, "ours", "c_library.c", headers, archive)
+    theirs = compiled_program(work, "calls", "c_library_libctf.c", headers, archive)
     commands = {"ctfd.h": [str(ours), str(ctf)], "ctfd_libctf.h": [str(theirs), str(ctf)]}
     if is_gnu:
         with ctfd.connect() as client:
-            written, refused = gnu_dictionary.written(client, ctf.read_bytes())
+            written, refused = gnu_dictionary.gnu_bytes(client, ctf.read_bytes())
         if refused:
             print(f"GNU libctf refuses {refused} types of {ctf}", file=sys.stderr)
         (work / "gnu.ctf").write_bytes(written)
-        gnu = compiled(work, "gnu", "c_library_libctf.c", "-DGNU", "-lctf-nobfd")
+        gnu = compiled_program(work, "gnu", "c_library_libctf.c", "-DGNU", "-lctf-nobfd")
         commands["GNU libctf"] = [str(gnu), str(work / "gnu.ctf")]
     return commands
 
 
-def asked(command: list[str], question: str, rounds: int) -> tuple[int, int, int]:
-    """The calls of a round, the nanoseconds of all, and the bytes of the dictionary."""
+def timing_of(command: list[str], question: str, rounds: int) -> tuple[int, int, int]:
+    """The number of calls in a round, the nanoseconds of all rounds, and the size of the
+    dictionary."""
     said = subprocess.run([*command, question, str(rounds)], check=True, text=True,
                           capture_output=True).stdout.split()
     return int(said[0]), int(said[1]), int(said[2])
 
 
 def nanoseconds(command: list[str], question: str) -> float:
-    """What a call takes, the least of some tries; of an open, what each MB takes."""
+    """The nanoseconds of a call, the least of some tries; for `open`, those per MB."""
     rounds = 1
-    while asked(command, question, rounds)[1] < ENOUGH // 4:
+    while timing_of(command, question, rounds)[1] < ENOUGH // 4:
         rounds *= 4
-    calls, least, size = asked(command, question, rounds)
-    least = min([least, *(asked(command, question, rounds)[1] for _ in range(TRIES - 1))])
+    calls, least, size = timing_of(command, question, rounds)
+    least = min([least, *(timing_of(command, question, rounds)[1] for _ in range(TRIES - 1))])
     per = least / rounds / max(calls, 1)
     return per * 1e6 / size if question == "open" else per
 
 
-def counted(command: list[str], question: str, rounds: int) -> int:
-    """The instructions of a run."""
+def instruction_count(command: list[str], question: str, rounds: int) -> int:
+    """The number of instructions of a run."""
     said = subprocess.run(["valgrind", "--tool=callgrind", "--callgrind-out-file=/dev/null",
                            *command, question, str(rounds)], check=True, text=True,
                           capture_output=True).stderr
@@ -97,20 +98,22 @@ def counted(command: list[str], question: str, rounds: int) -> int:
 
 
 def instructions(command: list[str], question: str) -> float:
-    calls, _, size = asked(command, question, 1)
-    per = (counted(command, question, 3) - counted(command, question, 1)) / 2 / max(calls, 1)
+    calls, _, size = timing_of(command, question, 1)
+    once, thrice = (instruction_count(command, question, rounds) for rounds in (1, 3))
+    per = (thrice - once) / 2 / max(calls, 1)
     return per * 1e6 / size if question == "open" else per
 
 
 def first_instructions(command: list[str], question: str) -> float:
-    """What a call of the first round takes, before anything is kept."""
-    calls, _, size = asked(command, question, 1)
-    per = (counted(command, question, 1) - counted(command, question, 0)) / calls
+    """The instructions of a call in the first round, with nothing cached."""
+    calls, _, size = timing_of(command, question, 1)
+    none, once = (instruction_count(command, question, rounds) for rounds in (0, 1))
+    per = (once - none) / calls
     return per * 1e6 / size if question == "open" else per
 
 
 def profile(command: list[str], question: str, work: Path) -> None:
-    """Prints the functions that a question's instructions are in."""
+    """Prints callgrind's list of the functions in which a question's instructions are."""
     out = work / "callgrind.out"
     subprocess.run(["valgrind", "--tool=callgrind", f"--callgrind-out-file={out}", *command,
                     question, "20"], check=True, capture_output=True)
@@ -120,9 +123,9 @@ def profile(command: list[str], question: str, work: Path) -> None:
 
 
 def cells(command: list[str], question: str, is_first: bool) -> list[str]:
-    """What a call costs, in nanoseconds and instructions, or in instructions of the first round;
-    nothing where there is no such call."""
-    if asked(command, question, 1)[0] == 0:
+    """The cost of a call in nanoseconds and instructions, or in instructions of the first round;
+    empty if there is no such call."""
+    if timing_of(command, question, 1)[0] == 0:
         return [""] if is_first else ["", ""]
     if is_first:
         return [f"{first_instructions(command, question):,.0f}"]
@@ -130,7 +133,7 @@ def cells(command: list[str], question: str, is_first: bool) -> list[str]:
 
 
 def show(commands: dict[str, list[str]], ctf: Path, is_first: bool) -> None:
-    """Prints the table of a dictionary, and the machine's load before and behind it."""
+    """Prints the table of a dictionary, and the machine's load before and after."""
     print(f"{ctf}; load before: {os.getloadavg()[0]:.1f}", file=sys.stderr)
     told = ["first"] if is_first else ["ns", "instructions"]
     heads = [f"{name}: {what}" for name in commands for what in told]

@@ -1,12 +1,12 @@
 #!/usr/bin/env python3
-"""Counts what requests cost in a session of few slots and in one of many.
+"""Counts the instructions of requests in a session of few slots and in one of many.
 
 usage: charging.py PROGRAM
 
 A session makes a few slots, and then one more, or 1,000, of an empty dictionary each. Then some
-lines are given many times. The instructions of these (callgrind), less those of the same stream
-without them, are told for each time: what a session holds is counted as it changes, and not anew
-for each request.
+lines are given many times. The instructions of these (by callgrind), without those of the same
+stream without them, are printed for each time: the bytes that a session holds are counted when they
+change, not again for each request.
 """
 import re
 import subprocess
@@ -25,23 +25,23 @@ def line(word, **fields):
     return f'{{"s":1,"op":"{word}"{text}}}\n'
 
 
-def opened(ctf):
+def open_lines(ctf):
     yield line("part", section="ctf", bytes=ctf)
     yield line("open")
 
 
 def first_slots():
     """Slot 1 is a child, slot 2 an integer, slot 3 a draft; the integer is published as `base`."""
-    yield from opened(CHILD)
-    yield from opened(INT)
+    yield from open_lines(CHILD)
+    yield from open_lines(INT)
     yield line("create")
     yield line("publish", d=2, name="base")
 
 
-# the lines that are given many times, by the number of the slot that is made next
+# the lines that are repeated, from the number of the next slot
 REPEATED = {
     "part": lambda d: line("part", section="str", bytes="00"),
-    "open, close": lambda d: "".join(opened(EMPTY)) + line("close", d=d),
+    "open, close": lambda d: "".join(open_lines(EMPTY)) + line("close", d=d),
     "import": lambda d: line("import", d=1, parent=2),
     "publish, withdraw":
         lambda d: line("publish", d=2, name="more") + line("withdraw", name="more"),
@@ -55,7 +55,7 @@ REPEATED = {
 def lines(slots, times, repeated):
     yield from first_slots()
     for _ in range(slots):
-        yield from opened(EMPTY)
+        yield from open_lines(EMPTY)
     for i in range(times):
         yield repeated(4 + slots + i)
 
@@ -71,7 +71,7 @@ def instructions(program, slots, times, repeated):
 
 
 def each(program, slots, repeated, times=2_000):
-    """The instructions of the lines, given once."""
+    """The number of instructions of the lines, given once."""
     without = instructions(program, slots, 0, repeated)
     counted = instructions(program, slots, times, repeated) - without
     return counted / times

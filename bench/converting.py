@@ -1,21 +1,21 @@
 #!/usr/bin/env python3
-"""What converting programs costs, beside `pahole -J` on the same files in the same run.
+"""Measures converting programs, compared with `pahole -J` on the same files in the same run.
 
 usage: bench/converting.py [--rounds N] [--threads N] [--from FORM] [--btf FILE] PROGRAM..
        bench/converting.py --fetch FOLDER [--kernel]
 
-Prints, for each program, the least processor time, time by the clock and memory of N rounds (3) of
-each in turn, the bytes of its debug sections, inflated, and ours as shares: of pahole's times, and
-of the sections' bytes. Behind a share stands "over" where it is more than is aimed at: pahole's
-processor time, half its clock, twice the bytes. There pahole writes a file of its own, by
---btf_encode_detached. A second line has what a copy with the types in it costs: `ctfd-convert
---section` beside `pahole -J FILE`, which changes FILE. Clocks say something on idle processors
-alone; the last line tells the load. Of a file that --btf names, a kernel's by default, it prints
-what a first question about one struct costs, and what all of it does.
+Prints for each program the least processor time, wall time and memory of N rounds (3) of each tool
+in turn, the size of its debug sections, inflated, and ours as ratios: to pahole's times, and to the
+sections' size. "(over)" follows a ratio above the aim: pahole's processor time, half its wall time,
+twice the size. pahole writes a separate file, with --btf_encode_detached. A second line shows the
+cost of a copy that contains the types: `ctfd-convert --section` compared with `pahole -J FILE`,
+which changes FILE. Wall times mean something only on idle processors; the last line shows the load.
+For the file that --btf names, a kernel's by default, it prints the cost of a first question about
+one struct, and of converting all of it.
 
---fetch gets what docs/PERFORMANCE.md has rows for into a folder, by apt-get, and prints the files:
-python3.11-dbg and libc6-dbg, with --kernel the debug file of a kernel too, which takes 2 GB there.
-Needs pahole, readelf, objcopy, GNU time and the compiled commands.
+--fetch downloads the files for the rows in docs/PERFORMANCE.md into a folder, with apt-get, and
+prints their paths: python3.11-dbg and libc6-dbg, with --kernel also the debug file of a kernel,
+which takes 2 GB. Needs pahole, readelf, objcopy, GNU time and the compiled commands.
 """
 from __future__ import annotations
 
@@ -36,19 +36,19 @@ import rust  # noqa: E402
 
 KERNEL = "/sys/kernel/btf/vmlinux"
 STRUCT = "task_struct"
-# Tells what a program takes: of one that is started from here the least that is told is what this
-# one takes itself.
+# Measures the memory of a program. For a child of this process, the system would report at least
+# the memory of this process.
 TIME = "/usr/bin/time"
-# What is aimed at, as shares of pahole's processor time and clock, and of the sections' bytes.
+# The aims, as ratios to pahole's processor time and wall time, and to the size of the sections.
 MOST = {"processor": 1.0, "clock": 0.5, "memory": 2.0}
-# Where a package has the files that are read.
+# The paths of the files within a package.
 FILES = {"python3.11-dbg": ("usr/bin/python3.11d", "usr/lib/debug/.build-id/*/*.debug"),
          "libc6-dbg": ("usr/lib/debug/.build-id/*/*.debug",),
          "kernel": ("usr/lib/debug/boot/vmlinux-*",)}
 
 
 class Cost(NamedTuple):
-    """Seconds of the processor and by the clock, and MB."""
+    """Processor time and wall time in seconds, and memory in MB."""
 
     processor: float
     clock: float
@@ -79,14 +79,14 @@ def least(costs: Sequence[Cost]) -> Cost:
 
 def in_turn(ours: Sequence[str], theirs: Sequence[str], rounds: int,
             threads: int) -> tuple[Cost, Cost]:
-    """The least of some rounds of each, one after the other."""
+    """The least costs of some rounds of each, one after the other."""
     turns = [(cost(ours, threads), cost(theirs, 0)) for _ in range(rounds)]
     one, other = (least([turn[place] for turn in turns]) for place in (0, 1))
     return one, other
 
 
 def section_bytes(program: str, folder: str) -> int:
-    """The bytes of the debug sections, inflated."""
+    """The size of the debug sections, inflated."""
     plain = f"{folder}/plain"
     subprocess.run(["objcopy", "--decompress-debug-sections", program, plain], check=True,
                    stderr=subprocess.DEVNULL)
@@ -97,13 +97,13 @@ def section_bytes(program: str, folder: str) -> int:
 
 
 def share(name: str, ours: float, of: float) -> str:
-    """A share in words, and whether it is more than is aimed at."""
+    """A ratio as text, and whether it is above the aim."""
     found = ours / of if of else 0.0
     return f"{name} {found:.2f}" + (" (over)" if found > MOST[name] else "")
 
 
 def convert(program: str, words: argparse.Namespace, folder: str) -> str:
-    """What a file of a program's types costs, in a line."""
+    """One line with the cost of converting a program's types."""
     out = f"{folder}/out"
     ours = [str(rust.folder() / "ctfd-convert"), "--from", words.form, "--lossy", program, out]
     theirs = ["pahole", "-J", f"--btf_encode_detached={out}", program]
@@ -116,7 +116,7 @@ def convert(program: str, words: argparse.Namespace, folder: str) -> str:
 
 
 def into_copy(program: str, words: argparse.Namespace, folder: str) -> str:
-    """What a copy of a program with its types in it costs, in a line."""
+    """One line with the cost of a copy of a program with its types in it."""
     copy, turns = f"{folder}/copy", []
     ours = [str(rust.folder() / "ctfd-convert"), "--from", words.form, "--lossy", "--section",
             program, f"{folder}/out"]
@@ -131,7 +131,7 @@ def into_copy(program: str, words: argparse.Namespace, folder: str) -> str:
 
 
 def first_look(btf: str, words: argparse.Namespace, folder: str) -> Iterator[str]:
-    """What a question about one struct of a kernel's BTF costs, and converting all of it."""
+    """The costs of a question about one struct of a kernel's BTF, and of converting all of it."""
     types = str(rust.folder() / "ctfd-types")
     theirs = ["pahole", "-F", "btf", "-C", STRUCT, btf]
     one, other = in_turn([types, btf, f"struct {STRUCT}"], theirs, words.rounds, words.threads)
@@ -142,7 +142,7 @@ def first_look(btf: str, words: argparse.Namespace, folder: str) -> Iterator[str
 
 
 def kernel_package() -> Optional[str]:
-    """The last of Debian's small kernels that have debug files."""
+    """The newest of Debian's small kernels that have debug files."""
     found = subprocess.run(["apt-cache", "search", "--names-only", "linux-image.*cloud.*-dbg$"],
                            capture_output=True, text=True).stdout.split("\n")
     names = [line.split(" ")[0] for line in found if re.match(r"linux-image-\d+\.\d+\.\d+", line)]
@@ -151,7 +151,7 @@ def kernel_package() -> Optional[str]:
 
 
 def fetch(folder: Path, has_kernel: bool) -> Iterator[Path]:
-    """The files of the rows, of Debian's packages."""
+    """The files of the rows, from Debian's packages."""
     packages = {name: name for name in FILES if name != "kernel"}
     kernel = kernel_package() if has_kernel else None
     if kernel:

@@ -1,5 +1,5 @@
 #!/usr/bin/env python3
-"""Large dictionaries for the streams and for what opening costs; the same bytes at each run."""
+"""Large dictionaries for streams and for measuring `open`. Each run makes the same bytes."""
 import struct
 
 PIECE = 500_000
@@ -14,8 +14,8 @@ def dictionary(types, strings=b"", parname=0):
     return b"\xf1\xcf\x02\x00" + words + types + strings
 
 
-def mixed(count):
-    """Types of mixed kinds, most of them with members, that name types before them."""
+def mixed_types(count):
+    """Types of mixed kinds, most of them with members, that refer to types before them."""
     types = [record(1, 1, 0, 4, struct.pack("<I", 0x01000020))]
     for i in range(2, count + 1):
         before = i - 1
@@ -35,13 +35,13 @@ VISIBLE = 1 << 10
 
 
 def name_of(i):
-    """The name of a type of `named`."""
+    """The name of a type of `named_types`."""
     return b"type_%d" % i
 
 
-def named(count):
-    """Visible types, all but the pointers with a name of their own: integers, structs, typedefs,
-    pointers."""
+def named_types(count):
+    """Visible integers, structs, typedefs and pointers. All but the pointers have different
+    names."""
     strings, types = bytearray(b"\0"), []
     for i in range(1, count + 1):
         name = len(strings)
@@ -59,15 +59,15 @@ def named(count):
     return dictionary(b"".join(types), bytes(strings))
 
 
-def written(i):
-    """How C writes a type of `named`, so that `find` finds it."""
+def spelling(i):
+    """A type of `named_types` as C writes it, for `find`."""
     if i % 4 == 0:
-        return written(i - 1) + b" *"
+        return spelling(i - 1) + b" *"
     return (b"struct " if i % 4 == 2 else b"") + name_of(i)
 
 
 def overlapping_names(count, front=16_000_000):
-    """Visible integers whose names overlap: each is the end of one text of one byte, many million
+    """Visible integers with overlapping names: ends of one text that repeats one byte many million
     times."""
     types = b"".join(
         record(1 + front // count * i, 1, VISIBLE, 4, struct.pack("<I", 0x01000020))
@@ -77,7 +77,7 @@ def overlapping_names(count, front=16_000_000):
 
 
 def plain_names(count, size=16_000_000):
-    """As many visible integers, whose names share the same number of bytes."""
+    """Visible integers with separate names, of `size` bytes in all."""
     each = size // count
     types = b"".join(record(1 + each * i, 1, VISIBLE, 4, struct.pack("<I", 0x01000020))
                      for i in range(count))
@@ -86,7 +86,7 @@ def plain_names(count, size=16_000_000):
 
 
 def unions(count):
-    """Groups of an integer and 511 unions of two members, each of the type before it."""
+    """Groups of an integer and 511 unions; the two members of a union have the type before it."""
     types = []
     for i in range(count):
         if i % 512 == 0:
@@ -113,8 +113,8 @@ def symbol(name, sort, section=1, value=0x1000):
 
 
 def symbols(count):
-    """An integer, and a program with so many symbols: three functions of two arguments, and then an
-    object."""
+    """An integer, and a program with `count` symbols: an object, and then three functions of two
+    arguments, again and again."""
     offsets, strs = [], bytearray(1)
     for i in range(count):
         offsets.append(len(strs))
@@ -122,11 +122,11 @@ def symbols(count):
     table = b"".join(symbol(at, 2 if i % 4 else 1) for i, at in enumerate(offsets))
     objects = struct.pack("<H", 1) * sum(i % 4 == 0 for i in range(count))
     functions = struct.pack("<4H", 5 << 11 | 2, 1, 1, 1) * sum(i % 4 != 0 for i in range(count))
-    return told(objects, functions), table, bytes(strs)
+    return with_entries(objects, functions), table, bytes(strs)
 
 
-def told(objects, functions):
-    """A dictionary of an integer with entries of objects and of functions."""
+def with_entries(objects, functions):
+    """A dictionary of an integer, with entries for objects and functions."""
     ends = len(objects), len(objects) + len(functions)
     pad = bytes(-ends[1] % 4)
     types = record(1, 1, 0, 4, struct.pack("<I", 0x01000020))
@@ -136,21 +136,19 @@ def told(objects, functions):
 
 
 def endless(count):
-    """So many symbols over 16 MiB of strings without a zero byte, so that none of them has a
-    name."""
+    """`count` symbols over 16 MiB of strings without a zero byte, so none of them has a name."""
     table = b"".join(symbol(1 + i, 1) for i in range(count))
-    return told(b"", b""), table, 16_777_216 * b"n"
+    return with_entries(b"", b""), table, 16_777_216 * b"n"
 
 
 def overlapping(count):
-    """So many objects, each named by the end of the name of the one before it."""
+    """`count` objects, each named by the end of the previous one's name."""
     table = b"".join(symbol(1 + i, 1) for i in range(count))
-    return told(struct.pack("<H", 1) * count, b""), table, b"\0" + count * b"n" + b"\0"
+    return with_entries(struct.pack("<H", 1) * count, b""), table, b"\0" + count * b"n" + b"\0"
 
 
 def labels(count):
-    """So many labels, each named by the end of the name of the one before it, the first by
-    LONG_NAME."""
+    """`count` labels, each named by the end of the previous one's name, the first by LONG_NAME."""
     at = 8 * count
     header = b"\xf1\xcf\x02\x00" + struct.pack("<8I", 0, 0, 0, at, at, at, at, 0)
     labels = b"".join(struct.pack("<II", 0x80000001 + i, 1) for i in range(count))
@@ -161,7 +159,7 @@ LONG_NAME = b"\0" + 15_000_000 * b"n" + b"\0"
 
 
 def long_names():
-    """A struct of 1,023 members and an integer, all of the one name in LONG_NAME."""
+    """A struct of 1,023 members and an integer; all have the name in LONG_NAME."""
     name = 0x80000001
     members = 1023 * struct.pack("<IHH", name, 2, 0)
     whole = record(name, 1, 0, 4, struct.pack("<I", 0x01000020))
@@ -169,7 +167,7 @@ def long_names():
 
 
 def parts(session, data, section="ctf"):
-    """The requests that hand a list in."""
+    """The requests that hand in a list."""
     for at in range(0, len(data), PIECE):
         piece = data[at : at + PIECE].hex()
         yield '{"s":%d,"op":"part","section":"%s","bytes":"%s"}\n' % (session, section, piece)
@@ -181,13 +179,13 @@ def all_parts(session, lists):
         yield from parts(session, data, section)
 
 
-# How many types stand in each of the groups of `every_kind`.
+# The number of types in each group of `every_kind`.
 GROUP = 10
 
 
 def of_group(at, names):
     """An integer, a struct, an enum, an array, a pointer, a function, a typedef, a const, a pointer
-    and a union, numbered from `at` on; `names` are the places of four names."""
+    and a union, numbered from `at`. `names` has the offsets of four names."""
     integer, struct_, enum, union = names
     members = b"".join(struct.pack("<IHH", integer, at, 32 * k) for k in range(4))
     enumerated = b"".join(struct.pack("<Ii", enum, k) for k in range(4))
@@ -206,8 +204,8 @@ def of_group(at, names):
 
 
 def every_kind(count):
-    """Groups of ten types, a label for each of the first hundred groups, and a program of as many
-    symbols: three functions of two arguments, and then an object."""
+    """Groups of ten types, a label for each of the first hundred groups, and a program with as many
+    symbols, as in `symbols`."""
     groups = count // GROUP
     strings, types, labels = bytearray(b"\0"), [], []
     for group in range(groups):

@@ -1,11 +1,11 @@
 #!/usr/bin/env python3
-"""Times what a dump costs, and how that grows with the number of types.
+"""Measures dumps, and how their cost grows with the number of types.
 
 usage: dumping.py PROGRAM
 
 Each dictionary is dumped to a pipe that is read to its end (processor time, the least of five
-runs), and once more, where there is valgrind, with its instructions counted, for all types and for
-half of them: the ratio of the two says how the cost grows, and 2 is linear.
+runs). If valgrind is installed, the instructions of a dump are counted for all types and for half
+of them: the ratio of the two shows how the cost grows, and 2 is linear.
 """
 import re
 import shutil
@@ -14,11 +14,11 @@ import sys
 import tempfile
 
 import run
-from dictionaries import mixed, named
+from dictionaries import mixed_types, named_types
 
 
 def instructions(program, ctf):
-    """The instructions of one dump."""
+    """The number of instructions of one dump."""
     with tempfile.NamedTemporaryFile(suffix=".ctf") as file:
         file.write(ctf)
         file.flush()
@@ -30,7 +30,7 @@ def instructions(program, ctf):
 
 
 def seconds(program, ctf):
-    """Processor time, lines, and peak memory of a dump."""
+    """The processor time, number of lines, and peak memory of a dump."""
     with tempfile.NamedTemporaryFile(suffix=".ctf") as file:
         file.write(ctf)
         file.flush()
@@ -38,7 +38,7 @@ def seconds(program, ctf):
 
 
 def main(program):
-    for name, make, count in [("named", named, 30_000), ("mixed", mixed, 32_766)]:
+    for name, make, count in [("named", named_types, 30_000), ("mixed", mixed_types, 32_766)]:
         used, lines, memory = seconds(program, make(count))
         print(f"{name}: {count} types, {lines} lines, {1000 * used:.0f} ms,"
               f" {memory / 1024:.1f} MB", flush=True)

@@ -1,9 +1,9 @@
 #!/usr/bin/env python3
-"""Writes each line of its input back and flushes it: the least that a service of lines does.
+"""Writes each line of its input back and flushes it: the least that a service of lines can do.
 
 usage: echo.py [SOCKET]
 
-With SOCKET it listens there, and gives back to each client what it reads of it.
+With SOCKET it listens there, and sends each client what it reads from it.
 """
 from __future__ import annotations
 
@@ -21,7 +21,7 @@ def echo_lines() -> None:
 
 
 def echo_clients(path: str) -> None:
-    """Serves clients until it is ended by a signal."""
+    """Serves clients until a signal ends it."""
     listening = socket.socket(socket.AF_UNIX)
     listening.bind(path)
     listening.listen(128)

@@ -1,19 +1,19 @@
 #!/usr/bin/env python3
-"""Measures how fast ctfd-front answers, beside redis-server answering PING, and an echo.
+"""Measures the speed of ctfd-front, compared with redis-server answering PING, and an echo.
 
 usage: front.py [--front CTFD-FRONT] [--program CTFD] [--seconds N] [--runs N] [--shards N,..]
                 [--askers N] [--held] [--calls]
 
-bench/lines.c is the client of all: it is compiled by cc. Each way is a server on a Unix socket:
-the front with one shard and with four, or as --shards says, over a dictionary of a kernel's size
-(32,766 types), redis-server where it is installed, and an echo of the client's own loop. Each is
-asked in bursts of 100 lines by 50 clients, and line by line by 1, 50 and 500. A pipe to `ctfd
-serve` is asked line by line too.
-All ways are tried in turn, and the best of the runs by the clock is printed: lines a second, the
-server's processor time for a line and how much of that the system took, and within which time half
-of the bursts, and 99 of 100, were answered. With --askers so many processes share the clients among
-them, since one takes a processor when each line is waited for: the times are then those of the
-slowest. --held asks over 9,500 connections that are open, 500 at a time. --calls counts the calls of the system by strace, which slows all.
+bench/lines.c, compiled by cc, is the client of all. The servers listen on a Unix socket: the front
+with one shard and with four, or as --shards says, with a dictionary of a kernel's size (32,766
+types); redis-server if it is installed; and an echo by the client's own loop. Each is asked in
+bursts of 100 lines by 50 clients, and line by line by 1, 50 and 500. A pipe to `ctfd serve` is
+asked line by line too. All are measured in turn, and the run with the most lines a second is
+printed: lines a second, the server's processor time per line, the system's share of it, and the
+time within which half of the bursts, and 99 of 100, were answered. With --askers, several processes
+share the clients, since one needs a whole processor when it waits for each line; the times are then
+those of the slowest. --held asks over 9,500 open connections, 500 at a time. --calls counts system
+calls with strace, which slows everything.
 """
 from __future__ import annotations
 
@@ -53,7 +53,7 @@ HELD = 9_500
 
 @dataclass(frozen=True)
 class Server:
-    """A way to be asked: its process, its socket, and what is sent first."""
+    """A server: its process, its socket, and what is sent first."""
 
     name: str
     pid: int
@@ -63,8 +63,8 @@ class Server:
 
 
 @dataclass(frozen=True)
-class Measured:
-    """What a run took; times in microseconds."""
+class Measurement:
+    """The result of a run; times are in microseconds."""
 
     per_second: float
     processor: float
@@ -92,13 +92,13 @@ def dictionary(types: int = TYPES) -> bytes:
 
 
 def ticks(pid: int) -> List[int]:
-    """Ticks that a process has used by itself, and in the system."""
+    """The clock ticks that a process has used in user mode and in the system."""
     return list(map(int, Path(f"/proc/{pid}/stat").read_text().rsplit(")", 1)[1].split()[11:13]))
 
 
-def used(pid: int) -> float:
+def processor_seconds(pid: int) -> float:
     """The seconds of processor time that a process has used."""
-    return time.clock_gettime(~pid << 3 | 2)  # as clock_getcpuclockid(3) has it
+    return time.clock_gettime(~pid << 3 | 2)  # see clock_getcpuclockid(3)
 
 
 @contextlib.contextmanager
@@ -112,7 +112,7 @@ def running(words: Sequence[str]) -> Iterator[subprocess.Popen[bytes]]:
 
 
 class Bench:
-    """The servers that are there, and how each is asked."""
+    """The running servers, and how to ask each."""
 
     def __init__(self, folder: str, given: argparse.Namespace, ends: contextlib.ExitStack) -> None:
         self.folder, self.given = folder, given
@@ -143,8 +143,8 @@ class Bench:
         yield Server("echo", process.pid, path, "", {"kind": LINES["kind"]})
 
     def ask(self, server: Server, word: str, clients: int, burst: int,
-            held: int = 0) -> Measured:
-        """One run."""
+            held: int = 0) -> Measurement:
+        """Measures one run of clients that send a word to a server."""
         line = server.lines[word]
         count = line.count("\n")
         askers = min(self.given.askers, clients)
@@ -157,19 +157,20 @@ class Bench:
                        for _ in range(askers)]
             before, ticks_before = self._begin(started, server)
             told = [list(map(float, client.communicate()[0].split())) for client in started]
-        seconds = used(server.pid) - before
+        seconds = processor_seconds(server.pid) - before
         own, system = (after - was for after, was in zip(ticks(server.pid), ticks_before))
         lines, took, half, most = (list(column) for column in zip(*told))
-        return Measured(sum(lines) / max(took), 1e6 * seconds / sum(lines),
-                        system / max(1, own + system), max(half), max(most))
+        return Measurement(sum(lines) / max(took), 1e6 * seconds / sum(lines),
+                           system / max(1, own + system), max(half), max(most))
 
     def _begin(self, started: Sequence[subprocess.Popen[str]],
                server: Server) -> Tuple[float, List[int]]:
-        """Lets clients ask once all are connected; what the server has used until then."""
+        """Lets clients begin when all are connected. Returns what the server has used until
+        then."""
         for client in started:
             assert client.stdout
             client.stdout.readline()
-        before = used(server.pid), ticks(server.pid)
+        before = processor_seconds(server.pid), ticks(server.pid)
         for client in started:
             assert client.stdin
             client.stdin.write("\n")
@@ -177,7 +178,7 @@ class Bench:
         return before
 
     def calls(self, server: Server, word: str, clients: int, burst: int) -> Optional[float]:
-        """Calls of the system for a line, under strace."""
+        """System calls per line, counted by strace."""
         out = f"{self.folder}/calls"
         tracer = subprocess.Popen(["strace", "-f", "-c", "-U", "calls,name", "-o", out, "-p",
                                    str(server.pid)], stderr=subprocess.DEVNULL)
@@ -192,15 +193,15 @@ class Bench:
         return int(total[1]) / int(told[0]) if total else None
 
 
-def by_pipe(program: str, folder: str, seconds: float) -> Measured:
-    """Lines one by one through a pipe; the client's own time is in it."""
+def by_pipe(program: str, folder: str, seconds: float) -> Measurement:
+    """Lines one by one through a pipe, including the client's own time."""
     with subprocess.Popen([program, "serve", f"types={folder}/types.ctf"], stdin=subprocess.PIPE,
                           stdout=subprocess.PIPE) as child:
         assert child.stdin and child.stdout
         to, back = child.stdin.fileno(), child.stdout.fileno()
         os.write(to, TAKE.encode())
         os.read(back, 65_536)
-        waits, line, before = [], LINES["kind"].encode(), used(child.pid)
+        waits, line, before = [], LINES["kind"].encode(), processor_seconds(child.pid)
         began = moment = time.perf_counter()
         while moment - began < seconds:
             os.write(to, line)
@@ -210,12 +211,13 @@ def by_pipe(program: str, folder: str, seconds: float) -> Measured:
             moment = after
         waits.sort()
         count = len(waits)
-        return Measured(count / (moment - began), 1e6 * (used(child.pid) - before) / count, 0,
-                        1e6 * waits[count // 2], 1e6 * waits[count * 99 // 100])
+        used = processor_seconds(child.pid) - before
+        return Measurement(count / (moment - began), 1e6 * used / count, 0,
+                           1e6 * waits[count // 2], 1e6 * waits[count * 99 // 100])
 
 
 def measure(bench: Bench, title: str, word: str, clients: int, burst: int, held: int = 0) -> None:
-    """All servers in turn, some times; the best run of each."""
+    """Runs all servers in turn, several times, and prints the best run of each."""
     able = [server for server in bench.servers if word in server.lines]
     runs = [[bench.ask(server, word, clients, burst, held) for server in able]
             for _ in range(bench.given.runs)]

@@ -3,21 +3,21 @@
 
 usage: hostile.py PROGRAM [--growth] [--limit FACTOR] [WORD]..
 
-Each case is a dictionary and one request (or a dump), some behind many others; or a session and its
-last request (hostile_sessions.py). Told are the megabytes that were read and written, the
-milliseconds of processor time that the request took, the least of three runs, and those for each
-megabyte. Wanted are at most 10 ms for each MB; what takes no more than 5 ms in all is within that.
-With --limit, the status is 1 where a case takes more than FACTOR times as long.
+Each case is a dictionary and one request (or a dump), some after many others; or a session and its
+last request (hostile_sessions.py). The output has the megabytes that were read and written, the
+milliseconds of processor time that the request took, the least of three runs, and the milliseconds
+per megabyte. The aim is at most 10 ms per MB; at most 5 ms in all is also enough. With --limit, the
+status is 1 if a case takes more than FACTOR times as long.
 
-Then comes what memory dictionaries take that are made to take much, and how many times as much that
-is as a quota counts; the case says how much is too much with --limit.
+The next rows show the memory of dictionaries that are made to take much, and its ratio to the bytes
+that a quota counts; with --limit, the case says how much is too much.
 
-Then come requests of so many sessions, slots and pending types, and how much longer they take than
-those of half as many: with --limit, more than three times as long is too much. So it is with files
-that the Python commands read (hostile_files.py), and with 5 seconds for one.
+The next rows show requests of many sessions, slots and pending types, and the ratio of their time
+to that of half as many; with --limit, more than three times as long is too much. The same is done
+for files that the commands read (hostile_files.py), with a limit of 5 seconds for one.
 
-With --growth, instructions are counted by valgrind for each case that has a size, and for one of
-half its size: twice as many are linear. WORDs pick cases by their names.
+With --growth, valgrind counts instructions for each case that has a size, and for one of half its
+size: a ratio of 2 is linear. WORDs pick cases by their names.
 """
 import argparse
 import os
@@ -37,16 +37,16 @@ from hostile_files import FILES, MOST_SECONDS
 from hostile_sessions import GROWTHS, HELD, SESSIONS
 
 WANTED, LEAST = 10.0, 5.0
-# How many times as long twice as much may take.
+# The greatest ratio for twice the size.
 GROWN = 3.0
 RUNS, RUNS_OF_GROWTH = 3, 7
 
 
 @dataclass(frozen=True)
 class Case:
-    """What is asked of a dictionary of a size. `make` gives its lists and a number, as a type's;
-    `ask` gives the fields of a request on it, or None for a dump; `before` gives those of the
-    requests before that, by the size."""
+    """A request on a dictionary of a size. `make` gives the lists and a number, such as a type's;
+    `ask` gives the fields of the request, or None for a dump; `before` gives those of earlier
+    requests, from the size."""
 
     name: str
     size: int
@@ -68,32 +68,32 @@ def path(length, last=b"a"):
     return lambda t: '"op":"path","d":1,"t":%d,"names":["%s"]' % (t, name)
 
 
-def opened(t):
+def open_line(t):
     return None
 
 
-def named(op, end="", rest=""):
-    """A request for the name in the middle, with something behind it."""
+def name_line(op, end="", rest=""):
+    """A request for the name in the middle, followed by `end`."""
     return lambda n: '"op":"%s"%s,"name":"p%06d%s"' % (op, rest, n // 2, end)
 
 
 def publications(count):
     publish = '"op":"publish","d":1,"name":"p%06d"'
-    return (publish % number for number in shuffled(count))
+    return (publish % number for number in shuffled_symbols(count))
 
 
-def empty(count):
+def empty_structs(count):
     return (bytes.fromhex(EMPTY), b"", b""), count
 
 
-def shuffled(count):
+def shuffled_symbols(count):
     numbers = list(range(count))
     random.Random(1).shuffle(numbers)
     return numbers
 
 
 MEGABYTE = 1_000_000
-# What a request may be refused as here: by what it found at the end of its work.
+# The expected refusals, which depend on something at the end of the work.
 EXPECTED = (b'"TooLong"', b'"NoMember"', b'"LongReply"', b'"NotPublished"')
 WINDOW = ',"from":0,"count":20'
 
@@ -124,14 +124,16 @@ CASES = [
     Case("members: 20 of a name of 15 MB", 15 * MEGABYTE, made.long_names, word("members", WINDOW)),
     Case("find: among 16,000 names alike in front", 16000, made.alike,
          lambda t: '"op":"find","d":1,"text":"%s"' % ("%d" % 15999).rjust(79, "n")),
-    Case("publish: one more than 16,000", 16_000, empty,
-         named("publish", "-", ',"d":1'), publications),
-    Case("take: a name that none of 16,000 has", 16_000, empty,
-         named("take", "-", ',"owner":1'), publications),
-    Case("withdraw: one of 16,000", 16_000, empty, named("withdraw"), publications),
-    Case("open: 699,048 symbols in order", 699_048, lambda n: made.named_symbols(n, range), opened),
-    Case("open: the same, shuffled", 699_048, lambda n: made.named_symbols(n, shuffled), opened),
-    Case("open: 1,900 unions of 1,023 members", 1900, made.unions, opened),
+    Case("publish: one more than 16,000", 16_000, empty_structs,
+         name_line("publish", "-", ',"d":1'), publications),
+    Case("take: a name that none of 16,000 has", 16_000, empty_structs,
+         name_line("take", "-", ',"owner":1'), publications),
+    Case("withdraw: one of 16,000", 16_000, empty_structs, name_line("withdraw"), publications),
+    Case("open: 699,048 symbols in order", 699_048, lambda n: made.named_symbols(n, range),
+         open_line),
+    Case("open: the same, shuffled", 699_048, lambda n: made.named_symbols(n, shuffled_symbols),
+         open_line),
+    Case("open: 1,900 unions of 1,023 members", 1900, made.unions, open_line),
     Case("dump: 20,000 symbols of a 15 MB name, untold",
          20_000, lambda n: made.untold(n, 15 * MEGABYTE), None),
     Case("dump: 32,765 pointers to a name of 1 MB",
@@ -142,7 +144,7 @@ CASES = [
 
 
 def stream(lists, before, fields, word):
-    """The lines that hand in a dictionary, open it and ask, or stop where `word` says."""
+    """The lines that hand in a dictionary, open it and ask; they stop where `word` says."""
     yield from all_parts(1, lists)
     if word == "parts":
         return
@@ -152,7 +154,7 @@ def stream(lists, before, fields, word):
 
 
 class Run:
-    """A case of a size, in files of a folder."""
+    """A case of a size, with its files in a folder."""
 
     def __init__(self, program, case, size, folder):
         lists, number = case.make(size)
@@ -166,7 +168,7 @@ class Run:
                 out.write(data)
 
     def commands(self):
-        """The command with what is asked and the one without it, each with its input."""
+        """The command with the request and the one without it, each with its input."""
         if self.is_dump:
             has_symbols = self.lists[1] or self.lists[2]
             extra = ["--sym", self.files[1], "--str", self.files[2]] if has_symbols else []
@@ -185,8 +187,8 @@ class Run:
         return (sum(map(len, self.lists)) + asked + written) / 1_000_000
 
 
-def timed(command, file):
-    """The seconds of processor time, and how many bytes the last line or the dump has."""
+def time_of(command, file):
+    """The seconds of processor time, and the output."""
     with open(file, "rb") as stdin, tempfile.TemporaryFile() as out:
         child = subprocess.Popen(command, stdin=stdin, stdout=out)
         _, status, usage = os.wait4(child.pid, 0)
@@ -198,11 +200,11 @@ def timed(command, file):
 
 
 def measure(run):
-    """The megabytes and the milliseconds of what is asked."""
+    """The megabytes and milliseconds of a request."""
     with_it, without = run.commands()
-    best, said = min(timed(*with_it) for _ in range(RUNS))
+    best, said = min(time_of(*with_it) for _ in range(RUNS))
     if without:
-        best -= min(timed(*without) for _ in range(RUNS))[0]
+        best -= min(time_of(*without) for _ in range(RUNS))[0]
         said = said.rsplit(b"\n", 2)[-2]
         if not said.startswith(b'{"ok"') and not any(name in said for name in EXPECTED):
             sys.exit(f"{run.fields}: {said[:200]}")
@@ -217,21 +219,21 @@ def instructions(command, file):
     return int(re.search(rb"Collected : (\d+)", done.stderr).group(1))
 
 
-def counted(run):
+def instruction_count(run):
     with_it, without = run.commands()
     return instructions(*with_it) - (instructions(*without) if without else 0)
 
 
 def growth(program, case):
-    """How many times as many instructions a case takes as one of half its size."""
+    """The ratio of the instructions of a case to those of one of half its size."""
     with tempfile.TemporaryDirectory() as small, tempfile.TemporaryDirectory() as large:
-        half = counted(Run(program, case, case.size // 2, small))
-        return counted(Run(program, case, case.size, large)) / half
+        half = instruction_count(Run(program, case, case.size // 2, small))
+        return instruction_count(Run(program, case, case.size, large)) / half
 
 
 @dataclass(frozen=True)
 class Row:
-    """What a case took."""
+    """The result of a case."""
 
     name: str
     megabytes: float
@@ -242,7 +244,7 @@ class Row:
         wanted = max(LEAST, WANTED * self.megabytes)
         return factor is not None and self.milliseconds > factor * wanted
 
-    def told(self, factor):
+    def report(self, factor):
         rate = self.milliseconds / self.megabytes
         words = [f"{self.name:52}{self.megabytes:8.2f} MB{self.milliseconds:9.1f} ms"
                  f"{rate:9.1f} ms/MB"]
@@ -262,13 +264,13 @@ def session_row(program, case):
     taken = []
     for _ in range(RUNS):
         with Service(program) as service:
-            taken.append(service.timed(case.lines()))
+            taken.append(service.request_time(case.lines()))
     seconds, moved, _ = min(taken)
     return Row(case.name, case.read + moved / 1_000_000, 1000 * seconds)
 
 
 def held_row(program, case, limit):
-    """A row of what is held, and whether that takes too much memory."""
+    """A row of memory, and whether it is too much."""
     with Service(program) as service:
         before = service.memory()
         service.ask_all(case.lines())
@@ -280,7 +282,7 @@ def held_row(program, case, limit):
 
 
 def all_seconds(program, case, size):
-    """What the requests of a case take together."""
+    """The time of all requests of a case."""
     taken = []
     for _ in range(RUNS_OF_GROWTH):
         with Service(program) as service:
@@ -296,8 +298,8 @@ def all_instructions(program, case, size):
 
 
 def steady(cost, size):
-    """The cost of half a size and of all of it; measured again where one seems out of proportion to
-    the other, which something beside it may have done."""
+    """The costs of half a size and of the whole; measured again if the ratio is too large, since
+    other processes may disturb a measurement."""
     for _ in range(3):
         half, whole = cost(size // 2), cost(size)
         if whole <= GROWN * half:
@@ -306,7 +308,7 @@ def steady(cost, size):
 
 
 def growth_row(program, case, is_counted, limit):
-    """A row of what grows, and whether that is too much."""
+    """A row of growth, and whether it is too much."""
     cost = all_instructions if is_counted else all_seconds
     half, whole = steady(lambda size: cost(program, case, size), case.size)
     used = f"{whole / 1e6:9.1f} million" if is_counted else f"{1000 * whole:9.1f} ms"
@@ -316,7 +318,7 @@ def growth_row(program, case, is_counted, limit):
 
 
 def file_row(program, case, limit):
-    """A row of a file that a command reads, and whether that takes too long."""
+    """A row for a file that a command reads, and whether it takes too long."""
     half, whole = steady(lambda size: case.seconds(program, size), case.size)
     is_over = limit is not None and (whole > GROWN * half or whole > MOST_SECONDS)
     return f"{case.name:52}{case.size:8}   {1000 * whole:9.1f} ms  x{whole / half:.2f}" \
@@ -324,17 +326,17 @@ def file_row(program, case, limit):
 
 
 def rows(program, options):
-    """Each row, and whether it is over."""
+    """The rows, each with whether it exceeds its limit."""
 
     def is_picked(case):
         return not options.words or any(word in case.name for word in options.words)
 
     for case in filter(is_picked, CASES):
         row = dictionary_row(program, case, options.growth)
-        yield row.told(options.limit), row.is_over(options.limit)
+        yield row.report(options.limit), row.is_over(options.limit)
     for case in filter(is_picked, SESSIONS):
         row = session_row(program, case)
-        yield row.told(options.limit), row.is_over(options.limit)
+        yield row.report(options.limit), row.is_over(options.limit)
     for case in filter(is_picked, HELD):
         yield held_row(program, case, options.limit)
     for case in filter(is_picked, GROWTHS):

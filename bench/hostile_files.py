@@ -1,6 +1,5 @@
 #!/usr/bin/env python3
-"""Files that are made so that who reads them takes long, or much memory, for their bytes. Each
-function takes how large its own is to be."""
+"""Files that take long to read, or much memory, for their size. Each function takes a size."""
 import os
 import resource
 import struct
@@ -17,7 +16,7 @@ sys.path.insert(0, str(TOP / "tests"))
 from doors import writers as w  # noqa: E402
 
 TOOLS = Path(os.environ.get("CTFD_TOOLS", TOP / "clients/python"))
-# Where the commands are that are compiled alone.
+# The folder of the compiled commands.
 COMPILED = Path(os.environ.get("CARGO_TARGET_DIR") or TOP / "clients/rust/target") / "release"
 MOST_SECONDS = 5
 BASE_OF_INT = w.abbreviation(3, 0x24, False, [(0x0B, 0x0B), (0x3E, 0x0B), (0x03, 0x08)])
@@ -28,7 +27,7 @@ NAME, TYPE = (0x03, 0x08), (0x49, 0x13)
 
 
 def chained_typedefs(count):
-    """Typedefs in debug information, each of the next."""
+    """Typedefs in DWARF, each of the next one."""
     listed = UNIT_OF_C + w.abbreviation(2, 0x16, False, [NAME, TYPE]) + BASE_OF_INT + b"\0"
     first = w.head_size(4) + len(TOP)
     entries = b"".join(b"\2t\0" + struct.pack("<I", first + 7 * (n + 1)) for n in range(count))
@@ -41,7 +40,7 @@ def chained_typedefs_of_btf(count):
 
 
 def symbols_of_one_name(count, length=8_000_000):
-    """Symbols of a program with CTF that all have one name of many bytes."""
+    """Symbols of a program with CTF that all have the same long name."""
     types = w.record(1, w.INTEGER, 0, 4, w.INT)
     made = w.ctf(types, b"\0int\0", objects=struct.pack("<H", 1) * count)
     return _with_symbols(w.Section(".SUNW_ctf", made, link=2), count, length)
@@ -62,7 +61,7 @@ def _with_symbols(section, count, length, *more):
 
 
 def unended_labels(count, length=4_000_000):
-    """Labels that all begin as those that `ctfd-convert` writes, in a text that has no end."""
+    """Labels that begin like those of `ctfd-convert`, with names that have no end."""
     types = w.record(1, w.INTEGER, 0, 4, w.INT)
     text = b"\0int\0" + b"ctfd.symbols=" + b"x" * length
     labels = b"".join(struct.pack("<II", 5 + n % 2 * 0, 1) for n in range(count))
@@ -70,14 +69,14 @@ def unended_labels(count, length=4_000_000):
 
 
 def ended_labels(count, length=4_000):
-    """Labels of which each is a text of 4,000 bytes, one and the same."""
+    """Labels that all have the same name of 4,000 bytes."""
     types = w.record(1, w.INTEGER, 0, 4, w.INT)
     text = b"\0int\0" + b"ctfd.symbol_" + b"x" * length + b"\0"
     return w.ctf(types, text, struct.pack("<II", 5, 1) * count)
 
 
 def doubled_structs(count):
-    """Structs of which each holds the one before twice."""
+    """Structs that each contain the previous one twice."""
     types = [w.record(1, w.INTEGER, 0, 4, w.INT)]
     for n in range(count):
         members = w.member(5, n + 1, 0) + w.member(7, n + 1, 0)
@@ -86,7 +85,7 @@ def doubled_structs(count):
 
 
 def doubled_unnamed(count):
-    """The same without names, in a struct of one that has one."""
+    """Structs without names, except for the last, that each contain the previous one twice."""
     types = [w.record(1, w.INTEGER, 0, 4, w.INT)]
     for n in range(count):
         members = w.member(5, n + 1, 0) + w.member(7, n + 1, 0)
@@ -95,7 +94,7 @@ def doubled_unnamed(count):
 
 
 def overlapping_abbreviations(count):
-    """Units of which each begins in the abbreviations of the one before."""
+    """Units whose abbreviations each begin within those of the previous unit."""
     one = w.abbreviation(1, 0x11, False, [(0x13, 0x0B)])
     places = [n * len(one) for n in range(count)]
     info = b"".join(w.unit(TOP, abbreviations=place) for place in places)
@@ -103,7 +102,7 @@ def overlapping_abbreviations(count):
 
 
 def entries_of_one_byte(count):
-    """A program whose tables say that each of their entries has one byte."""
+    """A program whose tables say that their entries have one byte."""
     types = w.record(1, w.INTEGER, 0, 4, w.INT)
     made = w.Section(".SUNW_ctf", w.ctf(types, b"\0int\0"), link=2)
     table = w.symbols((w.symbol(1, w.OBJECT, 1, 4 * n) for n in range(count)), b"\0n\0", 3)
@@ -117,14 +116,15 @@ USERS = ("types", "--no-cache", "{}", "--uses", "int", "--recursive")
 
 
 def tool(name):
-    """The command `ctfd-NAME`."""
+    """The path of the command `ctfd-NAME`."""
     own = TOOLS / f"ctfd-{name}"
     return own if own.exists() else COMPILED / own.name
 
 
 @dataclass(frozen=True)
 class FileCase:
-    """A file of a size, and the command that reads it: a name behind `ctfd-`, and its words."""
+    """A file of a size, and the command that reads it: its name without `ctfd-`, and its
+    arguments."""
 
     name: str
     size: int
@@ -132,7 +132,8 @@ class FileCase:
     command: tuple = CONVERT
 
     def seconds(self, program, size):
-        """The processor time that the command takes on a file of a size. It may refuse it."""
+        """The processor time of the command for a file of this size. The command may refuse the
+        file."""
         with tempfile.TemporaryDirectory() as folder:
             path = os.path.join(folder, "file")
             Path(path).write_bytes(self.make(size))
@@ -140,14 +141,14 @@ class FileCase:
             done = subprocess.Popen([tool(self.command[0]), *words],
                                     env={**os.environ, "CTFD": program, "CTFD_LIBRARY": ""},
                                     stdout=subprocess.DEVNULL, stderr=subprocess.DEVNULL,
-                                    preexec_fn=_bounded)
+                                    preexec_fn=_set_limits)
             _, status, used = os.wait4(done.pid, 0)
         if os.WIFSIGNALED(status):
             return float("inf")
         return used.ru_utime + used.ru_stime
 
 
-def _bounded():
+def _set_limits():
     resource.setrlimit(resource.RLIMIT_CPU, (4 * MOST_SECONDS, 4 * MOST_SECONDS))
 
 

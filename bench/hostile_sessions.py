@@ -1,6 +1,8 @@
-"""Sessions whose last request is made to be slow, and what grows with their number.
+"""Sessions whose last request is made to be slow, and requests whose cost may grow with their
+number.
 
-Each function gives the lines of requests: all but the last make ready, and the last is timed."""
+Each function yields the lines of requests: all but the last prepare for the last, which is
+timed."""
 import json
 import random
 import struct
@@ -8,7 +10,7 @@ from dataclasses import dataclass
 from typing import Callable, Iterator
 
 import hostile_dictionaries as made
-from dictionaries import VISIBLE, all_parts, dictionary, record, symbol, told
+from dictionaries import VISIBLE, all_parts, dictionary, record, symbol, with_entries
 
 LINE = 1_048_576
 INT = '"what":"integer","name":"int","size":4,"encoding":1,"offset":0,"bits":32'
@@ -16,8 +18,8 @@ INT = '"what":"integer","name":"int","size":4,"encoding":1,"offset":0,"bits":32'
 
 @dataclass(frozen=True)
 class Session:
-    """Requests that make ready, and the last, which is timed. `read` is how many megabytes of a
-    dictionary it reads."""
+    """Requests that prepare for the last one, which is timed. `read` is the size in megabytes of
+    the dictionary that it reads."""
 
     name: str
     lines: Callable[[], Iterator[str]]
@@ -25,9 +27,9 @@ class Session:
 
 
 @dataclass(frozen=True)
-class Held:
-    """Requests after which the service holds so many bytes that a quota counts, and how many times
-    as much memory it may have for them."""
+class HeldBytes:
+    """Requests after which the service holds `counted` bytes of a quota. It may use up to `most`
+    times as much memory for them."""
 
     name: str
     lines: Callable[[], Iterator[str]]
@@ -37,7 +39,7 @@ class Held:
 
 @dataclass(frozen=True)
 class Growth:
-    """Requests of so many sessions, slots or types."""
+    """Requests for a given number of sessions, slots or types."""
 
     name: str
     size: int
@@ -48,58 +50,58 @@ def line(op, rest="", session=1):
     return '{"s":%d,"op":"%s"%s}\n' % (session, op, "," + rest if rest else "")
 
 
-def opened(lists, session=1):
+def open_requests(lists, session=1):
     """The requests that hand in lists and open them."""
     yield from all_parts(session, lists)
     yield line("open", session=session)
 
 
-def added(what, d=1):
+def add_request(what, d=1):
     return line("add", '"d":%d,%s' % (d, what))
 
 
 def member(t, tnum, name="", d=1):
-    return added('"what":"member","t":%d,"type":%d,"name":"%s"' % (t, tnum, name), d)
+    return add_request('"what":"member","t":%d,"type":%d,"name":"%s"' % (t, tnum, name), d)
 
 
 # ---- lines of a MB
 
 
-def filled(front, item, back, limit=LINE):
-    """A line of items, separated by commas, that is as long as a line may be."""
+def full_line(front, item, back, limit=LINE):
+    """A line of items, separated by commas, as long as a line may be."""
     room = limit - len(front) - len(back)
     return front + ",".join([item] * (room // (len(item) + 1))) + back + "\n"
 
 
 def unknown_field(item):
-    """A question with a list of items in a field that it does not have."""
-    yield from opened((dictionary(made.integer(0), b"\0"), b"", b""))
-    yield filled('{"s":1,"op":"kind","d":1,"t":1,"x":[', item, "]}")
+    """A question with a list of items in an unknown field."""
+    yield from open_requests((dictionary(made.integer(0), b"\0"), b"", b""))
+    yield full_line('{"s":1,"op":"kind","d":1,"t":1,"x":[', item, "]}")
 
 
 def too_deep():
-    """The same, with as many brackets in each other as there is room for."""
-    yield from opened((dictionary(made.integer(0), b"\0"), b"", b""))
+    """A question with an unknown field of nested brackets, as long as a line may be."""
+    yield from open_requests((dictionary(made.integer(0), b"\0"), b"", b""))
     front, half = '{"s":1,"op":"kind","d":1,"t":1,"x":', (LINE - 60) // 2
     yield front + "[" * half + "]" * half + "}\n"
 
 
 def many_names(item):
-    """A path of so many names, or of what is none."""
-    yield from opened((dictionary(made.integer(0), b"\0"), b"", b""))
-    yield filled('{"s":1,"op":"path","d":1,"t":1,"names":[', item, "]}")
+    """A path of names, or other items, as long as a line may be."""
+    yield from open_requests((dictionary(made.integer(0), b"\0"), b"", b""))
+    yield full_line('{"s":1,"op":"path","d":1,"t":1,"names":[', item, "]}")
 
 
 def repeated_field():
-    """A question that says its session again and again."""
-    yield from opened((dictionary(made.integer(0), b"\0"), b"", b""))
-    yield filled('{"op":"kind","d":1,"t":1,', '"s":1', "}")
+    """A question that repeats its session many times."""
+    yield from open_requests((dictionary(made.integer(0), b"\0"), b"", b""))
+    yield full_line('{"op":"kind","d":1,"t":1,', '"s":1', "}")
 
 
 def many_arguments():
     yield line("create")
-    yield added(INT)
-    yield filled('{"s":1,"op":"add","d":1,"what":"function","type":1,"args":[', "1", "]}")
+    yield add_request(INT)
+    yield full_line('{"s":1,"op":"add","d":1,"what":"function","type":1,"args":[', "1", "]}")
 
 
 # ---- paths
@@ -109,29 +111,29 @@ LONG_NAME = 2000
 
 
 def unlike_at(place):
-    """1,023 names that differ in four bytes at a place."""
+    """1,023 names that differ in four bytes at an offset."""
     front, back = b"a" * place, b"a" * (LONG_NAME - 4 - place)
     return [front + b"%04d" % i + back for i in range(1023)]
 
 
 def unlike_each_elsewhere(length=LONG_NAME, first=400):
-    """1,023 names, each of which differs from the last one at a place of its own, where there are
-    as many places."""
+    """1,023 names, each of which differs from the last one at a different offset, as long as there
+    are enough."""
     places = [first + i % (length - first - 8) for i in range(1022)]
     return [b"a" * at + b"b" + b"a" * (length - 1 - at) for at in places] + [b"a" * length]
 
 
-# By what a search picks the two slots, of 4,096, in which it keeps where a name differs.
+# The factors with which a search picks the two slots, of 4,096, that remember where a name differs.
 FACTORS = (0x9e3779b97f4a7c15, 0xc2b2ae3d27d4eb4f)
 
 
 def is_crowded(end):
-    """Whether both slots of a name that ends somewhere are of the first 256."""
+    """Whether both slots of a name with this end are among the first 256."""
     return all((end * factor) % (1 << 64) >> 52 < 256 for factor in FACTORS)
 
 
-def placed(texts, may_end):
-    """A table of texts, each of which ends where it may, and the places where they begin."""
+def overlapping_table(texts, may_end):
+    """A table of texts that end only at allowed offsets, and the offsets where they begin."""
     table, begins = bytearray(1), []
     for text in texts:
         while not may_end(len(table) + len(text)):
@@ -142,16 +144,16 @@ def placed(texts, may_end):
 
 
 def steps(count, texts, shorter=0, may_end=lambda end: True):
-    """Structs in each other, each with a member by each of these names, and the way through the
-    last ones. The names of each step are shorter than those before by so many bytes: they are ends
-    of the same texts."""
-    table, begins = placed(texts, may_end)
+    """Nested structs, each with a member of each of these names, and a path through the last ones.
+    The names in each step are `shorter` bytes shorter than those before; they are ends of the same
+    texts."""
+    table, begins = overlapping_table(texts, may_end)
     types = made.integer(0)
     for i in range(count):
         cut = shorter * (count - 1 - i)
         items = b"".join(struct.pack("<IHH", begin + cut, 1 + i, 0) for begin in begins)
         types += record(0, 6, len(begins), 4, items)
-    yield from opened((dictionary(types, table), b"", b""))
+    yield from open_requests((dictionary(types, table), b"", b""))
     way = json.dumps([texts[-1][shorter * i:].decode() for i in range(count)],
                      separators=(",", ":"))
     yield line("path", '"d":1,"t":%d,"names":%s' % (1 + count, way))
@@ -161,25 +163,25 @@ def steps(count, texts, shorter=0, may_end=lambda end: True):
 
 
 def unlike_in_the_middle(count, length):
-    """So many names of one length that differ in five bytes in their middle."""
+    """`count` names of one length that differ in five bytes in the middle."""
     front = b"p" * (length // 2)
     back = b"p" * (length - 5 - len(front))
     return [front + b"%05d" % i + back for i in range(count)]
 
 
 def look_ups_of(count, length):
-    """A struct, sought among so many by such a name."""
-    table, begins = placed(unlike_in_the_middle(count, length), lambda end: True)
+    """A struct, found among `count` others by such a name."""
+    table, begins = overlapping_table(unlike_in_the_middle(count, length), lambda end: True)
     types = b"".join(record(begin, 6, VISIBLE, 0) for begin in begins)
-    yield from opened((dictionary(types, table), b"", b""))
+    yield from open_requests((dictionary(types, table), b"", b""))
     yield line("find", '"d":1,"text":"struct %s"' % text_at(table, begins[count // 2]))
 
 
 def symbol_found(count, length):
-    """A symbol, sought among so many by such a name."""
-    table, begins = placed(unlike_in_the_middle(count, length), lambda end: True)
+    """A symbol, found among `count` others by such a name."""
+    table, begins = overlapping_table(unlike_in_the_middle(count, length), lambda end: True)
     symbols = b"".join(symbol(begin, 1) for begin in begins)
-    yield from opened((told(struct.pack("<H", 1) * count, b""), symbols, table))
+    yield from open_requests((with_entries(struct.pack("<H", 1) * count, b""), symbols, table))
     yield line("symbol", '"d":1,"name":"%s"' % text_at(table, begins[count // 2]))
 
 
@@ -191,11 +193,11 @@ def text_at(table, begin):
 
 
 def nested_structs(depth):
-    """A value of structs in each other."""
+    """A value of nested structs."""
     types = made.integer(0)
     for i in range(depth):
         types += record(0, 6, 1, 4, struct.pack("<IHH", 0, 1 + i, 0))
-    yield from opened((dictionary(types, b"\0"), b"", b""))
+    yield from open_requests((dictionary(types, b"\0"), b"", b""))
     yield line("show", '"d":1,"t":%d,"bytes":"00000000","offset":0' % (1 + depth))
 
 
@@ -203,11 +205,12 @@ def nested_structs(depth):
 
 
 def chained_draft(depth, width, kind="struct"):
-    """A member at the bottom of a chain of structs, and then one at its top, which contains all."""
+    """A chain of structs or unions, each with `width` members of the previous one. Then the first
+    gets an integer, and the last one contains the chain."""
     yield line("create")
-    yield added(INT)
+    yield add_request(INT)
     for i in range(depth + 1):
-        yield added('"what":"%s","name":"s%d"' % (kind, i))
+        yield add_request('"what":"%s","name":"s%d"' % (kind, i))
     for i in range(1, depth):
         for _ in range(width):
             yield member(2 + i, 1 + i)
@@ -216,89 +219,91 @@ def chained_draft(depth, width, kind="struct"):
 
 
 def struct_over_unions(depth, width):
-    """A struct's second member, whose place hangs on the alignment of a chain of unions that grew at
-    its bottom."""
+    """A struct's second member, whose offset depends on the alignment of a chain of unions that
+    grew at its bottom."""
     yield from chained_draft(depth, width, "union")
-    yield added('"what":"struct","name":"top"')
+    yield add_request('"what":"struct","name":"top"')
     yield member(3 + depth, 1)
     yield member(3 + depth, 2 + depth)
 
 
 def grown_again(depth, width):
-    """The same once more, behind a member at the bottom that changes no alignment."""
+    """A third member of that struct, after a member at the bottom of the unions that does not
+    change their alignment."""
     yield from struct_over_unions(depth, width)
     yield member(2, 1)
     yield member(3 + depth, 2 + depth)
 
 
 def aligned_again(depth, width):
-    """The same behind a member at the bottom that changes the alignment of all unions."""
+    """A third member of that struct, after a member at the bottom of the unions that changes the
+    alignment of all of them."""
     yield from struct_over_unions(depth, width)
-    yield added('"what":"integer","name":"long","size":8,"encoding":1,"offset":0,"bits":64')
+    yield add_request('"what":"integer","name":"long","size":8,"encoding":1,"offset":0,"bits":64')
     yield member(2, 4 + depth)
     yield member(3 + depth, 2 + depth)
 
 
 def deeper(count):
-    """A struct that gets deeper under so many types."""
+    """A struct that becomes one step deeper, below `count` types."""
     yield line("create")
-    yield added('"what":"struct","name":"inner"')
-    yield added('"what":"struct","name":"outer"')
+    yield add_request('"what":"struct","name":"inner"')
+    yield add_request('"what":"struct","name":"outer"')
     for _ in range(count):
-        yield added('"what":"typedef","name":"","type":2')
+        yield add_request('"what":"typedef","name":"","type":2')
     yield member(2, 1)
 
 
 def deeper_by_each_way(ways, count):
-    """A struct that gets deeper by as many steps as there are ways from it to another one, each
-    longer by a step than the one before; and so many types above that."""
+    """A struct that becomes deeper through `ways` ways to another one, each a step longer than the
+    one before, below `count` types."""
     yield line("create")
-    yield added('"what":"struct","name":"s"')
+    yield add_request('"what":"struct","name":"s"')
     for i in range(ways):
-        yield added('"what":"typedef","name":"t","type":%d' % (1 + i))
+        yield add_request('"what":"typedef","name":"t","type":%d' % (1 + i))
     bottom, top = 2 + ways, 3 + ways
-    yield added('"what":"struct","name":"bottom"')
-    yield added('"what":"struct","name":"top"')
+    yield add_request('"what":"struct","name":"bottom"')
+    yield add_request('"what":"struct","name":"top"')
     yield member(top, bottom)
     for i in range(ways):
-        yield added('"what":"struct","name":"w%d"' % i)
+        yield add_request('"what":"struct","name":"w%d"' % i)
         yield member(top, 1 + top + i)
     yield member(1 + top, bottom)
     for i in range(1, ways):
         yield member(1 + top + i, top + i)
     for _ in range(count):
-        yield added('"what":"typedef","name":"","type":%d' % top)
+        yield add_request('"what":"typedef","name":"","type":%d' % top)
     yield member(bottom, 1 + ways)
 
 
 def circle(count):
-    """Two structs that contain each other from now on, and so many types above one of them."""
+    """Two structs that come to contain each other, and `count` types above one of them."""
     yield line("create")
-    yield added('"what":"struct","name":"a"')
-    yield added('"what":"struct","name":"b"')
+    yield add_request('"what":"struct","name":"a"')
+    yield add_request('"what":"struct","name":"b"')
     for _ in range(count):
-        yield added('"what":"typedef","name":"","type":1')
+        yield add_request('"what":"typedef","name":"","type":1')
     yield member(2, 1)
     yield member(1, 2)
 
 
 def updated_again(megabytes):
-    """An update of a draft to which nothing was added since the last one. Its members have names
-    of a MB."""
+    """An update of a draft that has not changed since the last one. Its members have names of 1
+    MB."""
     yield line("create")
-    yield added(INT)
-    yield added('"what":"struct","name":"s"')
+    yield add_request(INT)
+    yield add_request('"what":"struct","name":"s"')
     for i in range(megabytes):
         yield member(2, 1, ("%03d" % i).rjust(1_000_000, "n"))
     yield line("update", '"d":1')
     yield line("update", '"d":1')
 
 
-# ---- what is staged or imported again
+# ---- staged or imported again
 
 
 def checked_again():
-    """A judgement of lists of 155 MB that were judged already."""
+    """A second check of 155 MB of lists."""
     lists, _ = made.untold(2_600_000, 60_000_000)
     filling = dictionary(made.integer(0), b"\0" + b"n" * 31_000_000 + b"\0")
     yield from all_parts(1, (filling, *lists[1:]))
@@ -307,30 +312,30 @@ def checked_again():
 
 
 def imported_again(count):
-    """An import of the parent that a child of unions has already."""
-    yield from opened((dictionary(made.integer(0), b"\0"), b"", b""))
+    """A second import of the parent into a child of unions."""
+    yield from open_requests((dictionary(made.integer(0), b"\0"), b"", b""))
     items = struct.pack("<IHH", 0, 1, 0) * 1023
     types = record(0, 7, 1023, 4, items) * count
-    yield from opened((dictionary(types, b"\0p\0", 1), b"", b""))
+    yield from open_requests((dictionary(types, b"\0p\0", 1), b"", b""))
     yield line("import", '"d":2,"parent":1')
     yield line("import", '"d":2,"parent":1')
 
 
-# ---- what memory small types take
+# ---- memory of small types
 
 
 SMALL_TYPES, SMALL_SLOTS = 32_766, 30
-# What a quota counts for each: its bytes, and four more for each type.
+# A quota's count for each dictionary: its bytes, and four more for each type.
 SMALL_BYTES = 36 + (8 + 4) * SMALL_TYPES + 1 + SMALL_TYPES + 12
 
 
 def small_types():
-    """Dictionaries of nothing but typedefs, each named by an end of one text, which ends otherwise
-    in each dictionary."""
+    """Dictionaries of typedefs only, each named by an end of one text, which differs at its end in
+    each dictionary."""
     types = b"".join(record(1 + i, 10, VISIBLE, 0) for i in range(SMALL_TYPES))
     for i in range(SMALL_SLOTS):
         names = b"\0" + b"a" * SMALL_TYPES + b"%011d\0" % i
-        yield from opened((dictionary(types, names), b"", b""))
+        yield from open_requests((dictionary(types, names), b"", b""))
 
 
 SESSIONS = [
@@ -379,16 +384,17 @@ SESSIONS = [
 
 
 HELD = [
-    Held("memory: 30 dictionaries of 32,766 typedefs", small_types, SMALL_SLOTS * SMALL_BYTES, 4.0),
+    HeldBytes("memory: 30 dictionaries of 32,766 typedefs", small_types, SMALL_SLOTS * SMALL_BYTES,
+              4.0),
 ]
 
 
-# ---- what grows
+# ---- growth
 
 
 def come_and_go(count):
-    """So many sessions, each of which makes a dictionary and closes it; and once more, in an order
-    by chance."""
+    """`count` sessions that each create a dictionary and close it; then once more, in random
+    order."""
     numbers = list(range(1, 1 + count))
     for d in (1, 2):
         for session in numbers:
@@ -398,7 +404,7 @@ def come_and_go(count):
 
 
 def sessions(count):
-    """So many sessions, and a request of each."""
+    """`count` sessions, with two requests each."""
     for session in range(1, 1 + count):
         yield line("clear", session=session)
     for session in range(1, 1 + count):
@@ -414,18 +420,18 @@ def slots(count):
 
 
 def pending(count):
-    """Types of a draft, each of which names the one before it, and an update."""
+    """Types of a draft, each of which refers to the previous one, and an update."""
     yield line("create")
-    yield added(INT)
+    yield add_request(INT)
     for i in range(1, count):
-        yield added('"what":"typedef","name":"t%d","type":%d' % (i, i if i % 400 else 1))
+        yield add_request('"what":"typedef","name":"t%d","type":%d' % (i, i if i % 400 else 1))
     yield line("update", '"d":1')
 
 
 def publications(count):
-    """Publications of one session under names of their own, each taken by another session and
-    closed there, and then withdrawn."""
-    yield from opened((dictionary(made.integer(0), b"\0"), b"", b""))
+    """Publications of one session under different names. Another session takes and closes each, and
+    then they are withdrawn."""
+    yield from open_requests((dictionary(made.integer(0), b"\0"), b"", b""))
     for i in range(count):
         yield line("publish", '"d":1,"name":"p%d"' % i)
     for i in range(count):

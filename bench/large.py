@@ -1,13 +1,12 @@
 #!/usr/bin/env python3
-"""Times what opening a large dictionary costs, beside one of a quarter of its bytes.
+"""Measures opening a large dictionary, compared with one of a quarter of its size.
 
 usage: large.py PROGRAM
 
-Each is a program's symbols, 15 MB and 60 MB with their strings and what is told of them. It is
-handed in and opened, and then handed in and dropped by a reset: the difference is what `open`
-costs, in processor time (the least of five runs) and in instructions, counted by valgrind. Memory
-is the most that the program has had. All are told for each MB, and how many times as much the
-larger one takes for each MB as the smaller.
+Each is a program's symbols, 15 MB and 60 MB with their strings and types. It is handed in and
+opened, and then handed in and dropped by a reset; the difference is the cost of `open`, in
+processor time (the least of five runs) and in instructions, counted by valgrind. Memory is the
+program's peak. All are printed per MB, with the ratio of the larger dictionary's to the smaller's.
 """
 import sys
 
@@ -18,7 +17,7 @@ COUNTS = 300_000, 1_200_000
 
 
 def costs(program, count):
-    """Its megabytes, and milliseconds, millions of instructions and KiB for each of them."""
+    """The megabytes, and the milliseconds, millions of instructions and KiB of memory per MB."""
     lists = symbols(count)
     megabytes = sum(map(len, lists)) / 1_000_000
     opened, memory = opening.seconds(program, lists, "open")

@@ -1,16 +1,16 @@
 #!/usr/bin/env python3
-"""Counts what a line of each word costs, in instructions, beside a lean program's.
+"""Counts the instructions for a line of each word, compared with those of a lean program.
 
 usage: line_costs.py PROGRAM [--types COUNT].. [--streams] [ROW..]
 
-A session opens a dictionary of 110, 1,900 and 32,000 types of every kind, or of so many as are
-said, and gives lines of one row: a word, two that take each other back, or a line that is refused.
-`PROGRAM serve` runs under callgrind on few of them and on more; what the difference is for each
-line is printed, and how many times what lean.rs takes for the same lines. That one reads JSON and
-writes JSON, and answers `kind`, `part` and refused lines as PROGRAM does; to any other word it
-answers nothing, so that what it takes is what reading the line and writing a short one takes.
-`part` is told for a byte. With --streams the rows are streams of streams.py, of which the first
-1,500 and the first 3,000 questions are counted, beside no other program. Needs valgrind and rustc.
+A session opens a dictionary of 110, 1,900 and 32,000 types of every kind, or of the numbers given,
+and gives lines of one row: a word, two that undo each other, or a line that is refused. `PROGRAM
+serve` runs under callgrind on a few of them and on more. Printed are the difference per line, and
+its ratio to what lean.rs takes for the same lines. lean.rs reads JSON and writes JSON, and answers
+`kind`, `part` and refused lines as PROGRAM does; for other words its reply is empty, so its cost is
+that of reading the line and writing a short one. For `part`, costs are per byte. With --streams the
+rows are streams of streams.py, of which the first 1,500 and the first 3,000 questions are counted,
+without a comparison. Needs valgrind and rustc.
 """
 from __future__ import annotations
 
@@ -37,7 +37,7 @@ HANDS_IN = (b'"op":"part"', b'"op":"open"')
 
 @dataclass(frozen=True)
 class Row:
-    """What is asked `MANY` times; `each` gives the fields of the lines of one time."""
+    """A question that is asked `MANY` times; `each` gives the fields of the lines for one time."""
 
     name: str
     each: Callable[[int, int], list[str]]
@@ -45,13 +45,14 @@ class Row:
     bytes_a_line: int = 0
 
 
-def asked(word: str, fields: str = "") -> Callable[[int, int], list[str]]:
-    """A question on slot 1."""
+def question(word: str, fields: str = "") -> Callable[[int, int], list[str]]:
+    """A question about slot 1."""
     return lambda _types, _i: [f'"op":"{word}","d":1{fields}']
 
 
 def of_type(word: str, place: int, fields: str = "") -> Row:
-    """A question on the type at this place of each group, the groups in an order of their own."""
+    """A question about the type at this place of each group, with the groups in a scattered
+    order."""
     def each(types: int, i: int) -> list[str]:
         group = i * 7_001 % (types // GROUP)
         return [f'"op":"{word}","d":1,"t":{GROUP * group + place}{fields}']
@@ -113,7 +114,7 @@ ROWS = (
     Row("add, discard", lambda _t, i: [INTEGER % i, '"op":"discard","d":2'],
         lambda _t: [*DRAFT, '"op":"update","d":2']),
     Row("add, update", lambda _t, i: [INTEGER % i, '"op":"update","d":2'], lambda _t: DRAFT),
-    Row("bytes", asked("bytes", ',"from":0,"count":16')),
+    Row("bytes", question("bytes", ',"from":0,"count":16')),
     of_type("kind", 2),
     of_type("record", 2),
     of_type("members", 2),
@@ -133,10 +134,10 @@ ROWS = (
     Row("symbol", symbol),
     of_symbol("object", 0),
     of_symbol("function", 1),
-    Row("labels", asked("labels", ',"from":0,"count":1')),
+    Row("labels", question("labels", ',"from":0,"count":1')),
     Row("label", label),
-    Row("info", asked("info")),
-    Row("model", asked("model")),
+    Row("info", question("info")),
+    Row("model", question("model")),
     Row("NotJson", lambda _t, _i: ['"op":"kind","d":1,"t":']),
     Row("BadRequest", lambda _t, _i: ['"op":"kind","d":1']),
     Row("NoSlot", lambda _t, _i: ['"op":"kind","d":9,"t":1']),
@@ -169,7 +170,7 @@ def instructions(program: list[str], given: bytes) -> int:
 
 
 def cost(program: list[str], front: bytes, row: Row, types: int) -> float:
-    """Instructions for a line, or for a byte."""
+    """The number of instructions per line, or per byte."""
     few, many = (10, 30) if row.bytes_a_line else (FEW, MANY)
     less = instructions(program, front + lines_of(row, types, few))
     more = instructions(program, front + lines_of(row, types, many))
@@ -185,7 +186,7 @@ def lean(folder: str) -> list[str]:
 
 
 def questions(stream: str) -> list[bytes]:
-    """The lines of a stream up to its last question that is counted."""
+    """The lines of a stream up to the last question that is counted."""
     made = subprocess.Popen([sys.executable, Path(__file__).with_name("streams.py"), stream],
                             stdout=subprocess.PIPE)
     assert made.stdout is not None
@@ -201,8 +202,8 @@ def questions(stream: str) -> list[bytes]:
     return found
 
 
-def streamed(program: str, stream: str) -> str:
-    """What a question of a stream costs."""
+def stream_cost(program: str, stream: str) -> str:
+    """The cost of a question of a stream."""
     many, counted = questions(stream), MANY_OF_STREAM - FEW_OF_STREAM
     serve = [program, "serve"]
     more = instructions(serve, b"".join(many))
@@ -210,7 +211,7 @@ def streamed(program: str, stream: str) -> str:
     return f"{stream:20} {(more - less) / counted:10,.0f}"
 
 
-def measured(program: str, floor: list[str], row: Row, types: int) -> str:
+def row_cost(program: str, floor: list[str], row: Row, types: int) -> str:
     front = before(row, types)
     ours = cost([program, "serve"], front, row, types)
     theirs = cost(floor, b"", row, types)
@@ -228,12 +229,12 @@ def main() -> None:
     given = parser.parse_args()
     if given.streams:
         for stream in given.rows or STREAMS:
-            print(streamed(given.program, stream), flush=True)
+            print(stream_cost(given.program, stream), flush=True)
         return
     wanted = [row for row in ROWS if not given.rows or row.name in given.rows]
     with tempfile.TemporaryDirectory() as folder, ThreadPoolExecutor(AT_ONCE) as at_once:
         floor = lean(folder)
-        told = at_once.map(lambda pair: measured(given.program, floor, pair[0], pair[1]),
+        told = at_once.map(lambda pair: row_cost(given.program, floor, pair[0], pair[1]),
                            [(row, types) for row in wanted for types in given.types or SIZES])
         for line in told:
             print(line, flush=True)

@@ -1,13 +1,13 @@
-/* Clients of a socket that measure how fast lines are answered, and an echo to compare with.
+/* Clients of a socket that measure how fast lines are answered, and an echo server to compare with.
  *
  * usage: lines PATH CLIENTS AT_ONCE BURST SECONDS BEGIN LINES
  *        lines --echo PATH
  *
- * So many clients connect to the Unix socket, and each sends BEGIN, whose replies it reads. Then
- * this prints `ready`, and waits for a newline. Then AT_ONCE clients have LINES so many times in
- * flight each; when all of a client's replies have come, the next client of all takes its turn.
- * Prints lines, seconds, and the microseconds within
- * which half of the bursts, and 99 of 100, were answered. A reply is what ends in a newline.
+ * CLIENTS clients connect to the Unix socket; each sends BEGIN and reads the replies. Then this
+ * prints `ready`, and waits for a newline. From then on, AT_ONCE clients at a time each send a
+ * burst, which is LINES repeated BURST times; when a client has all its replies, the next one takes
+ * its turn. After SECONDS, prints the number of replies, the seconds, and the microseconds within
+ * which half of the bursts, and 99 % of them, were answered. Each newline ends a reply.
  */
 #define _GNU_SOURCE
 #include <errno.h>
@@ -30,7 +30,7 @@ static char room[ROOM];
 
 struct client {
     int socket;
-    size_t unsent, owed; /* bytes of the burst, and replies */
+    size_t unsent, owed; /* unsent bytes of the burst, and replies still to come */
     double since;
 };
 
@@ -73,7 +73,7 @@ static void send_all(int to, const char *data, size_t len)
     }
 }
 
-/* A client that has sent BEGIN, and read what that is replied. */
+/* Connects a client, which sends BEGIN and reads the replies to it. */
 static int connected(const char *path, const char *begin)
 {
     struct sockaddr_un to = address(path);
@@ -145,7 +145,7 @@ static void ask(const char *path, int count, int at_once, size_t times, double s
             size_t replies = newlines(room, got);
             answered += replies;
             client->owed -= replies;
-            if (client->unsent > 0) { /* replies make room for what was not sent */
+            if (client->unsent > 0) { /* replies make room for unsent bytes */
                 ssize_t sent = send(
                     client->socket, burst + len - client->unsent, client->unsent, MSG_DONTWAIT);
                 if (sent > 0)
@@ -166,7 +166,7 @@ static void ask(const char *path, int count, int at_once, size_t times, double s
         bursts ? waits[bursts * 99 / 100] : 0);
 }
 
-/* Writes back what is read. */
+/* Serves connections, writing back what is read. */
 static void echo(const char *path)
 {
     struct sockaddr_un at = address(path);

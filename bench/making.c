@@ -1,4 +1,5 @@
-/* making WHAT N: N of what libctf's callers do with dictionaries in the making, by either header. */
+/* making WHAT N: does N of one thing that libctf's callers do when making a dictionary, with ctfd's
+ * or (-DGNU) GNU's header. */
 #ifdef GNU
 #include <ctf-api.h>
 typedef ctf_dict_t file;
@@ -30,7 +31,7 @@ static ctf_encoding_t of_int = { CTF_INT_SIGNED, 0, 32 };
 static char names[STRUCTS][32];
 static ctf_id_t structs[STRUCTS];
 
-/* Adds so many of a kind to a dictionary; every 20 members or enumerators have one type. */
+/* Adds `count` items of a kind to a dictionary; every 20 members or enumerators get a new type. */
 static void add(file *to, char kind, ctf_id_t number, long count)
 {
     ctf_id_t in = 0;
@@ -59,7 +60,7 @@ static void add(file *to, char kind, ctf_id_t number, long count)
     }
 }
 
-/* Creates a child of a large parent, and closes it. */
+/* Creates a child of a large parent, and closes it, `count` times. */
 static void import_and_close(file *parent, long count)
 {
     int error;
@@ -96,7 +97,7 @@ static void add_structs(file *to, ctf_id_t number)
     (void)ctf_update(to);
 }
 
-/* Asks each struct, so many times. */
+/* Asks a question about each struct, `count` times. */
 static unsigned long ask(file *of, char what, long count)
 {
     unsigned long sum = 0;

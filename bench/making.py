@@ -1,11 +1,11 @@
 #!/usr/bin/env python3
-"""Counts instructions of dictionaries in the making, by libctfd's calls and by GNU libctf's.
+"""Counts the instructions for making dictionaries, with libctfd's calls and with GNU libctf's.
 
 usage: bench/making.py
 
-The archive is the one that CTFD_ARCHIVE names, else crates/ctf_c/out/libctfd.a. Each row is what one
-more takes, as callgrind counts it for N and for twice as many. Prints a table in Markdown. Needs cc,
-valgrind and the Debian package binutils-dev.
+The archive is the one that CTFD_ARCHIVE names, else crates/ctf_c/out/libctfd.a. A row shows the
+instructions for one more item, as the difference that callgrind counts between N items and twice as
+many. Prints a table in Markdown. Needs cc, valgrind and the Debian package binutils-dev.
 """
 from __future__ import annotations
 
@@ -17,7 +17,8 @@ from pathlib import Path
 
 TOP = Path(__file__).resolve().parents[1]
 ASKED = 2000
-# What each letter of making.c is, how many are made first, and how many each of these are.
+# For each letter of making.c: its row's title, the number of items made first, and the number of
+# calls per item.
 ROWS = {"c": ("create and close", 2000, 1), "i": ("an integer", 2000, 1),
         "p": ("a pointer", 2000, 1), "s": ("a struct", 2000, 1),
         "S": ("a struct, of one name", 2000, 1), "m": ("a member", 2000, 1),

@@ -1,14 +1,13 @@
 #!/usr/bin/env python3
-"""Times what opening a dictionary costs, and how that grows with the number of its types or
-symbols.
+"""Measures opening a dictionary, and how the cost grows with the number of types or symbols.
 
 usage: opening.py PROGRAM
 
-Each dictionary is handed in and opened twenty times (twice where it has more than 8 MB), then
-handed in and only checked, and then handed in and dropped by a reset: the differences are what
-`open` and `check` cost (processor time, the least of five runs). Then the same is done once, and
-the instructions are counted by valgrind, for all types or symbols and for half of them: the ratio
-of the two says how the cost grows, and 2 is linear.
+Each dictionary is handed in and opened twenty times (twice if it has more than 8 MB), then handed
+in and only checked, and then handed in and dropped by a reset. The differences are the costs of
+`open` and `check` (processor time, the least of five runs). Then valgrind counts the instructions
+of one `open` for all types or symbols and for half of them: the ratio of the two shows how the cost
+grows, and 2 is linear.
 """
 import re
 import subprocess
@@ -21,8 +20,8 @@ from dictionaries import (
     endless,
     enumerators,
     labels,
-    mixed,
-    named,
+    mixed_types,
+    named_types,
     overlapping,
     overlapping_names,
     plain_names,
@@ -32,7 +31,7 @@ from dictionaries import (
 
 
 def repeats(lists):
-    """How often a dictionary is opened."""
+    """The number of times that a dictionary is opened."""
     return 20 if sum(map(len, lists)) < 8_000_000 else 2
 
 
@@ -44,7 +43,7 @@ def lines(lists, word, times):
 
 
 def seconds(program, lists, word):
-    """Processor time for one of the word, with handing in, and peak memory."""
+    """The processor time of one request with handing in, and the peak memory."""
     times = repeats(lists)
     with tempfile.NamedTemporaryFile("w", suffix=".jsonl") as file:
         file.writelines(lines(lists, word, times))
@@ -54,7 +53,7 @@ def seconds(program, lists, word):
 
 
 def instructions(program, lists, word):
-    """The instructions of a stream with one of the word."""
+    """The number of instructions of a stream with one request."""
     command = ["valgrind", "--tool=callgrind", "--callgrind-out-file=/dev/null", program, "serve"]
     text = "".join(lines(lists, word, 1)).encode()
     said = subprocess.run(command, input=text, stdout=subprocess.DEVNULL, stderr=subprocess.PIPE,
@@ -63,7 +62,7 @@ def instructions(program, lists, word):
 
 
 def growth(program, make, count):
-    """How many times as many instructions all types, or all symbols, take as half of them."""
+    """The ratio of the instructions for all types or symbols to those for half of them."""
     costs = []
     for size in (count // 2, count):
         lists = make(size)
@@ -72,15 +71,15 @@ def growth(program, make, count):
 
 
 def alone(make):
-    """Such a dictionary without symbols."""
+    """A function that makes such a dictionary without symbols."""
     return lambda count: (make(count),)
 
 
 ROWS = [
-    ("mixed", alone(mixed), 32_766, "types"),
+    ("mixed", alone(mixed_types), 32_766, "types"),
     ("unions", alone(unions), 32_256, "types"),
     ("enumerators", alone(enumerators), 128, "types"),
-    ("named", alone(named), 30_000, "types"),
+    ("named", alone(named_types), 30_000, "types"),
     ("plain names", alone(plain_names), 32_766, "types"),
     ("overlapping names", alone(overlapping_names), 32_766, "types"),
     ("symbols", symbols, 100_000, "symbols"),

@@ -1,16 +1,16 @@
 #!/usr/bin/env python3
-"""Gives two programs the same random lines, and compares byte by byte what they answer.
+"""Gives two programs the same random lines, and compares their replies byte by byte.
 
 usage: random_lines.py PROGRAM OTHER [LINES [SEED]]
 
-The lines are requests of the repository's own runs, of all words, for a few sessions that hold
-what the lines before left; two in five are broken or turned: bytes lost, doubled or replaced,
-numbers past their ranges, keys that come twice, other sessions, words and fields. They come in
-blocks, each a run and what comes between its lines. Of ten lines one is new; the others are of
-blocks made before, in another order and so on other states. Each program gets them in pieces of
-its own, of 1 to 65,536 bytes, each of which is one read. LINES is 1,000,000 where it isn't said.
-Prints how many were compared; where the answers differ, the lines up to there stand in
-random_lines.jsonl, and the status is 1. Needs Linux.
+The lines are requests of the repository's own runs, with all words, for a few sessions that keep
+the state of earlier lines. Two in five are broken or mutated: bytes lost, doubled or replaced,
+numbers out of range, keys given twice, other sessions, words and fields. Lines come in blocks, each
+a run with other lines between its own. One line in ten is new; the others are from earlier blocks,
+in another order and so in other states. Each program gets the lines in different pieces of 1 to
+65,536 bytes, one per read. The default of LINES is 1,000,000. Prints the number of compared lines.
+If replies differ, the lines up to there are in random_lines.jsonl, and the status is 1. Needs
+Linux.
 """
 from __future__ import annotations
 
@@ -31,12 +31,12 @@ sys.path.insert(0, str(TOP / "tests"))
 from doors.service.runs import examples, transcripts  # noqa: E402
 
 LONGEST_READ = 65_536
-# A run of the repository with a longer line takes more time than it is worth here.
+# A run of the repository with a longer line takes too much time.
 LONGEST_LINE = 20_000
 LINES_A_ROUND = 200_000
-# Of so many lines of a round one is new.
+# One line of so many in a round is new.
 ONE_NEW_IN = 10
-# So many blocks are kept, of which the rounds draw.
+# The number of blocks that are kept for later rounds.
 MOST_BLOCKS = 20_000
 SESSIONS = 12
 NUMBER = re.compile(rb"-?[0-9]+")
@@ -61,7 +61,7 @@ PIECES_OF_JSON = (
 
 
 class Mismatch(Exception):
-    """The programs answered differently."""
+    """The programs replied differently."""
 
 
 @dataclass(frozen=True)
@@ -74,13 +74,13 @@ class Block:
 
 @dataclass
 class Maker:
-    """Makes lines, in turn from runs of requests as they stand and from single ones turned."""
+    """Makes lines from runs of requests, with mutated single requests between them."""
 
     luck: random.Random
     runs: list[tuple[bytes, ...]]
     single: list[bytes]
 
-    def spoiled(self, line: bytes) -> bytes:
+    def spoil(self, line: bytes) -> bytes:
         """A line with some of its bytes lost, doubled or replaced."""
         luck = self.luck
         start = luck.randrange(len(line) + 1)
@@ -89,39 +89,39 @@ class Maker:
                               bytes((luck.randrange(256),))))
         return line[:start] + middle + line[end:]
 
-    def replaced(self, line: bytes, what: re.Pattern[bytes], by: tuple[bytes, ...]) -> bytes:
-        """A line with one of its numbers or texts replaced."""
+    def replace_value(self, line: bytes, what: re.Pattern[bytes], by: tuple[bytes, ...]) -> bytes:
+        """A line with one of its numbers or strings replaced."""
         places = list(what.finditer(line))
         if not places:
             return line
         place = self.luck.choice(places)
         return line[:place.start()] + self.luck.choice(by) + line[place.end():]
 
-    def doubled(self, line: bytes) -> bytes:
-        """A line with the members of another before or behind its own."""
+    def double_members(self, line: bytes) -> bytes:
+        """A line with the members of another line before or after its own."""
         other = self.luck.choice(self.single).strip()
         if not (line.startswith(b"{") and line.endswith(b"}") and other.startswith(b"{")):
             return line
         first, second = (line, other) if self.luck.random() < 0.5 else (other, line)
         return first[:-1] + b"," + second[1:]
 
-    def addressed(self, line: bytes, likely: int) -> bytes:
+    def address(self, line: bytes, likely: int) -> bytes:
         """A line for one of a few sessions."""
         session = likely if self.luck.random() < 0.6 else self.luck.randint(1, SESSIONS)
         return re.sub(rb'"s":[0-9]+', b'"s":%d' % session, line, count=1)
 
-    def turned(self, line: bytes) -> bytes:
+    def turn(self, line: bytes) -> bytes:
         luck = self.luck
         for _ in range(luck.choice((1, 1, 1, 2, 3))):
             turn = luck.randrange(5)
             if turn == 0:
-                line = self.spoiled(line)
+                line = self.spoil(line)
             elif turn == 1:
-                line = self.replaced(line, NUMBER, NUMBERS)
+                line = self.replace_value(line, NUMBER, NUMBERS)
             elif turn == 2:
-                line = self.replaced(line, STRING, TEXTS)
+                line = self.replace_value(line, STRING, TEXTS)
             elif turn == 3:
-                line = self.doubled(line)
+                line = self.double_members(line)
             else:
                 line = b" " * luck.choice((1, 100, 8_200)) + line
         return line.replace(b"\n", b" ")
@@ -130,14 +130,14 @@ class Maker:
         """Blocks of lines without end."""
         luck = self.luck
         while True:
-            # What a run hands in goes to one session, and whatever else comes finds it there.
+            # All lines of a run go to one session, whose state other lines find there.
             session = luck.randint(1, SESSIONS)
             lines = []
             for line in luck.choice(self.runs):
                 lines.append(re.sub(rb'"s":[0-9]+', b'"s":%d' % session, line, count=1))
                 while luck.random() < 0.7:
-                    other = self.addressed(luck.choice(self.single), session)
-                    lines.append(other if luck.random() < 0.4 else self.turned(other))
+                    other = self.address(luck.choice(self.single), session)
+                    lines.append(other if luck.random() < 0.4 else self.turn(other))
             if luck.random() < 0.3:
                 lines.append(b'{"s":%d,"op":"reset"}' % session)
             yield Block(b"".join(line + b"\n" for line in lines), len(lines))
@@ -145,14 +145,14 @@ class Maker:
 
 @dataclass
 class Rounds:
-    """Draws rounds of lines out of blocks that are kept, and renews these."""
+    """Draws rounds of lines from kept blocks, and replaces some of these."""
 
     luck: random.Random
     new: Iterator[Block]
     kept: list[Block]
 
-    def renewed(self, lines: int) -> list[Block]:
-        """New blocks of so many lines, which are kept in place of others."""
+    def new_blocks(self, lines: int) -> list[Block]:
+        """New blocks with at least `lines` lines, which replace some of the kept ones."""
         made, count = [], 0
         while count < lines:
             block = next(self.new)
@@ -164,9 +164,9 @@ class Rounds:
                 self.kept[self.luck.randrange(MOST_BLOCKS)] = block
         return made
 
-    def drawn(self, lines: int) -> tuple[bytes, int]:
-        """At least so many lines, and how many they are."""
-        blocks = self.renewed(lines // ONE_NEW_IN)
+    def draw(self, lines: int) -> tuple[bytes, int]:
+        """At least `lines` lines, and their number."""
+        blocks = self.new_blocks(lines // ONE_NEW_IN)
         count = sum(block.lines for block in blocks)
         while count < lines:
             more = self.luck.choices(self.kept, k=50)
@@ -188,8 +188,8 @@ def feed(end: socket.socket, given: bytes, luck: random.Random) -> None:
     end.close()
 
 
-def answered(program: str, given: bytes, luck: random.Random) -> bytes:
-    """What a program answers to bytes that come in pieces."""
+def replies_of(program: str, given: bytes, luck: random.Random) -> bytes:
+    """The replies of a program to bytes that come in pieces."""
     ours, theirs = socket.socketpair(socket.AF_UNIX, socket.SOCK_SEQPACKET)
     child = subprocess.Popen([program, "serve"], stdin=theirs, stdout=subprocess.PIPE)
     theirs.close()
@@ -204,11 +204,11 @@ def answered(program: str, given: bytes, luck: random.Random) -> bytes:
 
 
 def compare(programs: tuple[str, str], given: bytes, luck: random.Random) -> None:
-    """Answers lines by both programs, or says where these differ."""
+    """Gives lines to both programs. Raises Mismatch if their replies differ."""
     if luck.random() < 0.2:
         given = given[:-1]
     with ThreadPoolExecutor(2) as both:
-        asked = [both.submit(answered, program, given, random.Random(luck.random()))
+        asked = [both.submit(replies_of, program, given, random.Random(luck.random()))
                  for program in programs]
         first, second = (it.result() for it in asked)
     if first != second:
@@ -228,9 +228,9 @@ def main() -> int:
     maker = Maker(luck, runs, sorted({line for run in runs for line in run}))
     rounds, done = Rounds(luck, maker.blocks(), []), 0
     while done < wanted:
-        # Small rounds come in small pieces too.
+        # Small rounds also come in small pieces.
         few = luck.choice((1_000, LINES_A_ROUND, LINES_A_ROUND, LINES_A_ROUND))
-        given, count = rounds.drawn(min(few, wanted - done))
+        given, count = rounds.draw(min(few, wanted - done))
         try:
             compare(programs, given, luck)
         except Mismatch as told:

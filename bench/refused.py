@@ -1,14 +1,14 @@
 #!/usr/bin/env python3
-"""Times requests that are refused for the quota.
+"""Times requests that are refused because of the quota.
 
 usage: refused.py PROGRAM
 
-Session 1 opens a dictionary of 67,108,864 bytes and publishes it three times, which is its quota.
-Session 2 makes a draft of 5,000 types, takes that dictionary three times, and hands in bytes until
-its quota is met but for a few. Then requests that are over the quota are given many times, and the
-processor time of the program is told for each: nothing is built that is refused, and an update
-costs no more than its writing. Beside that stands what an update of such a draft costs where it is
-granted.
+Session 1 opens a dictionary of 67,108,864 bytes and publishes it three times, which fills its
+quota. Session 2 makes a draft of 5,000 types, takes that dictionary three times, and hands in bytes
+until its quota is full except for a few. Then requests that exceed the quota are given many times,
+and the program's processor time for each is printed: nothing is built for a refused request, and an
+update costs no more than its writing. For comparison, the cost of a granted update of such a draft
+is printed too.
 """
 import os
 import subprocess
@@ -34,14 +34,14 @@ def handed_in(session):
 
 
 def draft(session, types):
-    """Slot 1: integers with a name each, not updated yet."""
+    """Slot 1: integers with different names, not updated yet."""
     yield line(session, "create")
     for i in range(types):
         yield line(session, "add", d=1, what="integer", name=f"number_{i}", encoding=0, offset=0,
                    bits=32, size=4)
 
 
-def full():
+def full_sessions():
     """Session 1 is full by publications, and session 2, which has a draft, by what it took."""
     yield from handed_in(1)
     yield line(1, "open")
@@ -54,13 +54,13 @@ def full():
 
 
 def handed_in_but(session):
-    """Bytes that are staged: a quarter of the quota, but for what a draft without types has."""
+    """Staged bytes: a quarter of the quota, except for the size of a draft without types."""
     for at in range(0, LONGEST - PIECE, PIECE):
         yield line(session, "part", section="str", bytes=(b"\0" * PIECE).hex())
     yield line(session, "part", section="str", bytes=(b"\0" * (PIECE - 64)).hex())
 
 
-# how often each is given, and the request
+# the number of times that each is given, and the request
 REFUSED = {
     "publish": (10_000, line(1, "publish", d=1, name="d")),
     "part": (10_000, line(1, "part", section="str", bytes="00")),
@@ -70,26 +70,26 @@ REFUSED = {
 
 
 class Service:
-    """A service that is asked, and whose processor time is read in between."""
+    """A service, and its processor time between requests."""
 
     def __init__(self, program):
         self.child = subprocess.Popen([program, "serve"], stdin=subprocess.PIPE,
                                       stdout=subprocess.PIPE)
 
-    def used(self):
-        """Its processor time in seconds."""
+    def processor_seconds(self):
+        """The processor time of the service in seconds."""
         with open(f"/proc/{self.child.pid}/stat") as stat:
             fields = stat.read().rpartition(")")[2].split()
         return (int(fields[11]) + int(fields[12])) / os.sysconf("SC_CLK_TCK")
 
     def ask(self, lines):
-        """The replies to lines, and the processor time that these took."""
-        lines, before = list(lines), self.used()
+        """The replies to lines, and the processor time that they took."""
+        lines, before = list(lines), self.processor_seconds()
         writer = threading.Thread(target=self.write, args=(lines,))
         writer.start()
         replies = [self.child.stdout.readline() for _ in lines]
         writer.join()
-        return replies, self.used() - before
+        return replies, self.processor_seconds() - before
 
     def write(self, lines):
         self.child.stdin.write("".join(lines).encode())
@@ -102,7 +102,7 @@ class Service:
 
 def main(program):
     service = Service(program)
-    service.ask(full())
+    service.ask(full_sessions())
     for name, (times, text) in REFUSED.items():
         replies, seconds = service.ask(times * [text])
         if not all(b"QuotaFull" in reply for reply in replies):

@@ -4,8 +4,8 @@ memory.
 
 usage: run.py COMMAND [WORD]..
 
-Each stream is run five times from a file, its output goes to a pipe that is read to its end,
-and the run with the least processor time, the program's and the system's for it, counts.
+Each stream is run five times from a file, with the output read from a pipe to its end. The run with
+the least processor time (user and system) counts.
 """
 import resource
 import subprocess
@@ -16,20 +16,21 @@ import streams
 
 
 def high_water(pid):
-    """The most memory that a running process has had, in KiB."""
+    """The peak memory of a running process, in KiB."""
     with open(f"/proc/{pid}/status") as status:
         return next((int(line.split()[1]) for line in status if line.startswith("VmHWM:")), 0)
 
 
-def used():
+def processor_seconds():
     """The seconds of processor time that ended children have used."""
     usage = resource.getrusage(resource.RUSAGE_CHILDREN)
     return usage.ru_utime + usage.ru_stime
 
 
 def run(command, path):
-    """The seconds, the lines written, and the peak memory in KiB as far as seen at each read."""
-    lines, memory, before = 0, 0, used()
+    """The processor time in seconds, the number of lines, and the peak memory in KiB as of the last
+    read."""
+    lines, memory, before = 0, 0, processor_seconds()
     with open(path, "rb") as stdin:
         child = subprocess.Popen(command, stdin=stdin, stdout=subprocess.PIPE)
     while piece := child.stdout.read1(65_536):
@@ -37,7 +38,7 @@ def run(command, path):
         memory = max(memory, high_water(child.pid))
     if child.wait():
         sys.exit(f"{command[0]} ended with status {child.returncode}")
-    return used() - before, lines, memory
+    return processor_seconds() - before, lines, memory
 
 
 def main(command):

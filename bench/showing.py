@@ -1,13 +1,14 @@
 #!/usr/bin/env python3
-"""Measures the first question to a running process, by ctfd-show and by gdb in the same minutes.
+"""Measures the first question to a running process, with ctfd-show and gdb.
 
 usage: showing.py EXPRESSION PROGRAM [WORD..]
 
-PROGRAM has debug information, and waits where it is run with the WORDs. It runs three times: with
-its types as CTF and without debug information, as it is, and as it is without symbols of its own
-where it was stripped. Each is asked in turn, ten times. Prints the least and the median of the
-processor time in milliseconds: of ctfd-show with CTF, the same of `1`, which needs no symbols and no
-types, of ctfd-show with debug information, and of gdb with that.
+PROGRAM has debug information, and waits when it is run with the WORDs. It runs three times: with
+its types as CTF and without debug information, unchanged, and unchanged except for symbols, if it
+was stripped. Each is asked in turn, ten times. Prints the least and the median of the processor
+time in milliseconds: of ctfd-show with CTF, of ctfd-show with CTF for the expression `1`, which
+needs no symbols and no types, of ctfd-show with debug information, and of gdb with debug
+information.
 """
 from __future__ import annotations
 
@@ -36,7 +37,7 @@ def cost(words: List[str]) -> float:
     return 1000 * (used.ru_utime + used.ru_stime)
 
 
-def started(program: Path, words: List[str], folder: Path) -> "subprocess.Popen[bytes]":
+def start(program: Path, words: List[str], folder: Path) -> "subprocess.Popen[bytes]":
     folder.mkdir()
     return subprocess.Popen([str(program), *words], cwd=folder, stdin=subprocess.PIPE,
                             stdout=subprocess.DEVNULL, stderr=subprocess.DEVNULL)
@@ -49,8 +50,8 @@ def main(expression: str, program: Path, words: List[str]) -> None:
         subprocess.run([COMPILED / "ctfd-convert", "--lossy", "--section", program, with_types],
                        check=True, stderr=subprocess.DEVNULL)
         subprocess.run(["objcopy", "--strip-debug", str(with_types)], check=True)
-        running = [started(with_types, words, Path(work, "one")),
-                   started(program, words, Path(work, "two"))]
+        running = [start(with_types, words, Path(work, "one")),
+                   start(program, words, Path(work, "two"))]
         time.sleep(2)
         try:
             typed, plain = (str(one.pid) for one in running)

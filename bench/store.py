@@ -1,16 +1,16 @@
 #!/usr/bin/env python3
-"""What a store of types by build-id costs, beside elfutils' debuginfod over the same packages.
+"""Measures a store of types by build-id, compared with elfutils' debuginfod for the same packages.
 
 usage: bench/store.py [--clients N] [--requests N] [--peer N] [--threads N] PACKAGE.deb..
 
-Adds the packages to a new store: time, and bytes of the packages, of the debug files in them, and
-of all that is in the store. Has debuginfod scan the same packages: time, and bytes of its index, once
-what its database had only logged is in it: that log has 4 MB or none, as it happens.
-Then clients ask nginx, by the lines of docs/STORE.md, and debuginfod for debug files of all builds
-in turn, each by a connection of its own: requests in a second, how long the median and the 99th of
-a hundred took, and the server's processor time. The dictionary is asked of nginx alone. debuginfod
-unpacks a package for each debug file, so it gets fewer requests, N of them. Needs nginx, debuginfod
-and dpkg-deb.
+Adds the packages to a new store, and prints the time, and the sizes of the packages, of the debug
+files in them, and of everything in the store. Lets debuginfod scan the same packages, and prints
+the time and the size of its index, including its database's log, which would otherwise have 4 MB or
+none by chance. Then clients ask nginx (configured as in docs/STORE.md) and debuginfod for debug
+files of all builds in turn, each with a new connection. Prints requests per second, the times of
+the median and the 99th percentile, and the server's processor time. Dictionaries are asked of nginx
+only. debuginfod unpacks a package for each debug file, so it gets fewer requests, N of them. Needs
+nginx, debuginfod and dpkg-deb.
 """
 from __future__ import annotations
 
@@ -38,7 +38,7 @@ IDLE = ('thread_busy{role="scan"} 0', 'thread_busy{role="traverse"} 0',
 
 
 class Cost(NamedTuple):
-    """Seconds by the clock and of the processor, and MB."""
+    """Wall time and processor time in seconds, and memory in MB."""
 
     clock: float
     processor: float
@@ -49,7 +49,7 @@ class Cost(NamedTuple):
 
 
 def cost(words: Sequence[str], threads: int) -> Cost:
-    """What a command costs; what it refuses is told by it."""
+    """The cost of a command, which prints its own refusals."""
     begun = time.monotonic()
     process = subprocess.Popen(words, env={**os.environ, "RAYON_NUM_THREADS": str(threads)})
     _, status, usage = os.wait4(process.pid, 0)
@@ -60,8 +60,8 @@ def cost(words: Sequence[str], threads: int) -> Cost:
                 usage.ru_maxrss * 1024 / 1e6)
 
 
-def added(packages: Sequence[str], store: Path, threads: int) -> None:
-    """Adds the packages, and tells what that took."""
+def add_packages(packages: Sequence[str], store: Path, threads: int) -> None:
+    """Adds the packages, and prints the cost."""
     command = str(rust.folder() / "ctfd-store")
     print("add:", cost([command, "add", str(store), *packages], threads))
     print(f"packages: {sum(Path(one).stat().st_size for one in packages)} bytes")
@@ -71,7 +71,7 @@ def added(packages: Sequence[str], store: Path, threads: int) -> None:
 
 
 def processor(server: servers.Server) -> float:
-    """Seconds of processors that a server and its children have used, also those that ended."""
+    """The processor time in seconds of a server and its children, also of those that have ended."""
     ticks = 0
     for place in Path("/proc").glob("[0-9]*/stat"):
         try:
@@ -90,7 +90,7 @@ def metrics(server: servers.Server) -> str:
 
 
 def index_size(index: Path) -> int:
-    """The bytes of debuginfod's index, with all that was logged of it."""
+    """The size of debuginfod's index, with its log merged into it."""
     with sqlite3.connect(index, timeout=60) as database:
         is_busy, *_ = database.execute("PRAGMA wal_checkpoint(TRUNCATE)").fetchone()
         if is_busy:
@@ -99,8 +99,8 @@ def index_size(index: Path) -> int:
     return index.stat().st_size
 
 
-def scanned(packages: Sequence[str], folder: Path, threads: int) -> servers.Server:
-    """elfutils' server, once it has scanned the packages."""
+def scanning_server(packages: Sequence[str], folder: Path, threads: int) -> servers.Server:
+    """elfutils' server, after it has scanned the packages."""
     place, index, port = folder / "packages", folder / "index", servers.free_port()
     place.mkdir()
     for one in packages:
@@ -118,8 +118,8 @@ def scanned(packages: Sequence[str], folder: Path, threads: int) -> servers.Serv
     return server
 
 
-async def asked(port: int, path: str) -> Tuple[float, int]:
-    """How long a request took, and how many bytes came."""
+async def request_cost(port: int, path: str) -> Tuple[float, int]:
+    """The seconds that a request took, and the number of bytes received."""
     begun = time.perf_counter()
     reader, writer = await asyncio.open_connection(servers.HOST, port)
     writer.write(f"GET {path} HTTP/1.1\r\nHost: x\r\nConnection: close\r\n\r\n".encode())
@@ -134,18 +134,18 @@ async def asked(port: int, path: str) -> Tuple[float, int]:
 
 
 async def load(port: int, paths: Sequence[str], clients: int) -> List[Tuple[float, int]]:
-    """All requests, so many at once."""
+    """Sends all requests, from `clients` clients at once."""
     waiting = iter(paths)
 
     async def client() -> List[Tuple[float, int]]:
-        return [await asked(port, path) for path in waiting]
+        return [await request_cost(port, path) for path in waiting]
 
     return [one for some in await asyncio.gather(*(client() for _ in range(clients)))
             for one in some]
 
 
-def loaded(name: str, server: servers.Server, paths: Sequence[str], clients: int) -> None:
-    """Tells how a server bears some requests."""
+def report_load(name: str, server: servers.Server, paths: Sequence[str], clients: int) -> None:
+    """Prints how fast a server answers some requests."""
     begun, before = time.monotonic(), processor(server)
     told = asyncio.run(load(server.port, paths, clients))
     took, used = time.monotonic() - begun, processor(server) - before
@@ -168,21 +168,21 @@ def main() -> int:
     with tempfile.TemporaryDirectory() as place:
         folder = Path(place)
         store = folder / "store"
-        added(words.packages, store, words.threads)
+        add_packages(words.packages, store, words.threads)
         ids = sorted(one.name for one in (store / "buildid").iterdir())
 
         def paths(name: str, count: int) -> List[str]:
             return [f"/buildid/{ids[n * 7919 % len(ids)]}/{name}" for n in range(count)]
 
-        scanner = scanned(words.packages, folder, words.threads)
+        scanner = scanning_server(words.packages, folder, words.threads)
         try:
             with servers.nginx(store, folder, scanner.url) as server:
-                loaded("nginx, dictionaries", server, paths("section/.SUNW_ctf", words.requests),
-                       words.clients)
-                loaded("nginx, debug files", server, paths("debuginfo", words.requests),
-                       words.clients)
-            loaded("debuginfod, debug files", scanner, paths("debuginfo", words.peer),
-                   words.clients)
+                report_load("nginx, dictionaries", server,
+                            paths("section/.SUNW_ctf", words.requests), words.clients)
+                report_load("nginx, debug files", server, paths("debuginfo", words.requests),
+                            words.clients)
+            report_load("debuginfod, debug files", scanner, paths("debuginfo", words.peer),
+                        words.clients)
         finally:
             scanner.__exit__()
     return 0

@@ -1,16 +1,16 @@
 #!/usr/bin/env python3
-"""How much memory sessions take that share a published dictionary.
+"""Measures the memory of sessions that share a published dictionary.
 
 usage: taking.py PROGRAM
 
-One session publishes a dictionary of 20,000 named types, and then none, 500 or 5,000 others take
-it, and ask it one question each. Peak memory of the service, and processor time.
+One session publishes a dictionary of 20,000 named types; then none, 500 or 5,000 others take it,
+and ask it one question each. Prints the peak memory of the service, and processor time.
 """
 import sys
 import tempfile
 
 import run
-from dictionaries import all_parts, named
+from dictionaries import all_parts, named_types
 
 TYPES = 20_000
 
@@ -24,7 +24,7 @@ def lines(lists, takers):
         yield '{"s":%d,"op":"size","d":1,"t":%d}\n' % (session, 1 + session % TYPES)
 
 
-def measured(program, lists, takers):
+def measure(program, lists, takers):
     with tempfile.NamedTemporaryFile("w", suffix=".jsonl") as file:
         file.writelines(lines(lists, takers))
         file.flush()
@@ -33,11 +33,11 @@ def measured(program, lists, takers):
 
 
 def main():
-    lists = (named(TYPES), b"", b"")
-    bare, memory = measured(sys.argv[1], lists, 0)
+    lists = (named_types(TYPES), b"", b"")
+    bare, memory = measure(sys.argv[1], lists, 0)
     print("the owner alone: %.1f MiB" % (memory / 1024))
     for takers in (500, 5_000):
-        used, memory = measured(sys.argv[1], lists, takers)
+        used, memory = measure(sys.argv[1], lists, takers)
         print("%5d sessions: %.1f MiB in all; %.1f microseconds for a take and a question"
               % (takers, memory / 1024, 1e6 * (used - bare) / takers))
 

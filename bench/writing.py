@@ -1,12 +1,12 @@
 #!/usr/bin/env python3
-"""What writing and updating a draft costs, beside opening the dictionary that comes of it.
+"""Measures writing and updating a draft, and opening the resulting dictionary.
 
 usage: writing.py PROGRAM
 
-PROGRAM is built from writing.txt. For each line it makes a draft, and then so many times writes it,
-updates it, or opens what was written: what 21 times take more than once is what 20 cost. Processor
-time is the least of five runs. Instructions are counted by valgrind, for all types and for half of
-them: the ratio of the two says how the cost grows, and 2 is linear.
+PROGRAM is built from writing.txt. For each line it makes a draft, and then writes it, updates it,
+or opens the written dictionary a number of times; 20 operations cost the difference between 21 and
+one. Processor time is the least of five runs. valgrind counts instructions for all types and for
+half of them: the ratio of the two shows how the cost grows, and 2 is linear.
 """
 import re
 import subprocess
@@ -20,7 +20,7 @@ TIMES = 20
 
 
 def seconds(program, line):
-    """Processor time of a run of one line."""
+    """The processor time of a run of one line."""
     with tempfile.NamedTemporaryFile("w") as file:
         file.write(line)
         file.flush()
@@ -28,7 +28,7 @@ def seconds(program, line):
 
 
 def instructions(program, line):
-    """The instructions of a run of one line."""
+    """The number of instructions of a run of one line."""
     command = ["valgrind", "--tool=callgrind", "--callgrind-out-file=/dev/null", program]
     said = subprocess.run(command, input=line.encode(), stdout=subprocess.DEVNULL,
                           stderr=subprocess.PIPE, check=True)
@@ -36,7 +36,7 @@ def instructions(program, line):
 
 
 def cost(measure, program, what, types, count):
-    """What one of the word costs."""
+    """The cost of one operation."""
     more, once = (measure(program, f"{what} {types} {count} {times}\n") for times in (1 + TIMES, 1))
     return (more - once) / TIMES
 

@@ -1,11 +1,11 @@
 #!/usr/bin/env python3
-"""Asks ctfd for a dictionary's types, by the package in clients/python.
+"""Asks ctfd for a dictionary's types, with the package in clients/python.
 
-Prints the types (number, name as C spells it, size in bytes), or the members of the struct or union
-that a name stands for, such as "struct lua_State" or a typedef's (offset in bits, size in bytes,
-type, name, and for a bit-field its width). A size that a type hasn't is told as the refusal. With
-the program's symbol table, a name is that of a function or an object, and what C would declare is
-printed. The status is 1 where ctfd refuses something or the name stands for another type.
+Prints the types (number, name in C, size in bytes), or the members of the struct or union with a
+name, such as "struct lua_State" or a typedef's (offset in bits, size in bytes, type, name, and for
+a bit-field its width). If a type has no size, the name of the refusal is printed instead. With the
+program's symbol table, a name is that of a function or an object, and its C declaration is printed.
+The status is 1 if ctfd refuses something, or if the name is that of another type.
 """
 import argparse
 import signal
@@ -19,7 +19,7 @@ from ctfd.text import printable  # noqa: E402
 
 
 def size(t):
-    """The bytes of a type, or the name of the refusal."""
+    """The size of a type in bytes, or the name of the refusal."""
     try:
         return t.dictionary.answer("size", t.number)["size"]
     except ctfd.Refused as fault:
@@ -27,7 +27,7 @@ def size(t):
 
 
 def spelled(t):
-    """A type as C spells it, or the name of the refusal."""
+    """A type as C writes it, or the name of the refusal."""
     try:
         return printable(t.spelled)
     except ctfd.Refused as fault:
@@ -36,7 +36,7 @@ def spelled(t):
 
 def print_types(types):
     own = types.types()
-    types.fetch((word, t.number) for t in own for word in ("name", "size"))  # all in one round
+    types.fetch((word, t.number) for t in own for word in ("name", "size"))  # all in one round trip
     for t in own:
         print(t.number, spelled(t), size(t))
 

@@ -1,8 +1,9 @@
-"""What is built: which program and library stand in the crates' `out`, and of which sources.
+"""The record of the last build: how, and from which sources, the files in the crates' `out` were
+built.
 
-Beside the program a file tells how it was built, of which sources, and the sums of program and
-library. So a program that somebody put there by hand, or one of older sources, is taken for what it
-is. `rt ci` clears the folder, and with it this file.
+The file beside the program has the build's kind and hashes of its sources, the program and the
+library. So files that were put there by hand, or built from older sources, are recognised. `rt ci`
+clears the folder, and with it this file.
 """
 from __future__ import annotations
 
@@ -30,15 +31,15 @@ class How(enum.Enum):
     PROVED = "proved"
 
 
-# What a build says of itself, in the program (crates/ctfd/src/commands.rt) and the library.
+# The text about the build in the program (crates/ctfd/src/commands.rt) and the library.
 SAYS = {How.QUICK: "quick build: proofs not checked",
         How.PROVED: "proved build: rattle-kit-13, logic dac8208d650f15bf"}
 
 
 @dataclass(frozen=True)
-class Built:
-    """How the program was built, and the sums of its sources, of itself and of the library; of
-    libctf's calls in that it has the sum of their sources, "" where they are not in it."""
+class BuildRecord:
+    """How a build was made, with hashes of its sources, the program and the library. `calls` is the
+    hash of the sources of libctf's calls, "" if the library does not contain them."""
 
     how: How
     sources: str
@@ -52,7 +53,7 @@ def sum_of(path: Path) -> str:
 
 
 def source_files(repository: Path) -> Iterator[Path]:
-    """All that the kit reads of a repository, in one order."""
+    """All files of a repository that the kit reads, in a fixed order."""
     yield from (repository / name for name in ("crates.txt", "HANDLES"))
     for part in READ:
         yield from sorted(path for path in (repository / "crates").glob(f"*/{part}/**/*")
@@ -60,26 +61,27 @@ def source_files(repository: Path) -> Iterator[Path]:
 
 
 def sum_of_sources(repository: Path, kit: str) -> str:
-    """The sum of what a program is built of, by the kit of that identity."""
+    """The hash of the sources of a program, and of the kit's identity."""
     found = hashlib.sha256(kit.encode())
     for path in source_files(repository):
         found.update(f"{path.relative_to(repository)} {sum_of(path)}\n".encode())
     return found.hexdigest()
 
 
-def told() -> Optional[Built]:
-    """What stands in `out`, or None where nobody told or something else stands there."""
+def record_of_out() -> Optional[BuildRecord]:
+    """The record of the files in `out`, or None if there is no record or they differ from it."""
     try:
         said = json.loads(TOLD.read_text(encoding="utf-8"))
-        built = Built(How(said.pop("how")), **said)
-        stands = Built(built.how, built.sources, sum_of(PROGRAM), sum_of(ARCHIVE), built.calls)
+        built = BuildRecord(How(said.pop("how")), **said)
+        stands = BuildRecord(built.how, built.sources, sum_of(PROGRAM), sum_of(ARCHIVE),
+                             built.calls)
     except (OSError, ValueError, KeyError, TypeError):
         return None
     return built if built == stands else None
 
 
 def sum_of_calls() -> str:
-    """The sum of the sources of libctf's calls, and of how they are compiled."""
+    """The hash of the sources of libctf's calls and of the script that compiles them."""
     found = hashlib.sha256(TOP.joinpath("scripts", "libctf.py").read_bytes())
     for path in sorted(CALLS.glob("**/*.[ch]")):
         found.update(f"{path.relative_to(CALLS)} {sum_of(path)}\n".encode())
@@ -87,13 +89,13 @@ def sum_of_calls() -> str:
 
 
 def tell(how: How, sources: str, calls: str) -> None:
-    """Says how what stands in `out` was built."""
-    built = Built(how, sources, sum_of(PROGRAM), sum_of(ARCHIVE), calls)
+    """Writes the record of the files in `out`."""
+    built = BuildRecord(how, sources, sum_of(PROGRAM), sum_of(ARCHIVE), calls)
     TOLD.write_text(json.dumps({**asdict(built), "how": how.value}) + "\n", encoding="utf-8")
 
 
 def put(made: Path, place: Path) -> None:
-    """Puts a file in its place, so that nobody finds a part of it."""
+    """Copies a file to its place with a rename, so that nobody sees a part of it."""
     place.parent.mkdir(parents=True, exist_ok=True)
     new = place.with_name(f"{place.name}.new")
     shutil.copy2(made, new)

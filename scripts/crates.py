@@ -21,8 +21,8 @@ class Crate:
         return self.folder / "src"
 
 
-def listed(repository: Path) -> dict[str, Crate]:
-    """The crates by their names, each after those that it uses."""
+def crates_by_name(repository: Path) -> dict[str, Crate]:
+    """The crates by name, each after those that it uses."""
     found: dict[str, Crate] = {}
     for line in (repository / "crates.txt").read_text(encoding="utf-8").splitlines():
         text = line.partition("#")[0].strip()
@@ -36,7 +36,7 @@ def listed(repository: Path) -> dict[str, Crate]:
 
 
 def below(crates: dict[str, Crate], *names: str) -> list[Crate]:
-    """The crates that these stand on, and these themselves, lowest first."""
+    """The crates that these use, and these themselves, lowest first."""
     wanted = set(names)
     for crate in reversed(crates.values()):
         if crate.name in wanted:

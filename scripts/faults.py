@@ -3,11 +3,11 @@
 
 usage: scripts/faults.py [--check]
 
-A fault has a number and a name, a sentence on what is wrong, and an advice. C's header, the layer
-for libctf's callers, the crate for Rust, the Python client, a page and a manual page each have a
-list of them, which this writes between what stands around it. With --check it writes nothing, names
-each list that is another one, and ends with 1 where there is such. Either way the numbers and names
-have to be those of the program's source and of the definitions.
+A fault has a number, a name, a sentence that says what is wrong, and advice. C's header, the layer
+for libctf's callers, the Rust crate, the Python client, a page and a manual page each have a list
+of them, which this script writes between fixed lines. With --check it writes nothing and prints
+each list that differs; the status is then 1. In both cases, the numbers and names must be those of
+the program's source and of the definitions.
 """
 from __future__ import annotations
 
@@ -20,7 +20,7 @@ from pathlib import Path
 from typing import Callable, Iterable
 
 TOP = Path(__file__).resolve().parents[1]
-# The rules of a dictionary are the faults from 1 on up to this.
+# The faults 1 to this one are rules of dictionaries.
 LAST_RULE = 19
 
 
@@ -36,14 +36,14 @@ class Fault:
 
     @property
     def constant(self) -> str:
-        """Its name as a constant: BAD_MAGIC of BadMagic."""
+        """The name as a constant: BAD_MAGIC for BadMagic."""
         return re.sub(r"(?<=[a-z])(?=[A-Z])", "_", self.name).upper()
 
 
 @dataclass(frozen=True)
 class Place:
-    """A list in a file: what stands before it and behind it ("": the end of the file), and what it
-    is of some faults."""
+    """A list in a file: the text before and after it ("": the end of the file), and the function
+    that writes it for some faults."""
 
     path: str
     before: str
@@ -51,8 +51,8 @@ class Place:
     text: Callable[[list[Fault]], str]
     chosen: Callable[[Fault], bool] = lambda fault: True
 
-    def written(self, content: str, faults: Iterable[Fault]) -> str:
-        """The file's content with the list as it has to be."""
+    def content_with(self, content: str, faults: Iterable[Fault]) -> str:
+        """The file's content with the list as it should be."""
         front, rest = content.split(self.before, 1)
         end = rest.index(self.behind) if self.behind else len(rest)
         own = self.text([fault for fault in faults if self.chosen(fault)])
@@ -82,31 +82,31 @@ def all_faults() -> list[Fault]:
     return faults
 
 
-def quoted(text: str) -> str:
+def quotation(text: str) -> str:
     return '"' + text.replace("\\", "\\\\").replace('"', '\\"') + '"'
 
 
-def filled(words: Iterable[str], indent: str, width: int) -> str:
+def wrap(words: Iterable[str], indent: str, width: int) -> str:
     return textwrap.fill(" ".join(words), width, initial_indent=indent, subsequent_indent=indent,
                          break_long_words=False, break_on_hyphens=False)
 
 
-# ---- what each list is
+# ---- the text of each list
 
 def statuses(faults: list[Fault]) -> str:
-    """The statuses of ctfd.h: each is 1 more than the number of its fault."""
+    """The statuses of ctfd.h: each is 1 more than its fault's number."""
     rows = [f"    CTFD_{it.constant} = {it.code + 1}{',' if it.code + 1 < len(faults) else ''}"
             f" /* {it.sentence} */\n" for it in faults]
     return "\n    CTFD_OK = 0,\n" + "".join(rows)
 
 
 def status_names(faults: list[Fault]) -> str:
-    words = ['"Ok"', *(quoted(it.name) for it in faults)]
-    return "\n" + filled([", ".join(words)], 8 * " ", 100) + "\n    "
+    words = ['"Ok"', *(quotation(it.name) for it in faults)]
+    return "\n" + wrap([", ".join(words)], 8 * " ", 100) + "\n    "
 
 
 def messages(faults: list[Fault]) -> str:
-    rows = [f"        {quoted(f'{it.name}: {it.sentence}')},\n" for it in faults]
+    rows = [f"        {quotation(f'{it.name}: {it.sentence}')},\n" for it in faults]
     return '\n        "no error",\n' + "".join(rows) + "    "
 
 
@@ -121,17 +121,17 @@ def constants(faults: list[Fault]) -> str:
 
 
 def texts(faults: list[Fault]) -> str:
-    rows = [f"    (\n        {quoted(it.sentence)},\n        {_rust(it.advice)},\n    ),\n"
+    rows = [f"    (\n        {quotation(it.sentence)},\n        {_rust(it.advice)},\n    ),\n"
             for it in faults]
     return "\n" + "".join(rows)
 
 
 def _rust(text: str) -> str:
-    """A text in lines of at most 100 characters, which a backslash joins."""
+    """A string in lines of at most 100 characters, joined by backslashes."""
     lines = textwrap.wrap(text, 88, drop_whitespace=False, break_on_hyphens=False)
     if len(lines) == 1:
-        return quoted(text)
-    return quoted(" \n".join(line.strip() for line in lines)).replace(
+        return quotation(text)
+    return quotation(" \n".join(line.strip() for line in lines)).replace(
         " \n", " \\\n" + 9 * " ")
 
 
@@ -141,13 +141,13 @@ def advices(faults: list[Fault]) -> str:
 
 def _python(fault: Fault) -> str:
     """A row of a dict, in lines of at most 100 characters."""
-    begin = f"{quoted(fault.name)}: "
+    begin = f"{quotation(fault.name)}: "
     lines = textwrap.wrap(fault.advice, 93 - len(begin), drop_whitespace=False,
                           break_on_hyphens=False)
     if len(lines) > 1:
         lines = textwrap.wrap(fault.advice, 90, drop_whitespace=False, break_on_hyphens=False)
-        begin = f"{quoted(fault.name)}:\n        "
-    return begin + "\n        ".join(quoted(line) for line in lines)
+        begin = f"{quotation(fault.name)}:\n        "
+    return begin + "\n        ".join(quotation(line) for line in lines)
 
 
 def rows(faults: list[Fault]) -> str:
@@ -155,8 +155,8 @@ def rows(faults: list[Fault]) -> str:
     return "".join(re.sub(r"  +\|", " |", line) + "\n" for line in lines)
 
 
-def numbered(faults: list[Fault]) -> str:
-    return "\n" + filled([", ".join(f"{it.code}~{it.name}" for it in faults)], "", 80).replace(
+def numbered_lines(faults: list[Fault]) -> str:
+    return "\n" + wrap([", ".join(f"{it.code}~{it.name}" for it in faults)], "", 80).replace(
         "~", " ") + ".\n"
 
 
@@ -168,7 +168,7 @@ def _is_rule(fault: Fault) -> bool:
     return 1 <= fault.code <= LAST_RULE
 
 
-# The faults of drafts, which have a table of their own in FAULTS.md.
+# The faults of drafts, which have their own table in FAULTS.md.
 DRAFTS = (39, 40, 41, 42, 43, 44, 45, 46, 47, 52, 55, 62)
 TABLE = "| code | name | when | what to do |\n|---|---|---|---|\n"
 RULES = "| code | name | broken if | place |\n|---|---|---|---|\n"
@@ -187,8 +187,8 @@ PLACES = (
           lambda it: it.code > LAST_RULE and it.code not in DRAFTS),
     Place("docs/FAULTS.md", f"## Drafts\n\n{TABLE}", "", rows, _in(*DRAFTS)),
     Place("docs/man/ctfd-protocol.5", "Rules of a dictionary, tested in this order:",
-          "The place is", numbered, _is_rule),
-    Place("docs/man/ctfd-protocol.5", "Others:", "The place of 22", numbered,
+          "The place is", numbered_lines, _is_rule),
+    Place("docs/man/ctfd-protocol.5", "Others:", "The place of 22", numbered_lines,
           lambda it: not _is_rule(it)),
 )
 
@@ -201,7 +201,7 @@ def main() -> None:
     contents = {place.path: read(place.path) for place in PLACES}
     wrong = 0
     for place in PLACES:
-        content = place.written(contents[place.path], faults)
+        content = place.content_with(contents[place.path], faults)
         if content != contents[place.path]:
             wrong += 1
             print(f"{place.path}: the list behind `{place.before.splitlines()[0]}` is another one")

@@ -3,17 +3,17 @@
 
 usage: scripts/libctf.py ARCHIVE
 
-ARCHIVE is one that scripts/quick.py or the kit made. The objects of clients/c/libctf go into it, in
-place of those that are there. Beside it are then
+ARCHIVE is an archive that scripts/quick.py or the kit made. The objects of clients/c/libctf replace
+those that are in it. Beside it the script makes
 
-- libctfd.so, linked of the objects of the archive: ctfd_* and ctf_* and nothing else is exported,
-  with a version, and what it calls of its own is its own whatever else a process has loaded;
-- libctfd_elf.so and libctfd_elf.a, the part that reads ELF files. libctfd.so loads it where such a
-  file is met; a program that links the archive links it too, or leaves it out.
+- libctfd.so, linked from the objects of the archive. It exports only ctfd_* and ctf_*, with a
+  version, and its own calls bind to itself, whatever else a process has loaded;
+- libctfd_elf.so and libctfd_elf.a, the part that reads ELF files. libctfd.so loads it for such a
+  file; a program that links the archive links it too, or leaves it out.
 
-Needs a C compiler, which is the one that CC names, else cc. The part for ELF files needs the
-headers of libelf and zlib (Debian's libelf-dev and zlib1g-dev); without them it is not made, and a
-line says so.
+Needs a C compiler: the one that CC names, else cc. The part for ELF files needs the headers of
+libelf and zlib (Debian's libelf-dev and zlib1g-dev); without them it is not made, and a line says
+so.
 """
 from __future__ import annotations
 
@@ -35,16 +35,16 @@ HEADERS = TOP / "clients" / "c"
 SOURCES = HEADERS / "libctf"
 MAJOR = version().split(".", maxsplit=1)[0]
 SHARED, ELF_SHARED, ELF_ARCHIVE = "libctfd.so", "libctfd_elf.so", "libctfd_elf.a"
-# What is not in the archive: the part for ELF files, and what loads it for libctfd.so.
+# The sources that are not in the archive: the part for ELF files, and its loader for libctfd.so.
 ELF, LOADING = SOURCES / "elf.c", SOURCES / "loading.c"
 PREFIX = "libctf_"
 FLAGS = ("-std=c11", "-O2", "-fPIC", "-fvisibility=hidden", "-ffunction-sections",
          "-fdata-sections", "-Wall", "-Wextra", "-pedantic", f"-I{HEADERS}")
-# Of the objects nothing else is seen from outside. The version keeps a program's calls apart from
-# those of another libctf in its process.
+# Nothing else is visible from outside. The version separates a program's calls from those of
+# another libctf in its process.
 EXPORTS = f"CTFD_{MAJOR} {{ global: ctfd_*; ctf_*; local: *; }};\n"
 LIBRARIES = ("-lelf", "-lz")
-# What an archive that is given by hand says of how it was built.
+# The text about the build in an archive that is given by hand.
 UNTOLD = "a build that nobody told of"
 
 
@@ -57,7 +57,7 @@ def soname(shared: str) -> str:
 
 
 def run(*words: object, folder: Optional[Path] = None) -> str:
-    """Runs a tool, and answers what it printed. Raises NotCompiled."""
+    """Runs a tool, and returns its output. Raises NotCompiled."""
     try:
         ended = subprocess.run([str(word) for word in words], cwd=folder, text=True,
                                errors="replace", stdout=subprocess.PIPE, stderr=subprocess.STDOUT,
@@ -72,22 +72,22 @@ def run(*words: object, folder: Optional[Path] = None) -> str:
 
 @dataclass(frozen=True)
 class Tools:
-    """The C compiler with its flags, and what makes archives."""
+    """The C compiler with its flags, and the archiver."""
 
     compiler: Sequence[str]
     archiver: str
 
     @classmethod
-    def found(cls, archiver: str = "ar") -> Tools:
-        """Those of this machine. Raises NotCompiled where it has no C compiler."""
+    def find(cls, archiver: str = "ar") -> Tools:
+        """The tools of this machine. Raises NotCompiled if it has no C compiler."""
         compiler = shlex.split(os.environ.get("CC") or "cc")
         if not compiler or not shutil.which(compiler[0]):
             raise NotCompiled("there is no C compiler: install Debian's gcc and libc6-dev, or name "
                               "one by CC")
         return cls(compiler, archiver)
 
-    def compiled(self, source: Path, folder: Path, *flags: str) -> Path:
-        """The object of a source."""
+    def compile(self, source: Path, folder: Path, *flags: str) -> Path:
+        """Compiles a source to an object."""
         made = folder / f"{PREFIX}{source.stem}.o"
         run(*self.compiler, *FLAGS, *flags, "-c", source, "-o", made)
         return made
@@ -104,8 +104,8 @@ class Tools:
             return False
         return True
 
-    def linked(self, name: str, folder: Path, *words: object) -> Path:
-        """A shared library that exports what is for C."""
+    def link(self, name: str, folder: Path, *words: object) -> Path:
+        """Links a shared library that exports the calls for C."""
         script, made = folder / f"{name}.map", folder / name
         script.write_text(EXPORTS, encoding="utf-8")
         run(*self.compiler, "-shared", "-o", made, f"-Wl,-soname,{soname(name)}",
@@ -115,26 +115,26 @@ class Tools:
 
 
 def lacks_elf(folder: Path) -> bool:
-    """Whether a built library stands without the part for ELF files, which can be made by now."""
+    """Whether a built library lacks the part for ELF files, and it can be made by now."""
     if (folder / ELF_SHARED).exists():
         return False
     with tempfile.TemporaryDirectory() as made:
         try:
-            return Tools.found().has_elf(Path(made))
+            return Tools.find().has_elf(Path(made))
         except NotCompiled:
             return False
 
 
 def in_archive() -> list[Path]:
-    """The sources whose objects stand in the archive."""
+    """The sources whose objects are in the archive."""
     return sorted(path for path in SOURCES.glob("*.c") if path not in (ELF, LOADING))
 
 
 def put_objects(tools: Tools, archive: Path, folder: Path, says: str) -> None:
-    """Puts the objects of the calls into an archive, in place of those that are there."""
+    """Compiles the calls, and puts their objects into an archive in place of the old ones."""
     flag = f'-DCTFD_BUILD="{says}"'
     with ThreadPoolExecutor(os.cpu_count()) as together:
-        objects = list(together.map(lambda source: tools.compiled(source, folder, flag),
+        objects = list(together.map(lambda source: tools.compile(source, folder, flag),
                                     in_archive()))
     old = [name for name in run(tools.archiver, "t", archive).split() if name.startswith(PREFIX)]
     if old:
@@ -143,16 +143,16 @@ def put_objects(tools: Tools, archive: Path, folder: Path, says: str) -> None:
 
 
 def share(tools: Tools, archive: Path, folder: Path) -> Path:
-    """Links libctfd.so of an archive. It finds the part for ELF files beside itself."""
-    part = tools.compiled(LOADING, folder, f'-DCTFD_ELF_PART="{soname(ELF_SHARED)}"')
-    return tools.linked(SHARED, folder, "-Wl,-rpath,$ORIGIN", "-Wl,--enable-new-dtags",
-                        "-Wl,--whole-archive", archive, "-Wl,--no-whole-archive", part, "-ldl")
+    """Links libctfd.so from an archive. It finds the part for ELF files in its own folder."""
+    part = tools.compile(LOADING, folder, f'-DCTFD_ELF_PART="{soname(ELF_SHARED)}"')
+    return tools.link(SHARED, folder, "-Wl,-rpath,$ORIGIN", "-Wl,--enable-new-dtags",
+                      "-Wl,--whole-archive", archive, "-Wl,--no-whole-archive", part, "-ldl")
 
 
 def elf_part(tools: Tools, folder: Path) -> list[Path]:
-    """The part for ELF files, shared and as an archive."""
-    visible = tools.compiled(ELF, folder, "-fvisibility=default")
-    shared = tools.linked(ELF_SHARED, folder, visible, *LIBRARIES)
+    """Makes the part for ELF files, as a shared library and as an archive."""
+    visible = tools.compile(ELF, folder, "-fvisibility=default")
+    shared = tools.link(ELF_SHARED, folder, visible, *LIBRARIES)
     archive = folder / ELF_ARCHIVE
     archive.unlink(missing_ok=True)
     run(tools.archiver, "rcsD", archive, visible)
@@ -165,20 +165,20 @@ def remove_shared(folder: Path) -> None:
 
 
 def put_shared(made: Path, folder: Path) -> None:
-    """Puts a library in its place; programs find a shared one by its so-name."""
+    """Copies a library to its place; programs find a shared one by its so-name."""
     new = folder / f"{made.name}.new"
     shutil.copy2(made, new)
     os.replace(new, folder / made.name)
     if made.suffix == ".so":
-        # a second name of the same file, since `rt ci` refuses symbolic links below crates/
+        # a second name of the same file: `rt ci` refuses symbolic links below crates/
         link = folder / soname(made.name)
         link.unlink(missing_ok=True)
         os.link(folder / made.name, link)
 
 
 def make(archive: Path, archiver: str = "ar", says: str = UNTOLD) -> list[Path]:
-    """Completes an archive, and makes all that stands beside it. Raises NotCompiled."""
-    tools = Tools.found(archiver)
+    """Completes an archive, and makes the libraries beside it. Raises NotCompiled."""
+    tools = Tools.find(archiver)
     with tempfile.TemporaryDirectory() as made:
         folder = Path(made)
         whole = folder / archive.name

@@ -1,15 +1,15 @@
 #!/usr/bin/env python3
-"""Makes packages of what is built, in dist/: the same bytes of the same commit and build.
+"""Makes packages of the built files, in dist/. The same commit and build give the same bytes.
 
 usage: scripts/package.py deb|dist|release [--into FOLDER] [--program PROGRAM] [--archive ARCHIVE]
 
-`deb` makes a package for Debian, by dpkg-deb alone. `dist` makes a tarball with an install script
-(tarball.sh), a wheel of the Python package with the library and the programs, and, where cargo is, a tarball of the sources
-in Rust with all crates that they stand on, which builds where no registry is reached. The first two
-have the program, the library for C,
-headers, manual pages, units, the commands and the Python package. `release` makes all of these,
-of the build that the kit made with its proofs (`make prove`) and of no other. Times in them are that of the
-commit, or that of SOURCE_DATE_EPOCH. Needs dpkg-deb for `deb`, git, and what builds a wheel
+`deb` makes a Debian package, using only dpkg-deb. `dist` makes a tarball with an install script
+(tarball.sh) and a wheel of the Python package with the library and the programs. If cargo is
+installed, it also makes a tarball of the Rust sources with all crates that they use, which builds
+without a registry. The Debian package and the first tarball contain the program, the library for C,
+headers, manual pages, units, the commands and the Python package. `release` makes all of these, but
+only from a proved build (`make prove`). Times in packages are those of the commit, or of
+SOURCE_DATE_EPOCH. Needs dpkg-deb for `deb`, git, and the tools that build a wheel
 (scripts/tree.py).
 """
 from __future__ import annotations
@@ -31,7 +31,7 @@ from typing import Iterator
 import built
 import rust
 import tree
-from tree import TOP, Lacking, Made, Places
+from tree import TOP, Lacking, BuildOutput, Places
 from version import version
 
 SCRIPTS = TOP / "scripts"
@@ -42,7 +42,7 @@ HOW = {built.How.PROVED: "by the Rattle kit, with their proofs",
 
 
 def epoch() -> int:
-    """The time of the commit, for all that is made. Raises Lacking."""
+    """The time of the commit, for all files. Raises Lacking."""
     told = os.environ.get("SOURCE_DATE_EPOCH")
     if not told:
         try:
@@ -55,34 +55,34 @@ def epoch() -> int:
 
 
 def files(folder: Path) -> Iterator[Path]:
-    """All below a folder, in one order."""
+    """All files and folders below a folder, in a fixed order."""
     yield from sorted(folder.rglob("*"))
 
 
 def at_one_time(folder: Path, seconds: int) -> None:
-    """Gives all below a folder one time, and folders one mode."""
+    """Gives all files below a folder the same time, and folders the same mode."""
     for path in (folder, *files(folder)):
         if path.is_dir():
             path.chmod(0o755)
         os.utime(path, (seconds, seconds), follow_symlinks=False)
 
 
-def packed(data: bytes) -> bytes:
-    """Data packed by gzip, without a time or a name."""
+def gzip_bytes(data: bytes) -> bytes:
+    """Data compressed by gzip, without a time or a name."""
     made = io.BytesIO()
     with gzip.GzipFile(filename="", mode="wb", compresslevel=9, fileobj=made, mtime=0) as out:
         out.write(data)
     return made.getvalue()
 
 
-def how_built(made: Made) -> str:
-    """How what is packed was built, as far as that is known."""
-    stands = built.told() if made == Made(built.PROGRAM, built.ARCHIVE) else None
+def how_built(made: BuildOutput) -> str:
+    """How the files to pack were built, as far as is known."""
+    stands = built.record_of_out() if made == BuildOutput(built.PROGRAM, built.ARCHIVE) else None
     return HOW[stands.how] if stands else "in a way that nobody told"
 
 
 def libc(*files_of_libc: Path) -> str:
-    """The least version of the C library that a program and libraries run with."""
+    """The least version of the C library with which a program and its libraries run."""
     found = {(int(major), int(minor)) for path in files_of_libc if path.exists()
              for major, minor in LIBC.findall(path.read_bytes())}
     if not found:
@@ -96,13 +96,13 @@ def write(path: Path, data: bytes, mode: int = 0o644) -> None:
     path.chmod(mode)
 
 
-def describe(stage: Path, made: Made) -> None:
-    """Writes what dpkg reads of a package whose files stand in a folder."""
+def describe(stage: Path, made: BuildOutput) -> None:
+    """Writes the control files of a Debian package whose files are in a folder."""
     listed = [path for path in files(stage) if path.is_file() and not path.is_symlink()]
     size = sum(-(-path.stat().st_size // 1024) for path in listed)
-    compiled = made.compiled.values()
+    compiled = made.commands.values()
     control = (DEBIAN / "control").read_text(encoding="utf-8").format(
-        version=version(), size=size, libc=libc(made.program, *made.shared, *compiled),
+        version=version(), size=size, libc=libc(made.program, *made.shared_libraries, *compiled),
         gcc=", libgcc-s1" if compiled else "", how=how_built(made))
     sums = "".join(f"{hashlib.md5(path.read_bytes()).hexdigest()}  {path.relative_to(stage)}\n"
                    for path in listed)
@@ -112,8 +112,8 @@ def describe(stage: Path, made: Made) -> None:
         write(stage / "DEBIAN" / name, (DEBIAN / name).read_bytes(), 0o755)
 
 
-def deb(made: Made, into: Path, seconds: int) -> list[Path]:
-    """Makes the package for Debian."""
+def deb(made: BuildOutput, into: Path, seconds: int) -> list[Path]:
+    """Makes the Debian package."""
     if not shutil.which("dpkg-deb"):
         raise Lacking("there is no dpkg-deb: install Debian's package dpkg")
     usr = Path("/usr")
@@ -123,10 +123,10 @@ def deb(made: Made, into: Path, seconds: int) -> list[Path]:
         tree.put(made, Places(usr, usr / "lib/python3/dist-packages", usr / "lib/x86_64-linux-gnu",
                               stage))
         for page in (stage / "usr/share/man").glob("man*/*"):
-            write(page.with_name(f"{page.name}.gz"), packed(page.read_bytes()))
+            write(page.with_name(f"{page.name}.gz"), gzip_bytes(page.read_bytes()))
             page.unlink()
         write(stage / "usr/share/doc/ctfd/changelog.gz",
-              packed((TOP / "CHANGELOG.md").read_bytes()))
+              gzip_bytes((TOP / "CHANGELOG.md").read_bytes()))
         describe(stage, made)
         at_one_time(stage, seconds)
         tree.run("dpkg-deb", "--root-owner-group", "-Zgzip", "-z9", "--build", stage, package,
@@ -134,14 +134,14 @@ def deb(made: Made, into: Path, seconds: int) -> list[Path]:
     return [package]
 
 
-def dist(made: Made, into: Path, seconds: int) -> list[Path]:
+def dist(made: BuildOutput, into: Path, seconds: int) -> list[Path]:
     """Makes the tarball and the wheel."""
     name = f"ctfd-{version()}"
     tarball = into / f"{name}-x86_64-linux.tar.gz"
     with tempfile.TemporaryDirectory() as folder:
         stage = Path(folder, name)
         stage.mkdir()
-        # The package stands in a folder of its own, for any Python.
+        # The package has its own folder, for any Python.
         tree.put(made, Places(Path("/"), Path("/lib/ctfd"), Path("/lib"), stage))
         listed = "".join(f"{path.relative_to(stage)}\n" for path in files(stage) if path.is_file())
         write(stage / "FILES", listed.encode())
@@ -149,17 +149,17 @@ def dist(made: Made, into: Path, seconds: int) -> list[Path]:
         write(stage / "BUILT", f"Program and library were built {how_built(made)}.\n".encode())
         write(stage / "install.sh", (SCRIPTS / "tarball.sh").read_bytes(), 0o755)
         at_one_time(stage, seconds)
-        tarball.write_bytes(packed(archived(stage, seconds)))
+        tarball.write_bytes(gzip_bytes(tar_of(stage, seconds)))
     return [tarball, tree.wheel(into, made), *rust_sources(into, seconds)]
 
 
 def rust_sources(into: Path, seconds: int) -> list[Path]:
-    """Makes the tarball of the sources in Rust; nothing where there is no cargo, or no crates."""
+    """Makes the tarball of the Rust sources; nothing without cargo or the crates."""
     name = f"ctfd-rust-{version()}"
     with tempfile.TemporaryDirectory() as folder:
         stage = Path(folder, name)
-        for line in listed("clients/rust", "scripts/rust.py", "scripts/progress.py",
-                           "examples/lua.ctf", "VERSION"):
+        for line in git_files("clients/rust", "scripts/rust.py", "scripts/progress.py",
+                              "examples/lua.ctf", "VERSION"):
             place = stage / line
             place.parent.mkdir(parents=True, exist_ok=True)
             shutil.copy2(TOP / line, place)
@@ -170,21 +170,21 @@ def rust_sources(into: Path, seconds: int) -> list[Path]:
             return []
         at_one_time(stage, seconds)
         tarball = into / f"{name}.tar.gz"
-        tarball.write_bytes(packed(archived(stage, seconds)))
+        tarball.write_bytes(gzip_bytes(tar_of(stage, seconds)))
     return [tarball]
 
 
-def listed(*words: str) -> list[str]:
-    """The files that git knows below some folders."""
+def git_files(*words: str) -> list[str]:
+    """The files that git tracks below some folders."""
     told = subprocess.run(["git", "ls-files", "-z", *words], cwd=TOP, check=True,
                           capture_output=True, text=True).stdout
     return [line for line in told.split("\0") if line]
 
 
-def archived(stage: Path, seconds: int) -> bytes:
-    """A folder as a tar file that root owns."""
+def tar_of(stage: Path, seconds: int) -> bytes:
+    """A folder as a tar file whose owner is root."""
 
-    def owned(member: tarfile.TarInfo) -> tarfile.TarInfo:
+    def owned_by_root(member: tarfile.TarInfo) -> tarfile.TarInfo:
         member.uid = member.gid = 0
         member.uname = member.gname = "root"
         member.mtime = seconds
@@ -193,14 +193,15 @@ def archived(stage: Path, seconds: int) -> bytes:
     made = io.BytesIO()
     with tarfile.open(fileobj=made, mode="w", format=tarfile.GNU_FORMAT) as out:
         for path in (stage, *files(stage)):
-            out.add(path, str(path.relative_to(stage.parent)), recursive=False, filter=owned)
+            out.add(path, str(path.relative_to(stage.parent)), recursive=False,
+                    filter=owned_by_root)
     return made.getvalue()
 
 
-def release(made: Made, into: Path, seconds: int) -> list[Path]:
-    """Makes all packages, of the proved build alone."""
+def release(made: BuildOutput, into: Path, seconds: int) -> list[Path]:
+    """Makes all packages, if the build is a proved one."""
     says = built.SAYS[built.How.PROVED]
-    stands = built.told() if made == Made(built.PROGRAM, built.ARCHIVE) else None
+    stands = built.record_of_out() if made == BuildOutput(built.PROGRAM, built.ARCHIVE) else None
     if not stands or stands.how is not built.How.PROVED:
         raise Lacking(f"what stands there was built {how_built(made)}: `make prove` first")
     for path in (made.program, made.archive):
@@ -222,7 +223,7 @@ def main() -> int:
     options.add_argument("--archive", type=Path, default=built.ARCHIVE)
     given = options.parse_args()
     os.umask(0o022)
-    made = Made(Path(os.path.abspath(given.program)), Path(os.path.abspath(given.archive)))
+    made = BuildOutput(Path(os.path.abspath(given.program)), Path(os.path.abspath(given.archive)))
     into = Path(os.path.abspath(given.into))
     try:
         into.mkdir(parents=True, exist_ok=True)

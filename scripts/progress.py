@@ -1,5 +1,5 @@
-"""How far a build is: each line with the seconds since it began, and one where nothing was said for
-half a minute, so that nobody takes it for a hang."""
+"""The progress of a build: each line with the seconds since the start, and a line after about half
+a minute of silence, to show that it still runs."""
 from __future__ import annotations
 
 import threading
@@ -11,7 +11,8 @@ SILENT_SECONDS = 25
 
 
 class Progress:
-    """Lines with their seconds; within it one comes for each long silence."""
+    """Prints lines with their seconds; inside its `with` block, also a line after each long
+    silence."""
 
     def __init__(self) -> None:
         self.began = self.last = time.monotonic()

@@ -3,8 +3,8 @@
 
 usage: scripts/raw.py [--check]
 
-With --check nothing is written, and the status is 1 where the file is another. Rows become public
-structs with what the header says of them and of their fields; other structs stay with the crate.
+With --check nothing is written, and the status is 1 if the file differs. Rows become public structs
+with the header's comments on them and their fields; other structs are private to the crate.
 """
 from __future__ import annotations
 
@@ -21,7 +21,7 @@ WIDTH = 100
 NUMBERS = {"uint8_t": "u8", "uint16_t": "u16", "uint32_t": "u32", "uint64_t": "u64",
            "int32_t": "i32", "size_t": "usize", "bool": "bool", "void": "u8", "char": "u8"}
 HANDLES = ("ctfd", "ctfd_service")
-# A word that Rust keeps for itself.
+# A word that Rust reserves.
 RENAMED = {"type": "tnum"}
 
 _COMMENT = r"(?:/\*(?P<said>(?:[^*]|\*(?!/))*)\*/\s*)?"
@@ -31,11 +31,11 @@ _CALL = re.compile(r"^(enum ctfd_status|void) (ctfd_\w+)\(([^)]*)\);", re.MULTIL
 _TAKEN = re.compile(r"(const )?(?:struct )?(\w+) (\*?)(\w+)\Z")
 
 FRONT = """//! The calls of libctfd.a, as clients/c/ctfd.h declares them. scripts/raw.py writes this file.
-#![allow(dead_code)] // it has all of them
+#![allow(dead_code)] // the crate does not use all of them
 
 use std::os::raw::c_void;
 
-/// What is open, or a service of the line protocol: `struct ctfd`, `struct ctfd_service`.
+/// A handle: `struct ctfd`, or `struct ctfd_service`.
 #[repr(C)]
 pub struct Handle {
     pub full: bool,
@@ -43,14 +43,14 @@ pub struct Handle {
 }
 
 impl Handle {
-    /// What each handle begins as.
+    /// The initial value of each handle.
     pub const NONE: Handle = Handle { full: false, at: std::ptr::null_mut() };
 }
 """
 
 
 class Struct(NamedTuple):
-    """A struct of the header: its fields are a type, a name and what is said of it."""
+    """A struct of the header. A field has a type, a name and its comment."""
 
     name: str
     said: str
@@ -75,8 +75,8 @@ def rust_name(name: str) -> str:
     return "".join(part.capitalize() for part in name.split("_")[1:])
 
 
-def documented(said: str, indent: str = "") -> Iterator[str]:
-    """Lines of documentation."""
+def documentation(said: str, indent: str = "") -> Iterator[str]:
+    """Lines of a doc comment."""
     line = ""
     for word in said.split():
         if line and len(indent) + 4 + len(line) + 1 + len(word) > WIDTH:
@@ -87,18 +87,18 @@ def documented(said: str, indent: str = "") -> Iterator[str]:
         yield f"{indent}/// {line}"
 
 
-def declared(struct: Struct) -> Iterator[str]:
+def declaration(struct: Struct) -> Iterator[str]:
     """A struct in Rust."""
     yield ""
     if struct.is_row:
-        yield from documented(struct.said)
+        yield from documentation(struct.said)
     yield "#[repr(C)]"
     derived = "Clone, Copy, Debug, Default, PartialEq, Eq" if struct.is_row else "Default"
     yield f"#[derive({derived})]"
     yield f"pub struct {rust_name(struct.name)} {{"
     for kind, name, said in struct.fields:
         if struct.is_row:
-            yield from documented(said, "    ")
+            yield from documentation(said, "    ")
         yield f"    pub {RENAMED.get(name, name)}: {NUMBERS[kind]},"
     yield "}"
 
@@ -126,7 +126,7 @@ def call(status: str, name: str, taken: str) -> Iterator[str]:
     if len(whole) < WIDTH:
         yield whole
         return
-    if len(whole) == WIDTH and answer:  # rustfmt counts what comes behind too
+    if len(whole) == WIDTH and answer:  # rustfmt counts what follows too
         yield whole[:-len(f"{answer};")]
         yield f"       {answer};"
         return
@@ -136,10 +136,10 @@ def call(status: str, name: str, taken: str) -> Iterator[str]:
     yield f"    ){answer};"
 
 
-def made(header: str) -> str:
+def module_text(header: str) -> str:
     lines = FRONT.splitlines()
     for struct in structs(header):
-        lines += declared(struct)
+        lines += declaration(struct)
     lines += ["", 'extern "C" {']
     for found in _CALL.findall(header):
         lines += call(*found)
@@ -147,7 +147,7 @@ def made(header: str) -> str:
 
 
 def main() -> int:
-    wanted = made(HEADER.read_text())
+    wanted = module_text(HEADER.read_text())
     if sys.argv[1:] == ["--check"]:
         if MADE.read_text() != wanted:
             print(f"{MADE.relative_to(TOP)} is not what scripts/raw.py makes of ctfd.h: run it")

@@ -1,18 +1,17 @@
 #!/usr/bin/env python3
-"""Builds the compiled commands in Rust, over the library that is built.
+"""Builds the compiled commands in Rust, with the built library.
 
 usage: scripts/rust.py [--quiet | --packages | --ahead] [CARGO-WORD..]
 
-`--packages` prints the names of Debian's packages with the crates. `--ahead` compiles all but the
-programs that are linked with the library, which need not be there yet; it says nothing, since what
-fails is told without it. Without words it builds clients/rust/target/release/ctfd-tools, beside it a
-link for each command that it is, and ctfd-front. With words it runs cargo with these:
-`scripts/rust.py test`.
+`--packages` prints the names of Debian's packages with the crates. `--ahead` compiles everything
+except the programs that are linked with the library, which need not exist yet; it prints nothing,
+since the later build reports the same errors. Without words it builds
+clients/rust/target/release/ctfd-tools, a link beside it for each command that it contains, and
+ctfd-front. With words it runs cargo with these: `scripts/rust.py test`.
 
-The crates that these stand on are taken from the folder clients/rust/vendor that the tarball of the
-sources has, else from Debian's packages (librust-*-dev) where they are installed, else from
-crates.io. Needs cargo and rustc 1.82 or later; without them, or without the crates, nothing is
-built, and a line says so.
+The crates that these need come from the folder clients/rust/vendor of the source tarball, else from
+Debian's packages (librust-*-dev) if they are installed, else from crates.io. Needs cargo and rustc
+1.82 or later; without them, or without the crates, nothing is built, and a line says so.
 """
 from __future__ import annotations
 
@@ -35,28 +34,30 @@ LATER = {"CTFD_LINKED_LATER": "1"}  # the library is linked with the programs, a
 COMMANDS = ("ctfd-convert", "ctfd-debuginfo", "ctfd-diff", "ctfd-explore", "ctfd-show",
             "ctfd-store", "ctfd-types")
 DEBIAN = Path("/usr/share/cargo/registry")
-# The packages of Debian with what the crates name, which bring what these name themselves.
+# Debian's packages of the crates that are named; they bring the crates that these name.
 PACKAGES = tuple(f"librust-{name}-dev" for name in ("ahash-0.7", "clap", "crc32fast", "flate2",
                                                     "gimli", "indicatif", "libc", "memchr", "mio",
                                                     "object", "rayon", "regex", "rustix",
                                                     "sha2", "signal-hook", "smallvec", "tar"))
-PACKAGES += ("libzstd-dev",)  # without it sections that zstd compressed are not read
+PACKAGES += ("libzstd-dev",)  # without it, sections compressed by zstd are not read
 LEAST = (1, 82)
 
 
 class NotBuilt(Exception):
-    """What is missing here."""
+    """Something is missing, or cargo failed."""
 
 
 def sources() -> list[str]:
-    """The words for cargo that say where crates come from."""
+    """The arguments for cargo that say where crates come from."""
     carried = WORKSPACE / "vendor"
     if carried.is_dir():
-        return [*_replaced("vendored", carried), "--offline"]
-    return [*_replaced("debian", DEBIAN), "--offline"] if list(DEBIAN.glob("gimli-*")) else []
+        return [*_source_replacement("vendored", carried), "--offline"]
+    if not list(DEBIAN.glob("gimli-*")):
+        return []
+    return [*_source_replacement("debian", DEBIAN), "--offline"]
 
 
-def _replaced(name: str, folder: Path) -> list[str]:
+def _source_replacement(name: str, folder: Path) -> list[str]:
     return ["--config", f'source.crates-io.replace-with="{name}"',
             "--config", f'source.{name}.directory="{folder}"']
 
@@ -75,7 +76,8 @@ def cargo() -> str:
 
 
 def run(words: Sequence[str], more: Optional[dict[str, str]] = None) -> int:
-    """Runs cargo in the workspace, with more in its environment; its status. Raises NotBuilt."""
+    """Runs cargo in the workspace, with `more` added to its environment. Returns its status. Raises
+    NotBuilt."""
     environment = {**os.environ, **(more or {})}
     if "DOCS_RS" not in environment:
         environment.setdefault("CTFD_ARCHIVE", str(ARCHIVE))
@@ -84,7 +86,7 @@ def run(words: Sequence[str], more: Optional[dict[str, str]] = None) -> int:
 
 
 def vendor(into: Path) -> None:
-    """Puts the crates that these stand on into a folder. Raises NotBuilt."""
+    """Copies the crates that these need into a folder. Raises NotBuilt."""
     words = ["vendor", "--quiet", "--respect-source-config", *sources(), "--versioned-dirs"]
     if subprocess.run([cargo(), *words, str(into)], cwd=WORKSPACE, check=False,
                       stdout=subprocess.DEVNULL).returncode != 0:
@@ -92,12 +94,12 @@ def vendor(into: Path) -> None:
 
 
 def folder() -> Path:
-    """Where the compiled commands are."""
+    """The folder of the compiled commands."""
     return Path(os.environ.get("CARGO_TARGET_DIR") or WORKSPACE / "target") / "release"
 
 
 def build(*words: str) -> Path:
-    """Builds the commands and the front; the folder with them. Raises NotBuilt."""
+    """Builds the commands and the front, and returns their folder. Raises NotBuilt."""
     with Progress() as progress:
         progress.text = "compiles the commands"
         status = run(["build", "--release", "--package", PACKAGE, *words], LATER)
@@ -112,7 +114,7 @@ def build(*words: str) -> Path:
 
 
 def compile_ahead() -> None:
-    """Compiles all but the programs."""
+    """Compiles everything except the programs."""
     silence = os.open(os.devnull, os.O_WRONLY)
     os.dup2(silence, sys.stderr.fileno())
     run(["build", "--release", "--quiet", "--lib",

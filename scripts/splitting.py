@@ -1,9 +1,9 @@
 """Splits a lowered module into parts that are compiled at the same time.
 
-A function of our crates is in the part of its crate. The kit's own, most of which are instances of
-generic functions, are copied into each part that reaches them; so is a short one of another part,
-so that it can be inlined there as in one module. A long one is called across: it gets a hidden name
-that begins with `ctfd__`.
+A function of our crates is in the part of its crate. The kit's functions, most of them instances of
+generic ones, are copied into each part that reaches them. So are short functions of another part,
+so that they can be inlined as in a single module. A long one is called across parts: it gets a
+hidden name that begins with `ctfd__`.
 """
 from __future__ import annotations
 
@@ -17,19 +17,19 @@ from module import NAME, Function, Module
 COMMANDS, ARGUMENTS, DUMP = "commands", "arguments", "dump"
 LINES, SERVICE, FORMAT = "lines", "service", "format"
 LIBRARY = (LINES, SERVICE, FORMAT)
-# The crates that read lines and write replies, and those that hold what is asked; what all of these
-# stand on is in the third part of the library.
+# The crates that read lines and write replies, and those that have the state of sessions; the
+# crates that these use are in the third part of the library.
 LINE_CRATES = {"ctf_answers", "ctf_json", "ctf_lines", "ctf_protocol", "ctf_wire"}
 SERVICE_CRATES = {"ctf_broker", "ctf_library"}
 SERVICE_MODULE = "ctf_c::service::"
 DUMP_CRATE, PARSER_CRATE = "ctf_dump", "clap"
 # The length, in characters, below which a function is copied into a part that calls it. The parts
-# stand in the order of the time that they take: the one that takes longest begins first.
+# are in the order of their compile times: the longest begins first.
 COPIED = {LINES: 16_000, FORMAT: 16_000, SERVICE: 16_000, ARGUMENTS: 1_500, COMMANDS: 1_500,
           DUMP: 16_000}
-# What reads the words of a command does so once.
+# Arguments are parsed only once.
 LEVELS = {ARGUMENTS: "-O1"}
-# Functions of one caller in a part that answers lines, which have several in the module: clang would
+# Functions with one caller in a part that answers lines, but several in the module. clang would
 # inline them there, and `kind` would take 5 instructions more (of 2,006), `add` 17 (of 4,378).
 CALLED_ONCE = {
     LINES: {"ctf_library::library::Library::publication",
@@ -41,7 +41,7 @@ CALLED_ONCE = {
               "std_collections::btree_map::BTreeMap::entry::<#c312d2f088fea71f>",
               "std_collections::btree_map::BTreeMap::remove::<#07eaafc46783443d>"},
 }
-# What an export takes and gives: numbers, bools and pointers, which cross to C as they are.
+# An export's parameters and result: numbers, bools and pointers, which C passes in the same way.
 CROSSING = re.compile(r'internal (?:noundef )?(?:void|i32) @"[^"]*"'
                       r'\((?:(?:ptr|i8|i16|i32|i64|i1)(?: noundef| zeroext)*(?: %\w+)?(?:, )?)*\)')
 HINT = re.compile(" (?:alwaysinline|inlinehint|noinline)(?= #)")
@@ -49,14 +49,14 @@ HINT = re.compile(" (?:alwaysinline|inlinehint|noinline)(?= #)")
 
 @dataclass
 class Part:
-    """What is compiled by itself: functions and constants, and what is called across."""
+    """A part: the functions and constants in it, and the functions that it calls in other parts."""
 
     included: set[str] = field(default_factory=set)
     called: set[str] = field(default_factory=set)
 
 
 class Split:
-    """A module in parts. `exports` has the name for C of each function that C calls."""
+    """A module in parts. `exports` has the C name of each exported function."""
 
     def __init__(self, module: Module, own: Iterable[str], exports: Mapping[str, str]) -> None:
         missing = [name for name in exports if name not in module.functions]
@@ -64,13 +64,13 @@ class Split:
             raise KitDiffers(f"{len(missing)} exports of {len(exports)} are not in the module")
         self.module, self.exports = module, exports
         self.own = {*own, PARSER_CRATE}
-        self.for_c = reached(module, exports)
+        self.for_c = reachable(module, exports)
         self.shared: set[str] = set()
         self.parts = {name: Part() for name in COPIED}
         self._fill()
 
     def part_of(self, name: str) -> Optional[str]:
-        """The part that a function is in; None for one that is copied."""
+        """The part of a function; None if it is copied."""
         crate = name.partition("::")[0]
         if name == "main":
             return COMMANDS
@@ -104,7 +104,7 @@ class Split:
                 waiting.append((self._place_for(place, used), used))
 
     def _place_for(self, place: str, used: str) -> str:
-        """The part into which goes what a part uses: itself, or the other, by which it is called.
+        """The part for something that a part uses: itself, or the other part, which it then calls.
         No other part calls the commands."""
         function = self.module.functions.get(used)
         home = self.part_of(used) if function else None
@@ -116,8 +116,8 @@ class Split:
             self.shared.add(used)
         return home
 
-    def _renamed(self, text: str) -> str:
-        """Text in which what is seen from outside has its name."""
+    def _with_outer_names(self, text: str) -> str:
+        """Text in which exported and shared functions have their outer names."""
         def name_of(found: re.Match[str]) -> str:
             name = found[1] or found[2]
             if name in self.exports:
@@ -125,8 +125,8 @@ class Split:
             return f'@"ctfd__{name}"' if name in self.shared else found[0]
         return NAME.sub(name_of, text)
 
-    def _defined(self, place: str, function: Function) -> str:
-        """A function: seen from outside in its own part, and internal where it is copied."""
+    def _definition(self, place: str, function: Function) -> str:
+        """A function: visible from outside in its own part, and internal in copies."""
         name, head = function.name, function.head
         if self.part_of(name) == place and name in self.exports:
             if not CROSSING.match(head):
@@ -136,12 +136,13 @@ class Split:
             head = head.replace("internal ", "hidden ", 1)
         if name in CALLED_ONCE.get(place, ()):
             head = HINT.sub("", head).replace(" #", " noinline #", 1)
-        return f"define {self._renamed(head + function.body)}"
+        return f"define {self._with_outer_names(head + function.body)}"
 
-    def _declared(self, name: str) -> str:
+    def _declaration(self, name: str) -> str:
         is_export = name in self.exports
         head = HINT.sub("", self.module.functions[name].head)[:-1]
-        return f"declare {self._renamed(head.replace('internal ', '' if is_export else 'hidden '))}"
+        head = head.replace("internal ", "" if is_export else "hidden ")
+        return f"declare {self._with_outer_names(head)}"
 
     def text(self, place: str) -> Iterator[str]:
         """The text of a part."""
@@ -150,13 +151,13 @@ class Split:
         yield from (line for name, line in module.constants.items() if name in part.included)
         for name, function in module.functions.items():
             if name in part.included:
-                yield self._defined(place, function)
-        yield from (f"{self._declared(name)}\n" for name in sorted(part.called))
+                yield self._definition(place, function)
+        yield from (f"{self._declaration(name)}\n" for name in sorted(part.called))
         yield module.rest
 
 
-def reached(module: Module, roots: Iterable[str]) -> set[str]:
-    """What these use, and what that uses."""
+def reachable(module: Module, roots: Iterable[str]) -> set[str]:
+    """The names that these refer to, directly or indirectly."""
     found: set[str] = set()
     waiting = list(roots)
     while waiting:

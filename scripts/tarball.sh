@@ -1,8 +1,8 @@
 #!/bin/sh
-# Puts what stands beside this script below a prefix, or takes it away again.
+# Installs the files beside this script below a prefix, or removes them.
 # usage: ./install.sh [--remove] [PREFIX]
-# PREFIX is /usr/local where it is not said. For `import ctfd` by a Python of 3.9 or later, put
-# PREFIX/lib/ctfd on its path, or install the wheel.
+# The default PREFIX is /usr/local. For `import ctfd` in Python 3.9 or later, add PREFIX/lib/ctfd to
+# Python's path, or install the wheel.
 set -eu
 remove=
 [ "${1:-}" != --remove ] || { remove=yes; shift; }
@@ -23,8 +23,7 @@ while read -r file; do
     mkdir -p "$prefix/$(dirname "$file")"
     cp -fP "$file" "$prefix/$file"
 done < FILES
-# Two kinds of files name where things stand.
-pc=$prefix/lib/pkgconfig/ctfd.pc
+pc=$prefix/lib/pkgconfig/ctfd.pc  # this file and the units contain absolute paths
 sed "s|^prefix=.*|prefix=$prefix|" lib/pkgconfig/ctfd.pc > "$pc"
 for unit in lib/systemd/system/*; do
     sed "s|/bin/ctfd|$prefix/bin/ctfd|g" "$unit" > "$prefix/$unit"

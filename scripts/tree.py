@@ -1,16 +1,17 @@
 #!/usr/bin/env python3
-"""Puts what is built below a prefix, or takes it away again.
+"""Installs what is built below a prefix, or removes it.
 
 usage: scripts/tree.py --prefix PREFIX [--root FOLDER] [--program PROGRAM] [--archive ARCHIVE]
                        [--packages FOLDER] [--remove]
 
-That is the program, the libraries for C with their headers and a file for pkg-config, the manual
-pages, the units for systemd, the Python package, and the commands in Rust, which scripts/rust.py
-compiles where cargo is. FOLDER of --root, if it is given, goes in front of all, as DESTDIR does.
+Installed are the program, the libraries for C with their headers and a pkg-config file, the manual
+pages, the systemd units, the Python package, and the Rust commands, which scripts/rust.py compiles
+if cargo is installed. FOLDER of --root goes in front of all paths, as DESTDIR does.
 
-pip installs the package. It and setuptools and wheel are those of the Python that PYTHON in the
-environment names, else of `python3` or Debian's, whichever has them. The package goes where that
-Python looks for packages below the prefix, or into --packages, below the prefix too.
+pip installs the package. pip, setuptools and wheel are those of the Python that PYTHON in the
+environment names, else of `python3` or Debian's, whichever has them. The package goes to the folder
+below the prefix in which that Python looks for packages, or into --packages, which is also below
+the prefix.
 """
 from __future__ import annotations
 
@@ -31,15 +32,15 @@ from version import TOP, differing, version
 
 CLIENT = TOP / "clients" / "python"
 COMPLETIONS = TOP / "clients" / "completions"
-# What is compiled in Rust.
+# The compiled Rust programs.
 COMMANDS = sorted((*rust.COMMANDS, rust.FRONT))
-# Headers, and where they go: GNU's has the name of another header, so it is in a folder of its own.
+# Headers, and their places. GNU's header has the name of another one, so it gets its own folder.
 HEADERS = {"ctfd.h": "ctfd.h", "ctfd_libctf.h": "ctfd_libctf.h",
            "gnu/ctf-api.h": "ctfd/gnu/ctf-api.h"}
 DEBIANS = "/usr/bin/python3"
-# What builds and installs a package, by Debian's packages.
+# What builds and installs a package, with Debian's package of each.
 NEEDED = {"pip": "python3-pip", "setuptools": "python3-setuptools", "wheel": "python3-wheel"}
-# Where a Python looks for packages below a prefix.
+# Prints the folder below a prefix in which a Python looks for packages.
 LOOKS = """
 import site, sys, sysconfig
 below = sys.argv[1].rstrip("/") + "/"
@@ -52,44 +53,43 @@ print(of_site[0] if of_site else sysconfig.get_path("purelib", "posix_prefix",
 
 
 class Lacking(Exception):
-    """Something that is needed is not here."""
+    """Something that is needed is missing."""
 
 
 @dataclass(frozen=True)
-class Made:
-    """What was built."""
+class BuildOutput:
+    """The built files."""
 
     program: Path
     archive: Path
 
     @property
-    def shared(self) -> list[Path]:
+    def shared_libraries(self) -> list[Path]:
         """The shared libraries beside the archive."""
         beside = (self.archive.with_name(name) for name in (libctf.SHARED, libctf.ELF_SHARED))
         return [path for path in beside if path.exists()]
 
     @property
-    def compiled(self) -> dict[str, Path]:
-        """The commands by name: a program of many names, which goes by the one that it has, and
-        the front."""
+    def commands(self) -> dict[str, Path]:
+        """The commands by name: the front, and one program that has the names of all others."""
         program, front = (rust.folder() / name for name in (rust.PROGRAM, rust.FRONT))
         places = {**dict.fromkeys(rust.COMMANDS, program), rust.FRONT: front}
         return {name: path for name, path in places.items() if path.exists()}
 
     def judge(self) -> None:
-        """Raises Lacking where something is not there, or tells another version."""
+        """Raises Lacking if something is missing or has another version."""
         for place in differing():
             raise Lacking(f"{place} does not tell the version {version()}, which VERSION has")
         for path in (self.program, self.archive, self.archive.with_name(libctf.SHARED)):
             if not path.exists():
                 raise Lacking(f"there is no {path}: `make` builds it")
         judge_version("ctfd", self.program)
-        for name, path in self.compiled.items():
+        for name, path in self.commands.items():
             judge_version(name, path, *([] if name == rust.FRONT else [name]))
 
 
 def judge_version(name: str, path: Path, *words: str) -> None:
-    """Raises Lacking where a program tells another version."""
+    """Raises Lacking if a program has another version."""
     said = subprocess.run([path, *words, "--version"], stdout=subprocess.PIPE, text=True,
                           check=False).stdout.partition("\n")[0]
     if said != f"{name} {version()}":
@@ -98,7 +98,7 @@ def judge_version(name: str, path: Path, *words: str) -> None:
 
 @dataclass(frozen=True)
 class Places:
-    """Where things go below a prefix. `root` goes in front of all."""
+    """The folders of an installation below a prefix. `root` goes in front of all of them."""
 
     prefix: Path
     packages: Path
@@ -109,7 +109,7 @@ class Places:
         return self.root / path.relative_to("/")
 
     def texts(self) -> Iterator[tuple[Path, Path, int]]:
-        """Where each file of this repository goes, from where, and with which mode."""
+        """Each file of this repository to install: its destination, its source, and its mode."""
         for name, place in HEADERS.items():
             yield self.prefix / "include" / place, TOP / "clients" / "c" / name, 0o644
         yield self.libraries / "pkgconfig" / "ctfd.pc", TOP / "clients" / "c" / "ctfd.pc.in", 0o644
@@ -123,10 +123,10 @@ class Places:
         yield self.prefix / "share/zsh/site-functions/_ctfd", COMPLETIONS / "_ctfd", 0o644
 
     def text(self, source: Path) -> str:
-        """What a file has in its place."""
+        """The content of an installed file."""
         text = source.read_text(encoding="utf-8")
         libraries = os.path.relpath(self.libraries, self.prefix)
-        # The system's loader looks below /usr by itself.
+        # The system's loader searches /usr by itself.
         run_path = "" if self.prefix == Path("/usr") else "-Wl,-rpath,${libdir} "
         return (text.replace("@PREFIX@", str(self.prefix)).replace("@LIBRARIES@", libraries)
                 .replace("@RUNPATH@", run_path)
@@ -150,7 +150,7 @@ def python() -> str:
 
 
 def lacking(one: str) -> Optional[list[str]]:
-    """What a Python lacks of that, or None where there is no such Python."""
+    """The modules that a Python lacks for this, or None if there is no such Python."""
     asks = ("import importlib.util as it, sys; "
             "print(*[name for name in sys.argv[1:] if it.find_spec(name) is None])")
     try:
@@ -162,7 +162,7 @@ def lacking(one: str) -> Optional[list[str]]:
 
 
 def run(*words: object, **environment: str) -> None:
-    """Runs a command that says something only where it fails. Raises Lacking then."""
+    """Runs a command, whose output is shown only if it fails. Raises Lacking then."""
     ended = subprocess.run([str(word) for word in words], stdout=subprocess.PIPE,
                            stderr=subprocess.STDOUT, text=True, errors="replace",
                            env={**os.environ, **environment}, check=False)
@@ -170,11 +170,11 @@ def run(*words: object, **environment: str) -> None:
         raise Lacking(f"{words[0]} ended with status {ended.returncode}:\n{ended.stdout.strip()}")
 
 
-def wheel(into: Path, made: Optional[Made] = None) -> Path:
-    """Builds the wheel of the package into a folder, the same of the same sources. With what was
-    built it carries the library and the programs, and is for Linux on x86-64 alone."""
+def wheel(into: Path, made: Optional[BuildOutput] = None) -> Path:
+    """Builds the wheel of the package into a folder; the same sources give the same wheel. With
+    `made`, it contains the library and the programs, and is for Linux on x86-64 only."""
     with tempfile.TemporaryDirectory() as folder:
-        # setuptools writes beside the sources, so it gets a copy.
+        # setuptools writes into the source folder, so it gets a copy.
         copy = Path(folder, "python")
         shutil.copytree(CLIENT, copy, ignore=not_sources)
         for path in copy.rglob("*"):
@@ -187,18 +187,18 @@ def wheel(into: Path, made: Optional[Made] = None) -> Path:
     return next(into.glob(f"ctfd-{version()}-*.whl"))
 
 
-def carry(made: Made, copy: Path) -> None:
-    """Puts what was built into a copy of the client, with an entry point for each command."""
-    programs = {"ctfd": made.program, **{path.name: path for path in made.compiled.values()}}
+def carry(made: BuildOutput, copy: Path) -> None:
+    """Puts the built files into a copy of the client, with an entry point for each command."""
+    programs = {"ctfd": made.program, **{path.name: path for path in made.commands.values()}}
     for name, path in programs.items():
         place = copy / "ctfd" / "bin" / name
         built.put(path, place)
         place.chmod(0o755)
-    for path in made.shared:
+    for path in made.shared_libraries:
         place = copy / "ctfd" / libctf.soname(path.name)
         built.put(path, place)
         place.chmod(0o644)
-    scripts = "".join(f'{name} = "ctfd.commands:main"\n' for name in ("ctfd", *made.compiled))
+    scripts = "".join(f'{name} = "ctfd.commands:main"\n' for name in ("ctfd", *made.commands))
     project = copy / "pyproject.toml"
     text = project.read_text(encoding="utf-8")
     text = text.replace("\n[tool.setuptools]\n", f"\n[project.scripts]\n{scripts}\n[tool.setuptools]\n")
@@ -208,14 +208,14 @@ def carry(made: Made, copy: Path) -> None:
 
 
 def not_sources(folder: str, names: list[str]) -> set[str]:
-    """What stands in a folder of the client and is left out of the package."""
+    """The names in a folder of the client that the package leaves out."""
     left_out = {"build", "tests"} if Path(folder) == CLIENT else set()
     return {name for name in names
             if name in left_out or name == "__pycache__" or name.endswith(".egg-info")}
 
 
 def put_package(places: Places) -> None:
-    """Has pip install the package."""
+    """Installs the package with pip."""
     folder = places.real(places.packages)
     remove_package(places)
     with tempfile.TemporaryDirectory() as made:
@@ -225,23 +225,23 @@ def put_package(places: Places) -> None:
             "--no-warn-script-location", "--disable-pip-version-check", "--find-links", made,
             "--target", installed, f"ctfd=={version()}", PIP_ROOT_USER_ACTION="ignore")
         shutil.copytree(installed, folder, dirs_exist_ok=True)
-        for path in owned(folder):
+        for path in package_files(folder):
             path.chmod(0o755 if path.is_dir() else 0o644)
 
 
-def owned(folder: Path) -> Iterator[Path]:
-    """All that the package has in a folder of packages."""
+def package_files(folder: Path) -> Iterator[Path]:
+    """All files of the package in a folder of packages."""
     for top in (folder / "ctfd", *folder.glob("ctfd-*.dist-info")):
         if top.is_dir():
             yield top
             yield from top.rglob("*")
 
 
-def put(made: Made, places: Places) -> None:
-    """Puts everything in its place."""
+def put(made: BuildOutput, places: Places) -> None:
+    """Installs everything."""
     made.judge()
     put_package(places)
-    commands = {"ctfd": made.program, **made.compiled}
+    commands = {"ctfd": made.program, **made.commands}
     binaries = [(places.prefix / "bin" / name, path, 0o755) for name, path in commands.items()]
     for path, source, mode in (*binaries, (places.libraries / "libctfd.a", made.archive, 0o644)):
         built.put(source, places.real(path))
@@ -254,10 +254,10 @@ def put(made: Made, places: Places) -> None:
         real.chmod(mode)
 
 
-def put_shared(made: Made, folder: Path) -> None:
-    """Puts the shared libraries beside the archive: each under its version, with the links by which
-    programs find it, and linkers."""
-    for source in made.shared:
+def put_shared(made: BuildOutput, folder: Path) -> None:
+    """Copies the shared libraries to the folder of the archive, under their versions, with the
+    links that programs and linkers look for."""
+    for source in made.shared_libraries:
         whole = folder / f"{source.name}.{version()}"
         built.put(source, whole)
         whole.chmod(0o644)
@@ -271,8 +271,8 @@ def put_shared(made: Made, folder: Path) -> None:
         (folder / part.name).chmod(0o644)
 
 
-def shared(places: Places) -> Iterator[Path]:
-    """All that `put_shared` may have put."""
+def shared_files(places: Places) -> Iterator[Path]:
+    """All paths that `put_shared` may have written."""
     for name in (libctf.SHARED, libctf.ELF_SHARED):
         for file in (name, libctf.soname(name), f"{name}.{version()}"):
             yield places.libraries / file
@@ -286,16 +286,16 @@ def remove_package(places: Places) -> None:
 
 
 def remove(places: Places) -> None:
-    """Takes every file away, and the package's own folders."""
+    """Removes every installed file, and the package's folders."""
     remove_package(places)
     binaries = (places.prefix / "bin" / name for name in ("ctfd", *COMMANDS))
-    for path in (*binaries, places.libraries / "libctfd.a", *shared(places),
+    for path in (*binaries, places.libraries / "libctfd.a", *shared_files(places),
                  *(path for path, _, _ in places.texts())):
         places.real(path).unlink(missing_ok=True)
 
 
 def looked_in(prefix: Path) -> Path:
-    """Where the Python that has pip looks for packages below a prefix."""
+    """The folder below a prefix in which the Python that has pip looks for packages."""
     said = subprocess.run([python(), "-c", LOOKS, prefix], stdout=subprocess.PIPE, text=True,
                           check=True).stdout
     return Path(said.strip())
@@ -320,7 +320,7 @@ def main() -> int:
         if given.remove:
             remove(places)
         else:
-            put(Made(given.program, given.archive), places)
+            put(BuildOutput(given.program, given.archive), places)
     except (Lacking, OSError) as why:
         print(f"nothing is {'removed' if given.remove else 'installed'}: {why}", file=sys.stderr)
         return 1

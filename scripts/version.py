@@ -1,12 +1,12 @@
 #!/usr/bin/env python3
-"""Compares the places that tell the version with the file VERSION, or writes it into them.
+"""Compares the version in several files with the file VERSION, or writes it into them.
 
 usage: scripts/version.py [NEW]
 
-The version stands in VERSION. Some sources have to have it in their own text, so that they are
-whole without this repository: they are listed below. With NEW it is written into VERSION and into
-these. Without, each place that differs is printed; the status is 1 then. The program's place is a
-source that is proved, so `make prove` comes behind a new version.
+Some sources must contain the version themselves, so that they are complete outside this repository;
+they are listed below. With NEW, it is written into VERSION and into these. Without, each place that
+differs is printed, and the status is then 1. One place is in the program's source, which is proved:
+run `make prove` after a new version.
 """
 from __future__ import annotations
 
@@ -22,14 +22,14 @@ FORM = r"[0-9]+\.[0-9]+\.[0-9]+"
 
 @dataclass(frozen=True)
 class Place:
-    """A file, and what stands before and behind the version in it."""
+    """A file, and the text before and after the version in it."""
 
     path: str
     before: str
     behind: str
 
     @property
-    def told(self) -> re.Pattern[str]:
+    def pattern(self) -> re.Pattern[str]:
         return re.compile(f"({re.escape(self.before)}){FORM}({re.escape(self.behind)})")
 
 
@@ -47,7 +47,7 @@ def version() -> str:
 
 
 def differing() -> list[str]:
-    """The places that do not tell the version of VERSION."""
+    """The places whose version differs from VERSION."""
     wanted = version()
     return [place.path for place in PLACES
             if f"{place.before}{wanted}{place.behind}"
@@ -60,7 +60,7 @@ def write(new: str) -> None:
     for place in PLACES:
         path = TOP / place.path
         text = path.read_text(encoding="utf-8")
-        path.write_text(place.told.sub(rf"\g<1>{new}\g<2>", text, count=1), encoding="utf-8")
+        path.write_text(place.pattern.sub(rf"\g<1>{new}\g<2>", text, count=1), encoding="utf-8")
 
 
 def main() -> int:

@@ -1,27 +1,28 @@
 #!/usr/bin/env python3
-"""Runs every test over what is built; with --prove, the gate of proofs first.
+"""Runs every test on the built program; with --prove, the gate of proofs first.
 
 usage: tests/all.py [--prove | --prove-only | --program PROGRAM] [--whole] [--lanes N] [PART..]
 
-What is built is what `make` or `make prove` put into crates/ctfd/out and crates/ctf_c/out; with
-PROGRAM it is that one. As many parts run side by side as there are processors, or N. With names of
-parts only these run; `tests/all.py no_such_part` lists them. With --whole those that otherwise try
-a share of their cases (growths, front and convert) try all.
+The built program is the one that `make` or `make prove` put into crates/ctfd/out (the library:
+crates/ctf_c/out), or PROGRAM. As many parts run at once as there are processors, or N. If parts are
+named, only these run; `tests/all.py no_such_part` lists all. With --whole, parts that otherwise try
+only some of their cases (growths, front, convert and others) try all.
 
-With --prove, `rt ci` comes first, and prints as it goes; a line tells the processor time it took,
-and stands once more before the last.
-Each mutant that it refused at a written proof alone is named behind it, and fails: it may say nothing
-(tests/house/emptied.py). What the kit built by it is then what is built, and the parts run over that. One
-more part, `quick`, builds the program and the library without their proofs and compares the two
+With --prove, `rt ci` comes first, and prints its progress; a line has the processor time that it
+took, and is printed again before the last line. If a mutant was refused only because of a written
+proof, its name follows, and it counts as a failure, since it may show nothing
+(tests/house/emptied.py). The parts then run on what the kit has built. One more part, `quick`,
+builds the program and the library without their proofs and compares the two builds
 (tests/doors/packages/quick.sh). With --prove-only no part follows.
 
-What a part prints goes to a file, and is shown where it fails. A part that lacks something here
-(gdb, say) prints a line that begins with `skipped: `, which is shown; with STRICT=1 in the
-environment that counts as a failure. What no package brings, as where no program may be traced, is
-told by `not possible here: ` and never fails.
+The output of a part goes to a file, and is shown if the part fails. A part that needs something
+that is not installed, such as gdb, prints a line that begins with `skipped: `, which is shown; with
+STRICT=1 in the environment it counts as a failure. A line that begins with `not possible here: `
+never counts as one: it is for what no package can provide, for example where no program may be
+traced.
 
-The last line is `N passed, M failed`: what `rt ci` counts, and each part as one. The status is 0
-where M is.
+The last line is `N passed, M failed`, with what `rt ci` counts, and each part as one. The status is
+0 if M is 0.
 """
 from __future__ import annotations
 
@@ -50,7 +51,7 @@ COUNTS = re.compile(r"([0-9]+) passed, ([0-9]+) failed")
 
 @dataclass
 class Tally:
-    """How much passed and how much failed, and what the proofs took."""
+    """The numbers of passed and failed tests, and the cost of the proofs."""
 
     passed: int = 0
     failed: int = 0
@@ -62,21 +63,21 @@ class Tally:
 
 
 def sources() -> Optional[str]:
-    """The sum of what the program is built of, where there is a kit to build it."""
+    """The hash of the program's sources, or None without a kit to build it."""
     try:
-        return built.sum_of_sources(TOP, Kit.found().identity)
+        return built.sum_of_sources(TOP, Kit.find().identity)
     except NoKit:
         return None
 
 
 def processor_minutes() -> float:
-    """What the commands that have ended took of the processors."""
+    """The processor time in minutes of the commands that have ended."""
     taken = resource.getrusage(resource.RUSAGE_CHILDREN)
     return (taken.ru_utime + taken.ru_stime) / 60
 
 
 def prove(tally: Tally) -> bool:
-    """Runs the gate of proofs, takes over what it counts, and answers whether all passed."""
+    """Runs the gate of proofs, adds its counts, and returns whether all passed."""
     last, before = "", processor_minutes()
     weak: list[str] = []
     with subprocess.Popen(["rt", "ci"], cwd=TOP, stdout=subprocess.PIPE,
@@ -103,8 +104,8 @@ def prove(tally: Tally) -> bool:
     return gate.returncode == 0 and not weak
 
 
-def proved(tally: Tally, run: Lanes) -> None:
-    """Proves all, and has what the kit built take the place of what was built before."""
+def prove_and_build(tally: Tally, run: Lanes) -> None:
+    """Proves everything, and records the kit's build as the built program."""
     before = sources()
     is_proved = prove(tally)
     made = run.run().values()
@@ -115,8 +116,8 @@ def proved(tally: Tally, run: Lanes) -> None:
 
 
 def says_what_is_built(program: Path) -> str:
-    """What the parts run over."""
-    stands = built.told() if program == built.PROGRAM else None
+    """A line about the program that the parts run on."""
+    stands = built.record_of_out() if program == built.PROGRAM else None
     if not stands:
         return f"over {program}"
     how = {built.How.PROVED: "which the kit built with its proofs",
@@ -125,7 +126,7 @@ def says_what_is_built(program: Path) -> str:
 
 
 def given_words() -> tuple[argparse.Namespace, list[Part]]:
-    """What was asked for, and the parts that are to run."""
+    """The options, and the parts that are to run."""
     assert __doc__
     options = argparse.ArgumentParser(usage=__doc__.split("usage: ")[1].split("\n")[0])
     how = options.add_mutually_exclusive_group()
@@ -156,7 +157,7 @@ def main() -> int:
     tally, is_strict = Tally(), os.environ.get("STRICT", "") not in ("", "0")
     with tempfile.TemporaryDirectory() as folder:
         if given.proves:
-            proved(tally, Lanes([archive(is_made=True)], 1, is_strict, Path(folder)))
+            prove_and_build(tally, Lanes([archive(is_made=True)], 1, is_strict, Path(folder)))
         if os.access(given.program, os.X_OK):
             if wanted:
                 print(says_what_is_built(given.program), flush=True)

@@ -1,9 +1,9 @@
-"""What all tests share: the program that they judge, and how much of each they try.
+"""Options and fixtures of all tests: the program under test, and how many cases to try.
 
 usage: pytest [--program PROGRAM] [--whole] FOLDER-OR-FILE.. [-k NAME]
 
-PROGRAM is a built ctfd; without it the one that CTFD names, else crates/ctfd/out/ctfd. With --whole
-tests that try a share of their cases try all.
+PROGRAM is a built ctfd; by default the one that CTFD names, else crates/ctfd/out/ctfd. With
+--whole, tests that try only some of their cases try all.
 """
 from __future__ import annotations
 
@@ -23,7 +23,7 @@ def pytest_addoption(parser: pytest.Parser) -> None:
 
 
 def pytest_configure(config: pytest.Config) -> None:
-    """Tells the modules, and all that they start, which program it is."""
+    """Tells the modules, and the processes that they start, which program to test."""
     os.environ["CTFD"] = str(Path(config.getoption("--program")).resolve())
 
 
@@ -38,5 +38,5 @@ def program() -> str:
 
 @pytest.fixture(scope="session")
 def whole(request: pytest.FixtureRequest) -> bool:
-    """Whether all cases are tried."""
+    """Whether to try all cases."""
     return bool(request.config.getoption("--whole"))

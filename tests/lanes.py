@@ -1,4 +1,4 @@
-"""Runs parts side by side, as many as there are lanes, and says how each went."""
+"""Runs parts in parallel lanes, and prints how each went."""
 from __future__ import annotations
 
 import os
@@ -11,20 +11,20 @@ from pathlib import Path
 
 from parts import Part
 
-# As the scripts of this repository say it, and as pytest does.
+# As printed by scripts of this repository, and by pytest.
 SKIPPED = re.compile(r"^skipped.*|^SKIPPED (?!.*not possible here).*", re.MULTILINE)
 IMPOSSIBLE = re.compile(r"^not possible here: .*|^SKIPPED .*not possible here.*", re.MULTILINE)
-# No part takes nearly so long, so one that does goes on without end.
+# No part takes nearly as long, so one that does would not end.
 LONGEST_SECONDS = 1800
 LINES_SHOWN = 200
-# After so long without a line, one says what runs.
+# After so many seconds of silence, a line lists what runs.
 SILENT_SECONDS = 60
 STEP_SECONDS = 0.1
 
 
 @dataclass
 class Running:
-    """A part that runs, and the file for what it says."""
+    """A part that runs, and the file for its output."""
 
     part: Part
     child: subprocess.Popen[bytes]
@@ -36,7 +36,7 @@ class Running:
         return round(time.monotonic() - self.began)
 
     def end(self, why: str) -> None:
-        """Ends it with all that it has started."""
+        """Kills the part and all that it has started."""
         with self.log.open("ab") as out:
             out.write(f"{why}\n".encode())
         os.killpg(self.child.pid, signal.SIGKILL)
@@ -45,7 +45,7 @@ class Running:
 
 @dataclass
 class Lanes:
-    """Parts that wait, those that run and how those went that have ended."""
+    """Waiting and running parts, and the results of those that have ended."""
 
     waiting: list[Part]
     count: int
@@ -56,7 +56,7 @@ class Lanes:
     last_line: float = field(default_factory=time.monotonic)
 
     def run(self) -> dict[str, bool]:
-        """Whether each part went well, by its name."""
+        """Runs all parts. Returns whether each succeeded, by name."""
         of = len(self.waiting)
         try:
             while self.waiting or self.running:
@@ -72,14 +72,14 @@ class Lanes:
         return self.well
 
     def start(self) -> None:
-        """Starts what may begin."""
+        """Starts the parts that may begin."""
         for part in list(self.waiting):
             if self.may_begin(part):
                 self.waiting.remove(part)
                 self.begin(part)
 
     def may_begin(self, part: Part) -> bool:
-        """Whether a lane is free, and all has ended that the part stands on."""
+        """Whether a lane is free, and the parts that this one needs have ended."""
         open_ones = {it.name for it in self.waiting} | {it.part.name for it in self.running}
         if len(self.running) == self.count or open_ones & set(part.after):
             return False
@@ -103,7 +103,7 @@ class Lanes:
         return one.child.poll() is not None
 
     def report(self, one: Running, of: int) -> bool:
-        """Says how a part went."""
+        """Prints how a part went."""
         status = one.child.returncode
         said = one.log.read_text(encoding="utf-8", errors="replace")
         skips = SKIPPED.findall(said)
@@ -114,14 +114,14 @@ class Lanes:
             print(f"        {line}")
         if status != 0:
             print(*said.splitlines()[-LINES_SHOWN:], f"status {status}", sep="\n", flush=True)
-        self.told()
+        self.flush_line()
         return well
 
-    def told(self) -> None:
+    def flush_line(self) -> None:
         print(end="", flush=True)
         self.last_line = time.monotonic()
 
     def tell_what_runs(self) -> None:
         if time.monotonic() - self.last_line > SILENT_SECONDS and self.running:
             print("running", ", ".join(f"{it.part.name} {it.seconds} s" for it in self.running))
-            self.told()
+            self.flush_line()

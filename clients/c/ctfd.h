@@ -1,7 +1,7 @@
 /* ctfd.h - the types of a C program, from a CTF dictionary (version 2), in process.
  *
- * A handle holds a dictionary that ctfd_open has judged. What is asked of it is answered by a
- * status, and through the pointers that come last:
+ * ctfd_open checks a dictionary and opens it behind a handle. The other calls take the handle,
+ * return a status, and write their results through their last pointers:
  *
  *     struct ctfd types = CTFD_NONE;
  *     uint64_t place, bytes;
@@ -14,33 +14,35 @@
  *
  * Link libctfd.a: `cc own.c $(pkg-config --cflags --libs ctfd)`. docs/C.md has more to read.
  *
- * What a caller owes
- * - A handle begins as CTFD_NONE, and only these calls write its fields. It may be moved, and then
- *   the old one is forgotten. What is open is given back by ctfd_close.
- * - No pointer is null, not even beside a length of 0; each points to as much as is said. No two
- *   arguments of a call overlap, so a handle is not its own parent. A `bool` is 0 or 1.
- * - Calls with one handle do not overlap in time, and neither do calls with handles that share: a
- *   child and its parent after an import, and all that imported the same parent. They stay on the
- *   thread that opened them. Handles that share nothing may be used on other threads.
+ * What the caller must ensure
+ * - A handle is initialized with CTFD_NONE, and only these calls write its fields. It may be moved;
+ *   do not use the old copy then. ctfd_close frees what is open.
+ * - No pointer is null, not even with a length of 0; each points to as many bytes or items as
+ *   stated. No two arguments of a call overlap, so a handle is not its own parent. A `bool` is 0 or
+ *   1.
+ * - Calls with one handle do not run at the same time, and neither do calls with handles that share
+ *   a dictionary: a child and its parent after an import, and all handles that imported the same
+ *   parent. They stay on the thread that opened them. Handles that share nothing may be used on
+ *   different threads.
  * - No call is made from a signal handler.
- * - The stack has room: 256 KiB. Measured were at most 112 KiB, to show structs that lie 512 deep
- *   in each other, and 200 KiB over such a parent.
- * All else is told by statuses, whatever the bytes, the numbers, the names and the lines are.
+ * - 256 KiB of stack are free. We measured at most 112 KiB, to show structs nested 512 deep, and
+ *   200 KiB in a child of a parent with such structs.
+ * Every other error is reported by a status, whatever the bytes, numbers, names and lines are.
  *
- * What a caller is given
- * - A call that is refused changes nothing of what is open, and writes nothing but `place`, which
- *   says where the fault lies: 0 where it has no place (docs/FAULTS.md).
- * - All that is handed in is copied, except by ctfd_open_lent: the caller's bytes may go at once.
- * - A text is written from the front of `text`, as far as `text_len` bytes reach, with no zero byte
- *   behind it. `*len` is the length of all of it: where that is more, ask again with as much room.
- * - Each call may answer CTFD_NO_SLOT, where nothing is open. Those that name a type may answer
- *   CTFD_NO_TYPE and, in a child that imported no parent, CTFD_NO_PARENT.
- * - Calls take no memory unless it is said. Those that do may answer CTFD_MEMORY.
+ * What the caller can rely on
+ * - A refused call leaves everything that is open unchanged, and writes nothing but `place`, which
+ *   says where the fault is (docs/FAULTS.md); 0 if the fault has no place.
+ * - All arguments are copied, except those of ctfd_open_lent: the caller may free them at once.
+ * - Text is truncated to the `text_len` bytes at `text`, without a zero byte at the end. `*len` is
+ *   the full length, as by snprintf: if it is greater, call again with that much room.
+ * - Each call may return CTFD_NO_SLOT, if nothing is open. Calls that take a type number may return
+ *   CTFD_NO_TYPE and, for a child that imported no parent, CTFD_NO_PARENT.
+ * - Calls allocate no memory unless they are said to. Those that do may return CTFD_MEMORY.
  *
- * Types are numbered from 1, and those of a child from 32769: in a child, lower numbers are its
- * parent's. 0 stands for no type, as what a pointer to void leads to: whatever is asked of it is
+ * Types are numbered from 1, and those of a child from 32769; in a child, lower numbers are types
+ * of its parent. 0 stands for no type, such as what a pointer to void points to; calls on it are
  * refused with CTFD_NO_TYPE. Sizes and alignments are in bytes, offsets in bits. Symbols, members,
- * enumerators, arguments and labels count from 0.
+ * enumerators, arguments and labels are numbered from 0.
  */
 #ifndef CTFD_H
 #define CTFD_H
@@ -49,26 +51,26 @@
 #include <stddef.h>
 #include <stdint.h>
 
-/* The version of this header and of the library beside it. */
+/* The version of this header, and of the library that comes with it. */
 #define CTFD_VERSION "0.2.0"
 
 #ifdef __cplusplus
 extern "C" {
 #endif
 
-/* What is open: a dictionary, or a draft. */
+/* A handle: an open dictionary or draft, or nothing. */
 struct ctfd {
     bool full;
     void *at;
 };
 
-/* A service of the line protocol. */
+/* A service of the line protocol, or nothing. */
 struct ctfd_service {
     bool full;
     void *at;
 };
 
-/* What each handle begins as. */
+/* The initial value of each handle. */
 /* clang-format off */
 #define CTFD_NONE { false, NULL }
 /* clang-format on */
@@ -161,7 +163,7 @@ static inline const char *ctfd_status_name(unsigned status)
     return status < sizeof names / sizeof names[0] ? names[status] : "";
 }
 
-/* Kinds of types, by their numbers in sys/ctf.h. */
+/* Kinds of types, with their numbers in sys/ctf.h. */
 enum ctfd_kind {
     CTFD_UNKNOWN = 0,
     CTFD_INTEGER = 1,
@@ -187,70 +189,71 @@ enum ctfd_model {
 
 /* ---- open, close, import */
 
-/* Judges the CTF section of a program and opens a copy of it, in place of what was open. `sym` and
- * `strs` are the program's symbol table (ELF64) and its strings: "", 0 and false where they are not
- * there. `ilp32` says that the program's pointers have 4 bytes. Statuses: CTFD_TOO_SHORT to
- * CTFD_BAD_SYMTAB for the first rule that is broken, with its place. Then what was open stays open.
- * Takes memory. */
+/* Checks the CTF section of a program and opens a copy of it, in place of what was open. `sym` and
+ * `strs` are the program's symbol table (ELF64) and its strings; pass "", 0 and false if there is
+ * none. `ilp32` means that the program's pointers have 4 bytes. Statuses: CTFD_TOO_SHORT to
+ * CTFD_BAD_SYMTAB for the first rule that is broken, with its place; what was open then stays open.
+ * Allocates memory. */
 enum ctfd_status ctfd_open(struct ctfd *handle, const void *ctf, size_t ctf_len, const void *sym,
     size_t sym_len, const void *strs, size_t strs_len, bool has_sym, bool has_strs, bool ilp32,
     uint64_t *place);
 
-/* The same, but nothing is copied: for files that are mapped. The lists stay as they are, and where
- * they are, as long as `handle` has the dictionary and as long as another handle has it as a parent,
- * by ctfd_import or ctfd_create_child. A call that closes it, or that opens, creates or imports
- * another in its place, ends that; one that is refused does not. Takes memory for tables: at most
- * 48 bytes a type and 20 a symbol. */
+/* Checks and opens a CTF section as ctfd_open, but without a copy: for mapped files. The lists must
+ * stay where they are, unchanged, until no handle has the dictionary, or has it as a parent by
+ * ctfd_import or ctfd_create_child. A handle gives it up if a call closes it, or opens, creates or
+ * imports another in its place; a refused call does not count. Allocates memory for tables: at most
+ * 48 bytes for each type and 20 for each symbol. */
 enum ctfd_status ctfd_open_lent(struct ctfd *handle, const void *ctf, size_t ctf_len,
     const void *sym, size_t sym_len, const void *strs, size_t strs_len, bool has_sym, bool has_strs,
     bool ilp32, uint64_t *place);
 
-/* Closes what is open, if anything is. Who imported it keeps it. */
+/* Closes what is open, if anything is. Handles that imported it keep it. */
 void ctfd_close(struct ctfd *handle);
 
-/* Makes what `parent` has open the parent of what `handle` has, in place of an earlier one. They
- * share it: `parent` may be closed, and opened anew. Statuses: CTFD_FIXED_PARENT of a draft,
- * CTFD_NOT_CHILD, CTFD_PARENT_IS_CHILD, CTFD_MODEL_DIFFERS, CTFD_PARENT_SHORT (the place is how
- * many types it needs). Takes memory. */
+/* Makes the dictionary of `parent` the parent of that of `handle`, in place of an earlier parent.
+ * The handles share it: `parent` may then be closed, or opened anew. Statuses: CTFD_FIXED_PARENT
+ * for a draft, CTFD_NOT_CHILD, CTFD_PARENT_IS_CHILD, CTFD_MODEL_DIFFERS, CTFD_PARENT_SHORT (the
+ * place is how many types the parent needs). Allocates memory. */
 enum ctfd_status ctfd_import(struct ctfd *handle, struct ctfd *parent, uint64_t *place);
 
 /* ---- the dictionary as a whole */
 
-/* How many types it has of its own: they have the numbers 1 to that, or 32769 to 32768 + that. */
+/* The number n of own types, which are numbered 1 to n, or 32769 to 32768 + n in a child. */
 enum ctfd_status ctfd_count(struct ctfd *handle, uint64_t *out);
 
-/* 1 where it is a child, else 0. */
+/* 1 if the dictionary is a child, else 0. */
 enum ctfd_status ctfd_child(struct ctfd *handle, uint32_t *out);
 
-/* How many types the imported parent has; CTFD_NO_PARENT where there is none. */
+/* The number of types of the imported parent; CTFD_NO_PARENT if none is imported. */
 enum ctfd_status ctfd_parent_count(struct ctfd *handle, uint64_t *out);
 
 /* The data model: CTFD_LP64 or CTFD_ILP32. */
 enum ctfd_status ctfd_model(struct ctfd *handle, uint32_t *out);
 
-/* The names of its parent and of the parent's label, as its header has them: empty where there is
- * none. */
+/* The names of the parent and of the parent's label, as in the header of the dictionary; empty if
+ * there is none. */
 enum ctfd_status ctfd_parent_name(struct ctfd *handle, char *text, size_t text_len, uint64_t *len);
 enum ctfd_status ctfd_parent_label(struct ctfd *handle, char *text, size_t text_len, uint64_t *len);
 
-/* A label is a mark of the tool that wrote the dictionary: types up to `last` were there then. */
+/* A label is a mark by the tool that wrote the dictionary: the types up to `last` existed then. */
 struct ctfd_label {
     uint64_t name_len;
     uint32_t last;
 };
 
-/* How many labels there are; the one of a number, CTFD_NO_LABEL behind them; the last type of the
- * first one of a name, CTFD_NO_LABEL where none has it. */
+/* ctfd_label_count gives the number of labels, ctfd_label a label by its number, and
+ * ctfd_label_last the last type that the first label with a name covers. The last two return
+ * CTFD_NO_LABEL if there is no such label. */
 enum ctfd_status ctfd_label_count(struct ctfd *handle, uint64_t *out);
 enum ctfd_status ctfd_label(
     struct ctfd *handle, size_t index, char *name, size_t name_len, struct ctfd_label *out);
 enum ctfd_status ctfd_label_last(
     struct ctfd *handle, const char *name, size_t name_len, uint32_t *out);
 
-/* A label by the row. Its name stands in the dictionary's own lists. */
+/* A row for a label. The list with its name is the dictionary's own. */
 struct ctfd_label_row {
-    uint64_t name_at; /* How many bytes stand in front of its name. */
-    uint32_t name_list; /* The number of the list that its name stands in: `enum ctfd_list`. */
+    uint64_t name_at; /* The offset of its name in the list, in bytes. */
+    uint32_t name_list; /* The list that has its name: a number of `enum ctfd_list`. */
     uint32_t last; /* The last type that it covers. */
 };
 
@@ -258,285 +261,292 @@ struct ctfd_label_row {
 enum ctfd_status ctfd_labels(struct ctfd *handle, size_t from, struct ctfd_label_row *rows,
     size_t rows_len, uint64_t *count);
 
-/* ---- what a type says of itself: typedefs are not followed */
+/* ---- the record of a type: typedefs are not followed */
 
-/* Its kind: a number of enum ctfd_kind. */
+/* The type's kind: a number of enum ctfd_kind. */
 enum ctfd_status ctfd_kind(struct ctfd *handle, uint16_t t, uint32_t *out);
 
-/* The name in its record, without struct, union or enum in front: empty where it has none. */
+/* The name in the type's record, without struct, union or enum; empty if it has none. */
 enum ctfd_status ctfd_declared_name(
     struct ctfd *handle, uint16_t t, char *text, size_t text_len, uint64_t *len);
 
-/* 1 where it is visible to look-ups by name, else 0. */
+/* 1 if look-ups by name find the type, else 0. */
 enum ctfd_status ctfd_root(struct ctfd *handle, uint16_t t, uint32_t *out);
 
-/* What a pointer points to, a typedef renames, or volatile, const or restrict qualifies; of other
- * kinds CTFD_NOT_REFERENCE. */
+/* The type that a pointer points to, a typedef renames, or volatile, const or restrict qualifies; 0
+ * for no type. CTFD_NOT_REFERENCE for other kinds. */
 enum ctfd_status ctfd_reference(struct ctfd *handle, uint16_t t, uint16_t *out);
 
-/* What a forward declares: CTFD_STRUCT, CTFD_UNION or CTFD_ENUM; of other kinds CTFD_WRONG_KIND. */
+/* What a forward declares: CTFD_STRUCT, CTFD_UNION or CTFD_ENUM. CTFD_WRONG_KIND for other
+ * kinds. */
 enum ctfd_status ctfd_tag(struct ctfd *handle, uint16_t t, uint32_t *out);
 
-/* How the value of an integer or a float lies in its storage: the format's number, how many bits
- * behind the start, and how many bits wide. Of an integer the number adds 1 signed, 2 character,
- * 4 boolean, 8 varargs. */
+/* How an integer or a float is stored: the encoding's number in the format, the offset of the value
+ * in its storage and its width, both in bits. For an integer the number is a sum of 1 (signed), 2
+ * (character), 4 (boolean) and 8 (varargs). */
 struct ctfd_encoding {
     uint32_t encoding;
     uint32_t offset;
     uint32_t bits;
 };
 
-/* The encoding of an integer or a float; of other kinds CTFD_WRONG_KIND. */
+/* The encoding of an integer or a float. CTFD_WRONG_KIND for other kinds. */
 enum ctfd_status ctfd_encoding(struct ctfd *handle, uint16_t t, struct ctfd_encoding *out);
 
-/* How many elements an array has, and the types of these and of its index. */
+/* The parts of an array: the number of elements, their type, and the type of the index. */
 struct ctfd_array {
     uint32_t count;
     uint16_t contents;
     uint16_t index;
 };
 
-/* The parts of an array; of other kinds CTFD_WRONG_KIND. */
+/* The parts of an array. CTFD_WRONG_KIND for other kinds. */
 enum ctfd_status ctfd_array(struct ctfd *handle, uint16_t t, struct ctfd_array *out);
 
-/* How many members, enumerators or arguments it has: 0 of kinds that have no list. */
+/* The number of members, enumerators or arguments; 0 for kinds without a list. */
 enum ctfd_status ctfd_length(struct ctfd *handle, uint16_t t, uint64_t *out);
 
-/* A member without its name: where it begins, in bits, how long its name is, and its type. */
+/* A member without its name: its offset in bits, the length of its name, and its type. */
 struct ctfd_member {
     uint64_t offset;
     uint64_t name_len;
     uint16_t type;
 };
 
-/* A member of a struct or union, and its name. Behind the last CTFD_NO_MEMBER; of other kinds
- * CTFD_WRONG_KIND. */
+/* A member of a struct or union, by its number, and its name. CTFD_NO_MEMBER if the number is too
+ * great; CTFD_WRONG_KIND for other kinds. */
 enum ctfd_status ctfd_member(struct ctfd *handle, uint16_t t, size_t index, char *name,
     size_t name_len, struct ctfd_member *out);
 
-/* An enumerator of an enum: its name, its value, and how long its name is. Refused alike. */
+/* An enumerator of an enum, by its number: its name, its value, and the length of its name. Refused
+ * as ctfd_member. */
 enum ctfd_status ctfd_enumerator(struct ctfd *handle, uint16_t t, size_t index, char *name,
     size_t name_len, int32_t *value, uint64_t *len);
 
-/* The name of the first enumerator of an enum that has a value, and the value of the first that has
- * a name. CTFD_NO_MEMBER where none has it; of other kinds CTFD_WRONG_KIND. */
+/* The name of the first enumerator of an enum with a value, and the value of the first with a name.
+ * CTFD_NO_MEMBER if there is none; CTFD_WRONG_KIND for other kinds. */
 enum ctfd_status ctfd_enum_name(
     struct ctfd *handle, uint16_t t, int32_t value, char *text, size_t text_len, uint64_t *len);
 enum ctfd_status ctfd_enum_value(
     struct ctfd *handle, uint16_t t, const char *name, size_t name_len, int32_t *value);
 
-/* Members and enumerators by the row. The name of one stands `name_at` bytes behind the beginning
- * of a list of the dictionary that has the type, with a zero byte behind it: of the CTF section
- * where `name_list` is 0, of the strings of the symbol table where it is 1. Where it is 2 the name
- * is empty. These lists are the bytes that ctfd_open or ctfd_open_lent was given, or, of a draft,
- * what ctfd_bytes gives. In a child, types below 32769 are the parent's, and so are their lists. */
+/* The lists in which rows give their names. A name begins at the offset `name_at` in a list of the
+ * dictionary that has the type, and a zero byte follows it. If `name_list` is 0, the list is the
+ * CTF section; if it is 1, the strings of the symbol table; if it is 2, the name is empty. The
+ * lists are the bytes passed to ctfd_open or ctfd_open_lent; for a draft, those that ctfd_bytes
+ * gives. In a child, types below 32769 are the parent's, and so are their lists. */
 enum ctfd_list {
     CTFD_IN_SECTION = 0,
     CTFD_IN_STRINGS = 1,
     CTFD_NOWHERE = 2
 };
 
-/* A member of a struct or union by the row. */
+/* A row for a member of a struct or union. */
 struct ctfd_member_row {
-    uint64_t offset; /* Where it begins, in bits. */
-    uint64_t name_at; /* How many bytes stand in front of its name. */
-    uint32_t name_list; /* The number of the list that its name stands in: `enum ctfd_list`. */
+    uint64_t offset; /* Its offset in bits. */
+    uint64_t name_at; /* The offset of its name in the list, in bytes. */
+    uint32_t name_list; /* The list that has its name: a number of `enum ctfd_list`. */
     uint16_t type; /* The number of its type. */
 };
 
-/* An enumerator by the row. */
+/* A row for an enumerator. */
 struct ctfd_enumerator_row {
-    uint64_t name_at; /* How many bytes stand in front of its name. */
-    uint32_t name_list; /* The number of the list that its name stands in: `enum ctfd_list`. */
+    uint64_t name_at; /* The offset of its name in the list, in bytes. */
+    uint32_t name_list; /* The list that has its name: a number of `enum ctfd_list`. */
     int32_t value; /* Its value. */
 };
 
 /* Fills rows with the members of a struct or union, or the enumerators of an enum, from number
- * `from` on and as far as both reach; rows behind the last stay. `*count` is how many the type has
- * in all. Of other kinds CTFD_WRONG_KIND. */
+ * `from` on, up to the end of the list or of the rows; further rows are unchanged. `*count` is the
+ * length of the whole list. CTFD_WRONG_KIND for other kinds. */
 enum ctfd_status ctfd_members(struct ctfd *handle, uint16_t t, size_t from,
     struct ctfd_member_row *rows, size_t rows_len, uint64_t *count);
 enum ctfd_status ctfd_enumerators(struct ctfd *handle, uint16_t t, size_t from,
     struct ctfd_enumerator_row *rows, size_t rows_len, uint64_t *count);
 
-/* A type of the dictionary's own by the row. What its size, its alignment, what it stands for and
- * what it refers to are, is told with the status that the call for that alone answers, as ctfd_size:
- * where that is a refusal, the number is 0. */
+/* A row for one of the dictionary's own types. The size, the alignment, the resolved type and the
+ * reference come with the status of the call that gives only this, such as ctfd_size; if it is a
+ * refusal, the number is 0. */
 struct ctfd_type_row {
     uint64_t size; /* Its size in bytes. */
     uint64_t align; /* Its alignment in bytes. */
-    uint64_t length; /* How many members, enumerators or arguments it has. */
-    uint64_t name_at; /* How many bytes stand in front of the name in its record. */
-    uint32_t name_list; /* The number of the list that the name stands in: `enum ctfd_list`. */
-    uint32_t kind; /* The number of its kind: `enum ctfd_kind`. */
-    uint32_t root; /* 1 where look-ups by name see it, else 0. */
+    uint64_t length; /* The number of its members, enumerators or arguments. */
+    uint64_t name_at; /* The offset of the name in its record, in bytes of the list. */
+    uint32_t name_list; /* The list that has the name: a number of `enum ctfd_list`. */
+    uint32_t kind; /* Its kind: a number of `enum ctfd_kind`. */
+    uint32_t root; /* 1 if look-ups by name find it, else 0. */
     uint32_t size_status; /* The status of ctfd_size. */
     uint32_t align_status; /* The status of ctfd_align. */
     uint32_t resolved_status; /* The status of ctfd_resolve. */
     uint32_t reference_status; /* The status of ctfd_reference. */
     uint16_t type; /* Its number. */
-    uint16_t resolved; /* The number of the type that it stands for. */
+    uint16_t resolved; /* The number of the type that it resolves to. */
     uint16_t reference; /* The number of the type that it points to, renames or qualifies. */
 };
 
-/* Fills rows with the dictionary's own types, from number `from` on, counted from 0, and as far as
- * both reach; rows behind the last stay. `*count` is how many it has in all. Those of a parent are
- * in rows of its own handle. */
+/* Fills rows with the dictionary's own types, from number `from` on, counted from 0, up to the last
+ * type or the end of the rows; further rows are unchanged. `*count` is the number of own types. For
+ * rows of a parent's types, use a handle of the parent. */
 enum ctfd_status ctfd_types(
     struct ctfd *handle, size_t from, struct ctfd_type_row *rows, size_t rows_len, uint64_t *count);
 
-/* A type in a visit: `type` is that of a member of the struct or union `holder`, which lies in
- * `depth` others and begins `offset` bits behind the beginning of the outermost: UINT64_MAX past 64
- * bits. The lists of its name are those of the dictionary that has the holder. `stands_for` is what
- * ctfd_resolve gives of the type, and 0 where that is refused. The outermost type comes first,
- * without a name, at depth 0 and as its own holder. */
+/* A row of a visit: a member of the struct or union `holder`. `stands_for` is what ctfd_resolve
+ * gives for the member's type, 0 if that is refused. `offset` is UINT64_MAX past 64 bits. The lists
+ * with the name are those of the dictionary that has `holder`. The outermost type comes first, with
+ * depth 0, without a name, and as its own holder. */
 struct ctfd_visit_row {
-    uint64_t offset; /* Where it begins, in bits from the beginning of the outermost. */
-    uint64_t name_at; /* How many bytes stand in front of its name. */
-    uint32_t name_list; /* The number of the list that its name stands in: `enum ctfd_list`. */
-    uint32_t depth; /* How many structs and unions it lies in. */
+    uint64_t offset; /* Its offset from the beginning of the outermost type, in bits. */
+    uint64_t name_at; /* The offset of its name in the list, in bytes. */
+    uint32_t name_list; /* The list that has its name: a number of `enum ctfd_list`. */
+    uint32_t depth; /* The number of structs and unions around it. */
     uint16_t type; /* The number of its type. */
     uint16_t holder; /* The number of the struct or union that it is a member of. */
-    uint16_t stands_for; /* The type that its type stands for; 0 where that is none. */
+    uint16_t stands_for; /* The type that its type resolves to; 0 if that is none. */
 };
 
-/* Fills rows with a type and all that lies in it, as far as they reach: the members of the struct
- * or union that it stands for, in order, each followed by what lies in that. What an array holds or
- * a pointer points to is not visited, and a member whose type is no struct or union, or is not
- * there, has nothing in it. `*count` is how many rows all take; where that is more than rows_len,
- * it is rows_len + 1, however many there are: ask again with more, as twice as many. It takes as
- * long as the rows that it fills. */
+/* Fills rows with a type and all that it contains: the members of the struct or union that it
+ * resolves to, in order, each followed by all that it contains. Elements of arrays and targets of
+ * pointers are not visited, and a member whose type is no struct or union, or is missing, contains
+ * nothing. `*count` is the number of rows that all of it takes; if that is more than rows_len,
+ * `*count` is rows_len + 1: call again with more rows, such as twice as many. Takes time linear in
+ * the rows that it fills. */
 enum ctfd_status ctfd_visit(
     struct ctfd *handle, uint16_t t, struct ctfd_visit_row *rows, size_t rows_len, uint64_t *count);
 
-/* What a function type returns, and the type of an argument: a last 0 says that more may follow.
- * Refused alike. */
+/* The type that a function type returns, and the type of an argument by its number; a last argument
+ * 0 means that more may follow. Refused as ctfd_member. */
 enum ctfd_status ctfd_return(struct ctfd *handle, uint16_t t, uint16_t *out);
 enum ctfd_status ctfd_argument(struct ctfd *handle, uint16_t t, size_t index, uint16_t *out);
 
 /* Fills rows with the types of a function type's arguments, as ctfd_argument gives them, from
- * number `from` on and as far as both reach; rows behind the last stay. `*count` is how many it has
- * in all, as ctfd_length. Of other kinds CTFD_WRONG_KIND. */
+ * number `from` on, up to the last argument or the end of the rows; further rows are unchanged.
+ * `*count` is the number of all arguments, as ctfd_length gives it. CTFD_WRONG_KIND for other
+ * kinds. */
 enum ctfd_status ctfd_arguments(
     struct ctfd *handle, uint16_t t, size_t from, uint16_t *rows, size_t rows_len, uint64_t *count);
 
-/* ---- what a type comes to: typedefs and qualifiers are followed */
+/* ---- sizes, members, names and values: typedefs and qualifiers are followed */
 
-/* The type that it stands for, along typedefs and qualifiers; 0 where the way ends in no type. */
+/* The type that a type resolves to through typedefs and qualifiers; 0 if that is no type. */
 enum ctfd_status ctfd_resolve(struct ctfd *handle, uint16_t t, uint16_t *out);
 
-/* Its size and its alignment in bytes. CTFD_INCOMPLETE of a forward, an unknown kind and no type;
- * CTFD_TOO_BIG of an array past 64 bits. A struct is aligned as its first member is. */
+/* The size and the alignment of a type, in bytes. CTFD_INCOMPLETE for a forward, an unknown kind
+ * and no type; CTFD_TOO_BIG for an array of 2^64 bytes or more. The alignment of a struct is that
+ * of its first member. */
 enum ctfd_status ctfd_size(struct ctfd *handle, uint16_t t, uint64_t *out);
 enum ctfd_status ctfd_align(struct ctfd *handle, uint16_t t, uint64_t *out);
 
-/* Where a member of a name lies in a struct or union, in bits, and its type: the first of its name.
+/* The offset in bits of the first member with a name in a struct or union, and its type.
  * CTFD_NOT_AGGREGATE, CTFD_NO_MEMBER. */
 enum ctfd_status ctfd_field(struct ctfd *handle, uint16_t t, const char *name, size_t name_len,
     uint64_t *offset, uint16_t *to);
 
-/* The same of a member of a member: `names` are the names of the steps, each closed by a zero byte,
- * as "address\0street" with names_len 15. Without names it is 0, and `t` itself. CTFD_TOO_BIG past
- * 64 bits. A refusal writes the number of its step, from 0, to `place`. Takes memory. */
+/* The offset in bits and the type of a member of a member: `names` has the name of each step, each
+ * followed by a zero byte, such as "address\0street" with names_len 15. Without names the results
+ * are 0 and `t` itself. Refused as ctfd_field; CTFD_TOO_BIG past 64 bits. `*place` is then the
+ * number of the step, from 0. Allocates memory. */
 enum ctfd_status ctfd_path(struct ctfd *handle, uint16_t t, const char *names, size_t names_len,
     uint64_t *offset, uint16_t *to, uint64_t *place);
 
-/* Its name as C spells it, as in a cast: "struct point *", "int (*)[10]". CTFD_TOO_LONG past 65,536
- * bytes. Takes memory. */
+/* The type's name as C spells it, as in a cast: "struct point *", "int (*)[10]". CTFD_TOO_LONG past
+ * 65,536 bytes. Allocates memory. */
 enum ctfd_status ctfd_name(
     struct ctfd *handle, uint16_t t, char *text, size_t text_len, uint64_t *len);
 
-/* What a value of it holds that begins at bit `offset` of `memory`, as a debugger shows it:
- * "{x = 1, y = -2}". CTFD_SHORT_MEMORY, CTFD_INCOMPLETE, CTFD_TOO_BIG, CTFD_TOO_LONG. Takes
+/* The value of a type that begins at bit `offset` of `memory`, as a debugger shows it, such as
+ * "{x = 1, y = -2}". CTFD_SHORT_MEMORY, CTFD_INCOMPLETE, CTFD_TOO_BIG, CTFD_TOO_LONG. Allocates
  * memory. */
 enum ctfd_status ctfd_show(struct ctfd *handle, uint16_t t, const void *memory, size_t memory_len,
     uint64_t offset, char *text, size_t text_len, uint64_t *len);
 
 /* ---- look-up */
 
-/* The type of a name, as "int", "struct point" or "struct point **". One that is not visible to
- * look-ups is not found; of several it is the least, own ones first. CTFD_NOT_FOUND,
- * CTFD_BAD_SYNTAX. */
+/* The type with a name, such as "int", "struct point" or "struct point **". Only types that are
+ * visible to look-ups are found; of several types the one with the least number, own types first.
+ * CTFD_NOT_FOUND, CTFD_BAD_SYNTAX. */
 enum ctfd_status ctfd_find(struct ctfd *handle, const char *text, size_t text_len, uint16_t *out);
 
-/* The least pointer to a type, or else to what it stands for; CTFD_NOT_FOUND. */
+/* The least pointer to a type; if there is none, to the type that it resolves to.
+ * CTFD_NOT_FOUND. */
 enum ctfd_status ctfd_pointer(struct ctfd *handle, uint16_t t, uint16_t *out);
 
 /* ---- the program's symbols */
 
-/* The number of the first symbol of a name that a dictionary can tell of; CTFD_NO_SYMBOL. */
+/* The number of the first symbol with a name, among those for which a dictionary can have types;
+ * CTFD_NO_SYMBOL. */
 enum ctfd_status ctfd_symbol(struct ctfd *handle, const char *name, size_t name_len, uint32_t *out);
 
 /* The name of a symbol; CTFD_NO_SYMBOL. */
 enum ctfd_status ctfd_symbol_name(
     struct ctfd *handle, uint32_t number, char *text, size_t text_len, uint64_t *len);
 
-/* The type of an object; CTFD_NO_SYMBOL, CTFD_NOT_DATA, CTFD_NO_INFO where nothing is told. */
+/* The type of an object. CTFD_NO_SYMBOL, CTFD_NOT_DATA, CTFD_NO_INFO if the dictionary has none. */
 enum ctfd_status ctfd_object(struct ctfd *handle, uint32_t number, uint16_t *out);
 
-/* How many arguments a function takes, 1 where more may follow, and what it returns. */
+/* The number of a function's arguments, 1 in `varargs` if more may follow, and its return type. */
 struct ctfd_function {
     uint64_t arguments;
     uint32_t varargs;
     uint16_t ret;
 };
 
-/* What is told of a function, and the type of an argument; CTFD_NO_SYMBOL, CTFD_NOT_FUNCTION,
- * CTFD_NO_INFO, and CTFD_NO_MEMBER behind the last argument. */
+/* The signature of a function, and the type of an argument by its number. CTFD_NO_SYMBOL,
+ * CTFD_NOT_FUNCTION, CTFD_NO_INFO, and CTFD_NO_MEMBER if there is no such argument. */
 enum ctfd_status ctfd_function(struct ctfd *handle, uint32_t number, struct ctfd_function *out);
 enum ctfd_status ctfd_function_argument(
     struct ctfd *handle, uint32_t number, size_t index, uint16_t *out);
 
-/* The same of a function type, by its number: CTFD_WRONG_KIND of other kinds. */
+/* The signature of a function type, by the type's number. CTFD_WRONG_KIND for other kinds. */
 enum ctfd_status ctfd_signature(struct ctfd *handle, uint16_t t, struct ctfd_function *out);
 
-/* Fills rows with the types of the arguments that a function takes, from number `from` on, as
- * ctfd_arguments; `*count` is how many it takes. Refused as ctfd_function. */
+/* Fills rows with the types of a function's arguments, from number `from` on, as ctfd_arguments;
+ * `*count` is the number of its arguments. Refused as ctfd_function. */
 enum ctfd_status ctfd_function_arguments(struct ctfd *handle, uint32_t number, size_t from,
     uint16_t *rows, size_t rows_len, uint64_t *count);
 
-/* What a symbol stands for, as the low four bits of its st_info have it. */
+/* The class of a symbol, from the low four bits of its st_info. */
 enum ctfd_symbol_class {
     CTFD_OTHER_SYMBOL = 0,
     CTFD_OBJECT_SYMBOL = 1,
     CTFD_FUNCTION_SYMBOL = 2
 };
 
-/* A symbol by the row: a type is what a function returns, with the status of ctfd_function, and else
- * that of an object, with the status of ctfd_object. Where that is a refusal, the type is 0. Its name
- * stands in the dictionary's own lists. */
+/* A row for a symbol. The type is the return type of a function, with the status of ctfd_function,
+ * or else the type of an object, with the status of ctfd_object; if that is a refusal, the type is
+ * 0. The list with its name is the dictionary's own. */
 struct ctfd_symbol_row {
-    uint64_t name_at; /* How many bytes stand in front of its name. */
-    uint32_t name_list; /* The number of the list that its name stands in: 1, or 2 for none. */
+    uint64_t name_at; /* The offset of its name in the list, in bytes. */
+    uint32_t name_list; /* The list that has its name: 1, or 2 if it has none. */
     uint32_t number; /* Its number. */
-    uint32_t symbol_class; /* What it stands for: `enum ctfd_symbol_class`. */
+    uint32_t symbol_class; /* Its class: a number of `enum ctfd_symbol_class`. */
     uint32_t type_status; /* The status of its type. */
     uint16_t type; /* The number of its type. */
 };
 
-/* Fills rows with all symbols of the table from number `from` on and as far as both reach, also
- * those that the dictionary tells nothing of; rows behind the last stay. `*count` is how many there
- * are in all, at most 2^32. */
+/* Fills rows with the symbols of the table from number `from` on, up to the last symbol or the end
+ * of the rows, including those without type information; further rows are unchanged. `*count` is
+ * the number of all symbols, at most 2^32. */
 enum ctfd_status ctfd_symbols(struct ctfd *handle, size_t from, struct ctfd_symbol_row *rows,
     size_t rows_len, uint64_t *count);
 
-/* ---- drafts: dictionaries in the making
+/* ---- drafts: dictionaries to which types are added
  *
- * A draft is open behind a handle as a dictionary is, and all that is asked above is answered of
- * what its last update made. What is added is pending until the next update. Refusals are those of
- * docs/FAULTS.md, CTFD_READ_ONLY where no draft is open among them, and all these calls take memory
- * but for ctfd_discard and ctfd_bytes.
+ * A handle holds a draft as it holds a dictionary, and all calls above see the dictionary of its
+ * last update. Additions are pending until the next update. Refusals are those of docs/FAULTS.md,
+ * among them CTFD_READ_ONLY if the handle holds no draft. All these calls allocate memory, except
+ * ctfd_discard and ctfd_bytes.
  */
 
-/* Opens an empty draft, in place of what was open; with a parent, which is fixed for good, and the
- * names that its header will have for it and for its label. It has the parent's data model. The
- * parent's name is not empty: CTFD_BAD_REQUEST. */
+/* ctfd_create opens an empty draft, in place of what was open. ctfd_create_child opens one over a
+ * parent, which stays for good; `parname` and `parlabel` are the names of the parent and of its
+ * label for the header, and the draft has the parent's data model. CTFD_BAD_REQUEST if `parname` is
+ * empty. */
 enum ctfd_status ctfd_create(struct ctfd *handle, bool ilp32, uint64_t *place);
 enum ctfd_status ctfd_create_child(struct ctfd *handle, struct ctfd *parent, const char *parname,
     size_t parname_len, const char *parlabel, size_t parlabel_len, uint64_t *place);
 
-/* Each adds a type and answers its number. `root` says that it is visible to look-ups by name. A
- * last argument 0 of a function says that more may follow; `tag` is CTFD_STRUCT, CTFD_UNION or
+/* Each adds a type and writes its number. `root` means that look-ups by name find the type. A last
+ * argument 0 of a function means that more may follow; `tag` is CTFD_STRUCT, CTFD_UNION or
  * CTFD_ENUM. */
 enum ctfd_status ctfd_add_integer(struct ctfd *handle, const char *name, size_t name_len, bool root,
     uint8_t encoding, uint8_t offset, uint16_t bits, uint64_t size, uint16_t *out);
@@ -567,70 +577,74 @@ enum ctfd_status ctfd_add_forward(
 enum ctfd_status ctfd_add_unknown(
     struct ctfd *handle, const char *name, size_t name_len, bool root, uint16_t *out);
 
-/* Adds a member to a pending struct or union, at `offset` bits where `has_offset`, else behind its
- * last member, and answers where it lies. */
+/* Adds a member to a pending struct or union, at `offset` bits if `has_offset`, else after its last
+ * member, and writes its offset in bits. */
 enum ctfd_status ctfd_add_member(struct ctfd *handle, uint16_t t, const char *name, size_t name_len,
     uint16_t type, bool has_offset, uint64_t offset, uint64_t *out);
 
-/* Adds a member to a pending struct or union, at `offset` bits, and gives the struct or union `size`
- * bytes, more or fewer than it had. Its type need have no size, and it may end behind the struct;
- * CTFD_BAD_OFFSET where it, or a member before it, begins behind that. */
+/* Adds a member to a pending struct or union, at `offset` bits, and sets the size of the struct or
+ * union to `size` bytes, more or fewer than before. The member's type may be incomplete, and the
+ * member may extend past the new end; CTFD_BAD_OFFSET if this member, or an earlier one, begins
+ * past it. */
 enum ctfd_status ctfd_add_member_at(struct ctfd *handle, uint16_t t, const char *name,
     size_t name_len, uint16_t type, uint64_t offset, uint64_t size);
 
-/* Adds an enumerator to a pending enum; a label that covers types up to `last`. */
+/* ctfd_add_enumerator adds an enumerator to a pending enum; ctfd_add_label adds a label that covers
+ * the types up to `last`. */
 enum ctfd_status ctfd_add_enumerator(
     struct ctfd *handle, uint16_t t, const char *name, size_t name_len, int32_t value);
 enum ctfd_status ctfd_add_label(
     struct ctfd *handle, const char *name, size_t name_len, uint32_t last);
 
-/* Makes all that is pending part of the dictionary; drops it. Both answer how many types the
- * dictionary then has. */
+/* ctfd_update writes all pending additions to the dictionary; ctfd_discard drops them. Both give
+ * the number of types that the dictionary then has. */
 enum ctfd_status ctfd_update(struct ctfd *handle, uint64_t *types, uint64_t *place);
 enum ctfd_status ctfd_discard(struct ctfd *handle, uint64_t *types);
 
-/* The bytes of what is open, from byte `from` on and as far as `bytes_len` reaches, and how many
- * there are in all. */
+/* The bytes of the open dictionary's CTF section, from byte `from` on, at most bytes_len of them.
+ * `*len` is the number of all bytes. */
 enum ctfd_status ctfd_bytes(
     struct ctfd *handle, uint64_t from, void *bytes, size_t bytes_len, uint64_t *len);
 
 /* ---- the line protocol in process
  *
- * A service answers lines of JSON as `ctfd serve` does (docs/PROTOCOL.md), all its sessions in this
- * process. ctfd_end, ctfd_reply and ctfd_leave take no memory, the others may.
+ * A service answers lines of JSON as `ctfd serve` does (docs/PROTOCOL.md); all its sessions are in
+ * this process. ctfd_end, ctfd_reply and ctfd_leave allocate no memory, the others may.
  */
 
-/* Begins a service in which no session holds anything, in place of the one that was there. */
+/* Begins a service with new sessions, in place of an earlier service. */
 enum ctfd_status ctfd_begin(struct ctfd_service *handle);
 
 /* Ends the service, if there is one. */
 void ctfd_end(struct ctfd_service *handle);
 
-/* Answers a line, which is given without its newline; the reply ends in one. What is refused is
- * told by the reply: the status is CTFD_OK wherever there is a service. Where the reply is longer
+/* Answers a line, which is passed without its newline; the reply ends in one. The reply also
+ * reports refusals: the status is CTFD_OK whenever the handle has a service. If the reply is longer
  * than `text_len`, ctfd_reply gives it again. */
 enum ctfd_status ctfd_line(struct ctfd_service *handle, const char *line, size_t line_len,
     char *text, size_t text_len, uint64_t *len);
 
-/* Answers a line as a session's, whatever number its `s` names; the reply has that number. An object
- * without `s` has the session's. Session 0 makes no requests: CTFD_BAD_REQUEST, and nothing is
- * written. */
+/* Answers a line of `session`, whatever number its `s` has; the reply has the number of the line,
+ * or that of `session` if the line is an object without `s`. Session 0 makes no requests:
+ * CTFD_BAD_REQUEST, and nothing is written. */
 enum ctfd_status ctfd_line_as(struct ctfd_service *handle, uint32_t session, const char *line,
     size_t line_len, char *text, size_t text_len, uint64_t *len);
 
-/* Publishes a CTF section for session 0, as `ctfd serve NAME=FILE` does, under a name that has none
- * yet. The section is copied. */
+/* Publishes a CTF section for session 0, as `ctfd serve NAME=FILE` does, under a name that is not
+ * in use. The section is copied. CTFD_BAD_REQUEST if the name is not allowed, CTFD_NAME_TAKEN, and
+ * the statuses of ctfd_open. */
 enum ctfd_status ctfd_load(struct ctfd_service *handle, const char *name, size_t name_len,
     const void *ctf, size_t ctf_len);
 
-/* Forgets all that a session has and published. Others keep what they took from it. */
+/* Forgets a session: what it has, and what it has published. Other sessions keep what they took
+ * from it. */
 enum ctfd_status ctfd_leave(struct ctfd_service *handle, uint32_t session);
 
-/* Gives the last reply again. */
+/* Writes the last reply again. */
 enum ctfd_status ctfd_reply(
     struct ctfd_service *handle, char *text, size_t text_len, uint64_t *len);
 
-/* The library is built with these sizes; another compiler's enums or alignment would not fit. */
+/* Checks that the compiler lays out these types as the library has them. */
 #ifdef __cplusplus
 #define CTFD_ASSERT(holds) static_assert(holds, "ctfd.h: the layout is another one")
 #else

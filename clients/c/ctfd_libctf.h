@@ -1,18 +1,18 @@
 /* ctfd_libctf.h - the calls of libctf(3LIB), as libctfd has them.
  *
- * A program that was written for libctf includes this in place of <libctf.h> or <sys/ctf_api.h>,
- * and links libctfd.so or libctfd.a. Numbers of types, offsets, the order of lists, return values,
- * where typedefs are followed, what callbacks are given and when ctf_errno changes are libctf's, as
- * illumos has them.
- * Not so are these:
- * - A dictionary is judged whole when it is opened, and is refused for any fault in it.
- * - A parent that lacks types which the child names is refused by ctf_import.
- * docs/C.md has a table of all calls, with those that are not here.
+ * A program that was written for libctf includes this file in place of <libctf.h> or
+ * <sys/ctf_api.h>, and links libctfd.so or libctfd.a. Type numbers, offsets, the order of lists,
+ * return values, the calls that follow typedefs, the arguments of callbacks and the changes of
+ * ctf_errno are those of illumos.
+ * These differ:
+ * - A dictionary is checked in full when it is opened, and refused for any fault.
+ * - ctf_import refuses a parent that lacks types to which the child refers.
+ * docs/C.md has a table of all calls, including those that are missing here.
  *
- * A ctf_file_t, and those that share its parent, are for one thread at a time (ctfd.h). Names that
- * are handed out, to callbacks too, live as long as their ctf_file_t; those of members and
- * enumerators stand in the sections that it was given. A callback may make any call but ctf_close
- * of the file that it is called for.
+ * Only one thread at a time may use a ctf_file_t, or several that share a parent (ctfd.h). Names
+ * that are returned or passed to callbacks live as long as their ctf_file_t; those of members and
+ * enumerators are in the sections that the caller passed. A callback may make any call, except
+ * ctf_close of the file for which it is called.
  */
 #ifndef CTFD_LIBCTF_H
 #define CTFD_LIBCTF_H
@@ -133,31 +133,31 @@ typedef int ctf_object_f(const char *name, ctf_id_t type, ulong_t symbol, void *
 #define CTF_FP_DIMAGRY 11
 #define CTF_FP_LDIMAGRY 12
 
-/* What ctf_errno tells: a number of <errno.h>, or one of these, which are those of libctf. */
+/* The values of ctf_errno: a number of <errno.h>, or one of these, which libctf has too. */
 #define ECTF_BASE 1000
 
-/* Behind this, and a number of enum ctfd_status: faults that libctf has no number for. */
+/* This, plus a number of enum ctfd_status: faults for which libctf has no number. */
 #define ECTF_FAULT 1100
 
 enum {
-    ECTF_FMT = ECTF_BASE, /* the file is no CTF and no ELF */
+    ECTF_FMT = ECTF_BASE, /* the file is neither CTF nor ELF */
     ECTF_ELFVERS, /* a damaged ELF file */
     ECTF_CTFVERS, /* not version 2 */
     ECTF_ENDIAN,
     ECTF_SYMTAB,
     ECTF_SYMBAD,
     ECTF_STRBAD,
-    ECTF_CORRUPT, /* a rule of the format is broken: ctf_fault says which */
+    ECTF_CORRUPT, /* a rule of the format is broken: see ctf_fault */
     ECTF_NOCTFDATA, /* an ELF file without .SUNW_ctf and .ctf */
     ECTF_NOCTFBUF, /* no CTF */
     ECTF_NOSYMTAB, /* no such symbol */
     ECTF_NOPARENT,
     ECTF_DMODEL,
     ECTF_MMAP,
-    ECTF_ZMISSING, /* the part for ELF files, libctfd_elf, is not there */
+    ECTF_ZMISSING, /* the part for ELF files, libctfd_elf, is missing */
     ECTF_ZINIT,
     ECTF_ZALLOC,
-    ECTF_DECOMPRESS, /* a body that does not inflate to what its header says */
+    ECTF_DECOMPRESS, /* a body that does not inflate to the size in its header */
     ECTF_STRTAB,
     ECTF_BADNAME,
     ECTF_BADID,
@@ -167,7 +167,7 @@ enum {
     ECTF_NOTINTFP,
     ECTF_NOTARRAY,
     ECTF_NOTREF,
-    ECTF_NAMELEN, /* a name that does not fit into the caller's buffer */
+    ECTF_NAMELEN, /* a name does not fit into the caller's buffer */
     ECTF_NOTYPE,
     ECTF_SYNTAX,
     ECTF_NOTFUNC,
@@ -183,42 +183,44 @@ enum {
     ECTF_DTFULL,
     ECTF_FULL,
     ECTF_DUPMEMBER,
-    ECTF_CONFLICT, /* another type of this name is there already */
+    ECTF_CONFLICT, /* another type with this name exists already */
     ECTF_REFERENCED,
     ECTF_NOTDYN
 };
 
 /* ---- errors */
 
-/* The last error of a file; a call that succeeds leaves it. */
+/* The last error of a file. A successful call does not change it. */
 int ctf_errno(ctf_file_t *fp);
 
-/* What an error is, with the name of its fault in front: "NoType: no type has this number". */
+/* The text of an error, which begins with the name of its fault: "NoType: no type has this
+ * number". */
 const char *ctf_errmsg(int error);
 
-/* Not one of libctf's: the fault behind the last error of a file, or, of NULL, behind the last call
- * on this thread that opened nothing; CTFD_OK where it is an error of another sort. Many faults
- * share a number of libctf's: ctfd_status_name(ctf_fault(NULL)) says which rule is broken. */
+/* Not in libctf: the fault of the last error of a file; for NULL, that of the last call on this
+ * thread that failed to open a file. CTFD_OK if the error is no fault. Many faults share a number
+ * of libctf: ctfd_status_name(ctf_fault(NULL)) says which rule is broken. */
 enum ctfd_status ctf_fault(ctf_file_t *fp);
 
-/* The version of the format, which is the only one. */
+/* The version of the format. There is only one. */
 int ctf_version(int version);
 
 /* ---- open and close */
 
-/* The caller keeps the sections until the file is closed. Symbols of ELF32 are told by their
- * cts_entsize, and make the model ILP32. A compressed dictionary is inflated where the part for ELF
- * files is there; else it is refused. */
+/* Opens sections in memory, which must stay unchanged until the file is closed. cts_entsize says
+ * whether the symbols are those of ELF32, and then the model is ILP32. A compressed dictionary is
+ * inflated if the part for ELF files is installed; else it is refused. */
 ctf_file_t *ctf_bufopen(
     const ctf_sect_t *ctf, const ctf_sect_t *symbols, const ctf_sect_t *strings, int *error);
 
-/* Open a file of a CTF section alone, or an ELF file that has one. What is no regular file is
- * refused at once, with EINVAL. Where the environment names stores by CTFD_STORE, an ELF file without
- * one is asked for by its build-id: EREMOTEIO if that failed, or if what came was refused. */
+/* Opens a file that is a CTF section, or an ELF file that has one. Anything but a regular file is
+ * refused at once, with EINVAL. An ELF file without a section is looked up by its build-id in the
+ * stores that CTFD_STORE in the environment names: EREMOTEIO if that failed, or if the result was
+ * refused. */
 ctf_file_t *ctf_open(const char *name, int *error);
 ctf_file_t *ctf_fdopen(int fd, int *error);
 
-/* Opens the same dictionary once more, by itself; not one in the making. */
+/* Opens the same dictionary once more, independently. Dictionaries from ctf_create are refused. */
 ctf_file_t *ctf_dup(ctf_file_t *fp);
 void ctf_close(ctf_file_t *fp);
 
@@ -227,19 +229,19 @@ int ctf_getmodel(ctf_file_t *fp);
 void ctf_setspecific(ctf_file_t *fp, void *data);
 void *ctf_getspecific(ctf_file_t *fp);
 
-/* The bytes of the dictionary: those that were handed in, or, of one in the making, what is visible,
- * written anew. They are there until the file is closed, or, of one in the making, until the next
- * of these calls. No bytes, and an error, where it can't be written. */
+/* The bytes of the dictionary: those that were passed; for one from ctf_create, its visible part,
+ * encoded. They live until the file is closed; those of ctf_create, until the next call of this
+ * function. If it can't be encoded, the size is 0 and the error is set. */
 void ctf_dataptr(ctf_file_t *fp, const void **bytes, size_t *size);
 
 /* ---- parents */
 
-/* Without a parent, drops the one that was imported. One in the making imports its parent before
- * anything is added to it, and keeps it. A child sees what its parent in the making gets. */
+/* Imports a parent; NULL drops the imported one. Import the parent of a dictionary from ctf_create
+ * before you add anything; it can't be changed afterwards. A child sees additions to its parent. */
 int ctf_import(ctf_file_t *fp, ctf_file_t *parent);
 ctf_file_t *ctf_parent_file(ctf_file_t *fp);
 
-/* NULL where the dictionary names none. */
+/* NULL if the dictionary names no parent. */
 const char *ctf_parent_name(ctf_file_t *fp);
 const char *ctf_parent_label(ctf_file_t *fp);
 
@@ -255,18 +257,20 @@ ctf_id_t ctf_type_pointer(ctf_file_t *fp, ctf_id_t type);
 int ctf_type_encoding(ctf_file_t *fp, ctf_id_t type, ctf_encoding_t *encoding);
 int ctf_array_info(ctf_file_t *fp, ctf_id_t type, ctf_arinfo_t *array);
 
-/* The length of the whole name; as much of it is written as fits before a zero byte. With a
- * qualifier that and a ` stand in front of the name in it: "struct module`node *". */
+/* Both write as much of a type's name as fits, and a zero byte, and return the length of the whole
+ * name. A qualifier is written before the name itself, with a `, such as "struct module`node *". */
 ssize_t ctf_type_lname(ctf_file_t *fp, ctf_id_t type, char *text, size_t size);
 ssize_t ctf_type_qlname(
     ctf_file_t *fp, ctf_id_t type, char *text, size_t size, const char *qualifier);
 
-/* NULL where it does not fit. The last is the declaration of a name: "int (*name)[10]". */
+/* As the calls above, but these return `text`; NULL if the name does not fit. ctf_type_cname writes
+ * the declaration of a name, such as "int (*name)[10]". */
 char *ctf_type_name(ctf_file_t *fp, ctf_id_t type, char *text, size_t size);
 char *ctf_type_qname(ctf_file_t *fp, ctf_id_t type, char *text, size_t size, const char *qualifier);
 char *ctf_type_cname(ctf_file_t *fp, ctf_id_t type, char *text, size_t size, const char *name);
 
-/* Orders types; 1 where two are the same but for typedefs, qualifiers and their dictionary. */
+/* ctf_type_cmp orders types; ctf_type_compat returns 1 if two types are the same but for typedefs,
+ * qualifiers and their dictionaries, else 0. */
 int ctf_type_cmp(ctf_file_t *lfp, ctf_id_t ltype, ctf_file_t *rfp, ctf_id_t rtype);
 int ctf_type_compat(ctf_file_t *lfp, ctf_id_t ltype, ctf_file_t *rfp, ctf_id_t rtype);
 
@@ -277,20 +281,20 @@ int ctf_member_iter(ctf_file_t *fp, ctf_id_t type, ctf_member_f *each, void *arg
 int ctf_type_visit(ctf_file_t *fp, ctf_id_t type, ctf_visit_f *each, void *arg);
 int ctf_enum_iter(ctf_file_t *fp, ctf_id_t type, ctf_enum_f *each, void *arg);
 
-/* The first name of a value; NULL where no enumerator has it. */
+/* The first name with a value; NULL if no enumerator has it. */
 const char *ctf_enum_name(ctf_file_t *fp, ctf_id_t type, int value);
 int ctf_enum_value(ctf_file_t *fp, ctf_id_t type, const char *name, int *value);
 
 /* ---- all types, look-up */
 
-/* Calls with each of the dictionary's own types: the visible ones, or all with `hidden`. */
+/* Calls `each` for the dictionary's own types: the visible ones, or all if `hidden`. */
 int ctf_type_iter(ctf_file_t *fp, boolean_t hidden, ctf_type_f *each, void *arg);
 
-/* Qualifiers and blanks in the name are passed over. */
+/* Qualifiers and blanks in the name are ignored. */
 ctf_id_t ctf_lookup_by_name(ctf_file_t *fp, const char *name);
 
-/* Calls with each string of the dictionary's own table, in order. Those of one in the making are
- * there until the call ends. */
+/* Calls `each` for the strings in the dictionary's own table, in order. For a dictionary from
+ * ctf_create they live until the call ends. */
 int ctf_string_iter(ctf_file_t *fp, ctf_string_f *each, void *arg);
 
 /* ---- functions and symbols */
@@ -301,10 +305,10 @@ int ctf_func_info(ctf_file_t *fp, ulong_t symbol, ctf_funcinfo_t *info);
 int ctf_func_args(ctf_file_t *fp, ulong_t symbol, uint_t argc, ctf_id_t *argv);
 ctf_id_t ctf_lookup_by_symbol(ctf_file_t *fp, ulong_t symbol);
 
-/* NULL where it does not fit. */
+/* The name of a symbol; NULL if there is no such symbol, or if the name does not fit. */
 char *ctf_symbol_name(ctf_file_t *fp, ulong_t symbol, char *text, size_t size);
 
-/* Call with each symbol of which something is told, in the order of the symbol table. */
+/* Both call `each` for the symbols that have types, in the order of the symbol table. */
 int ctf_object_iter(ctf_file_t *fp, ctf_object_f *each, void *arg);
 int ctf_function_iter(ctf_file_t *fp, ctf_function_f *each, void *arg);
 
@@ -312,16 +316,16 @@ int ctf_function_iter(ctf_file_t *fp, ctf_function_f *each, void *arg);
 
 int ctf_label_iter(ctf_file_t *fp, ctf_label_f *each, void *arg);
 
-/* The last label; NULL where there is none. */
+/* The last label; NULL if there is none. */
 const char *ctf_label_topmost(ctf_file_t *fp);
 int ctf_label_info(ctf_file_t *fp, const char *name, ctf_lblinfo_t *info);
 
-/* ---- dictionaries in the making
+/* ---- dictionaries from ctf_create
  *
- * What is added is visible from the next ctf_update on; ctf_discard drops what is not. A type may get
- * members and enumerators at any time. A forward becomes the struct, union or enum of its name that
- * is added, under its number. Rules that concern the whole dictionary, such as how deep values lie
- * in each other, are judged when its bytes are wanted. */
+ * Additions become visible by the next ctf_update; ctf_discard drops those that are not visible. A
+ * type may get members and enumerators at any time. If a struct, union or enum is added and there
+ * is a forward of its name, the forward becomes this type and keeps its number. Rules on the whole
+ * dictionary, such as how deep values may be nested, are checked when its bytes are needed. */
 
 ctf_file_t *ctf_create(int *error);
 ctf_id_t ctf_add_integer(
@@ -339,42 +343,43 @@ ctf_id_t ctf_add_function(ctf_file_t *fp, uint_t flag, const char *name, const c
 ctf_id_t ctf_add_struct(ctf_file_t *fp, uint_t flag, const char *name);
 ctf_id_t ctf_add_union(ctf_file_t *fp, uint_t flag, const char *name);
 
-/* A size of 0 is that of an int. */
+/* A size of 0 means the size of an int. */
 ctf_id_t ctf_add_enum(ctf_file_t *fp, uint_t flag, const char *name, size_t size);
 ctf_id_t ctf_add_forward(ctf_file_t *fp, uint_t flag, const char *name, uint_t kind);
 
-/* An offset of ULONG_MAX stands for the place behind the last member. */
+/* An offset of ULONG_MAX means after the last member. */
 int ctf_add_member(ctf_file_t *fp, ctf_id_t sou, const char *name, ctf_id_t type, ulong_t offset);
 int ctf_add_enumerator(ctf_file_t *fp, ctf_id_t type, const char *name, int value);
 
-/* Adds a label behind those that are there: another position is refused, with ENOTSUP. */
+/* Adds a label after the others; any other position is refused with ENOTSUP. */
 int ctf_add_label(ctf_file_t *fp, const char *name, ctf_id_t last, uint_t position);
 int ctf_set_array(ctf_file_t *fp, ctf_id_t type, const ctf_arinfo_t *array);
 
-/* Copies a type of another file with all that it needs. A type of the same name, kind and contents
- * that is there already is used; one that differs is ECTF_CONFLICT. */
+/* Copies a type of another file with all that it needs. If there is already a type with the same
+ * name, kind and contents, that one is used; if its contents differ, the error is ECTF_CONFLICT. */
 ctf_id_t ctf_add_type(ctf_file_t *fp, ctf_file_t *from, ctf_id_t type);
 
-/* The last type goes; another leaves one of kind unknown, since numbers stay. */
+/* Removes the last type. Any other becomes a type of an unknown kind, so that numbers stay
+ * valid. */
 int ctf_delete_type(ctf_file_t *fp, ctf_id_t type);
 int ctf_update(ctf_file_t *fp);
 int ctf_discard(ctf_file_t *fp);
 
-/* Writes what is visible, or what was opened. */
+/* Writes the bytes of the dictionary: of one from ctf_create, those of its visible part. */
 int ctf_write(ctf_file_t *fp, int fd);
 
-/* Not one of libctf's: the handle of ctfd.h that a file has open, for its calls beside these. It is
- * there until the file is closed, its model or its parent changes; of one in the making, or a child
- * of one, until that changes. NULL, and an error, where one in the making can't be written. Only
- * ask with it: what it opens, creates or closes would be the file's. */
+/* Not in libctf: the handle of ctfd.h that a file has open, for other calls of ctfd.h. It is valid
+ * until the file is closed, or its model or parent changes; for a dictionary from ctf_create, or a
+ * child of one, until that changes. NULL, with the error set, if such a dictionary can't be
+ * encoded. Only ask questions with it, and do not open, create or close anything: the handle is the
+ * file's. */
 struct ctfd *ctfd_of(ctf_file_t *fp);
 
-/* Not one of libctf's: the version of the library, CTFD_VERSION when it was compiled. */
+/* Not in libctf: the version of the library, the CTFD_VERSION with which it was compiled. */
 const char *ctfd_version(void);
 
-/* Not one of libctf's: which build this library is, as `ctfd --version` says it of the program:
- * "proved build: " and the kit that checked its proofs, or "quick build: proofs not checked".
- */
+/* Not in libctf: the build of this library, as `ctfd --version` gives it for the program: "proved
+ * build: " and the kit that checked its proofs, or "quick build: proofs not checked". */
 const char *ctf_build(void);
 
 #ifdef __cplusplus

@@ -1,5 +1,5 @@
-# Completion for bash of the commands: their options, values of those that have a few, files, and for
-# ctfd-types the names of the types of a file that stands in front.
+# bash completion of the commands: options, values of options that take one of a few words, file
+# names, and for ctfd-types the names of the types in a file earlier on the command line.
 _ctfd()
 {
     local word=${COMP_WORDS[COMP_CWORD]} before=${COMP_WORDS[COMP_CWORD - 1]} options file action=()

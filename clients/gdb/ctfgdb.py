@@ -1,8 +1,8 @@
-"""gdb commands that print types and values by CTF: `source` this file, then `help ctf`."""
+"""gdb commands that print types and values from CTF: `source` this file, then `help ctf`."""
 import pathlib
 import sys
 
-# Not by __file__: where another script sources this one, that is the other's.
+# Not from __file__: if another script sources this one, that names the other script.
 FOLDER = pathlib.Path((lambda: None).__code__.co_filename).resolve().parent
 if str(FOLDER.parent / "python") not in sys.path:
     sys.path.insert(0, str(FOLDER.parent / "python"))

@@ -1,8 +1,7 @@
-"""A command for lldb that gives it the types of CTF: `command script import` this file, then
-`ctfload`.
+"""A command for lldb that loads types from CTF: `command script import` this file, then `ctfload`.
 
-`ctfload [FILE]` makes a debug file of the CTF of FILE, of the target's program where none is named,
-and adds it as its symbols. FILE is a program or library of the target.
+`ctfload [FILE]` makes a debug file from the CTF of FILE, by default the target's program, and adds
+it as its symbols. FILE is a program or library of the target.
 """
 from __future__ import annotations
 
@@ -13,7 +12,7 @@ from typing import Any
 
 import lldb
 
-# First: lldb looks for modules in the current folder too, where anybody's ctfd.py may be.
+# First: lldb also searches the current folder for modules, where another user may put a ctfd.py.
 sys.path.insert(0, str(pathlib.Path(__file__).resolve().parents[1] / "python"))
 
 import ctfd  # noqa: E402
@@ -27,7 +26,7 @@ WRITER = Writer(print)
 
 def load(debugger: lldb.SBDebugger, words: str, result: lldb.SBCommandReturnObject,
          _: dict[str, Any]) -> None:
-    """ctfload [FILE]: gives lldb the types of a program's CTF."""
+    """ctfload [FILE]: gives lldb the types in a program's CTF."""
     target = debugger.GetSelectedTarget()
     named = shlex.split(words)
     path = named[0] if named else target.GetExecutable().fullpath
@@ -38,7 +37,7 @@ def load(debugger: lldb.SBDebugger, words: str, result: lldb.SBCommandReturnObje
         refuse_object_file(path)
         made = WRITER.debug_file(path)
         with ctfd.connect() as client:
-            names = aliases.of_dictionary(ctfd.open_file(client.session(), path)).told()
+            names = aliases.of_dictionary(ctfd.open_file(client.session(), path)).ambiguities()
     except ctfd.Error as error:
         result.SetError(printable(str(error)))
         return
@@ -49,8 +48,8 @@ def load(debugger: lldb.SBDebugger, words: str, result: lldb.SBCommandReturnObje
 
 
 def refuse_object_file(path: str) -> None:
-    """lldb 14 puts the symbols of an object file's separate debug file at the wrong addresses,
-    those of the compiler's too."""
+    """Raises Error for an object file: lldb 14 puts the symbols of its separate debug file at wrong
+    addresses, even if the compiler wrote that file."""
     image = compiled.description(path)
     if image is not None and image.kind == "object":
         raise ctfd.Error(f"{path} is an object file, in which lldb takes addresses from no"

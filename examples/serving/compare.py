@@ -3,16 +3,15 @@
 
 usage: compare.py PROGRAM [--kill] [--across]
 
-Starts a redis-server of its own, on a free port of the loopback and in a temporary folder, and a
-consumer for each partition, and sends the requests of twenty sessions. What each session is replied
-is compared with what one process replies that is given all requests in the order of sending. Prints
-`same` and what was compared; where a session is replied otherwise, `different`, and the status is
-1.
+Starts its own redis-server, on a free port of the loopback and in a temporary folder, and a
+consumer for each partition, and sends the requests of twenty sessions. The replies to each session
+are compared with those of one process that gets all requests in the order of sending. Prints `same`
+and the counts; if a session's replies differ, `different`, and the status is 1.
 
---kill    when a third is replied all consumers are killed, and others are started when the next is
-          put
---across  sessions take from those of other partitions too, which they must not: it is different
-          then
+--kill    after a third of the replies all consumers are killed, and others are started when the
+          next third is sent
+--across  sessions also take from those of other partitions, which is not supported: the replies
+          differ then
 """
 import argparse
 import contextlib
@@ -42,7 +41,7 @@ def free_port():
 
 @contextlib.contextmanager
 def running(*command):
-    """A process that is ended with the block, where it has not ended before."""
+    """A process that is terminated at the end of the `with` block."""
     process = subprocess.Popen(list(map(str, command)), stdout=subprocess.DEVNULL)
     try:
         yield process
@@ -51,8 +50,8 @@ def running(*command):
         process.wait()
 
 
-def connected(port):
-    """The connection to a redis-server that has just been started."""
+def connect(port):
+    """A connection to a redis-server that was just started."""
     for _ in range(100):
         with contextlib.suppress(ConnectionRefusedError):
             return streams.Redis(port)
@@ -60,9 +59,8 @@ def connected(port):
     sys.exit("redis-server does not answer")
 
 
-def gathered(redis, count):
-    """The replies of each session, till there are so many; fewer where none comes for ten
-    seconds."""
+def gather(redis, count):
+    """The replies of each session, until there are `count`; fewer if none comes for ten seconds."""
     replies = {session: [] for session in SESSIONS}
     names = [f"replies:{session}" for session in SESSIONS]
     for name, _, told in streams.follow(redis, names, 10_000):
@@ -74,13 +72,13 @@ def gathered(redis, count):
 
 
 def by_queue(program, files, requests, kill):
-    """The replies of each session, by a queue and a consumer for each partition."""
+    """The replies of each session, from a queue with a consumer for each partition."""
     with contextlib.ExitStack() as stack:
         folder, port = stack.enter_context(tempfile.TemporaryDirectory()), free_port()
         words = ["--bind", "127.0.0.1", "--port", port, "--dir", folder, "--save", "",
                  "--appendonly", "no"]
         stack.enter_context(running("redis-server", *words))
-        redis = connected(port)
+        redis = connect(port)
 
         def start(partition):
             return stack.enter_context(running(CONSUMER, port, partition, program, *files))
@@ -92,7 +90,7 @@ def by_queue(program, files, requests, kill):
         consumers = [start(partition) for partition in range(PARTITIONS)]
         if kill:
             put(requests[:THIRD])
-            gathered(redis, THIRD)
+            gather(redis, THIRD)
             for consumer in consumers:
                 consumer.kill()
                 consumer.wait()
@@ -100,11 +98,11 @@ def by_queue(program, files, requests, kill):
             for partition in range(PARTITIONS):
                 start(partition)
         put(requests[2 * THIRD if kill else 0 :])
-        return gathered(redis, len(requests))
+        return gather(redis, len(requests))
 
 
 def by_one(program, files, requests):
-    """The replies of each session, by one process that is given all requests."""
+    """The replies of each session, from one process that gets all requests."""
     lines = "".join(streams.line(session, request) + "\n" for session, request in requests)
     command = [program, "serve", *files]
     told = subprocess.run(command, input=lines, stdout=subprocess.PIPE, text=True,
@@ -115,16 +113,16 @@ def by_one(program, files, requests):
     return replies
 
 
-def granted(requests, replies, chosen):
-    """How many of the chosen requests were not refused."""
+def granted_count(requests, replies, chosen):
+    """The number of chosen requests that were granted."""
     waiting = {session: iter(lines) for session, lines in replies.items()}
     told = [(session, request, next(waiting[session])) for session, request in requests]
     return sum(chosen(session, request) and line.startswith('{"ok"')
                for session, request, line in told)
 
 
-def refused(replies, name):
-    """How many replies are a refusal of a name."""
+def refusal_count(replies, name):
+    """The number of replies with a certain refusal."""
     return sum(f'"name":"{name}"' in line for lines in replies.values() for line in lines)
 
 
@@ -160,12 +158,13 @@ def main():
     print("different" if other else "same")
     print(f"{len(requests)} requests of {len(SESSIONS)} sessions in {PARTITIONS} partitions,"
           " granted", end=" ")
-    print(granted(requests, one, lambda *_: True), end=", of these")
-    print(f" {granted(requests, one, withdraws)} withdrawals", end=",")
-    print(f" {granted(requests, one, takes_loaded)} takes of what was loaded", end=" and")
-    print(f" {granted(requests, one, takes_published)} of what another session published")
+    print(granted_count(requests, one, lambda *_: True), end=", of these")
+    print(f" {granted_count(requests, one, withdraws)} withdrawals", end=",")
+    print(f" {granted_count(requests, one, takes_loaded)} takes of what was loaded", end=" and")
+    print(f" {granted_count(requests, one, takes_published)} of what another session published")
     names = ("NotPublished", "ModelDiffers", "QuotaFull")
-    print("refused among the others:", ", ".join(f"{refused(one, name)} {name}" for name in names))
+    print("refused among the others:",
+          ", ".join(f"{refusal_count(one, name)} {name}" for name in names))
     if other:
         print("sessions that were replied otherwise:", *other)
     return 1 if other else 0

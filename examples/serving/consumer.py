@@ -1,10 +1,11 @@
 #!/usr/bin/env python3
-"""Serves partitions of the queue: one `ctfd serve`, given their requests from the first one on.
+"""Serves partitions of the queue: one `ctfd serve`, which is given their requests from the first
+one on.
 
 usage: consumer.py PORT PARTITION[,PARTITION].. PROGRAM [NAME=FILE]..
 
-A partition has one consumer at a time. A new one begins at the stream's beginning, where an old one
-did too: what has its reply already is only replayed, and what hasn't is replied.
+A partition has one consumer at a time. A new one begins at the stream's beginning, as the old one
+did: requests that have a reply already are only replayed, and the others are answered.
 """
 import subprocess
 import sys
@@ -20,7 +21,8 @@ class Service:
         self.process = subprocess.Popen(command, stdin=subprocess.PIPE, stdout=subprocess.PIPE)
 
     def reply(self, line):
-        """One line is one request; a newline in it would make two."""
+        """The reply to a request. A newline in the line would make two requests, so it is
+        replaced."""
         self.process.stdin.write(line.replace(b"\n", b" ") + b"\n")
         self.process.stdin.flush()
         reply = self.process.stdout.readline()
@@ -30,7 +32,7 @@ class Service:
 
 
 def on_record(redis, replies, number):
-    """The reply that a request was given before, or None."""
+    """The stored reply to a request, or None."""
     found = redis.ask("XRANGE", replies, number, number)
     return streams.fields(found[0])[1][b"line"] if found else None
 

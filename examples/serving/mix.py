@@ -1,5 +1,5 @@
-"""Requests of some sessions that publish for each other, withdraw and take; the same at each
-run."""
+"""Random requests of sessions that publish for each other, withdraw and take. Each run makes the
+same requests."""
 import json
 import pathlib
 import random
@@ -12,7 +12,7 @@ LARGE = 60_000_000  # bytes: a session's quota has room for four
 
 
 def files(folder):
-    """What the operator publishes: two examples, and a dictionary without types that is large."""
+    """The operator's publications: two examples, and a large dictionary without types."""
     large = pathlib.Path(folder) / "large.ctf"
     with open(large, "wb") as file:
         file.write(b"\xf1\xcf\x02\0" + struct.pack("<8I", 0, 0, 0, 0, 0, 0, 0, LARGE - 36))
@@ -29,8 +29,8 @@ def sections():
                 yield request["bytes"]
 
 
-def begun(session, chance, dictionaries):
-    """What a session begins with: two slots, the first one published."""
+def begin(session, chance, dictionaries):
+    """The first requests of a session: two slots, the first one published."""
     yield session, {"op": "part", "section": "ctf", "bytes": chance.choice(dictionaries)}
     yield session, {"op": "open", **chance.choice(MODELS)}
     yield session, {"op": "publish", "d": 1, "name": "base"}
@@ -55,10 +55,10 @@ def request(owners, chance):
 
 
 def mix(sessions, owners, count, seed=1):
-    """So many requests, each a session and its fields; `owners(s)` are those that session s takes
+    """`count` requests, each a session and its fields; `owners(s)` lists those that session s takes
     from."""
     chance, dictionaries = random.Random(seed), list(sections())
-    waiting = [list(begun(session, chance, dictionaries)) for session in sessions]
+    waiting = [list(begin(session, chance, dictionaries)) for session in sessions]
     for _ in range(count):
         first = chance.choice(waiting)
         if first:

@@ -1,7 +1,7 @@
-"""Redis streams over a socket: as much of its protocol (RESP) as a queue of lines needs.
+"""Redis streams over a socket, with as much of the protocol (RESP) as a queue of lines needs.
 
 `requests:P` has the requests of partition P, an entry for each: the session `s` and the line.
-`replies:S` has the replies of session S, each under the number (id) that its request has.
+`replies:S` has the replies of session S, each under the number (ID) of its request.
 """
 import json
 import socket
@@ -47,9 +47,9 @@ def fields(entry):
 
 
 def follow(redis, names, wait):
-    """The entries of streams from their beginning on, with the stream's name, as they come.
+    """The entries of streams from their beginning, with the stream's name, as they come.
 
-    Ends when nothing has come for so many milliseconds; 0 is never."""
+    Ends when nothing has come for `wait` milliseconds; 0 waits for ever."""
     seen = {name.encode(): b"0-0" for name in names}
     while found := redis.ask("XREAD", "COUNT", 100, "BLOCK", wait,
                              "STREAMS", *seen, *seen.values()):

@@ -1,1 +1,2 @@
-"""Doors as black boxes: a file in, the text and the status out. No module here knows the code."""
+"""Black-box tests of commands and libraries: a file in, the text and the status out. No module here
+knows the code."""

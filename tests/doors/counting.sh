@@ -1,11 +1,11 @@
 # shellcheck shell=bash
-# Checks that are counted, each with a title: what the scripts of the doors share.
-# With CASE in the environment only the checks are made whose titles have that text; what prepares
-# them, and all else of a script, runs as ever. CASE=? lists the titles.
+# Functions that count checks, each with a title; the scripts in tests/doors source this file.
+# If CASE is set in the environment, only the checks run whose titles contain it; preparations and
+# everything else in a script run as usual. CASE=? lists the titles.
 
 checks=0 wrong=0
 
-# count TITLE COMMAND..: a check: runs it, and shows what it said where it failed. That is in $said.
+# count TITLE COMMAND..: runs a check. Its output goes to the file $said, and is shown if it fails.
 count() {
     case $1 in
     *"${CASE:-}"*) prepare "$@" ;;
@@ -13,7 +13,7 @@ count() {
     esac
 }
 
-# prepare TITLE COMMAND..: the same, of what later checks stand on, so that it always runs.
+# prepare TITLE COMMAND..: the same for a command that later checks depend on, so it always runs.
 prepare() {
     local title=$1
     shift
@@ -24,7 +24,7 @@ prepare() {
     head -n 40 "$said"
 }
 
-# tell NAME: how many checks were made, and how many were wrong; fails where one was.
+# tell NAME: prints the number of checks and of failures; fails if there were any.
 tell() {
     echo "$1: $checks checks, $wrong wrong"
     [ "$wrong" = 0 ]

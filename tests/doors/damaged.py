@@ -1,11 +1,11 @@
 #!/usr/bin/env python3
-"""Structurally damaged files, made of sound ones: chains, rings, tables and names that overlap,
-sections without bytes, wrong sizes, forwards with several definitions, links to nowhere.
+"""Structurally damaged files, made from sound ones: chains, cycles, tables and names that overlap,
+sections without bytes, wrong sizes, forwards with several definitions, dangling links.
 
 usage: damaged.py OUT_FOLDER COUNT SEED
 
 The same seed makes the same files. MANIFEST has a line for each: its name, the sound file that it
-was made of (in OUT_FOLDER/sound), and what was done to it.
+was made from (in OUT_FOLDER/sound), and how it was damaged.
 """
 from __future__ import annotations
 
@@ -23,14 +23,14 @@ else:
 
 MANIFEST = "manifest.txt"
 R = sound.Reference
-# Sizes and offsets that are too large, or so near to 2^32 and 2^64 that a sum of two is small.
+# Sizes and offsets that are too large, or so near to 2^32 and 2^64 that a sum of two overflows.
 FAR = (0, 1, 0x7FFFFFFF, 0x80000000, 0xFFFFFFFF, 0xFFFFFFF8, 1 << 32, (1 << 63) - 1,
        (1 << 64) - 1, (1 << 64) - 64)
 DEEP = (2, 3, 64, 513, 3000)
 
 
 class DamagedFile(NamedTuple):
-    """A file, the sound file that it was made of, and what was done."""
+    """A file, the sound file that it was made from, and how it was damaged."""
 
     data: bytes
     base: str
@@ -44,10 +44,10 @@ def far(chance: random.Random, bits: int = 32) -> int:
     return chance.choice(FAR) & (1 << bits) - 1
 
 
-# What debug information says.
+# Debug information.
 
 def dwarf_chain(chance: random.Random) -> Tuple[bytes, str]:
-    """A chain of types of one kind, or a ring of them."""
+    """A chain of types of one kind, or a cycle of them."""
     made, known = sound.entries(4)
     count, is_ring = chance.choice(DEEP), chance.random() < 0.5
     code = chance.choice((8, 9, 12, 10, 3))
@@ -65,7 +65,7 @@ def dwarf_chain(chance: random.Random) -> Tuple[bytes, str]:
 
 
 def dwarf_forwards(chance: random.Random) -> Tuple[bytes, str]:
-    """A forward and several definitions of one tag, and structs that name each."""
+    """A forward and several definitions of one tag, and structs that refer to each."""
     made, known = sound.entries(4)
     count = chance.choice((2, 3, 40))
     tags = [made.add(16, "many")]
@@ -78,7 +78,7 @@ def dwarf_forwards(chance: random.Random) -> Tuple[bytes, str]:
 
 
 def dwarf_reference(chance: random.Random) -> Tuple[bytes, str]:
-    """A reference that leads out of the unit, into an entry, to its top or to itself."""
+    """A reference out of the unit, into the middle of an entry, to the top entry or to itself."""
     version = chance.choice((4, 5))
     made, _ = sound.entries(version)
     place = chance.choice([n for n, (_, values) in enumerate(made.listed)
@@ -91,7 +91,7 @@ def dwarf_reference(chance: random.Random) -> Tuple[bytes, str]:
 
 
 def dwarf_sizes(chance: random.Random) -> Tuple[bytes, str]:
-    """Sizes and counts that no type has."""
+    """Impossible sizes and counts."""
     made, known = sound.entries(5)
     size = far(chance, 64)
     made.add(20, "large", struct.pack("<Q", size)), made.add(0)
@@ -103,7 +103,7 @@ def dwarf_sizes(chance: random.Random) -> Tuple[bytes, str]:
 
 
 def dwarf_siblings(chance: random.Random) -> Tuple[bytes, str]:
-    """Siblings that lead back, to themselves or past all."""
+    """Siblings that point backwards, to themselves or past the end."""
     made, known = sound.entries(4)
     to = chance.choice((0, 11, 200, far(chance)))
     made.add(19, "leads", 4, struct.pack("<I", to))
@@ -124,7 +124,7 @@ def dwarf_strings(chance: random.Random) -> Tuple[bytes, str]:
 
 
 def dwarf_units(chance: random.Random) -> Tuple[bytes, str]:
-    """Units whose lengths and tables of abbreviations are others."""
+    """Units with wrong lengths and tables of abbreviations."""
     version = chance.choice((4, 5))
     info = w.unit(sound.entries(version)[0].info(), version)
     count = chance.choice((1, 2, 50))
@@ -148,10 +148,10 @@ DWARF: Dict[str, List[Damage]] = {
 }
 
 
-# What dictionaries say.
+# Dictionaries.
 
 def ctf_types(chance: random.Random) -> Tuple[List[bytes], bytes, str]:
-    """The records of a dictionary with a chain, a ring, or with words that are others."""
+    """The records of a dictionary with a chain, a cycle, or wrong words."""
     listed, strings = sound.records()
     which = chance.randrange(4)
     if which == 0:
@@ -203,7 +203,7 @@ def elf_ctf(chance: random.Random) -> Tuple[bytes, str]:
 
 
 def bare_btf(chance: random.Random) -> Tuple[bytes, str]:
-    """BTF with a chain, a ring, or with words that are others."""
+    """BTF with a chain, a cycle, or wrong words."""
     listed, strings = sound.btf_records()
     which = chance.randrange(3)
     if which == 0:
@@ -227,7 +227,7 @@ def elf_btf(chance: random.Random) -> Tuple[bytes, str]:
 
 
 def library(chance: random.Random) -> Tuple[bytes, str]:
-    """An archive whose headers or names are others, or with members that are damaged."""
+    """An archive with wrong headers or names, or with damaged members."""
     one, what = chance.choice(DWARF["dwarf4.o"])(chance)
     names = [chance.choice(("one.o", "/0", "/99999999", "//", "#1/99", "../../etc/passwd"))
              for _ in range(chance.choice((1, 2, 20)))]
@@ -245,10 +245,10 @@ MADE: Dict[str, List[Damage]] = {**DWARF, "bare.ctf": [bare_ctf], "ctf.o": [elf_
                                  "bare.btf": [bare_btf], "btf.o": [elf_btf], "lib.a": [library]}
 
 
-# What the headers of an ELF file say.
+# Headers of ELF files.
 
 class Header(NamedTuple):
-    """The header of a section of 64 bits: where it stands, and its name."""
+    """The header of a section of 64 bits: its position in the file, and some of its fields."""
 
     place: int
     name: str
@@ -265,7 +265,7 @@ def headers(data: bytes) -> List[Header]:
                    row[4], row[5]) for n, row in enumerate(rows)]
 
 
-# The fields of a section's header: where each stands, and its form.
+# The fields of a section header: their offsets and formats.
 FIELDS = {"name": (0, "<I"), "type": (4, "<I"), "flags": (8, "<Q"), "offset": (24, "<Q"),
           "size": (32, "<Q"), "link": (40, "<I"), "info": (44, "<I"), "entsize": (56, "<Q")}
 TOLD = (".debug_", ".SUNW_ctf", ".ctf", ".BTF", ".symtab", ".strtab", ".dynsym", ".dynstr",
@@ -273,7 +273,7 @@ TOLD = (".debug_", ".SUNW_ctf", ".ctf", ".BTF", ".symtab", ".strtab", ".dynsym",
 
 
 def of_headers(data: bytes, chance: random.Random) -> Tuple[bytes, str]:
-    """Some sections' headers with another kind, link, size, place or size of entries."""
+    """Changes the kind, link, size, offset or entry size in some section headers."""
     made, listed = bytearray(data), [one for one in headers(data) if one.name.startswith(TOLD)]
     told = []
     for _ in range(chance.choice((1, 1, 1, 2, 4))):
@@ -294,7 +294,7 @@ def of_headers(data: bytes, chance: random.Random) -> Tuple[bytes, str]:
 
 
 def of_head(data: bytes, chance: random.Random) -> Tuple[bytes, str]:
-    """The file's own header with other counts and places, or a file that is cut off."""
+    """Changes counts and offsets in the file header."""
     made = bytearray(data)
     place, form = chance.choice(((40, "<Q"), (58, "<H"), (60, "<H"), (62, "<H"), (16, "<H"),
                                  (4, "<B"), (18, "<H")))
@@ -305,7 +305,7 @@ def of_head(data: bytes, chance: random.Random) -> Tuple[bytes, str]:
 
 
 def of_words(data: bytes, chance: random.Random) -> Tuple[bytes, str]:
-    """Some words in what sections hold that are others."""
+    """Changes some words in sections."""
     made = bytearray(data)
     listed = [one for one in headers(data) if one.name.startswith(TOLD) and one.size > 8]
     told = []
@@ -326,7 +326,7 @@ def of_cut(data: bytes, chance: random.Random) -> Tuple[bytes, str]:
 
 
 def files(count: int, seed: int) -> Iterator[DamagedFile]:
-    """So many damaged files: the first ones are the same whatever the count is."""
+    """`count` damaged files. The first ones are the same for every count."""
     whole = sound.all_files()
     names = sorted(whole)
     for number in range(count):
@@ -344,7 +344,7 @@ def files(count: int, seed: int) -> Iterator[DamagedFile]:
 
 
 def write(folder: Path, count: int, seed: int) -> List[Tuple[Path, DamagedFile]]:
-    """Writes the files and what is said of them."""
+    """Writes the files and the manifest."""
     (folder / "sound").mkdir(parents=True, exist_ok=True)
     for name, data in sound.all_files().items():
         (folder / "sound" / name).write_bytes(data)

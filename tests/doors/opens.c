@@ -1,4 +1,4 @@
-/* opens.c - opens a file by ctf_open, prints what is told, and asks all its types and symbols. */
+/* opens.c - opens a file by ctf_open, lists its types if asked to, and counts its objects. */
 #include <ctfd_libctf.h>
 
 #include <stdio.h>

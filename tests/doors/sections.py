@@ -1,4 +1,4 @@
-"""CTF sections and ELF files, put together by hand for the doors."""
+"""CTF sections and ELF files, built by hand for the tests."""
 from __future__ import annotations
 
 import struct
@@ -24,7 +24,7 @@ def array(contents: int, index: int, count: int) -> bytes:
 
 
 def section(records: Iterable[bytes], names: bytes = b"\0", labels: bytes = b"") -> bytes:
-    """A dictionary of these types. Labels are pairs of a name's place and a type's number."""
+    """A dictionary of these types. Labels are pairs of a name's offset and a type's number."""
     body = b"".join(records)
     at = len(labels)
     return HEADER.pack(b"\xf1\xcf\x02\0", 0, 0, 0, at, at, at, at + len(body),
@@ -32,8 +32,8 @@ def section(records: Iterable[bytes], names: bytes = b"\0", labels: bytes = b"")
 
 
 class Part(NamedTuple):
-    """A section of an ELF file; where `size` is given, its header tells that in place of its
-    bytes'."""
+    """A section of an ELF file. If `size` is given, its header has this size instead of the true
+    one."""
 
     name: str
     kind: int
@@ -48,7 +48,7 @@ def symbol(name: int, section_number: int = 1, value: int = 4096, kind: int = OB
 
 
 def elf(parts: Sequence[Part]) -> bytes:
-    """A file of ELF64 with these sections, numbered from 1, and the section of their names."""
+    """An ELF64 file with these sections, numbered from 1, and the section of their names."""
     parts = [*parts, Part(".shstrtab", STRTAB, b"")]
     names = b"\0" + b"".join(part.name.encode() + b"\0" for part in parts)
     parts[-1] = parts[-1]._replace(data=names)

@@ -1,4 +1,5 @@
-"""Sound files that damaged ones are made of: each holds the same few types, in another form."""
+"""Sound files from which damaged ones are made. Each has the same few types, in different
+formats."""
 from __future__ import annotations
 
 import shutil
@@ -23,7 +24,7 @@ void quiet(struct opaque *o) { (void)o; }
 """
 NAME, SIZE, TYPE, WHERE = (0x03, 0x08), (0x0B, 0x0B), (0x49, 0x13), (0x38, 0x0B)
 EXTERNAL, DECLARED = (0x3F, 0x19), (0x3C, 0x19)
-# How entries are written, by their codes: the tag, whether there are children, attributes.
+# The shape of entries, by code: the tag, whether they have children, the attributes.
 SHAPES: Dict[int, Tuple[int, bool, w.Attributes]] = {
     1: (0x11, True, [(0x13, 0x0B), NAME]), 2: (0x24, False, [SIZE, (0x3E, 0x0B), NAME]),
     3: (0x13, True, [NAME, SIZE]), 4: (0x0D, False, [NAME, TYPE, WHERE]),
@@ -42,7 +43,7 @@ INTS = ("int", 4), ("long int", 8), ("char", 1), ("unsigned int", 4)
 
 
 class Reference(NamedTuple):
-    """The entry of a number, of whose place another tells."""
+    """A reference to the entry with this number."""
 
     number: int
 
@@ -51,14 +52,14 @@ Value = Union[bytes, int, str, Reference]
 
 
 class Entries:
-    """Entries of a unit. What names an entry has its number; `places` tells where each begins."""
+    """The entries of a unit. Entries refer to each other by number; `info` fills in the offsets."""
 
     def __init__(self, version: int) -> None:
         self.version = version
         self.listed: List[Tuple[int, Sequence[Value]]] = []
 
     def add(self, code: int, *values: Value) -> int:
-        """One more entry; code 0 ends the children of one."""
+        """Adds an entry, and returns its number; code 0 ends a list of children."""
         self.listed.append((code, values))
         return len(self.listed) - 1
 
@@ -100,7 +101,7 @@ def abbreviations() -> bytes:
 
 
 def entries(version: int) -> Tuple[Entries, Dict[str, int]]:
-    """The types of `CODE`, nearly, and the numbers of some."""
+    """Nearly the types of `CODE`, and the numbers of some."""
     made = Entries(version)
     made.add(1, 12, "made.c")
     known = {name: made.add(2, size, 5 if name != "char" else 6, name) for name, size in INTS}
@@ -108,7 +109,7 @@ def entries(version: int) -> Tuple[Entries, Dict[str, int]]:
     known["color"] = made.add(6, "color", 4)
     made.add(7, "RED", 0), made.add(7, "GREEN", 5), made.add(0)
     known["name"] = made.array(known["char"], 6, known["long int"])
-    known["next"] = made.add(9, 8, Reference(known["name"] + 4))  # the struct behind it
+    known["next"] = made.add(9, 8, Reference(known["name"] + 4))  # the struct that follows
     known["node"] = made.struct("node", 24, ("next", known["next"], 0), ("key", known["u32"], 8),
                                 ("name", known["name"], 12), ("color", known["color"], 20))
     known["opaque"] = made.add(16, "opaque")
@@ -135,7 +136,7 @@ def dwarf(version: int, made: Entries, listed: bytes = b"", strings: bytes = b"\
 
 
 def records() -> Tuple[List[bytes], bytes]:
-    """The records of a dictionary of CTF, nearly those of `CODE`, and its strings."""
+    """The records of a CTF dictionary, nearly those of `CODE`, and its strings."""
     names = [b"", b"int", b"char", b"node", b"next", b"key", b"witness", b"a", b"c", b"color",
              b"RED", b"GREEN", b"u32", b"both", b"opaque"]
     strings = b"\0".join(names) + b"\0"
@@ -163,7 +164,7 @@ OBJECTS, FUNCTIONS = struct.pack("<H", 8), struct.pack("<HHH", w.FUNCTION_TYPE <
 
 
 def with_ctf(section: bytes) -> bytes:
-    """An object file with a dictionary and the two symbols that its entries go by."""
+    """An object file with a dictionary and the two symbols of its entries."""
     table = [w.symbol(1, w.OBJECT), w.symbol(7, w.FUNCTION)]
     return w.elf([w.Section(".SUNW_ctf", section, link=2),
                   *w.symbols(table, b"\0shown\0work\0", 3)])
@@ -187,7 +188,7 @@ def btf_records() -> Tuple[List[bytes], bytes]:
 
 
 def archive(members: Sequence[Tuple[str, bytes]], is_thin: bool = False) -> bytes:
-    """An archive as ar writes it."""
+    """An archive as written by ar."""
     made = b"!<thin>\n" if is_thin else b"!<arch>\n"
     for name, data in members:
         made += f"{name + '/':<16}{0:<12}{0:<6}{0:<6}{644:<8}{len(data):<10}`\n".encode()
@@ -196,20 +197,20 @@ def archive(members: Sequence[Tuple[str, bytes]], is_thin: bool = False) -> byte
 
 
 def compile_code(*options: str) -> bytes:
-    """What gcc makes of `CODE`, the same wherever that is."""
-    # gcc -gctf has an order of its own by where things are in memory.
+    """`CODE`, compiled by gcc; the result is always the same."""
+    # gcc -gctf orders some things by their address in memory.
     still = ["setarch", "-R"] if shutil.which("setarch") else []
     with tempfile.TemporaryDirectory(dir="/tmp") as folder:
         Path(folder, "made.c").write_text(CODE)
         kind = [] if "-shared" in options else ["-c"]
         subprocess.run([*still, "gcc", "-w", *kind, f"-ffile-prefix-map={folder}=.", *options,
                         "made.c", "-o", "made.o"], cwd=folder, check=True)
-        # GNU's CTF has the folder as it is.
+        # GNU's CTF contains the folder's name.
         return Path(folder, "made.o").read_bytes().replace(folder.encode(), b"/" * len(folder))
 
 
 def all_files() -> Dict[str, bytes]:
-    """Each sound file by a name."""
+    """All sound files, by name."""
     listed, strings = records()
     ctf = w.ctf(b"".join(listed), strings, objects=OBJECTS, functions=FUNCTIONS)
     types, names = btf_records()

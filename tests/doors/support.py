@@ -1,9 +1,8 @@
-"""A door that is run: its words in, its status, texts, time and memory out.
+"""Runs commands for tests: arguments in; status, texts, time and memory out.
 
-A door is a program that people run. Which one stands behind a name is for the environment to say:
-CTFD is the service, CTFD_TOOLS the folder of the commands, CTFD_ARCHIVE the library for C. So the
-same cases judge whatever is built behind them. A command that is not in that folder is the one in
-Python, or the compiled one.
+The environment says which programs are tested: CTFD is the service, CTFD_TOOLS the folder of the
+commands, CTFD_ARCHIVE the library for C. A command that is not in that folder is the one in
+clients/python, or the compiled one.
 """
 from __future__ import annotations
 
@@ -28,19 +27,19 @@ COMPILED = Path(os.environ.get("CARGO_TARGET_DIR") or CLIENTS / "rust/target") /
 ARCHIVE = Path(os.environ.get("CTFD_ARCHIVE", TOP / "crates/ctf_c/out/libctfd.a"))
 LIBRARY = ARCHIVE.with_name("libctfd.so")
 COMMANDS = ("convert", "debuginfo", "diff", "explore", "front", "show", "store", "types")
-# What a door may take on a small file: more is a hang, or memory without a bound.
+# The limits for a command on a small file: more is a hang, or unbounded memory.
 SECONDS, MEGABYTES = 5, 300
-# Traces of Python, of Rust and of a sanitizer: no user is to see one.
+# Traces of Python, of Rust and of a sanitizer: no user should see one.
 TRACE = re.compile(r"Traceback \(most recent|panicked at|AddressSanitizer|runtime error:")
 
-# What one run keeps for the next is this process's own.
+# A cache for this process only.
 CACHE = tempfile.TemporaryDirectory()
 
 Word = Union[str, Path]
 
 
 class Outcome(NamedTuple):
-    """How a door ended: its status (below 0 a signal), what it printed, seconds, megabytes."""
+    """The outcome of a command: its status (below 0 a signal), its texts, seconds, megabytes."""
 
     status: int
     output: str
@@ -55,13 +54,13 @@ class Outcome(NamedTuple):
 
 
 def tool(name: str) -> str:
-    """The command `ctfd-NAME`."""
+    """The path of the command `ctfd-NAME`."""
     places = [folder / f"ctfd-{name}" for folder in (TOOLS, CLIENTS / "python", COMPILED)]
     return str(next((place for place in places if place.exists()), places[-1]))
 
 
 def clean(environment: Optional[Mapping[str, str]] = None) -> dict[str, str]:
-    """The environment of a door, with words of the caller's over it."""
+    """The environment of a command, with the caller's variables added."""
     return {**os.environ, "CTFD": SERVICE, "LC_ALL": "C.UTF-8", "XDG_CACHE_HOME": CACHE.name,
             **(environment or {})}
 
@@ -69,11 +68,11 @@ def clean(environment: Optional[Mapping[str, str]] = None) -> dict[str, str]:
 def run(*words: Word, stdin: bytes = b"", folder: Optional[Word] = None,
         environment: Optional[Mapping[str, str]] = None, seconds: float = SECONDS,
         megabytes: Optional[int] = None) -> Outcome:
-    """A door's outcome. One that takes longer than the seconds is killed: its status is -9.
+    """Runs a command. If it takes longer than `seconds`, it is killed, and its status is -9.
 
-    With megabytes its address space is bounded by so many.
+    `megabytes` limits its address space.
     """
-    def bound() -> None:
+    def set_limits() -> None:
         resource.setrlimit(resource.RLIMIT_CORE, (0, 0))
         if megabytes is not None:
             resource.setrlimit(resource.RLIMIT_AS, (megabytes << 20, megabytes << 20))
@@ -85,8 +84,8 @@ def run(*words: Word, stdin: bytes = b"", folder: Optional[Word] = None,
         given.seek(0)
         door = subprocess.Popen([str(word) for word in words], stdin=given, stdout=output,
                                 stderr=errors, cwd=folder, env=clean(environment),
-                                preexec_fn=bound, start_new_session=True)
-        status, peak = _ended(door, begun + seconds)
+                                preexec_fn=set_limits, start_new_session=True)
+        status, peak = _wait_for_end(door, begun + seconds)
         output.seek(0)
         errors.seek(0)
         return Outcome(status, output.read().decode("utf-8", "backslashreplace"),
@@ -94,8 +93,9 @@ def run(*words: Word, stdin: bytes = b"", folder: Optional[Word] = None,
                        time.monotonic() - begun, peak)
 
 
-def _ended(door: "subprocess.Popen[bytes]", last: float) -> tuple[int, float]:
-    """The status of a door, and its greatest memory in megabytes; killed once it is too late."""
+def _wait_for_end(door: "subprocess.Popen[bytes]", last: float) -> tuple[int, float]:
+    """The status of a command, and its peak memory in megabytes; it is killed at the time
+    `last`."""
     wait = 0.001
     while True:
         ended, status, used = os.wait4(door.pid, os.WNOHANG)
@@ -110,12 +110,12 @@ def _ended(door: "subprocess.Popen[bytes]", last: float) -> tuple[int, float]:
 
 
 def has(*programs: str) -> bool:
-    """Whether the machine has some programs."""
+    """Whether these programs are installed."""
     return all(shutil.which(program) for program in programs)
 
 
 def has_header(name: str) -> bool:
-    """Whether a C header is there, as `libelf.h`."""
+    """Whether a C header such as `libelf.h` is installed."""
     return has("gcc") and subprocess.run(
         ["gcc", "-x", "c", "-fsyntax-only", "-include", name, "/dev/null"],
         capture_output=True).returncode == 0
@@ -135,16 +135,16 @@ class Case(unittest.TestCase):
         self.folder = Path(kept.name)
 
     def needs(self, *programs: str) -> None:
-        """Skips the case where a program is missing."""
+        """Skips the test if a program is missing."""
         missing = [program for program in programs if not has(program)]
         if missing:
             message = f"skipped: {', '.join(missing)} is not here"
             print(message, file=sys.stderr)
             self.skipTest(message)
 
-    def compiled(self, code: str, *options: str, name: str = "made.o",
-                 compiler: str = "gcc") -> Path:
-        """What a compiler makes of C: an object file, or with options a program or library."""
+    def compile(self, code: str, *options: str, name: str = "made.o",
+                compiler: str = "gcc") -> Path:
+        """Compiles C to an object file, or with options to a program or library."""
         self.needs(compiler)
         source = self.folder / f"{Path(name).stem}.c"
         source.write_text(code)
@@ -155,8 +155,8 @@ class Case(unittest.TestCase):
         return self.folder / name
 
     def compiled_as_ada(self, code: str, *options: str, name: str) -> Path:
-        """An object file of C whose debug information says that it is Ada, which is not read."""
-        text = self.compiled(code, "-g", "-dA", "-S", *options, name=f"{name}.s")
+        """An object file of C whose debug information claims to be Ada, which is not read."""
+        text = self.compile(code, "-g", "-dA", "-S", *options, name=f"{name}.s")
         said = re.sub(r"(\.byte\s+)0x\w+(\s+# DW_AT_language)", r"\g<1>0xd\2", text.read_text())
         text.write_text(said)
         subprocess.run(["gcc", "-c", str(text), "-o", str(self.folder / name)], check=True)
@@ -164,7 +164,7 @@ class Case(unittest.TestCase):
 
     def assert_tame(self, done: Outcome, what: object = "", seconds: float = SECONDS,
                     megabytes: float = MEGABYTES) -> None:
-        """A door ended by itself, in time and memory, without a trace of its insides."""
+        """Asserts that a command ended by itself, within time and memory, without a stack trace."""
         told = f"{what}: status {done.status} in {done.seconds:.1f} s,"\
                f" {done.megabytes:.0f} MB: {done.errors[-400:]}"
         self.assertGreaterEqual(done.status, 0, told)

@@ -1,4 +1,4 @@
-"""Files made in code, byte by byte: ELF files, and sections of DWARF, BTF and CTF for them."""
+"""Files built in code, byte by byte: ELF files, and sections of DWARF, BTF and CTF for them."""
 from __future__ import annotations
 
 import struct
@@ -10,7 +10,7 @@ RELOCATABLE, PROGRAM, SHARED = 1, 2, 3
 
 
 class Section(NamedTuple):
-    """A section of an ELF file. What a header says of size and offset may be other than it is."""
+    """A section of an ELF file. Its header may have a different size and offset."""
 
     name: str
     data: bytes = b""
@@ -25,7 +25,7 @@ class Section(NamedTuple):
 
 def elf(sections: Sequence[Section], kind: int = RELOCATABLE, bits: int = 64,
         machine: int = 62) -> bytes:
-    """An ELF file of some sections, numbered from 1; the names of these come last."""
+    """An ELF file with these sections, numbered from 1, followed by the section of their names."""
     wide = bits == 64
     names, body = bytearray(b"\0"), bytearray()
     header, entry = (64, struct.Struct("<IIQQQQIIQQ")) if wide else (52, struct.Struct("<10I"))
@@ -53,14 +53,14 @@ def elf(sections: Sequence[Section], kind: int = RELOCATABLE, bits: int = 64,
 
 def symbol(name: int, kind: int = OBJECT, section: int = 1, address: int = 0, size: int = 4,
            bits: int = 64) -> bytes:
-    """An entry of a symbol table, that other files see."""
+    """An entry of a symbol table, global."""
     if bits == 64:
         return struct.pack("<IBBHQQ", name, kind | 16, 0, section, address, size)
     return struct.pack("<IIIBBH", name, address, size, kind | 16, 0, section)
 
 
 def symbols(table: Iterable[bytes], strings: bytes, link: int, bits: int = 64) -> List[Section]:
-    """A .symtab and, as the section of the number `link`, its strings."""
+    """A .symtab and its strings, which are section number `link`."""
     empty = bytes(24 if bits == 64 else 16)
     return [Section(".symtab", empty + b"".join(table), SYMTAB, link, 1,
                     entry_size=len(empty)), Section(".strtab", strings, STRTAB)]
@@ -75,7 +75,8 @@ INT = struct.pack("<I", 0x01000020)
 
 
 def record(name: int, kind: int, count: int = 0, field: int = 0, rest: bytes = b"") -> bytes:
-    """A type: how many parts it has, its size or the type that it names, and what stands behind."""
+    """A type's record: the number of its parts, its size or the type that it refers to, and the
+    rest."""
     return struct.pack("<IHH", name, kind << 11 | VISIBLE | count, field) + rest
 
 
@@ -120,7 +121,7 @@ Attributes = Sequence[Tuple[int, int]]
 
 
 def abbreviation(code: int, tag: int, has_children: bool, attributes: Attributes) -> bytes:
-    """How entries of a code are written: pairs of an attribute and its form."""
+    """The abbreviation of a code: pairs of an attribute and its form."""
     listed = b"".join(uleb(name) + uleb(form) for name, form in [*attributes, (0, 0)])
     return uleb(code) + uleb(tag) + bytes([has_children]) + listed
 
@@ -135,7 +136,7 @@ def unit(entries: bytes, version: int = 4, abbreviations: int = 0, address: int 
 
 
 def head_size(version: int) -> int:
-    """How many bytes a unit has in front of its entries."""
+    """The size of a unit's header in bytes."""
     return 12 if version >= 5 else 11
 
 

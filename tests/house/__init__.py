@@ -1,1 +1,1 @@
-"""The repository itself: its names, links, pages, style and lists. No test here needs a build."""
+"""Checks of the repository itself: its names, links, pages, style and lists. None needs a build."""

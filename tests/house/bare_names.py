@@ -1,13 +1,14 @@
 #!/usr/bin/env python3
-"""Counts the names of crates and of the Rust workspace that are a bare participle or adjective, such
-as `held` or `told`.
+"""Counts the names in crates, in the Rust workspace and in Python that are a bare participle or
+adjective, such as `held` or `told`.
 
 usage: tests/house/bare_names.py [--list]
 
-Such a name says what was done, and not what a thing is, gives or does: `count_of`, not `held`. A
-share of them is borne, as in the kit's own crates: 13 of 1,000 functions and 25 of 1,000 words of
-`specs/`, or types and modules in Rust. With --list each that is left is printed with its place. The last line has both counts;
-the status is 1 where a share is exceeded, or where a name of KEPT is gone.
+Such a name does not say what a thing is, gives or does: prefer `count_of` to `held`. A share of
+them is allowed, as large as in the kit's own crates: 13 of 1,000 functions, and 25 of 1,000 words
+of `specs/`, types and modules in Rust, or classes in Python. With --list, each remaining one is
+printed with its place. The last line has all counts; the status is 1 if a share is exceeded, or if
+a name in KEPT no longer occurs.
 """
 from __future__ import annotations
 
@@ -17,22 +18,26 @@ from dataclasses import dataclass
 from pathlib import Path
 from typing import Iterator
 
+from tracked import tracked_files
+
 TOP = Path(__file__).resolve().parents[2]
-CRATES = "crates"
-RUST = "clients/rust"
+SOURCES, SPECS = r"crates/\w+/src/.*\.rt", r"crates/\w+/specs/.*\.antt"
+RUST, PYTHON = r"clients/rust/[\w-]+/src/.*\.rs", r".*\.py"
 FUNCTION = re.compile(r"^\s*(?:pub(?:\([a-z]+\))?\s+)?(?:const\s+)?fn\s+([a-z_0-9]+)", re.MULTILINE)
 TYPE = re.compile(r"^\s*(?:pub(?:\([a-z]+\))?\s+)?(?:struct|enum|trait|mod)\s+(\w+)", re.MULTILINE)
 WORD = re.compile(r"^(?:abbrev pub|pub abbrev|pub record|pub data) ([A-Za-z_]\w*)"
                   r"|^(?:pub )?([a-z_]\w*) :", re.MULTILINE)
+PYTHON_FUNCTION = re.compile(r"^\s*(?:async )?def _*([a-z]\w*)", re.MULTILINE)
+PYTHON_CLASS = re.compile(r"^\s*class _*([A-Z]\w*)", re.MULTILINE)
 IRREGULAR = frozenset(
     "begun bound built done drawn due found given grown held kept known left lent made meant "
     "said seen sent shown sought spelt taken thrown told understood written".split())
 ADJECTIVES = frozenset(
     "bare big deep dense early empty equal exact fit fresh full good great high large late like long "
     "low near other own plain ready same short small sound whole wide".split())
-# Verbs and nouns that end as participles do.
+# Verbs and nouns that end like participles.
 NO_PARTICIPLES = frozenset("bed embed exceed feed indeed need proceed seed shed speed".split())
-# What is left, and why: a name that the field has, or one that a noun would not make clearer.
+# The names that stay, and why: the field's own words, or a noun would not be clearer.
 KEPT = {
     "bound": "the noun",
     "ended": "a question that a stream is asked, beside `failed`",
@@ -44,23 +49,24 @@ KEPT = {
 
 @dataclass(frozen=True)
 class Share:
-    """How many names of a sort are borne of a thousand."""
+    """The allowed number of bare names of a sort, of a thousand."""
 
     sort: str
-    root: str
-    folder: str
+    files: str
     pattern: re.Pattern[str]
     per_thousand: int
 
 
-SHARES = (Share("functions", CRATES, "src/**/*.rt", FUNCTION, 13),
-          Share("words of specs", CRATES, "specs/**/*.antt", WORD, 25),
-          Share("functions in Rust", RUST, "src/**/*.rs", FUNCTION, 13),
-          Share("types and modules in Rust", RUST, "src/**/*.rs", TYPE, 25))
+SHARES = (Share("functions", SOURCES, FUNCTION, 13),
+          Share("words of specs", SPECS, WORD, 25),
+          Share("functions in Rust", RUST, FUNCTION, 13),
+          Share("types and modules in Rust", RUST, TYPE, 25),
+          Share("functions in Python", PYTHON, PYTHON_FUNCTION, 13),
+          Share("classes in Python", PYTHON, PYTHON_CLASS, 25))
 
 
 def is_bare(name: str) -> bool:
-    """Whether a name is one participle or adjective and nothing else; a type's too."""
+    """Whether a name, also a type's, is a single participle or adjective."""
     if re.search(r"[A-Z]", name[1:]):
         return False
     name = name.lower()
@@ -69,13 +75,13 @@ def is_bare(name: str) -> bool:
 
 
 def names_of(share: Share) -> Iterator[tuple[str, str]]:
-    """Each name of a sort, and its file and line."""
-    for path in sorted((TOP / share.root).glob(f"*/{share.folder}")):
-        text = path.read_text(encoding="utf-8")
+    """Each name of a sort, with its file and line."""
+    for file in sorted(file for file in tracked_files() if re.fullmatch(share.files, file)):
+        text = (TOP / file).read_text(encoding="utf-8")
         for found in share.pattern.finditer(text):
             name = next(filter(None, found.groups()))
             line = text.count("\n", 0, found.start(found.lastindex or 0)) + 1
-            yield name, f"{path.relative_to(TOP)}:{line}"
+            yield name, f"{file}:{line}"
 
 
 def main() -> int:

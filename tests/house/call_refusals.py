@@ -1,10 +1,10 @@
-"""The refusals of each public call below the words that may also be answered Memory.
+"""The refusals of each public call below the words that may also run out of memory.
 
-The list is made from the contracts: a `pub fn` of crates/*/src whose clauses say that memory may be
-refused, with every fault that the definitions in its `err` clauses come to (tests/house/definitions.py).
-A word of the protocol reaches each of these calls, so a stored run in which that word is refused
-with the fault is a row for the call as well: a body that answered Memory in its place would fail
-there, where memory is ample.
+The list is made from the contracts: a `pub fn` of crates/*/src whose clauses include out of memory,
+with every fault that the definitions in its `err` clauses lead to (tests/house/definitions.py). A
+word of the protocol reaches each of these calls, so a stored run in which that word is refused with
+the fault covers the call too: a body that reported Memory instead would fail there, where enough
+memory is free.
 """
 from __future__ import annotations
 
@@ -14,7 +14,7 @@ from pathlib import Path
 from typing import Iterator, Mapping
 
 from house import word_refusals
-from house.definitions import CONSTANTS, CRATES, Body, Word, bodies_of, file_of, reached
+from house.definitions import CONSTANTS, CRATES, Body, Word, bodies_of, file_of, reachable
 
 FUNCTION = re.compile(r"^( *)pub fn (\w+)\b.*?^\1\{", re.MULTILINE | re.DOTALL)
 CLAUSE = re.compile(r"ensures\s+(\w*)\s*\{(.*?)\}\s*(?=ensures|requires|//|\Z|\{)", re.DOTALL)
@@ -24,10 +24,10 @@ MEMORY = "out_of_memory"
 
 ADDED = ("add type", "add member", "add enumerator", "add label")
 
-# The words of the protocol by which each call is reached. LISTS stands for the calls that open lent
-# lists, which tests/doors/service/test_lists_refused.py reaches; STATED for ctfd_add_member_at, whose refusals
-# clients/rust/ctfd/tests/drafts.rs has; AS_A_SESSION for ctfd_line_as, whose refusals
-# tests/doors/c_library/sessions.c has.
+# The words of the protocol that reach each call. LISTS stands for the calls that open borrowed
+# lists, which tests/doors/service/test_lists_refused.py reaches; STATED for ctfd_add_member_at,
+# whose refusals are in clients/rust/ctfd/tests/drafts.rs; AS_A_SESSION for ctfd_line_as, whose
+# refusals are in tests/doors/c_library/sessions.c.
 LISTS = "lists"
 AS_A_SESSION = "a line as a session's"
 STATED = "a member at a stated place"
@@ -68,15 +68,15 @@ REACHED_BY: Mapping[str, tuple[str, ...]] = {
 
 @dataclass(frozen=True)
 class Call:
-    """A public function that may be answered Memory, and what its clauses on faults say."""
+    """A public function that may run out of memory, and its clauses about faults."""
 
     name: str
     file: Path
     clauses: tuple[str, ...]
 
 
-def imported(file: Path) -> dict[str, Word | str]:
-    """What the words of a file's contracts stand for: a definition, or the constant of a fault."""
+def imports_of(file: Path) -> dict[str, Word | str]:
+    """The meanings of the names in a file's contracts: a definition, or the constant of a fault."""
     found: dict[str, Word | str] = {}
     for module, names in USE.findall(file.read_text(encoding="utf-8")):
         for name in filter(None, map(str.strip, names.split(","))):
@@ -90,7 +90,7 @@ def imported(file: Path) -> dict[str, Word | str]:
 
 
 def calls() -> Iterator[Call]:
-    """Each public function whose contract names the fault of refused memory."""
+    """Each public function whose contract names the fault for out of memory."""
     for file in sorted(CRATES.glob("ctf_*/src/**/*.rt")):
         for function in FUNCTION.finditer(file.read_text(encoding="utf-8")):
             clauses = [text for label, text in CLAUSE.findall(function[0] + "\n")
@@ -101,8 +101,8 @@ def calls() -> Iterator[Call]:
 
 
 def faults_of(call: Call) -> set[str]:
-    """The constants of the faults that the clauses of a call come to, and the numbers of rules."""
-    words = imported(call.file)
+    """The constants of the faults that the clauses of a call lead to, and the numbers of rules."""
+    words = imports_of(call.file)
     bodies: list[Body] = []
     constants: set[str] = set()
     seen: set[Word] = set()
@@ -113,7 +113,7 @@ def faults_of(call: Call) -> set[str]:
         elif meant:
             seen.add(meant)
             bodies += bodies_of(meant)
-    more, below = reached(bodies, word_refusals.reading())
+    more, below = reachable(bodies, word_refusals.reading())
     if word_refusals.RULES in below | seen:
         more |= {str(code) for code in word_refusals.FIRST_RULES}
     return (constants | more) - {"MEMORY"}
@@ -131,7 +131,7 @@ def pairs(known: Mapping[int, str]) -> dict[str, set[str]]:
 
 
 def without_rows(rows: set[tuple[str, str]], known: Mapping[int, str]) -> tuple[int, list[str]]:
-    """How many pairs there are, and a line for each call or pair that nothing stands for."""
+    """The number of pairs, and a line for each call or pair that no run covers."""
     never = set().union(*word_refusals.NEVER.values())
     found = pairs(known)
     count = 0

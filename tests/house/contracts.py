@@ -1,12 +1,12 @@
 #!/usr/bin/env python3
-"""Tells which public functions of two trees have other contracts.
+"""Prints the public functions whose contracts differ between two trees.
 
 usage: contracts.py BEFORE AFTER
 
-BEFORE and AFTER are tops of the repository, as `git worktree add` or `git archive` make them. A
-line that begins with - or + is a function as one of them has it, with its signature and its
-clauses; white space, comments and the crate that it stands in do not count. Crates of tests are
-passed over.
+BEFORE and AFTER are top folders of the repository, for example from `git worktree add` or `git
+archive`. A line that begins with - or + is a function of one of them, with its signature and its
+clauses. White space, comments and the crate of a function do not count. Crates with tests are
+skipped.
 """
 import pathlib
 import re
@@ -18,8 +18,7 @@ FUNCTION = re.compile(r"^(\s*)(pub )?fn (\w+)")
 
 
 def heads(lines):
-    """Each function that others can call: what it belongs to, its name, and its text up to its
-    body."""
+    """Each function that others can call: its owner, its name, and its text up to the body."""
     owner = ""
     for number, line in enumerate(lines):
         if block := BLOCK.match(line):
@@ -34,7 +33,7 @@ def heads(lines):
 
 
 def head(lines, number, indent):
-    """The lines of a function's head, as one."""
+    """The lines of a function's head, joined into one."""
     taken = []
     for line in lines[number:]:
         line = re.sub(r"//.*", "", line).rstrip()
@@ -48,7 +47,7 @@ def head(lines, number, indent):
 
 
 def contracts(top):
-    """All of them in a tree."""
+    """All contracts of a tree."""
     found = set()
     for crate in sorted(pathlib.Path(top, "crates").iterdir()):
         if not PASSED_OVER.search(crate.name):

@@ -1,9 +1,9 @@
-"""Which faults a definition of `specs/` may come to, by following the words that it is made of.
+"""Finds the faults that a definition of `specs/` may lead to, by following the words in it.
 
 A file of `specs/` has lines `use Rattle.CRATE.specs.FOLDER.FILE.{word, word as other}`, and words
-that are defined by clauses: `name pattern = body`, each begun at the left margin. What a body names
-is looked up in its own file and in what that imports. So this finds every fault that a word can
-come to, and perhaps some that it never does.
+defined by clauses, `name pattern = body`, each of which begins at the left margin. The words in a
+body are looked up in its own file and in its imports. This finds every fault that a word can lead
+to, and perhaps some that it never does.
 """
 from __future__ import annotations
 
@@ -31,7 +31,7 @@ class Word:
 
 @dataclass(frozen=True)
 class Body:
-    """A piece of a file: what a clause says, or a word by itself."""
+    """A piece of a file: the text of a clause, or a single word."""
 
     file: Path
     text: str
@@ -39,14 +39,14 @@ class Body:
 
 @dataclass
 class File:
-    """What a file of definitions imports, and the clauses of each word that it defines."""
+    """The imports of a file of definitions, and the clauses of each word that it defines."""
 
     imported: dict[str, tuple[str, str]] = field(default_factory=dict)
     clauses: dict[str, list[str]] = field(default_factory=dict)
 
 
 def blocks(text: str) -> Iterator[str]:
-    """What stands from one line at the left margin to the next."""
+    """The pieces of a text, each from one line at the left margin to the next."""
     block: list[str] = []
     for line in text.splitlines():
         if line.startswith("--"):
@@ -61,7 +61,7 @@ def blocks(text: str) -> Iterator[str]:
 
 @lru_cache(maxsize=None)
 def read(path: Path) -> File:
-    """A file of definitions. Raises OSError."""
+    """A parsed file of definitions. Raises OSError."""
     text, found = path.read_text(encoding="utf-8"), File()
     for module, names in USE.findall(text):
         for name in filter(None, map(str.strip, names.split(","))):
@@ -79,14 +79,14 @@ def read(path: Path) -> File:
 
 
 def file_of(module: str) -> Optional[Path]:
-    """The file of a module `CRATE.specs.FOLDER.FILE`, if it is one of this repository's."""
+    """The file of a module `CRATE.specs.FOLDER.FILE`, or None if it is not in this repository."""
     crate, _, inside = module.partition(".specs.")
     path = CRATES / crate / "specs" / (inside.replace(".", "/") + ".antt")
     return path if inside and path.is_file() else None
 
 
 def named_in(body: Body) -> Iterator[tuple[str, Optional[Word]]]:
-    """Each word that a body names, and where it is defined; None for the constant of a fault."""
+    """Each word in a body, with its definition; None for the constant of a fault."""
     here = read(body.file)
     for name in WORD.findall(body.text):
         if name in here.imported:
@@ -100,9 +100,9 @@ def named_in(body: Body) -> Iterator[tuple[str, Optional[Word]]]:
             yield name, Word(body.file, name)
 
 
-def reached(bodies: list[Body], without: frozenset[Word]) -> tuple[set[str], set[Word]]:
-    """The constants of the faults that some bodies may come to, and the words on the way, by any
-    word but those left out."""
+def reachable(bodies: list[Body], without: frozenset[Word]) -> tuple[set[str], set[Word]]:
+    """The constants of the faults that some bodies may lead to, and the words on the way, without
+    following those in `without`."""
     constants: set[str] = set()
     words: set[Word] = set()
     waiting = list(bodies)
@@ -117,13 +117,13 @@ def reached(bodies: list[Body], without: frozenset[Word]) -> tuple[set[str], set
 
 
 def bodies_of(word: Word) -> list[Body]:
-    """What the clauses of a word say; nothing for a constructor or a field."""
+    """The bodies of a word's clauses; none for a constructor or a field."""
     return [Body(word.file, clause) for clause in read(word.file).clauses.get(word.name, [])]
 
 
 def body_for(word: Word, variant: str) -> Body:
-    """The body of the one clause of a word whose pattern names a variant, as `change.Part`. Raises
-    ValueError where there is none, or another."""
+    """The body of the only clause of a word whose pattern names a variant, such as `change.Part`.
+    Raises ValueError if there is not exactly one."""
     names_it = re.compile(rf"(?<![\w.]){re.escape(variant)}(?!\w)")
     halves = [body.text.partition(" =") for body in bodies_of(word)]
     found = [text for pattern, _, text in halves if names_it.search(pattern)]

@@ -4,26 +4,26 @@
 usage: tests/house/emptied.py [--libraries FOLDER] CRATE[/EDIT]..
        tests/house/emptied.py --log FILE
 
-A mutant that the gate refuses because a written proof no longer fits may still mean what the
-contract says: another proof might exist. Here each mutant of a crate's must-fail/ is put into a
-copy, the crate is checked, and each written answer at which the check stops is taken out, until
-none is left or the mutant is accepted. What the check says then is printed:
+If the gate refuses a mutant only because a written proof no longer fits, the mutant may still
+satisfy the contract: another proof might exist. This script puts each mutant of a crate's
+must-fail/ into a copy, checks the crate, and removes each written answer at which the check stops,
+until none is left or the mutant is accepted. It prints the result of the last check:
 
-- `false`: a goal is left open for which the prover names values that make it false;
-- `open`: a goal is left open. It is printed, to be judged by hand;
-- `names`: an invariant or a lemma names what the edit took away, so nothing was tried;
-- `accepted`: the mutant is proved. It says nothing: write another.
+- `false`: a goal is left open, and the prover names values that make it false;
+- `open`: a goal is left open. It is printed, for a person to judge;
+- `names`: an invariant or a lemma names what the edit removed, so nothing was tried;
+- `accepted`: the mutant is proved. It shows nothing: write another.
 
-The status is 1 where a mutant is accepted, or where nothing of it was tried. The copy begins with
-what is built here, so `rt check` in the crate first makes this quick.
+The status is 1 if a mutant is accepted, or if nothing of it was tried. The copy begins with what is
+built here, so `rt check` in the crate first makes this fast.
 
-With `--log` nothing is tried: FILE is what `rt ci` or `rt must-fail` printed, and each mutant that
-was refused first at a written proof is named; the status is then 1. Such a mutant is to take the
-answers that no longer fit it out as well, between `{-` and `-}`, so that the goal is left open.
+With `--log` nothing is tried: FILE is the output of `rt ci` or `rt must-fail`, and each mutant that
+was refused first at a written proof is named; the status is then 1. Such a mutant should also
+remove the answers that no longer fit it, between `{-` and `-}`, so that the goal is left open.
 
-With `--libraries` the crates below are not proved first. They are taken as built in FOLDER, which
-has crates/NAME/out/rlib of each as `rt ci` leaves them, made of the same files as are here. The
-first mutant of a crate then takes as long as a check of the crate, and those after it less.
+With `--libraries` the crates below are not proved first. They are taken from the builds in FOLDER,
+which has crates/NAME/out/rlib of each as `rt ci` leaves them, from the same files as here. The
+first mutant of a crate then takes as long as a check of the crate, and the next ones less.
 """
 from __future__ import annotations
 
@@ -51,8 +51,8 @@ MOST_TRIES = 12
 
 
 @dataclass(frozen=True)
-class Found:
-    """What is known of a mutant, and what the check said last."""
+class Finding:
+    """The result for a mutant, and the last output of the check."""
 
     kind: str
     said: str
@@ -63,12 +63,13 @@ class Found:
 
 
 def refused_at_a_proof(said: str) -> list[str]:
-    """The mutants that `rt` says were refused at a written proof, where no goal was told first."""
+    """The mutants that were refused at a written proof, with no goal reported before, by `rt`'s
+    output."""
     return AT_A_PROOF.findall(said)
 
 
 def link_or_copy(one: str, other: str) -> None:
-    """Copies a file; one that a check replaces and never changes is linked."""
+    """Copies a file, or links it if a check replaces it and never changes it."""
     if one.endswith(".oantt"):
         os.link(one, other)
     else:
@@ -76,7 +77,7 @@ def link_or_copy(one: str, other: str) -> None:
 
 
 def copy_tree(into: Path) -> None:
-    """Copies what a check reads, and what earlier checks kept."""
+    """Copies the files that a check reads, and what earlier checks have left."""
     try:
         shutil.copytree(CRATES, into / "crates", copy_function=link_or_copy)
     except (OSError, shutil.Error):
@@ -87,7 +88,7 @@ def copy_tree(into: Path) -> None:
 
 
 def mutate(crate: Path, edit: Edit) -> None:
-    """Makes the changes of an edit."""
+    """Applies the changes of an edit."""
     for file, old, new in edit.changes():
         path = crate / file
         text = path.read_text(encoding="utf-8")
@@ -96,20 +97,20 @@ def mutate(crate: Path, edit: Edit) -> None:
 
 
 def declarations(lines: list[str]) -> Iterator[tuple[int, int]]:
-    """From which line to which each declaration of a file goes, counted from 0."""
+    """The first line, from 0, of each declaration in a file, and the line after it."""
     starts = [number for number, line in enumerate(lines) if SIGNATURE.match(line)]
     yield from zip(starts, [*starts[1:], len(lines)])
 
 
 def imports(lines: list[str]) -> Iterator[tuple[int, int]]:
-    """Likewise each import. It may be there for an answer that is taken out, and name what only the
-    code as it was had."""
+    """The line of each import, and the line after it. An import may be there only for an answer
+    that is removed, and may name something that only the original code had."""
     yield from ((at, at + 1) for at, line in enumerate(lines) if line.startswith("use "))
 
 
 def remove_at(path: Path, numbers: list[int]) -> bool:
-    """Takes the declarations and imports of some lines out of a file of answers; whether there were
-    any."""
+    """Removes the declarations and imports at some lines from a file of answers. Returns whether
+    there were any."""
     lines = path.read_text(encoding="utf-8").splitlines()
     refused = [(begin, end) for begin, end in [*declarations(lines), *imports(lines)]
                if any(begin < number <= end for number in numbers)]
@@ -131,7 +132,7 @@ def with_libraries(text: str) -> Path:
 
 
 def listed_in_crates(name: str) -> tuple[list[str], list[str]]:
-    """What kind a crate is said to be, and the crates that it uses."""
+    """The kind of a crate, and the crates that it uses, as crates.txt lists them."""
     for line in (TOP / "crates.txt").read_text(encoding="utf-8").splitlines():
         head, colon, uses = line.partition(":")
         if colon and head.split()[0] == name:
@@ -140,7 +141,7 @@ def listed_in_crates(name: str) -> tuple[list[str], list[str]]:
 
 
 def command_over(libraries: Path, name: str, kept: Path) -> list[str]:
-    """Checks a crate over built libraries; what it checks is kept in a folder."""
+    """The command that checks a crate with built libraries, and leaves its results in `kept`."""
     kit = Path(shutil.which("rattle") or "rattle").resolve().parents[1]
     kinds, uses = listed_in_crates(name)
     words = ["rattle", "check", "--crate-name", name, "src/lib.rt"]
@@ -157,14 +158,14 @@ def command_over(libraries: Path, name: str, kept: Path) -> list[str]:
 
 
 def check_says(crate: Path, command: list[str]) -> str:
-    """What a check of a crate says."""
+    """The output of a check of a crate."""
     ended = subprocess.run(command, cwd=crate, stdout=subprocess.PIPE, check=False,
                            stderr=subprocess.STDOUT, text=True, errors="replace")
     return ended.stdout
 
 
 def take_out(crate: Path, said: str) -> bool:
-    """Takes out the answers that the check refused; whether there were any."""
+    """Removes the answers that the check refused. Returns whether there were any."""
     places: dict[str, list[int]] = {}
     for file, line in ERROR.findall(said):
         if file.endswith(("/Answers.antt", "/Proof.antt")) and (crate / file).exists():
@@ -172,23 +173,23 @@ def take_out(crate: Path, said: str) -> bool:
     return any([remove_at(crate / file, numbers) for file, numbers in places.items()])
 
 
-def judge(crate: Path, command: list[str]) -> Found:
-    """What is left of a mutant's refusal without the proofs that do not fit it."""
+def judge(crate: Path, command: list[str]) -> Finding:
+    """The finding for a mutant without the proofs that do not fit it."""
     for _ in range(MOST_TRIES):
         said = check_says(crate, command)
         if not take_out(crate, said):
             break
     if "logic=proved" in said:
-        return Found("accepted", "")
+        return Finding("accepted", "")
     goals, values = GOAL.findall(said), VALUES.findall(said)
     if goals:
-        return Found("false" if values else "open", "; ".join([*goals, *values]))
-    return Found("names", next(iter(said.splitlines()), ""))
+        return Finding("false" if values else "open", "; ".join([*goals, *values]))
+    return Finding("names", next(iter(said.splitlines()), ""))
 
 
 def of_crate(name: str, only: str, copy: Path,
-             libraries: Path | None) -> Iterator[tuple[str, Found]]:
-    """Each mutant of a crate with what is found."""
+             libraries: Path | None) -> Iterator[tuple[str, Finding]]:
+    """Each mutant of a crate with its finding."""
     crate = copy / "crates" / name
     plain = copy / "plain"
     command = command_over(libraries, name, copy / "kept") if libraries else ["rt", "check"]

@@ -1,12 +1,12 @@
 #!/usr/bin/env python3
-"""Checks that the head of each library crate has an example of a call.
+"""Checks that the documentation of each library crate begins with an example of a call.
 
 usage: tests/house/examples.py [--try]
 
-With --try all examples are compiled as one program, by `rt try` on a copy of the crates; nothing is
-proved. Prints each crate without an example, what does not compile, and how many there are; the
-status is 1 where one lacks or does not compile. Without a kit nothing is compiled, and a line that
-begins with "skipped" says so.
+With --try, all examples are compiled as one program, with `rt try` on a copy of the crates; nothing
+is proved. Prints each crate without an example, what does not compile, and the number of examples;
+the status is 1 if one is missing or does not compile. Without a kit nothing is compiled, and a line
+that begins with "skipped" says so.
 """
 from __future__ import annotations
 
@@ -31,13 +31,13 @@ fn main(_rt: HostRuntime) {{}}
 
 
 def head(library: Path) -> str:
-    """What a crate's first page says, as Markdown."""
+    """The front page of a crate, as Markdown."""
     lines = library.read_text(encoding="utf-8").splitlines()
     return "".join(f"{line[3:].removeprefix(' ')}\n" for line in lines if line.startswith("//!"))
 
 
 def examples() -> dict[str, list[str]]:
-    """By the name of each library crate the code of its examples."""
+    """The code of the examples of each library crate, by name."""
     found: dict[str, list[str]] = {}
     for name in ROW.findall((TOP / "crates.txt").read_text(encoding="utf-8")):
         library = TOP / "crates" / name / "src" / "lib.rt"
@@ -48,7 +48,7 @@ def examples() -> dict[str, list[str]]:
 
 
 def write_program(source: Path, found: dict[str, list[str]]) -> None:
-    """A program with a module for each example. Functions are public, so none is unused."""
+    """Writes a program with a module for each example. Functions are public, so none is unused."""
     source.mkdir(parents=True)
     names = []
     for crate, codes in found.items():
@@ -60,8 +60,8 @@ def write_program(source: Path, found: dict[str, list[str]]) -> None:
     (source / "main.rt").write_text(ROOT.format(modules=modules), encoding="utf-8")
 
 
-def tried(kit: str, found: dict[str, list[str]]) -> str:
-    """What the kit says of a program of the examples that are no C, where it refuses it."""
+def refusal_of(kit: str, found: dict[str, list[str]]) -> str:
+    """The kit's error for a program of the examples, except those in C, or "" if it accepts it."""
     rust = {crate: codes for crate, codes in found.items() if crate not in LANGUAGES}
     with tempfile.TemporaryDirectory() as made:
         copy = Path(made)
@@ -86,7 +86,7 @@ def main() -> int:
         if kit is None:
             print("skipped: no kit to compile the examples")
         else:
-            refused = tried(kit, found)
+            refused = refusal_of(kit, found)
             print(refused, end="")
     count = sum(len(codes) for codes in found.values())
     print(f"examples: {count} in {len(found)} crates, {len(lacking)} without one"

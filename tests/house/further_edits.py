@@ -4,13 +4,14 @@
 usage: tests/house/further_edits.py [--only NAME] CRATE..
        tests/house/further_edits.py --apply
 
-crates/NAME/further-edits has the edits of a crate, a blank line between two: a line `name: NAME`,
-then lines as a file of must-fail/ has them. A line `false: VALUES` says for which values a goal is
-false that the edit leaves open. They are tried in a copy by `rt must-fail`, whatever is built
-there; what is not built yet is proved first. `--only` tries one.
+crates/NAME/further-edits has the edits of a crate, separated by blank lines: a line `name: NAME`,
+then lines as in a file of must-fail/. A line `false: VALUES` gives values for which a goal that the
+edit leaves open is false. Edits are tried in a copy by `rt must-fail`, using what is built here;
+what is not built yet is proved first. `--only` tries one.
 
-With `--apply` nothing is tried: each text that an edit replaces has to stand once in its file, in
-these edits and in those of must-fail/. Prints what does not, and counts; the status is then 1.
+With `--apply` nothing is tried: each text that an edit replaces must occur exactly once in its
+file, in these edits and in those of must-fail/. Prints those that do not, and counts; the status is
+then 1.
 """
 from __future__ import annotations
 
@@ -29,13 +30,13 @@ CRATES = TOP / "crates"
 
 @dataclass
 class Edit:
-    """A change of a crate's files: each first text becomes the second, in this order."""
+    """A change to a crate's files: each first text is replaced by the second, in this order."""
 
     name: str
     lines: list[str] = field(default_factory=list)
 
     def changes(self) -> Iterator[tuple[str, str, str]]:
-        """Each file with the text that goes and the one that comes."""
+        """Each change: the file, the old text and the new one."""
         file = old = ""
         for line in self.lines:
             word, _, text = line.partition(": ")
@@ -47,7 +48,7 @@ class Edit:
                 yield file, old, text
 
     def fault(self, crate: Path) -> str | None:
-        """Why it can't be applied to a crate, or nothing."""
+        """The reason why the edit cannot be applied to a crate, or None."""
         texts: dict[str, str] = {}
         for file, old, new in self.changes():
             try:
@@ -61,7 +62,7 @@ class Edit:
 
 
 def in_one_file(path: Path) -> list[Edit]:
-    """The edits of a file, each behind its name."""
+    """The edits of a file, each after its name."""
     edits: list[Edit] = []
     for line in path.read_text(encoding="utf-8").splitlines():
         if line.startswith("name: "):
@@ -82,7 +83,7 @@ def of_the_gate(crate: Path) -> list[Edit]:
 
 
 def apply_all() -> int:
-    """Whether all edits can be applied."""
+    """Checks that all edits can be applied, and returns the status."""
     count = wrong = 0
     for crate in sorted(CRATES.iterdir()):
         for edit in of_the_gate(crate) + further(crate):
@@ -95,7 +96,7 @@ def apply_all() -> int:
 
 
 def in_place_of_the_gates(crate: Path, edits: Iterable[Edit]) -> None:
-    """Puts edits where `rt must-fail` looks for them."""
+    """Puts edits into the folder in which `rt must-fail` looks for them."""
     folder = crate / "must-fail"
     shutil.rmtree(folder, ignore_errors=True)
     folder.mkdir()
@@ -104,7 +105,7 @@ def in_place_of_the_gates(crate: Path, edits: Iterable[Edit]) -> None:
         (folder / f"{edit.name}.edit").write_text(text, encoding="utf-8")
 
 
-def tried(crates: list[str], only: str | None) -> int:
+def try_edits(crates: list[str], only: str | None) -> int:
     """Tries the edits of some crates."""
     with tempfile.TemporaryDirectory() as copy:
         shutil.copytree(CRATES, Path(copy, "crates"))
@@ -135,7 +136,7 @@ def main() -> int:
     unknown = [name for name in asked.crates if not (CRATES / name).is_dir()]
     if unknown or not asked.crates:
         options.error(f"no crate: {' '.join(unknown)}" if unknown else "which crates?")
-    return tried(asked.crates, asked.only)
+    return try_edits(asked.crates, asked.only)
 
 
 if __name__ == "__main__":

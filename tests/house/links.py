@@ -1,10 +1,10 @@
 #!/usr/bin/env python3
-"""Checks the links of all Markdown of this repository: each file and each anchor is there.
+"""Checks the links in all Markdown of this repository: each file and each anchor must exist.
 
 usage: tests/house/links.py
 
-A link that names a scheme, as https:, is passed over. Prints each that leads nowhere, and how many
-there are; the status is 1 where one leads nowhere.
+Links with a scheme, such as https:, are skipped. Prints each broken link, and counts; the status is
+1 if one is broken.
 """
 from __future__ import annotations
 
@@ -25,7 +25,7 @@ SCHEME = re.compile(r"[a-z][a-z0-9+.-]*:")
 
 
 def prose(page: Path) -> Iterator[tuple[int, str]]:
-    """The numbered lines of a page that stand in no block of code."""
+    """The numbered lines of a page outside blocks of code."""
     is_code = False
     for number, line in enumerate(page.read_text(encoding="utf-8").splitlines(), 1):
         if FENCE.match(line):
@@ -36,7 +36,7 @@ def prose(page: Path) -> Iterator[tuple[int, str]]:
 
 @cache
 def anchors(page: Path) -> frozenset[str]:
-    """What a link may name in a page: its headings, as the usual viewers make anchors of them."""
+    """The anchors of a page: its headings, as the usual viewers turn them into anchors."""
     found: dict[str, int] = {}
     for _, line in prose(page):
         if heading := HEADING.match(line):
@@ -50,7 +50,7 @@ def anchors(page: Path) -> frozenset[str]:
 
 
 def wrong(page: Path, target: str) -> str:
-    """Why a link in a page leads nowhere, or nothing."""
+    """The reason why a link in a page is broken, or ""."""
     path, _, anchor = unquote(target).partition("#")
     file = (page.parent / path).resolve() if path else page
     if not file.exists():
@@ -63,7 +63,7 @@ def wrong(page: Path, target: str) -> str:
 
 
 def main() -> int:
-    """Follows all links of all pages, but for those in what was built."""
+    """Checks all links of all pages, except in build output."""
     pages = sorted(page for page in TOP.rglob("*.md")
                    if not PASSED_OVER & {*page.relative_to(TOP).parts})
     links = dead = 0

@@ -1,6 +1,6 @@
 #!/usr/bin/env bash
-# Checks that the manual pages are well formed: groff, with all warnings, says nothing of them; and
-# that the page of a compiled command has its options, and no others (manual_options.py).
+# Checks that groff prints no warnings for the manual pages, and that the page of each compiled
+# command lists exactly its options (manual_options.py).
 # usage: tests/house/manual.sh
 set -u
 cd "$(dirname "$0")/../../docs/man" || exit 1

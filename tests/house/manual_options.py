@@ -3,10 +3,10 @@
 
 usage: tests/house/manual_options.py FOLDER
 
-FOLDER has the commands. Each option that --help lists is an item of the page, each item of the page is
-an option that the command takes, and both say of it whether it has a value. Completions ask the
-commands, so these are what --help lists in any case. Prints each difference; the status is 1 where one
-is.
+FOLDER has the commands. Each option that --help lists must be an item of the page, each item of the
+page must be an option that the command accepts, and both must agree on whether it takes a value.
+Completions ask the commands, so they always match --help. Prints each difference; the status is 1
+if there is one.
 """
 from __future__ import annotations
 
@@ -18,9 +18,10 @@ from pathlib import Path
 PAGES = Path(__file__).resolve().parents[2] / "docs" / "man"
 COMMANDS = ("ctfd-convert", "ctfd-debuginfo", "ctfd-diff", "ctfd-explore", "ctfd-front", "ctfd-show",
             "ctfd-store", "ctfd-types")
-# The first words of a command that has options of its own for each.
+# The first words of a command that has different options for each.
 ACTIONS = {"ctfd-store": ("add", "check", "fetch", "list", "missing", "remove", "stats")}
-# In a help: an option, and whether a value stands behind it. In a page: an item that begins so.
+# In a help text: an option, and whether a value follows it. In a page: an item that begins with
+# one.
 HELPED = re.compile(r"^ +(?:-\w, )?--([a-z][\w-]*)( <)?", re.MULTILINE)
 PAGED = re.compile(r"Fl -([a-z][\w-]*)( (?:Op )?Ar)?")
 ITEM = re.compile(r"^\.It Fl .*$", re.MULTILINE)
@@ -28,13 +29,13 @@ OF_CLAP = {"help"}
 UNKNOWN = "no option"
 
 
-def listed(pattern: re.Pattern[str], text: str) -> dict[str, bool]:
-    """The options of a text, and whether each has a value."""
+def options_in(pattern: re.Pattern[str], text: str) -> dict[str, bool]:
+    """The options in a text, and whether each takes a value."""
     return {name: bool(value) for name, value in pattern.findall(text) if name not in OF_CLAP}
 
 
 def is_taken(command: Path, name: str, has_value: bool) -> bool:
-    """Whether a command takes an option, which its help may leave out."""
+    """Whether a command accepts an option, which its help may omit."""
     word = f"--{name}=0" if has_value else f"--{name}"
     for value in ([word], [f"--{name}", "0"]):
         done = subprocess.run([command, *value, "--help"], capture_output=True, text=True, check=False)
@@ -44,12 +45,12 @@ def is_taken(command: Path, name: str, has_value: bool) -> bool:
 
 
 def differences(command: Path) -> list[str]:
-    """What the page of a command has otherwise than its help."""
+    """The differences between a command's page and its help."""
     helps = [subprocess.run([command, *words, "--help"], capture_output=True, text=True, check=True)
              for words in ((), *((action,) for action in ACTIONS.get(command.name, ())))]
-    helped = listed(HELPED, "\n".join(done.stdout for done in helps))
+    helped = options_in(HELPED, "\n".join(done.stdout for done in helps))
     items = ITEM.findall((PAGES / f"{command.name}.1").read_text("utf-8"))
-    paged = listed(PAGED, "\n".join(items))
+    paged = options_in(PAGED, "\n".join(items))
     found = [f"the page lacks --{name}" for name in helped if name not in paged]
     found += [f"--{name} has a value {'in the help' if value else 'on the page'} alone"
               for name, value in helped.items() if paged.get(name, value) != value]

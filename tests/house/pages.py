@@ -3,17 +3,17 @@
 
 usage: tests/house/pages.py
 
-The words of a page are those that `wc -w` counts. `MOST` has how many each may have; a page that it
-does not name is wrong, and so is one that it names and that is not there.
+Words of a page are counted as by `wc -w`. `MOST` has the limit of each page; a page that it does
+not name is an error, and so is a name without a page.
 
 A sentence of a page for users has at most 35 words, one of another page 40, and the mean of a page
-is at most 25. No text outside of crates/ has one of the phrases in `RIDDLES`. Blocks of code,
-tables, headings and comments are left out. Each paragraph and each item of a list is a text of its
-own, whatever lines it is written in. A sentence of it ends at `.`, `!` or `?`, with the quote or
-parenthesis that closes behind that, where the text ends or a blank and no small letter follow. A link counts as its text,
-and what stands in backquotes as one word; a word has a letter or a digit, and blanks end it.
+is at most 25. No text outside crates/ has one of the phrases in `RIDDLES`. Blocks of code, tables,
+headings and comments are skipped. Each paragraph and each item of a list is a separate text,
+however its lines are broken. A sentence ends at `.`, `!` or `?`, with the quote or parenthesis that
+closes after it, at the end of the text or before a blank and no small letter. A link counts as its
+text, and code in backquotes as one word; a word has a letter or a digit, and ends at a blank.
 
-Prints each page, sentence and phrase that is wrong; the status is 1 where one is.
+Prints each page, sentence and phrase that is wrong; the status is 1 if there is one.
 """
 from __future__ import annotations
 
@@ -57,7 +57,7 @@ MOST_OF_A_CRATE = 200
 MOST_OF_DOCS = 56_600
 MOST_OF_A_SENTENCE = {**dict.fromkeys(FOR_USERS, 35), **dict.fromkeys(FOR_MAINTAINERS, 40)}
 MOST_IN_THE_MEAN = 25
-# Phrases that a reader has to guess at; each stood somewhere once.
+# Phrases that readers would have to guess at; each was in a text once.
 RIDDLES = (
     "want of memory", "what a name of an enum stands for", "is told of it", "a body is turned",
     "cut at its first", "hangs on its own", "of the second sort alone", "lead round", "leads round",
@@ -72,12 +72,12 @@ END = re.compile(r"(?<=[.!?])[\"')\]*_]*\s+(?![a-z])")
 
 
 def words(page: Path) -> int:
-    """How many words a page has, as `wc -w` counts."""
+    """The number of words of a page, as by `wc -w`."""
     return len(page.read_text(encoding="utf-8").split())
 
 
 def too_long() -> Iterator[str]:
-    """What is wrong with how long the pages are."""
+    """The pages that are too long, and errors in the limits."""
     seen = {str(page.relative_to(TOP)): words(page)
             for page in (*TOP.glob("*.md"), *(TOP / "docs").glob("*.md"),
                          TOP / "clients/gdb/README.md", TOP / "clients/python/README.md")}
@@ -98,7 +98,7 @@ def too_long() -> Iterator[str]:
 
 
 def texts(page: Path) -> Iterator[tuple[int, str]]:
-    """The paragraphs and items of lists of a page, each with the number of its first line."""
+    """The paragraphs and list items of a page, each with its first line's number."""
     began, text, last = 0, "", 0
     for number, line in prose(page):
         goes_on = bool(text) and number == last + 1 and not ITEM.match(line)
@@ -115,14 +115,14 @@ def texts(page: Path) -> Iterator[tuple[int, str]]:
 
 
 def sentences(text: str) -> Iterator[tuple[int, str]]:
-    """The sentences of a text, each with how many words it has."""
+    """The sentences of a text, each with its number of words."""
     plain = LINK.sub(lambda link: link[0].split("](")[0][1:], CODE.sub("Code", text))
     for sentence in END.split(plain):
         yield sum(any(map(str.isalnum, word)) for word in sentence.split()), sentence
 
 
 def long_sentences() -> Iterator[str]:
-    """The sentences that are too long, and the pages whose sentences are so in the mean."""
+    """The sentences that are too long, and the pages whose mean is."""
     for name, most in MOST_OF_A_SENTENCE.items():
         counts = []
         for number, text in texts(TOP / name):
@@ -135,7 +135,7 @@ def long_sentences() -> Iterator[str]:
 
 
 def riddles() -> Iterator[str]:
-    """The phrases of `RIDDLES` that stand in a text, with the text."""
+    """The phrases of `RIDDLES` that occur in a text, with the text."""
     listed = subprocess.run(["git", "ls-files"], cwd=TOP, capture_output=True, text=True, check=True)
     for name in listed.stdout.splitlines():
         if name.startswith("crates/") or not name.endswith(TEXTS) or name == "tests/house/pages.py":

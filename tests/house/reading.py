@@ -1,16 +1,16 @@
 #!/usr/bin/env python3
-"""Checks docs/READING.md: that it lists what stands behind four contracts, and tells its length.
+"""Checks docs/READING.md: that it lists the definitions behind four contracts, and their length.
 
 usage: tests/house/reading.py
 
-From the contracts of `serve`, `check`, `answer` and `update` each word is followed to the file of
-`specs/` that defines it, by the `ghost use` lines of the source and the `use` lines of definitions,
-and so on. A word of the page's table of definitions that compute is not followed: in its place are
-those that its row names as the rule. Each file on the way has to be in the first table, and each
-file there has to be on the way. The lines and minutes of a row have to be those of its files, and
-the modules of the kit's libraries whose words are met are those that the page counts up.
+From the contracts of `serve`, `check`, `answer` and `update`, each word is followed to the file of
+`specs/` that defines it, through the `ghost use` lines of the source and the `use` lines of
+definitions, and so on. A word in the page's table of definitions that compute is not followed; the
+words that its row names as the rule are followed instead. The first table must list exactly the
+files on the way. The lines and minutes of a row must be those of its files, and the modules of the
+kit's libraries whose words are met must be those that the page lists.
 
-Prints what is wrong; the status is 1 then.
+Prints what is wrong; the status is then 1.
 """
 from __future__ import annotations
 
@@ -45,7 +45,7 @@ class Word:
 
 @dataclass
 class File:
-    """What a file imports, by the names that it has for it, and the texts of its own words."""
+    """The imports of a file, by the names that it uses for them, and the texts of its own words."""
 
     words: dict[str, Word] = field(default_factory=dict)
     modules: dict[str, str] = field(default_factory=dict)
@@ -53,13 +53,13 @@ class File:
 
 
 def path_of(module: str) -> Path:
-    """Where a module of definitions stands, if it is one of this repository's."""
+    """The file of a module of definitions, if it is in this repository."""
     crate, _, inside = module.partition(".specs.")
     return CRATES / crate / "specs" / (inside.replace(".", "/") + ".antt")
 
 
 def blocks(text: str) -> Iterator[str]:
-    """What stands from one line at the left margin to the next, without comments."""
+    """The pieces of a text, each from one line at the left margin to the next, without comments."""
     block: list[str] = []
     for line in text.splitlines():
         if line.lstrip().startswith("--"):
@@ -71,8 +71,8 @@ def blocks(text: str) -> Iterator[str]:
     yield "\n".join(block)
 
 
-def imported(text: str) -> File:
-    """What the `use` lines of a text bring."""
+def imports_of(text: str) -> File:
+    """The imports in the `use` lines of a text."""
     found = File()
     for module, names, alias in USE.findall(text):
         if alias:
@@ -85,9 +85,9 @@ def imported(text: str) -> File:
 
 @lru_cache(maxsize=None)
 def read(path: Path) -> File:
-    """A file of definitions."""
+    """A parsed file of definitions."""
     text = path.read_text(encoding="utf-8")
-    found = imported(text)
+    found = imports_of(text)
     last = ""
     for block in blocks(text):
         match = SIGNATURE.match(block)
@@ -100,7 +100,7 @@ def read(path: Path) -> File:
 
 
 def names_in(text: str, file: File) -> Iterator[str]:
-    """The names of a file's imports and own words that a text has."""
+    """The names of a file's imports and own words that occur in a text."""
     tokens = set(TOKEN.findall(text))
     for name in [*file.words, *file.texts]:
         parts = [part for part in name.split("◌") if part]
@@ -109,7 +109,7 @@ def names_in(text: str, file: File) -> Iterator[str]:
 
 
 def words_in(text: str, here: str, file: File) -> Iterator[Word]:
-    """Each word that a text names, as another file would name it."""
+    """Each word that a text names, with its module."""
     for name in names_in(text, file):
         yield file.words.get(name, Word(here, name))
     for token in TOKEN.findall(text):
@@ -125,11 +125,11 @@ def contract(source: str, name: str) -> Iterator[Word]:
     head = re.search(rf"^ *pub fn {name}\b.*?^ *\{{$", text, re.MULTILINE | re.DOTALL)
     if not head:
         raise ValueError(f"{source} has no pub fn {name}")
-    yield from words_in(head[0], "", imported(text))
+    yield from words_in(head[0], "", imports_of(text))
 
 
 def defined_at(word: Word) -> Word:
-    """A word by the module that defines it: a file of laws or of a crate may pass it on."""
+    """A word with the module that defines it; other modules may re-export it."""
     path = path_of(word.module)
     while path.is_file() and word.name not in read(path).texts and word.name in read(path).words:
         word = read(path).words[word.name]
@@ -137,8 +137,9 @@ def defined_at(word: Word) -> Word:
     return word
 
 
-def followed(starts: list[Word], instead: dict[Word, list[Word]]) -> set[Word]:
-    """All words on the way."""
+def words_behind(starts: list[Word], instead: dict[Word, list[Word]]) -> set[Word]:
+    """All words that the definitions of `starts` lead to; for a word in `instead`, its other words
+    are followed in its place."""
     seen: set[Word] = set()
     waiting = [defined_at(word) for word in starts]
     while waiting:
@@ -167,7 +168,7 @@ def rows(heading: str) -> Iterator[list[str]]:
         yield [cell.strip() for cell in line.strip("|").split("|")]
 
 
-def listed(cell: str) -> Iterator[str]:
+def modules_in(cell: str) -> Iterator[str]:
     """The modules that a cell lists: `M format/: Bytes, Lists; rules/Rules; P lines/Ask`."""
     crate = folder = ""
     for part in cell.replace("`", "").split(";"):
@@ -202,16 +203,16 @@ def by_page(cell: str) -> Iterator[Word]:
 
 
 def length(modules: list[str]) -> int:
-    """How many lines modules have that are neither import, comment nor blank."""
+    """The number of lines of modules, without imports, comments and blank lines."""
     lines = (line.strip() for module in modules
              for line in path_of(module).read_text(encoding="utf-8").splitlines())
     return sum(bool(line) and not line.startswith(("--", "use ", "pub use ")) for line in lines)
 
 
 def wrong_rows() -> Iterator[str]:
-    """Rows whose length is told otherwise than it is."""
+    """Rows with a wrong length."""
     for row, files, lines, minutes in rows("# Reading"):
-        modules = list(listed(files))
+        modules = list(modules_in(files))
         absent = [module for module in modules if not path_of(module).is_file()]
         if absent:
             yield f"{row}: there is no {', '.join(absent)}"
@@ -222,8 +223,8 @@ def wrong_rows() -> Iterator[str]:
 
 
 def wrong_files(words: set[Word]) -> Iterator[str]:
-    """Files that stand behind the contracts and are not listed, and those that are and do not."""
-    there = {module for _, files, _, _ in rows("# Reading") for module in listed(files)}
+    """Files behind the contracts that are not listed, and listed files that are not behind them."""
+    there = {module for _, files, _, _ in rows("# Reading") for module in modules_in(files)}
     behind: dict[str, list[str]] = {}
     for word in words:
         if path_of(word.module).is_file():
@@ -235,7 +236,7 @@ def wrong_files(words: set[Word]) -> Iterator[str]:
 
 
 def wrong_modules(words: set[Word]) -> Iterator[str]:
-    """Modules of the kit whose words are met, and those that the page names."""
+    """Modules of the kit whose words are met but not named on the page, and the reverse."""
     met = {word.module for word in words
            if ".specs." in f"{word.module}." and not (CRATES / word.module.split(".")[0]).is_dir()}
     text = PAGE.read_text(encoding="utf-8").split("## Words of the kit", 1)[1]
@@ -249,7 +250,7 @@ def wrong_modules(words: set[Word]) -> Iterator[str]:
 
 def main() -> int:
     starts = [word for source, name in STARTS for word in contract(source, name)]
-    words = followed(starts, instead_of())
+    words = words_behind(starts, instead_of())
     wrong = [*wrong_files(words), *wrong_modules(words), *wrong_rows()]
     print(*wrong, sep="\n", end="\n" if wrong else "")
     files = len({word.module for word in words if path_of(word.module).is_file()})

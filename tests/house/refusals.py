@@ -1,17 +1,18 @@
 #!/usr/bin/env python3
-"""Tells which refusals of the words no stored run has, and where page and definitions differ.
+"""Reports refusals of words that no stored run has, and differences between page and definitions.
 
 usage: tests/house/refusals.py [-v] [PAGE]
 
 docs/PROTOCOL.md, or PAGE, has the refusals of each word in its table of words, and those of
-additions below `## add`. These have to be the ones that the definitions have which the contracts of
-the library cite (tests/house/word_refusals.py finds them), and a row for each has to stand in the
-transcripts of crates/test_service/data, or in the run of tests/doors/service/full_session.py: a request of this
-word with the reply that refuses it, its code, name and place. So whoever answers Memory, or another
-fault, in place of one of these is caught where memory is ample. The same holds of the refusals of
-each call below the words (tests/house/call_refusals.py). `1 to 19` stands for each rule of the format.
-Prints what has no row, and what is refused by page or definitions alone; the status is 1 then. With
--v prints each pair, and in how many rows it stands.
+additions below `## add`. They must be the refusals in the definitions that the contracts of the
+library cite (tests/house/word_refusals.py finds them). For each of them, the transcripts of
+crates/test_service/data, or the run of tests/doors/service/full_session.py, must have a row: a
+request of this word with the reply that refuses it, its code, name and place. So a program that
+reports Memory, or another fault, in place of one of these fails where enough memory is free. The
+same holds for the refusals of each call below the words (tests/house/call_refusals.py). `1 to 19`
+stands for each rule of the format. Prints refusals without a row, and those that only the page or
+only the definitions have; the status is then 1. With -v prints each pair, and the number of its
+rows.
 """
 from __future__ import annotations
 
@@ -25,7 +26,7 @@ from typing import Iterator
 
 sys.path.insert(0, str(Path(__file__).resolve().parents[1]))
 from doors.service import full_session  # noqa: E402
-from doors.service.runs import OTHERS, TOP, TRANSCRIPTS, Told, stored  # noqa: E402
+from doors.service.runs import OTHERS, TOP, TRANSCRIPTS, TranscriptLine, stored_runs  # noqa: E402
 from house import call_refusals, word_refusals  # noqa: E402
 
 FAULTS = TOP / "crates" / "ctf_model" / "src" / "faults.rt"
@@ -35,7 +36,7 @@ WORD = re.compile(r"^\| \[`(\w+)`\]\(#\w+\) \|([^|]*)\|([^|]*)\|([^|]*)\|$")
 ADDED = re.compile(r"^- an? (type|member|enumerator|label): (.*)$")
 FAULT = re.compile(r"\b[A-Z][a-z]\w+")
 RULES = range(1, 20)
-# What is added that is no type.
+# Additions that are not types.
 PARTS = ("member", "enumerator", "label")
 
 Pair = tuple[str, str]
@@ -49,13 +50,13 @@ def names() -> dict[int, str]:
 
 
 def faults_in(refusals: str, known: dict[int, str]) -> set[str]:
-    """The faults of some refusals, as they are written."""
+    """The faults in a text that lists refusals."""
     found = set(FAULT.findall(refusals)) & set(known.values())
     return found | {known[code] for code in RULES} if "1 to 19" in refusals else found
 
 
 def of_words(page: str, known: dict[int, str]) -> set[Pair]:
-    """Each word of the table with each of its refusals: a question on a type has those of
+    """Each word of the table with each of its refusals; a question on a type also has those of
     `kind`."""
     pairs: set[Pair] = set()
     of_kind: set[str] = set()
@@ -74,7 +75,7 @@ def cells(line: str) -> tuple[str, ...] | None:
 
 
 def of_additions(page: str, known: dict[int, str]) -> set[Pair]:
-    """What is added with each of its refusals; a line behind `- then` goes on with the one
+    """Each kind of addition with each of its refusals; a line after `- then` continues the one
     above."""
     pairs: set[Pair] = set()
     added = ""
@@ -86,8 +87,8 @@ def of_additions(page: str, known: dict[int, str]) -> set[Pair]:
     return pairs
 
 
-def exchanges(parts: list[list[Told]]) -> Iterator[tuple[bytes, bytes]]:
-    """Each request of a run with its reply. Replies come in the order of the requests."""
+def exchanges(parts: list[list[TranscriptLine]]) -> Iterator[tuple[bytes, bytes]]:
+    """Each request of a run with its reply; replies are in the order of the requests."""
     waiting: list[bytes] = []
     for told in (it for part in parts for it in part):
         if told.is_request:
@@ -100,12 +101,12 @@ def rows() -> Iterator[tuple[str | bytes, str | bytes]]:
     """Each request with its reply, of all stored runs."""
     for path in sorted(TRANSCRIPTS.glob("*.transcript")):
         if path.name != OTHERS:
-            for _, parts in stored(path.name):
+            for _, parts in stored_runs(path.name):
                 yield from exchanges(parts)
     yield from full_session.rows()
 
 
-def asked(request: str | bytes) -> list[str]:
+def request_words(request: str | bytes) -> list[str]:
     """The word of a request, if it has one, and what it adds."""
     try:
         fields = json.loads(request)
@@ -118,13 +119,13 @@ def asked(request: str | bytes) -> list[str]:
     return ["add", f"add {what if what in PARTS else 'type'}"]
 
 
-def refused() -> Counter[Pair]:
-    """How often each word is refused with each fault in the stored runs."""
+def refusal_counts() -> Counter[Pair]:
+    """The number of times that each word is refused with each fault in the stored runs."""
     found: Counter[Pair] = Counter()
     for request, reply in rows():
         fault = json.loads(reply).get("fault")
         if fault:
-            found.update((word, fault["name"]) for word in asked(request))
+            found.update((word, fault["name"]) for word in request_words(request))
     return found
 
 
@@ -136,13 +137,13 @@ def main() -> int:
     given = options.parse_args()
     page, known = given.page.read_text(encoding="utf-8"), names()
     words, additions = of_words(page, known), of_additions(page, known)
-    found = refused()
+    found = refusal_counts()
     for word, fault in sorted(words | additions) if given.all else ():
         print(f"{word} {fault}: {found[word, fault]}")
     missing = sorted((words | additions) - set(found))
     for word, fault in missing:
         print(f"no stored run has `{word}` refused with {fault}")
-    differing = word_refusals.compared(words | additions, known)
+    differing = word_refusals.differences(words | additions, known)
     calls, untold = call_refusals.without_rows(set(found), known)
     for line in (*differing, *untold):
         print(line)

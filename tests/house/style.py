@@ -1,12 +1,12 @@
 #!/usr/bin/env python3
-"""Checks the style of all that stands outside of crates/, which `rt fmt` has: Rust by rustfmt, as
-clients/rust/rustfmt.toml has it, C and C++ by clang-format 14, as .clang-format has it, shell
-scripts by shellcheck, Python by pyflakes. C that tests give to compilers as an input is left as
-it is.
+"""Checks the style of everything outside crates/, which `rt fmt` formats: Rust with rustfmt
+(clients/rust/rustfmt.toml), C and C++ with clang-format 14 (.clang-format), shell scripts with
+shellcheck, Python with pyflakes. C files that tests give to compilers as input are skipped.
 
 usage: tests/house/style.py
 
-Prints what they say; the status is 1 then. A tool that is not here is skipped, by a line.
+Prints the tools' output; the status is 1 if there is any. A missing tool is skipped, with a line
+that says so.
 """
 from __future__ import annotations
 
@@ -26,8 +26,8 @@ INPUTS = ("tests/doors/opens.c", *(f"tests/doors/{name}/" for name in (
 
 
 def sources() -> list[Path]:
-    """The files of the repository that are no crate's."""
-    return [TOP / name for name in tracked.tracked()
+    """The files of the repository outside crates/."""
+    return [TOP / name for name in tracked.tracked_files()
             if not name.startswith("crates/") and (TOP / name).is_file()]
 
 
@@ -45,7 +45,7 @@ def is_formatted_c(path: Path) -> bool:
 
 
 def complains(words: tuple[str, ...], files: list[Path]) -> bool:
-    """Whether a tool has something to say of some files; it says so itself."""
+    """Whether a tool reports errors in some files; it prints them itself."""
     if not files:
         return False
     names = [str(path.relative_to(TOP)) for path in files]
@@ -53,7 +53,7 @@ def complains(words: tuple[str, ...], files: list[Path]) -> bool:
 
 
 def pyflakes() -> tuple[str, ...]:
-    """Debian's command, or the module of this Python; empty where neither is here."""
+    """Debian's command, or this Python's module; empty if neither is installed."""
     if shutil.which("pyflakes3"):
         return ("pyflakes3",)
     words = (sys.executable, "-m", "pyflakes")

@@ -1,4 +1,4 @@
-"""Each check of the repository as a case: `pytest tests/house -k pages` runs one."""
+"""Each check of the repository as a test: `pytest tests/house -k pages` runs one."""
 from __future__ import annotations
 
 import subprocess

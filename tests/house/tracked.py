@@ -1,10 +1,10 @@
 #!/usr/bin/env python3
-"""Checks what stands in the repository: its root, and what nobody else's machine should be in.
+"""Checks the files in the repository: those at its root, and contents that belong to one machine.
 
 usage: tests/house/tracked.py
 
-At the root stand only the files and folders that are named here. No file has the output of a
-profiler, or a path of somebody's machine. Prints what is wrong; the status is 1 then.
+The root has only the files and folders that are named here. No file is the output of a profiler, or
+contains a path of somebody's machine. Prints what is wrong; the status is then 1.
 """
 from __future__ import annotations
 
@@ -21,8 +21,8 @@ PROFILE = re.compile(rb"\A(# callgrind format|desc: |creator: callgrind|PERFILE2
 MACHINE = re.compile(rb"(?<![\w.])/(work|root|farm|home/(?!user|you)\w+)/")
 
 
-def tracked() -> Iterator[str]:
-    """The files of the repository, as git has them; without git those of no folder `out`."""
+def tracked_files() -> Iterator[str]:
+    """The files of the repository, from git; without git, all files outside folders `out`."""
     listed = subprocess.run(["git", "ls-files", "-z"], cwd=TOP, capture_output=True, check=False)
     if listed.returncode == 0:
         yield from filter(None, listed.stdout.decode().split("\0"))
@@ -32,7 +32,7 @@ def tracked() -> Iterator[str]:
 
 
 def wrong(name: str) -> Iterator[str]:
-    """What is wrong with a file."""
+    """The faults of a file."""
     first = name.split("/")[0]
     if first not in ROOT:
         yield f"{first}: nothing of this name stands at the root"
@@ -47,7 +47,7 @@ def wrong(name: str) -> Iterator[str]:
 
 
 def main() -> int:
-    faults = sorted({fault for name in tracked() for fault in wrong(name)})
+    faults = sorted({fault for name in tracked_files() for fault in wrong(name)})
     print(*faults, sep="\n", end="\n" if faults else "")
     return 1 if faults else 0
 

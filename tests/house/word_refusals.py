@@ -1,20 +1,21 @@
-"""The refusals of each word of the protocol, as its definitions have them.
+"""The refusals of each word of the protocol, by its definitions.
 
 The contracts of `Library::step` and `Library::answer` cite `change_step` and `answer_to`, whose
-clauses say what each word does. What such a clause can come to is found by tests/house/definitions.py.
+clauses define each word. tests/house/definitions.py finds the faults that such a clause can lead
+to.
 """
 from __future__ import annotations
 
 from typing import Iterator
 
-from house.definitions import CRATES, Body, Word, body_for, reached, read
+from house.definitions import CRATES, Body, Word, body_for, reachable, read
 
 MODEL = CRATES / "ctf_model" / "specs"
 PROTOCOL = CRATES / "ctf_protocol" / "specs"
 STEPS = PROTOCOL / "sessions" / "Steps.antt"
 QUESTIONS = PROTOCOL / "answers" / "Questions.antt"
 
-# The words by whose clauses each request is answered.
+# The definitions whose clauses answer each request.
 CHANGE_STEP = Word(STEPS, "change_step")
 DRAFT_STEP = Word(PROTOCOL / "sessions" / "DraftSteps.antt", "slot_step")
 DRAFT_CHARGE = Word(STEPS, "becomes_by")
@@ -32,11 +33,11 @@ WHOLE = ("Find", "Symbol", "Object", "Function", "Labels", "Label")
 HELD = ("info", "bytes", "model")
 ADDED = ("Type", "Member", "Enumerator", "Label")
 
-# The rules of a dictionary are refused by their numbers, and not by constants.
+# The rules of a dictionary are refused by number, not by constant.
 RULES = Word(MODEL / "rules" / "Faults.antt", "first_fault")
 FIRST_RULES = range(1, 20)
 
-# What a definition names and never comes to, by why that is so.
+# Faults that a definition names but never leads to, by the reason.
 NEVER = {
     "a type that an accepted dictionary or a draft names is there": {
         ("find", "NoType"), ("add member", "NoParent"), ("add type", "NoParent"),
@@ -55,14 +56,14 @@ Pair = tuple[str, str]
 
 
 def reading() -> frozenset[Word]:
-    """The words that read bytes: what is refused there is no refusal of accepted bytes."""
+    """The definitions that read bytes: their faults cannot occur for accepted bytes."""
     return frozenset(Word(path, name) for path in (MODEL / "format").glob("*.antt")
                      for name in read(path).clauses)
 
 
 def refusals(word: str, *bodies: Body) -> Iterator[Pair]:
-    """A word with each constant that some bodies may come to, and with the number of each rule."""
-    constants, words = reached(list(bodies), reading())
+    """A word with each constant that some bodies may lead to, and with the number of each rule."""
+    constants, words = reachable(list(bodies), reading())
     yield from ((word, constant) for constant in constants)
     if RULES in words:
         yield from ((word, str(code)) for code in FIRST_RULES)
@@ -75,7 +76,7 @@ def of_changes() -> Iterator[Pair]:
 
 
 def of_draft_steps() -> Iterator[Pair]:
-    """The steps of a draft: an addition of each sort, `update` and `discard`."""
+    """The steps of a draft: each sort of addition, `update` and `discard`."""
     for variant in ADDED:
         added = f"add {variant.lower()}"
         for word, constant in refusals(added, body_for(ADDING, f"add.{variant}")):
@@ -87,7 +88,8 @@ def of_draft_steps() -> Iterator[Pair]:
 
 
 def of_questions() -> Iterator[Pair]:
-    """Each question: on a type, whose number may name none, on a slot, and on what it holds."""
+    """Each question: about a type, whose number may be of no type, about a slot, and about its
+    content."""
     named = Body(QUESTIONS, "space_type")
     for variant in PLAIN:
         yield from refusals(variant.lower(), body_for(PLAIN_ANSWER, f"plain.{variant}"), named)
@@ -100,7 +102,7 @@ def of_questions() -> Iterator[Pair]:
 
 
 def by_definitions(known: dict[int, str]) -> set[Pair]:
-    """Each word with each of its refusals, by the names of the faults, but for what never comes."""
+    """Each word with each of its refusals, as names of faults, without those that never occur."""
     named = {name.lower(): name for name in known.values()}
     pairs = set()
     for word, constant in (*of_changes(), *of_draft_steps(), *of_questions()):
@@ -110,8 +112,8 @@ def by_definitions(known: dict[int, str]) -> set[Pair]:
     return pairs - set().union(*NEVER.values())
 
 
-def compared(page: set[Pair], known: dict[int, str]) -> list[str]:
-    """A line for each refusal that the page or the definitions have alone."""
+def differences(page: set[Pair], known: dict[int, str]) -> list[str]:
+    """A line for each refusal that only the page or only the definitions have."""
     defined = by_definitions(known)
     return [f"by the definitions alone `{word}` is refused with {fault}"
             for word, fault in sorted(defined - page)] + [

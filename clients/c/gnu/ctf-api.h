@@ -1,12 +1,13 @@
-/* ctf-api.h - the calls of GNU's libctf (binutils 2.40), as libctfd has them: programs that include
- * GNU's header are compiled with this folder in front, and linked with -lctfd.
+/* ctf-api.h - the calls of GNU's libctf (binutils 2.40), as libctfd has them: compile programs that
+ * include GNU's header with this folder first on the include path, and link them with -lctfd.
  *
- * What GNU's library does otherwise than illumos' goes by names of its own (ctfd_gnu_*), which the
- * declarations lead to; so one library serves both headers, and stands beside GNU's own.
- * - What is added to a dictionary is seen at once. An error is a number of errno.h, or ECTF_*.
- * - There is one dictionary in a file: ctf_open gives an archive of one, whose name is ".ctf".
- * - The format is version 2: symbols have no names of their own, and there are no variables and no
- *   slices. docs/C.md tells of each call that is not here.
+ * Calls that differ between GNU's library and illumos' have names of their own (ctfd_gnu_*), to
+ * which these declarations lead. So one library serves both headers, and can be loaded next to
+ * GNU's own.
+ * - Additions to a dictionary are visible at once. Errors are numbers of errno.h, or ECTF_*.
+ * - A file has one dictionary: ctf_open gives an archive with only this one, named ".ctf".
+ * - The format is version 2: symbols have no names of their own, and there are no variables or
+ *   slices. docs/C.md lists the calls that are missing here.
  */
 #ifndef CTFD_GNU_CTF_API_H
 #define CTFD_GNU_CTF_API_H
@@ -195,13 +196,13 @@ typedef int ctf_type_f(ctf_id_t type, void *arg);
 typedef int ctf_type_all_f(ctf_id_t type, int flag, void *arg);
 typedef int ctf_archive_member_f(ctf_dict_t *fp, const char *name, void *arg);
 
-/* A call that is GNU's alone, or another than illumos' of its name. */
+/* A call that only GNU has, or that differs from that of illumos. */
 #define CTFD_GNU(name) __asm__("ctfd_gnu_" name)
 
 /* ---- open and close
  *
- * Where the environment names stores by CTFD_STORE, an ELF file without a dictionary is asked for by
- * its build-id: EREMOTEIO if that failed, or if what came was refused. */
+ * An ELF file without a dictionary is looked up by its build-id in the stores that CTFD_STORE in
+ * the environment names: EREMOTEIO if that failed, or if the result was refused. */
 ctf_archive_t *ctf_open(const char *name, const char *target, int *error) CTFD_GNU("open");
 ctf_archive_t *ctf_fdopen(int fd, const char *name, const char *target, int *error)
     CTFD_GNU("fdopen");
@@ -292,14 +293,14 @@ ctf_id_t ctf_variable_next(ctf_dict_t *fp, ctf_next_t **it, const char **name)
 ctf_dict_t *ctf_arc_lookup_symbol_name(ctf_archive_t *archive, const char *name, ctf_id_t *type,
     int *error) CTFD_GNU("arc_symbol_named");
 
-/* ---- labels, and the text of all */
+/* ---- labels, and dumps */
 const char *ctf_label_topmost(ctf_dict_t *fp);
 int ctf_label_info(ctf_dict_t *fp, const char *name, ctf_lblinfo_t *info);
 int ctf_label_iter(ctf_dict_t *fp, ctf_label_f *each, void *arg) CTFD_GNU("label_iter");
 char *ctf_dump(ctf_dict_t *fp, ctf_dump_state_t **state, ctf_sect_names_t section,
     ctf_dump_decorate_f *decorate, void *arg) CTFD_GNU("dump");
 
-/* ---- what is made */
+/* ---- dictionaries from ctf_create */
 ctf_dict_t *ctf_create(int *error) CTFD_GNU("create");
 ctf_id_t ctf_add_array(ctf_dict_t *fp, uint32_t flag, const ctf_arinfo_t *array);
 ctf_id_t ctf_add_const(ctf_dict_t *fp, uint32_t flag, ctf_id_t type) CTFD_GNU("add_const");

@@ -1,7 +1,7 @@
-/* build.c - which build this library is. */
+/* build.c - the build of this library. */
 #include "private.h"
 
-/* scripts/libctf.py says it. */
+/* scripts/libctf.py defines it. */
 #ifndef CTFD_BUILD
 #define CTFD_BUILD "a build that nobody told of"
 #endif

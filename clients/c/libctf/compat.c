@@ -1,8 +1,9 @@
 /* compat.c - whether two types are the same to C.
  *
- * Two types are, where all pairs of types are that are met on the way along pointers, contents and
- * indexes of arrays. An array's index may lead back to the array, so pairs that were met are joined
- * into classes and are not met again: each joins two classes, and there are no more than types.
+ * They are the same if all pairs of types are that a walk along pointers, and along the contents
+ * and indexes of arrays, meets. An array's index may lead back to the array, so the pairs met are
+ * joined into classes, and are not visited again: each visit joins two classes, and there are no
+ * more classes than types.
  */
 #include "private.h"
 
@@ -19,7 +20,7 @@ struct walk {
     ctf_file_t *lfp, *rfp;
     struct pair *waiting;
     size_t waiting_len, waiting_room;
-    uint32_t *classes; /* of types of the left, and behind these of the right; 0 is its own */
+    uint32_t *classes; /* of types of the left, then of the right; 0 is its own */
 };
 
 static bool fails(const struct walk *walk)
@@ -28,7 +29,7 @@ static bool fails(const struct walk *walk)
     return false;
 }
 
-/* Lets a pair wait; false where there is no memory. */
+/* Adds a pair to those that wait; false if there is no memory. */
 static bool wait_for(struct walk *walk, uint16_t left, uint16_t right)
 {
     if (walk->waiting_len == walk->waiting_room) {
@@ -55,7 +56,8 @@ static uint32_t first_of(uint32_t *classes, uint32_t type)
     return type;
 }
 
-/* Joins the classes of two arrays, and lets their parts wait where these were two. */
+/* Joins the classes of two arrays. If they were in different classes, their parts are to be
+ * compared too. */
 static bool join(struct walk *walk, struct pair pair, const struct ctfd_array *left,
     const struct ctfd_array *right)
 {
@@ -105,7 +107,7 @@ static bool same_pointers(struct walk *walk, struct pair pair)
         wait_for(walk, left, right);
 }
 
-/* Whether the two are alike themselves; what they lead to waits. */
+/* Compares two types themselves; the types that they refer to are compared later. */
 static bool alike(struct walk *walk, struct pair pair)
 {
     uint32_t left = 0, right = 0;
@@ -125,7 +127,8 @@ static bool alike(struct walk *walk, struct pair pair)
     }
 }
 
-/* Void, which is no type, is the same as void alone. */
+/* Compares a pair of types; those that they refer to are compared later. Void, which is no type, is
+ * the same only as void. */
 static bool met(struct walk *walk, struct pair pair)
 {
     uint16_t left = 0, right = 0;

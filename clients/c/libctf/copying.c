@@ -1,15 +1,15 @@
-/* copying.c - ctf_add_type: a type of one file, with all that it needs, becomes one of another.
+/* copying.c - ctf_add_type: copies a type of one file, with all that it needs, to another file.
  *
- * A type with a name is used where one of its name and kind is there already and says the same; a
- * forward there becomes what is copied. What was copied by this call is not copied again, so types
- * that lead to themselves end. Structs, unions and enums are made with their size first, and get
- * what they hold in turn: so the recursion is as deep as a declaration, and no deeper. */
+ * If there is already a type with a copied type's name, kind and contents, it is used; a forward
+ * there becomes what is copied. Each type is copied once in a call, so cycles end. Structs, unions
+ * and enums are first made with their size, and get their items in turn: so the recursion is only
+ * as deep as a declaration. */
 #include "private.h"
 
 #include <stdlib.h>
 #include <string.h>
 
-/* What was copied: numbers of the source, and what they are now. */
+/* The types copied so far: their numbers in the source, and their new ones. */
 struct copy {
     ctf_file_t *to, *from;
     struct {
@@ -18,10 +18,10 @@ struct copy {
     uint32_t known_len; /* a power of two */
     uint32_t count;
     uint32_t depth;
-    uint32_t there; /* how many types the other file had */
+    uint32_t there; /* the number of types that the other file had */
     struct empty {
         uint16_t in, names;
-    } * empty; /* numbers here, and in the source, of what is not filled yet */
+    } * empty; /* numbers here, and in the source, of types to fill */
     uint32_t empty_len, empty_room;
 };
 
@@ -77,7 +77,7 @@ static uint32_t tag_of(ctf_file_t *fp, uint16_t t)
     return ctfd__tag_of(fp, t, &tag) == CTFD_OK ? tag : 0;
 }
 
-/* A name of the source; texts of both stay until they are closed. */
+/* The name of a type in the source. Texts of both files live until these are closed. */
 static const char *name_in(struct copy *copy, uint16_t t)
 {
     const char *name = ctfd__declared(copy->from, t);
@@ -86,7 +86,7 @@ static const char *name_in(struct copy *copy, uint16_t t)
     return name;
 }
 
-/* Members that are there already: of as many names, and as many. */
+/* A type to compare with: it needs the same items, and in an enum no more. */
 struct compared {
     struct copy *copy;
     ctf_id_t with;
@@ -162,7 +162,7 @@ static int copy_enumerator(const char *name, int value, void *arg)
     return ctf_add_enumerator(filled->copy->to, filled->in, name, value) != 0 ? -2 : 0;
 }
 
-/* A struct, union or enum, without what it holds: that waits. */
+/* Copies a struct, union or enum without its items, which are added later. */
 static ctf_id_t copy_tagged(
     struct copy *copy, uint_t flag, uint16_t t, uint32_t kind, const char *name)
 {
@@ -193,7 +193,7 @@ static ctf_id_t copy_tagged(
     return is;
 }
 
-/* Fills what waits; the more comes to wait by that. */
+/* Adds the items of all types that wait for them; more may come to wait by that. */
 static bool fill(struct copy *copy)
 {
     uint32_t i, kind = 0;
@@ -297,7 +297,7 @@ static ctf_id_t copy_type(
     }
 }
 
-/* A type of the source in the other file: the one that is there, or a copy. */
+/* The number of a source's type in the other file: of the one that is there, or of a copy. */
 static ctf_id_t placed(struct copy *copy, uint16_t t)
 {
     uint32_t kind = 0, root = 0, tag, is_kind = 0;
@@ -337,7 +337,7 @@ static ctf_id_t copied(struct copy *copy, ctf_id_t type)
         return 0;
     if (copy->known_len != 0 && copy->known[at = slot(copy, (uint16_t)type)].was != 0)
         return copy->known[at].is;
-    /* Each step takes stack: what is deeper than a dictionary of ours lets be is refused. */
+    /* Each step uses stack, so deeper types are refused. */
     if (copy->depth > 4 * CTFD_DEEPEST)
         return ctfd__fail(copy->to, CTFD_VALUE_DEEP);
     copy->depth++;
@@ -346,7 +346,7 @@ static ctf_id_t copied(struct copy *copy, ctf_id_t type)
     return is;
 }
 
-/* Names of types that are pending are found, too. */
+/* Finds names of pending types too. */
 ctf_id_t ctf_add_type(ctf_file_t *fp, ctf_file_t *from, ctf_id_t type)
 {
     struct copy copy = { fp, from, NULL, 0, 0, 0, 0, NULL, 0, 0 };

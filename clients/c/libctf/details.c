@@ -1,16 +1,16 @@
-/* details.c - members and enumerators, read once. They are dropped where what is open changes, and
- * all at once where they have come to take much memory; then they are read again. */
+/* details.c - members and enumerators, read once. They are dropped if what is open changes, and all
+ * at once if they take too much memory; then they are read again. */
 #include "private.h"
 
 #include <stdlib.h>
 #include <string.h>
 
-/* How many bytes they take at most; tests have fewer. */
+/* The most bytes that they take; tests use fewer. */
 #ifndef MOST_BYTES
 #define MOST_BYTES 16777216
 #endif
 
-/* Details stand in blocks, which are freed all at once. */
+/* Details are allocated in blocks, which are all freed at the same time. */
 #define BLOCK_BYTES 8192
 
 struct ctfd__block {
@@ -18,7 +18,7 @@ struct ctfd__block {
     size_t size, used;
 };
 
-/* Room for details, which are not cleared; NULL where there is no memory. */
+/* Memory for details, which is not cleared; NULL if there is none. */
 static void *taken(ctf_file_t *fp, size_t size)
 {
     struct ctfd__block *block = fp->blocks;
@@ -81,7 +81,7 @@ void ctfd__forget(ctf_file_t *fp)
     }
 }
 
-/* The page of a type, or NULL: then nothing is kept. */
+/* The page of a type; NULL if there is no memory, and then nothing is kept. */
 static struct ctfd__page *page_of(ctf_file_t *fp, uint16_t t)
 {
     struct ctfd__page *page = fp->pages[t / CTFD_PAGE];
@@ -91,10 +91,10 @@ static struct ctfd__page *page_of(ctf_file_t *fp, uint16_t t)
     return page;
 }
 
-/* How many rows are read by one call. */
+/* The number of rows that one call reads. */
 #define ROWS 32
 
-/* A name in the file's own lists; NULL where it is copied later. */
+/* A name in the file's own lists; NULL if it has to be copied later. */
 static const char *lent(const ctf_file_t *fp, bool is_lent, uint32_t list, uint64_t at)
 {
     if (!is_lent)
@@ -106,7 +106,7 @@ static const char *lent(const ctf_file_t *fp, bool is_lent, uint32_t list, uint6
     }
 }
 
-/* The least of what is left and of what a call reads. */
+/* The number of rows that the next call reads. */
 static uint32_t some(uint32_t left)
 {
     return left < ROWS ? left : ROWS;
@@ -152,7 +152,7 @@ static enum ctfd_status read_enumerators(ctf_file_t *fp, uint16_t t, struct ctfd
     return status;
 }
 
-/* How many items a type of a kind has. */
+/* The number of items of a type. */
 static enum ctfd_status count_items(ctf_file_t *fp, uint16_t t, uint32_t kind, uint64_t *count)
 {
     if (kind == CTFD_STRUCT || kind == CTFD_UNION || kind == CTFD_ENUM)
@@ -160,7 +160,7 @@ static enum ctfd_status count_items(ctf_file_t *fp, uint16_t t, uint32_t kind, u
     return CTFD_WRONG_KIND;
 }
 
-/* Details of a kind with room for so many items, where the file keeps them from now on. */
+/* Details of a kind with room for that many items, entered into the file's pages. */
 static struct ctfd__details *placed(ctf_file_t *fp, uint16_t t, uint32_t kind, size_t count)
 {
     static const struct ctfd__details none;
@@ -206,7 +206,7 @@ struct ctfd__details *ctfd__read(ctf_file_t *fp, uint16_t t)
     return NULL;
 }
 
-/* Reads the name of an item into the room. */
+/* Reads the name of an item into the buffer. */
 static enum ctfd_status read_name(
     ctf_file_t *fp, uint16_t t, uint32_t kind, uint32_t i, uint64_t *len)
 {
@@ -220,7 +220,7 @@ static enum ctfd_status read_name(
     return status;
 }
 
-/* Keeps the name of an item; NULL and the error where there is no memory. */
+/* Keeps the name of an item; NULL with the error set if there is no memory. */
 static const char *keep_name(ctf_file_t *fp, uint16_t t, uint32_t i)
 {
     struct ctfd__details *details = ctfd__details(fp, t);
@@ -236,8 +236,8 @@ static const char *keep_name(ctf_file_t *fp, uint16_t t, uint32_t i)
     return NULL;
 }
 
-/* A parent in the making keeps its names as long as it has children; of another one the lists may go
- * before the child does. */
+/* A created parent keeps its names as long as it has children. The lists of an opened one may be
+ * freed before the child is closed, so names in them are copied. */
 const char *ctfd__item_name(ctf_file_t *fp, uint16_t t, uint32_t i)
 {
     ctf_file_t *of = ctfd__owner(fp, t);

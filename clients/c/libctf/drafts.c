@@ -1,4 +1,4 @@
-/* drafts.c - the calls that make a dictionary. */
+/* drafts.c - the calls that create a dictionary and add to it. */
 #define _DEFAULT_SOURCE
 
 #include "private.h"
@@ -19,7 +19,7 @@ ctf_file_t *ctf_create(int *error)
     return ctfd__refused(error, CTFD_MEMORY);
 }
 
-/* Whether what is added may be: its flag and a type that it names; the error is told. */
+/* Whether an addition is allowed, by its flag and a type that it refers to; else sets the error. */
 static bool may_add(ctf_file_t *fp, uint_t flag, ctf_id_t type)
 {
     if (flag > CTF_ADD_ROOT || type < 0 || type > CTF_MAX_TYPE) {
@@ -37,7 +37,7 @@ static bool may_add(ctf_file_t *fp, uint_t flag, ctf_id_t type)
     return true;
 }
 
-/* Adds a type, which the caller fills; its number, or CTF_ERR. A forward has a tag. */
+/* Adds a type for the caller to fill. Returns its number, or CTF_ERR. A forward has a tag. */
 static ctf_id_t add(ctf_file_t *fp, uint_t flag, uint32_t kind, uint32_t tag, const char *name,
     struct ctfd__type **type)
 {
@@ -51,7 +51,7 @@ static ctf_id_t add(ctf_file_t *fp, uint_t flag, uint32_t kind, uint32_t tag, co
     return (ctf_id_t)t;
 }
 
-/* An encoding that the format has room for. */
+/* Whether the format can hold an encoding; else sets the error. */
 static bool is_encoding(ctf_file_t *fp, const ctf_encoding_t *encoding)
 {
     if (encoding != NULL && encoding->cte_format <= 0xff && encoding->cte_offset <= 0xff &&
@@ -61,7 +61,7 @@ static bool is_encoding(ctf_file_t *fp, const ctf_encoding_t *encoding)
     return false;
 }
 
-/* The bytes that so many bits take: a power of two, as libctf has it. */
+/* The size of storage for that many bits, in bytes: a power of two, as in libctf. */
 static uint64_t storage_of(uint_t bits)
 {
     uint64_t bytes = 1;
@@ -197,7 +197,7 @@ ctf_id_t ctf_add_function(
     return t;
 }
 
-/* A struct, union or enum: a forward of its name becomes it, under its number. */
+/* Adds a struct, union or enum. A forward of its name becomes this type and keeps its number. */
 static ctf_id_t add_tagged(
     ctf_file_t *fp, uint_t flag, uint32_t kind, const char *name, uint64_t size)
 {
@@ -270,7 +270,7 @@ int ctf_add_enumerator(ctf_file_t *fp, ctf_id_t type, const char *name, int valu
     return ctfd__done(fp, ctfd__add_enumerator(fp, (uint16_t)type, name, value));
 }
 
-/* An own type that may be changed; NULL, and the error, of others. */
+/* An own type that may be changed; NULL with the error set for others. */
 static struct ctfd__type *own_type(ctf_file_t *fp, ctf_id_t type)
 {
     struct ctfd__type *made = NULL;
@@ -303,7 +303,7 @@ int ctf_delete_type(ctf_file_t *fp, ctf_id_t type)
     return 0;
 }
 
-/* What is pending is seen from now on. */
+/* Makes pending additions visible. */
 int ctf_update(ctf_file_t *fp)
 {
     if (fp->recipe == NULL)

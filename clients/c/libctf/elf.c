@@ -1,9 +1,9 @@
-/* elf.c - the part for ELF files, over elfutils' libelf and zlib: finds the dictionary in a file,
- * inflates it, and finds the symbol table that its entries go by.
+/* elf.c - the part for ELF files, which uses elfutils' libelf and zlib. It finds the dictionary in
+ * a file, inflates it, and finds the symbol table that its entries belong to.
  *
- * That table is the one that the dictionary names by a label of ctfd-convert, if it is still the
- * one that was there then; else the one that the section names; else .symtab. What strip leaves in
- * .dynsym is never taken for it.
+ * That is the table in a label of ctfd-convert, if its symbols are still the same; without such a
+ * label, the table that the section links to; else .symtab. What strip leaves in .dynsym is never
+ * taken for .symtab.
  */
 #include "private.h"
 
@@ -21,7 +21,7 @@
 
 struct file {
     Elf *elf;
-    size_t names; /* the number of the section that has the names of sections */
+    size_t names; /* the number of the section with the names of sections */
 };
 
 /* ---- inflating */
@@ -36,7 +36,7 @@ static int zlib_error(int said)
     return said == Z_MEM_ERROR ? (int)CTFD_MEMORY : CTFD__NOT_INFLATED;
 }
 
-/* The header says how long the body is: it has to be just that. */
+/* The header gives the length of the body, which has to be exact. */
 int ctfd_elf_inflate(const void *bytes, size_t len, struct ctfd_elf_list *made)
 {
     const unsigned char *from = (const unsigned char *)bytes;
@@ -76,7 +76,7 @@ static const char *name_of(const struct file *file, Elf_Scn *section, GElf_Shdr 
     return elf_strptr(file->elf, file->names, header->sh_name);
 }
 
-/* The first section of a name that has bytes in the file. */
+/* The first section with a name that has bytes in the file. */
 static Elf_Scn *named(const struct file *file, const char *name)
 {
     Elf_Scn *section = NULL;
@@ -89,8 +89,8 @@ static Elf_Scn *named(const struct file *file, const char *name)
     return NULL;
 }
 
-/* The bytes of a section, as long as a list may be; ELF's own compression is undone. A section that
- * has none in the file is refused. */
+/* The bytes of a section, up to the limit for a list, with ELF's own compression undone. A section
+ * without bytes in the file is refused. */
 static Elf_Data *data_of(Elf_Scn *section, int *error)
 {
     GElf_Shdr header;
@@ -127,7 +127,7 @@ static int copied(const void *bytes, size_t len, struct ctfd_elf_list *made)
     return 0;
 }
 
-/* The dictionary of a section, inflated where its header says that it is not. */
+/* Copies the dictionary of a section, inflated if its header says that it is compressed. */
 static int take_dictionary(Elf_Scn *section, struct ctfd_elf_list *made)
 {
     int error;
@@ -143,7 +143,7 @@ static int take_dictionary(Elf_Scn *section, struct ctfd_elf_list *made)
 
 /* ---- symbols */
 
-/* Writes the symbols of a table as ELF64 of this machine has them. */
+/* Copies the symbols of a table to the form of ELF64 on this machine. */
 static int take_symbols(Elf_Data *data, size_t count, struct ctfd_elf_list *made)
 {
     Elf64_Sym *to = (Elf64_Sym *)malloc((count + 1) * sizeof *to);
@@ -163,7 +163,7 @@ static int take_symbols(Elf_Data *data, size_t count, struct ctfd_elf_list *made
     return 0;
 }
 
-/* Takes a symbol table and the strings that it names. */
+/* Copies a symbol table and the strings that it links to. */
 static int take_table(const struct file *file, Elf_Scn *section, struct ctfd_elf_lists *lists)
 {
     GElf_Shdr header;
@@ -194,13 +194,13 @@ static void drop_table(struct ctfd_elf_lists *lists)
     memset(&lists->strings, 0, sizeof lists->strings);
 }
 
-/* What a label of ctfd-convert says of the symbols that the dictionary's entries go by. */
+/* A label of ctfd-convert, which identifies the symbols that the dictionary's entries belong to. */
 struct told {
     char table[16];
     unsigned long checksum;
 };
 
-/* Names may overlap: all of them together are read for so many bytes for each of the tables'. */
+/* Names may overlap: those that are read may have this many times the bytes of the tables. */
 #define MOST_TIMES 64
 
 struct reading {
@@ -208,7 +208,7 @@ struct reading {
     uint64_t left;
 };
 
-/* The length of a name, without its zero byte; more than there is where it has none, or where too
+/* The length of a name, without its zero byte; the length of all strings if it does not end, or too
  * much has been read. */
 static size_t length_of(struct reading *reading, size_t at)
 {
@@ -222,7 +222,7 @@ static size_t length_of(struct reading *reading, size_t at)
     return end != NULL ? (size_t)(end - name) : reading->strings->len;
 }
 
-/* The length of the name of a symbol that a dictionary can tell of, else 0. */
+/* The length of the name of a considered symbol, for which a dictionary can have types; else 0. */
 static size_t considered(struct reading *reading, const Elf64_Sym *symbol)
 {
     int kind = ELF64_ST_TYPE(symbol->st_info);
@@ -240,8 +240,8 @@ static size_t considered(struct reading *reading, const Elf64_Sym *symbol)
     return len;
 }
 
-/* The checksum that ctfd-convert writes: of the kinds and names of those, in their order. False
- * where names overlap so that they are too much to read. */
+/* Computes the checksum that ctfd-convert writes, from the kinds and names of considered symbols in
+ * order. False if names overlap so much that there is too much to read. */
 static bool checksum_of(const struct ctfd_elf_lists *lists, unsigned long *checksum)
 {
     const Elf64_Sym *symbols = (const Elf64_Sym *)lists->symbols.at;
@@ -262,7 +262,7 @@ static bool checksum_of(const struct ctfd_elf_lists *lists, unsigned long *check
     return i == count;
 }
 
-/* Reads "TABLE,OBJECTS,FUNCTIONS,CHECKSUM"; false where it is something else. */
+/* Reads "TABLE,OBJECTS,FUNCTIONS,CHECKSUM"; false if the text is something else. */
 static bool read_label(const char *text, struct told *told)
 {
     const char *comma = strchr(text, ',');
@@ -276,7 +276,7 @@ static bool read_label(const char *text, struct told *told)
     return end != comma + 1 && *end == '\0';
 }
 
-/* Looks for the label in bytes that nobody has judged yet: what is damaged has none. */
+/* Looks for the label in a dictionary that is not checked yet; a damaged one has none. */
 static bool find_label(const struct ctfd_elf_list *ctf, struct told *told)
 {
     const unsigned char *bytes = (const unsigned char *)ctf->at;
@@ -298,7 +298,7 @@ static bool find_label(const struct ctfd_elf_list *ctf, struct told *told)
     return false;
 }
 
-/* The table that the section names, else .symtab, else none. */
+/* The table that the section links to, else .symtab, else NULL. */
 static Elf_Scn *linked_table(const struct file *file, Elf_Scn *section)
 {
     GElf_Shdr header;
@@ -312,8 +312,8 @@ static Elf_Scn *linked_table(const struct file *file, Elf_Scn *section)
     return named(file, ".symtab");
 }
 
-/* The table that a label names. There is none where the dictionary has the names of its symbols
- * itself: these have no numbers in the file. */
+/* The table in a label. NULL if the dictionary itself has the names of its symbols, which then have
+ * no numbers in the file. */
 static Elf_Scn *told_table(const struct file *file, const struct told *told)
 {
     if (strcmp(told->table, ".symtab") != 0 && strcmp(told->table, ".dynsym") != 0)
@@ -321,7 +321,7 @@ static Elf_Scn *told_table(const struct file *file, const struct told *told)
     return named(file, told->table);
 }
 
-/* A file whose symbols are others than the dictionary's has none that could be told of. */
+/* If the file's symbols are not the dictionary's, it gets none. */
 static int find_symbols(const struct file *file, Elf_Scn *section, struct ctfd_elf_lists *lists)
 {
     struct told told;
@@ -342,7 +342,7 @@ static int find_symbols(const struct file *file, Elf_Scn *section, struct ctfd_e
 }
 
 /* GNU's linker keeps types of symbols for those of .dynsym, and makes variables of the others. A
- * byte for each symbol says which are such; a file that is not linked has none. */
+ * byte for each symbol says which are variables; a file that is not linked has none. */
 static int compare_names(const void *a, const void *b)
 {
     return strcmp(*(const char *const *)a, *(const char *const *)b);
@@ -388,7 +388,7 @@ static void find_variables(const struct file *file, struct ctfd_elf_lists *lists
 
 /* ---- the build */
 
-/* Takes the build-id that a section of notes has; false where it has none. */
+/* Copies the build-id in a section of notes; false if it has none. */
 static bool take_id(Elf_Data *notes, struct ctfd_elf_lists *lists)
 {
     size_t at = 0, name, text;
@@ -407,7 +407,7 @@ static bool take_id(Elf_Data *notes, struct ctfd_elf_lists *lists)
     return false;
 }
 
-/* Finds the build-id of a file, by which others may have its types. */
+/* Finds the build-id of a file, by which stores may have its types. */
 static void find_id(const struct file *file, struct ctfd_elf_lists *lists)
 {
     Elf_Scn *section = NULL;
@@ -425,7 +425,7 @@ static void find_id(const struct file *file, struct ctfd_elf_lists *lists)
 
 /* ---- files */
 
-/* Opens an ELF file; false where it is none. */
+/* Opens an ELF file; false if it is none. */
 static bool open_file(int fd, struct file *file)
 {
     if (elf_version(EV_CURRENT) == EV_NONE)
@@ -459,7 +459,7 @@ static int read_elf(
     return error;
 }
 
-/* Frees what was found where not all was; the build-id stays. */
+/* Frees the lists after an error; the build-id stays. */
 static void drop_lists(struct ctfd_elf_lists *lists)
 {
     free(lists->ctf.at);

@@ -1,4 +1,4 @@
-/* errors.c - what errors are, and the names of kinds. */
+/* errors.c - error numbers and messages, and the names of kinds. */
 #include "private.h"
 
 #include <errno.h>
@@ -9,7 +9,7 @@ struct numbers {
     short illumos, gnu;
 };
 
-/* By their statuses. Those that illumos has no number for have one behind ECTF_FAULT. */
+/* Indexed by status. Those without a number in illumos get ECTF_FAULT plus the status. */
 static const struct numbers statuses[] = {
     { 0, 0 },
     { ENOMEM, ENOMEM },
@@ -112,7 +112,7 @@ static const struct error others[] = {
         "CTFD_STORE was asked, in vain: `ctfd-store fetch FILE -` says why" },
 };
 
-/* The last error of a call that opened nothing. */
+/* The last error of a call that failed to open a file. */
 static _Thread_local int refusal;
 
 void ctfd__note_refusal(int error)
@@ -125,7 +125,7 @@ int ctfd__refusal(void)
     return refusal;
 }
 
-/* NULL of errors of the system. */
+/* NULL for errors of the system. */
 static const struct numbers *numbers_of(int error)
 {
     if (error >= 0 && (size_t)error < sizeof statuses / sizeof statuses[0])
@@ -250,7 +250,7 @@ enum ctfd_status ctf_fault(ctf_file_t *fp)
     }
 }
 
-/* Faults that share a number with others are not named by it. */
+/* Messages for numbers that several faults share. */
 static const char *of_several(int number)
 {
     switch (number) {

@@ -1,6 +1,6 @@
-/* fetching.c - the types of a program that has none, by its build-id, from the stores that CTFD_STORE
- * names: the compiled command `ctfd-store fetch` asks them, within its own limits, and writes what
- * the library has accepted to a file in memory, which is read as any ELF file is. */
+/* fetching.c - the types of a program that has none, by its build-id, from the stores that
+ * CTFD_STORE names. The command `ctfd-store fetch` asks the stores, within its own limits. What the
+ * library accepts it writes to a file in memory, which is then read like any ELF file. */
 #define _GNU_SOURCE
 
 #include "private.h"
@@ -20,19 +20,19 @@
 
 #define COMMAND "ctfd-store"
 #define STORES "CTFD_STORE"
-/* The status of a command that no store has answered. */
+/* The exit status if no store has the build. */
 #define ABSENT 1
-/* Where no stream of a process is. */
+/* The first descriptor that is none of the standard streams. */
 #define FIRST_FREE 3
 
-/* Whether stores are named. A program that runs with more rights than its user has asks none. */
+/* Whether stores are named. A program with more rights than its user asks none. */
 static bool has_stores(void)
 {
     const char *named = secure_getenv(STORES);
     return named != NULL && named[strspn(named, " \t\n")] != '\0';
 }
 
-/* A file in memory, whose number is none of the streams'; negative where there is none. */
+/* A file in memory, whose descriptor is no standard stream; negative on error. */
 static int memory_file(void)
 {
     int made = memfd_create("ctfd types", MFD_CLOEXEC), fd;
@@ -43,8 +43,8 @@ static int memory_file(void)
     return fd;
 }
 
-/* Starts a command that writes to a file. It has all that this process has but for its streams; no
- * signal is blocked there, and none ignored that it waits by. */
+/* Starts a command that writes to a file. It inherits everything but the standard streams. No
+ * signal is blocked, and those on which it depends are not ignored. */
 static int start(const char *path, char **words, int output, pid_t *child)
 {
     posix_spawn_file_actions_t files;
@@ -77,8 +77,8 @@ static int start(const char *path, char **words, int output, pid_t *child)
     return failed;
 }
 
-/* Waits for the command; 0 or an error. Where the program has waited for it itself, or waits for no
- * child, what was written says how it ended: it writes all or nothing. */
+/* Waits for the command; 0 or an error. If the program has already waited for it, or ignores its
+ * children, the output says how it ended: the command writes all or nothing. */
 static int end_of(pid_t child, int output)
 {
     struct stat about;
@@ -94,7 +94,7 @@ static int end_of(pid_t child, int output)
     return fstat(output, &about) == 0 && about.st_size > 0 ? 0 : CTFD__NOT_FETCHED;
 }
 
-/* Has the command write the types of a build; 0 or an error. */
+/* Runs the command that writes the types of a build; 0 or an error. */
 static int fetch(char *digits, int output)
 {
     char path[PATH_MAX], name[] = COMMAND, word[] = "fetch", end[] = "--", out[] = "-";

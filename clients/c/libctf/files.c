@@ -1,11 +1,11 @@
-/* files.c - what is open: a dictionary of sections in memory, its data model, its parent. */
+/* files.c - open files: a dictionary of sections in memory, its data model, and its parent. */
 #include "private.h"
 
 #include <errno.h>
 #include <stdlib.h>
 #include <string.h>
 
-/* Not linked where a program leaves the part for ELF files out. */
+/* Not linked if a program leaves out the part for ELF files. */
 #pragma weak ctfd_elf_inflate
 
 ctf_file_t *ctfd__refused(int *error, int why)
@@ -44,7 +44,7 @@ ctf_file_t *ctfd__new(int *error)
     return ctfd__refused(error, CTFD_MEMORY);
 }
 
-/* An opened child of one in the making is told when that changes. */
+/* Enters an opened child in the list of its created parent, whose changes suspend it. */
 static void join_parent(ctf_file_t *fp)
 {
     if (fp->recipe != NULL || fp->parent == NULL || fp->parent->recipe == NULL)
@@ -63,7 +63,7 @@ static void leave_parent(ctf_file_t *fp)
     fp->sibling = NULL;
 }
 
-/* Ends a use of a file, and closes it with the last one. */
+/* Ends a use of a file. The last one closes it, and ends its use of the parent. */
 static void end_use(ctf_file_t *fp)
 {
     while (fp != NULL && --fp->uses == 0) {
@@ -76,7 +76,7 @@ static void end_use(ctf_file_t *fp)
     }
 }
 
-/* Where children keep the file, its names are no longer those in the caller's lists. */
+/* If children keep the file, its names may no longer point into the caller's lists. */
 void ctf_close(ctf_file_t *fp)
 {
     if (fp != NULL && fp->recipe == NULL && fp->uses > 1 && !fp->is_left) {
@@ -88,7 +88,7 @@ void ctf_close(ctf_file_t *fp)
 
 /* ---- sections */
 
-/* Opens the lists that were handed in, behind a handle that has nothing open. */
+/* Opens the lists of a file behind a handle that has nothing open. */
 static enum ctfd_status open_lists(const ctf_file_t *fp, int model, struct ctfd *types)
 {
     const struct ctfd__lists *lists = &fp->lists;
@@ -98,7 +98,7 @@ static enum ctfd_status open_lists(const ctf_file_t *fp, int model, struct ctfd 
         model == CTF_MODEL_ILP32, &place);
 }
 
-/* Opens them again, for another model or another parent; a refusal leaves all as it was. */
+/* Opens the lists again, for another model or another parent. A refusal changes nothing. */
 static int reopen(ctf_file_t *fp, int model, ctf_file_t *parent)
 {
     struct ctfd types = CTFD_NONE, *of_parent;
@@ -128,7 +128,7 @@ static void take_list(struct ctfd__lists *lists, int i, const ctf_sect_t *sectio
     lists->len[i] = there ? section->cts_size : 0;
 }
 
-/* A file keeps a block as one of its lists. */
+/* Lets a file own a block as one of its lists. */
 static void own_list(ctf_file_t *fp, int i, void *block, size_t len)
 {
     free(fp->owned[i]);
@@ -138,7 +138,7 @@ static void own_list(ctf_file_t *fp, int i, void *block, size_t len)
     fp->lists.has[i] = true;
 }
 
-/* Writes symbols of ELF32 as ELF64 has them: name, value and size, kind, other, section. */
+/* Converts symbols of ELF32 to ELF64: name, value and size, kind, other, section. */
 static void widen(const unsigned char *from, size_t count, unsigned char *to)
 {
     for (; count > 0; count--, from += CTFD_SYMBOL_32, to += CTFD_SYMBOL) {
@@ -149,7 +149,7 @@ static void widen(const unsigned char *from, size_t count, unsigned char *to)
     }
 }
 
-/* Symbols that are told to have 16 bytes become ones of 24, and the program's pointers have 4. */
+/* Symbols with an entry size of 16 bytes are converted to 24, and set the model to ILP32. */
 static enum ctfd_status take_symbols(ctf_file_t *fp, const ctf_sect_t *symbols)
 {
     size_t count;
@@ -169,7 +169,7 @@ static enum ctfd_status take_symbols(ctf_file_t *fp, const ctf_sect_t *symbols)
     return CTFD_OK;
 }
 
-/* Inflates the dictionary, and opens that; 0 or an error. */
+/* Inflates the dictionary and opens the result; 0 or an error. */
 static int open_inflated(ctf_file_t *fp)
 {
     struct ctfd_elf_list made = { NULL, 0 };
@@ -213,7 +213,7 @@ ctf_file_t *ctfd__open(const ctf_sect_t *ctf, const ctf_sect_t *symbols, const c
     return ctfd__refused(error, failed);
 }
 
-/* ---- the data model, what a caller keeps with a file, its bytes */
+/* ---- the data model, the caller's data, and the bytes */
 
 int ctf_setmodel(ctf_file_t *fp, int model)
 {
@@ -246,7 +246,7 @@ void *ctf_getspecific(ctf_file_t *fp)
     return fp->specific;
 }
 
-/* The bytes of one in the making, in a block that the file keeps. */
+/* The bytes of a created dictionary, in a block that the file keeps. */
 static const void *recipe_bytes(ctf_file_t *fp, size_t *size)
 {
     uint64_t len = 0;
@@ -287,8 +287,8 @@ static size_t number_at(const unsigned char *bytes)
     return bytes[0] | (size_t)bytes[1] << 8 | (size_t)bytes[2] << 16 | (size_t)bytes[3] << 24;
 }
 
-/* The rules have seen that the strings end where the bytes end, or before; the last may lack its
- * zero byte, and is no name then. */
+/* The rules ensure that the strings end within the bytes. The last may lack its zero byte, and then
+ * is no name. */
 int ctf_string_iter(ctf_file_t *fp, ctf_string_f *each, void *arg)
 {
     const void *data = NULL;
@@ -299,7 +299,7 @@ int ctf_string_iter(ctf_file_t *fp, ctf_string_f *each, void *arg)
     ctf_dataptr(fp, &data, &size);
     if (data == NULL)
         return (int)CTF_ERR;
-    /* Those of one in the making are taken, since a callback may ask for newer ones. */
+    /* The block of a created dictionary is taken, since a callback may request newer bytes. */
     own = fp->bytes;
     fp->bytes = NULL;
     at = (const char *)data + 36 + number_at((const unsigned char *)data + 28);
@@ -329,7 +329,7 @@ static enum ctfd_status is_child(ctf_file_t *fp, bool *child)
     return status;
 }
 
-/* Why a file does not get a parent, but for what the parent has. */
+/* The reason why a file can't get a parent, apart from the parent's contents. */
 static enum ctfd_status refusal_of_parent(ctf_file_t *fp, ctf_file_t *parent)
 {
     bool child = false;
@@ -345,7 +345,7 @@ static enum ctfd_status refusal_of_parent(ctf_file_t *fp, ctf_file_t *parent)
     return child ? CTFD_PARENT_IS_CHILD : CTFD_OK;
 }
 
-/* An opened child of one in the making imports what is visible there. */
+/* Imports a parent into the handle of an opened child: of a created parent, what is visible. */
 static enum ctfd_status import_parent(ctf_file_t *fp, ctf_file_t *parent)
 {
     struct ctfd *types, *of_parent;
@@ -405,9 +405,9 @@ const char *ctf_parent_label(ctf_file_t *fp)
     return name != NULL && *name != '\0' ? name : NULL;
 }
 
-/* ---- a second file of the same dictionary */
+/* ---- ctf_dup */
 
-/* Copies what a file keeps of its lists itself; false where there is no memory. */
+/* Copies the lists that a file owns; false if there is no memory. */
 static bool copy_owned(ctf_file_t *made, const ctf_file_t *fp)
 {
     int i;

@@ -1,14 +1,14 @@
 /* forwards.c - what forwards of an opened dictionary declare: libctf's look-ups find the definition
- * where there is one. All of a dictionary is gone through once, when a forward is found first. */
+ * if there is one. The whole dictionary is read when the first forward is found. */
 #include "private.h"
 
 #include <stdlib.h>
 #include <string.h>
 
-/* How many rows are read by one call. */
+/* The number of rows that one call reads. */
 #define ROWS 64
 
-/* Definitions by their names, in places that are a power of two. */
+/* A hash table of definitions by name; its size is a power of two. */
 struct table {
     ctf_file_t *fp;
     struct place {
@@ -19,7 +19,7 @@ struct table {
     uint32_t mask;
 };
 
-/* The place of a name, or the empty one where it belongs. */
+/* The place of a name, or the empty one for it. */
 static struct place *place_of(const struct table *table, uint8_t kind, const char *name)
 {
     uint32_t at = (uint32_t)ctfd__hash(&table->fp->texts, name, strlen(name)) & table->mask;
@@ -38,7 +38,7 @@ static const char *name_in(const ctf_file_t *fp, const struct ctfd_type_row *row
     return (const char *)fp->lists.data[row->name_list == CTFD_IN_SECTION ? 0 : 2] + row->name_at;
 }
 
-/* What is done with each row, by its number. */
+/* A function that is called for each row, with its number. */
 typedef void row_f(struct table *table, uint32_t i, const struct ctfd_type_row *row);
 
 static enum ctfd_status each_row(struct table *table, row_f *call)
@@ -55,7 +55,7 @@ static enum ctfd_status each_row(struct table *table, row_f *call)
     return status;
 }
 
-/* The first definition of a name that is visible. */
+/* Enters the first visible definition of a name. */
 static void enter_definition(struct table *table, uint32_t i, const struct ctfd_type_row *row)
 {
     bool is_tagged = row->kind == CTFD_STRUCT || row->kind == CTFD_UNION || row->kind == CTFD_ENUM;
@@ -79,7 +79,7 @@ static void enter_forward(struct table *table, uint32_t i, const struct ctfd_typ
         table->fp->definitions[i] = place_of(table, (uint8_t)tag, name_in(table->fp, row))->t;
 }
 
-/* Finds all definitions, so that the file has a table of them; false where there is no memory. */
+/* Makes the file's table of definitions; false if there is no memory. */
 static bool find_definitions(ctf_file_t *fp)
 {
     struct table table = { fp, NULL, 0 };

@@ -1,4 +1,5 @@
-/* gnu.c - what GNU's libctf has otherwise than illumos', by names that gnu/ctf-api.h leads to. */
+/* gnu.c - the calls that differ between GNU's libctf and illumos', with the names to which
+ * gnu/ctf-api.h leads. */
 #define _DEFAULT_SOURCE
 
 #include "private.h"
@@ -56,7 +57,7 @@ static void *refused(int *error, int why)
 
 /* ---- open and close */
 
-/* An archive of one file; NULL where it was not opened, and that was noted. */
+/* An archive of one file. NULL if the file was not opened; its error was noted. */
 static struct ctfd_gnu_archive *archive_of(ctf_file_t *fp, int *error)
 {
     struct ctfd_gnu_archive *made;
@@ -85,7 +86,7 @@ SEEN struct ctfd_gnu_archive *ctfd_gnu_fdopen(
     return archive_of(ctf_fdopen(fd, NULL), error);
 }
 
-/* Ends a use; what the file owns itself stays where others use it. */
+/* Ends a use. If others use the file, and it owns its lists, the file stays as it is. */
 SEEN void ctfd_gnu_dict_close(ctf_file_t *fp)
 {
     if (fp != NULL && fp->uses > 1 && (fp->owned[0] != NULL || fp->recipe != NULL))
@@ -126,7 +127,7 @@ SEEN ctf_file_t *ctfd_gnu_dict_open(
     return archive->fp;
 }
 
-/* GNU's sections are shorter. */
+/* A section in GNU's calls, which has fewer fields. */
 struct gnu_section {
     const char *name;
     const void *data;
@@ -197,7 +198,7 @@ SEEN void ctfd_gnu_next_destroy(struct ctf_next *it)
     free(it);
 }
 
-/* Begins or goes on; false, and the error, of one of another kind. */
+/* Begins or continues an iterator; false with the error set if it is of another kind. */
 static bool begun(struct ctf_next **it, int what, const void *over, int *error)
 {
     *error = 0;
@@ -230,7 +231,7 @@ static bool begun_in(ctf_file_t *fp, struct ctf_next **it, int what)
     return false;
 }
 
-/* The details that an iterator goes through; NULL, and the error, of others. */
+/* The items for an iterator; NULL with the error set for other types. */
 static struct ctfd__details *listed(ctf_file_t *fp, uint16_t t, bool is_of_enum)
 {
     struct ctfd__details *details = ctfd__details(fp, t);
@@ -421,7 +422,7 @@ SEEN int ctfd_gnu_kind_forwarded(ctf_file_t *fp, ctf_id_t type)
     return ctfd__done(fp, ctfd__tag_of(fp, (uint16_t)type, &tag)) == 0 ? (int)tag : -1;
 }
 
-/* GNU's names of what has none end in a blank. */
+/* GNU's name for a type without one ends in a blank. */
 SEEN char *ctfd_gnu_type_aname(ctf_file_t *fp, ctf_id_t type)
 {
     char *made, *at;
@@ -471,7 +472,7 @@ SEEN char *ctfd_gnu_type_aname_raw(ctf_file_t *fp, ctf_id_t type)
     return name != NULL ? strdup(name) : NULL;
 }
 
-/* ---- labels, without those that stand for symbols */
+/* ---- labels, except those that stand for symbols */
 
 struct each_label {
     ctf_file_t *fp;
@@ -512,7 +513,7 @@ SEEN int ctfd_gnu_label_iter(
 
 /* ---- symbols */
 
-/* A symbol of one in the making. */
+/* Finds a symbol of a created dictionary. */
 static bool find_added(
     const struct ctfd__recipe *of, const char *name, bool variables, uint16_t *type)
 {
@@ -527,7 +528,7 @@ static bool find_added(
     return false;
 }
 
-/* An object by its name in the symbol table. */
+/* Finds an object by its name in the symbol table. */
 static bool find_object(ctf_file_t *fp, const char *name, bool variables, uint16_t *type)
 {
     struct ctfd *types;
@@ -559,7 +560,7 @@ SEEN ctf_id_t ctfd_gnu_symbol_named(ctf_file_t *fp, const char *name)
     return symbol_of(fp, name, false);
 }
 
-/* A function's type is known where a label says it: the rows of functions say none. */
+/* Only a label gives the type of a function: entries of functions have no type numbers. */
 SEEN ctf_id_t ctfd_gnu_symbol(ctf_file_t *fp, unsigned long symbol)
 {
     uint16_t type;
@@ -585,7 +586,7 @@ SEEN ctf_file_t *ctfd_gnu_arc_symbol_named(
     return archive->fp;
 }
 
-/* The next symbol of one in the making. */
+/* The next symbol of a created dictionary. */
 static bool next_added(const struct ctfd__recipe *of, struct ctf_next *it, const char **name,
     uint8_t sort, uint16_t *type)
 {
@@ -600,13 +601,13 @@ static bool next_added(const struct ctfd__recipe *of, struct ctf_next *it, const
     return false;
 }
 
-/* Whether a symbol of the symbol table counts as a variable, which the linker gave no name. */
+/* Whether a symbol of the symbol table counts as a variable, for which the linker keeps no type. */
 static bool is_variable(const ctf_file_t *fp, uint32_t i)
 {
     return fp->variables != NULL && fp->variables[i] != 0;
 }
 
-/* The next symbol of an opened file: those of its symbol table, and then those of its labels. */
+/* The next symbol of an opened file: first those of its symbol table, then those of its labels. */
 static bool next_symbol(
     ctf_file_t *fp, struct ctf_next *it, const char **name, uint8_t sort, uint16_t *type)
 {
@@ -704,7 +705,7 @@ SEEN int ctfd_gnu_link_symbol(ctf_file_t *fp, void *symbol)
     return 0;
 }
 
-/* ---- what is made */
+/* ---- created dictionaries */
 
 SEEN ctf_file_t *ctfd_gnu_create(int *error)
 {
@@ -795,8 +796,8 @@ SEEN struct gnu_snapshot ctfd_gnu_snapshot(ctf_file_t *fp)
     return made;
 }
 
-/* Types behind the snapshot go; members and enumerators that older ones got stay, as there, but for
- * those that would name a type that is gone. */
+/* Removes the types after the snapshot. Members and enumerators that older types got since stay, as
+ * in GNU's library, except those that would refer to a removed type. */
 SEEN int ctfd_gnu_rollback(ctf_file_t *fp, struct gnu_snapshot to)
 {
     if (fp->recipe == NULL)

@@ -1,4 +1,4 @@
-/* gnu_dump.c - the text of a dictionary, item by item, in the words of GNU's ctf_dump. */
+/* gnu_dump.c - the text of a dictionary, item by item, in the format of GNU's ctf_dump. */
 #define _DEFAULT_SOURCE
 
 #include "private.h"
@@ -9,7 +9,7 @@
 
 #define SEEN __attribute__((visibility("default")))
 
-/* The sections, by their numbers in GNU's header. */
+/* The sections, with their numbers in GNU's header. */
 enum {
     HEADER,
     LABELS,
@@ -20,14 +20,15 @@ enum {
     STRINGS
 };
 
-/* How a type is put: with those that it leads to, the width of a bit-field, the word ID in front. */
+/* How a type is written: followed by those that it leads to, with the width of a bit-field, after
+ * the word ID. */
 enum {
     CHAIN = 1,
     WIDTH = 2,
     ID = 4
 };
 
-/* All items of a section, which are made at once and given one by one. */
+/* All items of a section, which are made at once and returned one by one. */
 struct ctfd_gnu_dump {
     ctf_file_t *fp;
     int section;
@@ -93,7 +94,7 @@ static void put_encoding(FILE *out, ctf_file_t *fp, ctf_id_t t, ssize_t size, in
     fprintf(out, " (format 0x%x)", encoding.cte_format);
 }
 
-/* The next type on the way from one; CTF_ERR at the end. */
+/* The type that a type refers to, or that an array contains; CTF_ERR if there is none. */
 static ctf_id_t next_of(ctf_file_t *fp, ctf_id_t t, int kind)
 {
     ctf_arinfo_t array;
@@ -102,7 +103,7 @@ static ctf_id_t next_of(ctf_file_t *fp, ctf_id_t t, int kind)
     return ctf_array_info(fp, t, &array) == 0 ? array.ctr_contents : CTF_ERR;
 }
 
-/* A type, in its words; false where it has none. */
+/* Writes a type; false if it has no name. */
 static bool put_one(FILE *out, ctf_file_t *fp, ctf_id_t t, int kind, int how)
 {
     ssize_t size = ctf_type_size(fp, t), align = ctf_type_align(fp, t);
@@ -121,8 +122,8 @@ static bool put_one(FILE *out, ctf_file_t *fp, ctf_id_t t, int kind, int how)
     return true;
 }
 
-/* A type and, if that is wanted, those that it leads to. Pointers may form a cycle: so far and no
- * farther. */
+/* Writes a type and, with CHAIN, those that it leads to, up to a limit, since pointers may form a
+ * cycle. */
 static bool put_type(FILE *out, ctf_file_t *fp, ctf_id_t t, int how)
 {
     unsigned steps;
@@ -145,7 +146,7 @@ static bool put_type(FILE *out, ctf_file_t *fp, ctf_id_t t, int how)
     return true;
 }
 
-/* What members of a type are put with. */
+/* The context for writing the members of a type. */
 struct members {
     struct ctfd_gnu_dump *of;
     FILE *out;
@@ -165,7 +166,7 @@ static int put_member(const char *name, ctf_id_t t, ulong_t offset, int depth, v
     return 0;
 }
 
-/* The first five enumerators and the last five. */
+/* Writes the first five enumerators and the last five. */
 static void put_enumerators(FILE *out, ctf_file_t *fp, ctf_id_t t, int indent)
 {
     struct ctf_next *it = NULL;
@@ -188,7 +189,7 @@ static int hex_digits(ctf_id_t t)
     return digits;
 }
 
-/* A type that has no name in C is left out. */
+/* Adds an item for a type. A type without a name in C is left out. */
 static int add_type(ctf_id_t t, int root, void *arg)
 {
     struct ctfd_gnu_dump *of = (struct ctfd_gnu_dump *)arg;
@@ -214,7 +215,7 @@ static int add_type(ctf_id_t t, int root, void *arg)
     return append(of, &item) ? 0 : -1;
 }
 
-/* ---- names of types: labels, symbols, variables */
+/* ---- names with their types: labels, symbols, variables */
 
 static int add_named(struct ctfd_gnu_dump *of, const char *name, ctf_id_t t)
 {
@@ -283,7 +284,7 @@ static int add_range(
     return add_words(of, what, words);
 }
 
-/* The header's words are in order: the rules have seen that. */
+/* The header's words are in order, as the rules ensure. */
 static int add_header(struct ctfd_gnu_dump *of)
 {
     static const char *const sections[] = { "Label section", "Data object section",
@@ -348,7 +349,8 @@ static int add_all(struct ctfd_gnu_dump *of)
     }
 }
 
-/* An item as the caller decorates its lines, which may hand out another line for each. */
+/* An item whose lines are decorated by the caller's function, which may return another line for
+ * each. */
 static char *decorated(struct ctfd_gnu_dump *of, char *text,
     char *(*each)(int section, char *line, void *arg), void *arg)
 {
@@ -390,8 +392,8 @@ static struct ctfd_gnu_dump *begun(ctf_file_t *fp, int section)
     return NULL;
 }
 
-/* The next item of a section, which the caller frees; NULL behind the last, when the error is 0, and
- * where one is refused. Nothing is left of the state then. */
+/* The next item of a section, which the caller frees. NULL after the last, with an error of 0, or
+ * if an item is refused; the state is then freed. */
 SEEN char *ctfd_gnu_dump(ctf_file_t *fp, struct ctfd_gnu_dump **state, int section,
     char *(*each)(int section, char *line, void *arg), void *arg)
 {

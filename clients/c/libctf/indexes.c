@@ -1,5 +1,5 @@
-/* indexes.c - enumerators by their values and names. The first question is answered by looking at
- * each; the second makes an index, by hashes that nobody outside can foresee. */
+/* indexes.c - enumerators by their values and names. The first look-up in an enum compares each
+ * enumerator; the second makes an index, with hashes that nobody outside can predict. */
 #define _DEFAULT_SOURCE
 
 #include "private.h"
@@ -7,11 +7,11 @@
 #include <stdlib.h>
 #include <string.h>
 
-/* How much of a name its hash is of: names may be long, and lie in one another. */
+/* The most bytes of a name that are hashed: names may be long, and overlap. */
 #define HASHED 255
 
-/* Lists of enumerators whose hashes begin alike; numbers count from 1, and 0 is none. The numbers
- * of the first of each list stand behind the entries. */
+/* A hash table of enumerators. Numbers count from 1; 0 is none. The numbers of the first entries of
+ * all lists come after the entries. */
 struct ctfd__index {
     uint32_t mask;
     struct entry {
@@ -25,7 +25,7 @@ static uint32_t *heads_of(struct ctfd__index *index, uint32_t count)
     return (uint32_t *)(void *)(index->entries + count);
 }
 
-/* One with room for as many enumerators, or NULL. */
+/* An index with room for that many enumerators; NULL if there is no memory. */
 static struct ctfd__index *new_index(ctf_file_t *fp, uint32_t count)
 {
     uint32_t heads = 2;
@@ -42,7 +42,8 @@ static struct ctfd__index *new_index(ctf_file_t *fp, uint32_t count)
     return made;
 }
 
-/* Puts an enumerator in front of its list; the last goes first, so the first is found first. */
+/* Puts an enumerator at the front of its list. The last is put first, so the first is found
+ * first. */
 static void put(struct ctfd__index *index, uint32_t count, uint32_t i, uint32_t hash)
 {
     uint32_t *head = heads_of(index, count) + (hash & index->mask);
@@ -63,7 +64,7 @@ static struct ctfd__index *index_values(ctf_file_t *fp, const struct ctfd__detai
 {
     uint32_t i;
     struct ctfd__index *made = new_index(fp, details->count);
-    (void)ctfd__hash(&fp->texts, "", 0); /* there is a seed then */
+    (void)ctfd__hash(&fp->texts, "", 0); /* makes the seed */
     for (i = details->count; made != NULL && i-- > 0;)
         put(made, details->count, i, hash_of_value(fp, (int32_t)(uint32_t)details->items[i].at));
     return made;
@@ -88,7 +89,7 @@ uint32_t ctfd__of_value(ctf_file_t *fp, struct ctfd__details *details, int32_t v
     return i != 0 ? i - 1 : count;
 }
 
-/* ---- by names, where all stand in the file's lists */
+/* ---- by names, if all of them are in the file's lists */
 
 static uint32_t hash_of_name(ctf_file_t *fp, const char *name)
 {

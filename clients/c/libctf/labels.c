@@ -1,10 +1,10 @@
-/* labels.c - marks of the tools that wrote a dictionary. */
+/* labels.c - labels: marks of the tools that wrote a dictionary. */
 #include "private.h"
 
 #include <errno.h>
 #include <string.h>
 
-/* The label of a number, with its name kept; NULL behind the last, or on an error. */
+/* The label with a number, with its name kept; NULL after the last, or on an error. */
 static const char *label_at(ctf_file_t *fp, size_t i)
 {
     struct ctfd_label out;
@@ -44,7 +44,7 @@ int ctf_label_iter(ctf_file_t *fp, ctf_label_f *each, void *arg)
     return 0;
 }
 
-/* The last label; NULL where there is none. */
+/* The last label; NULL if there is none. */
 const char *ctf_label_topmost(ctf_file_t *fp)
 {
     uint64_t count = 0;
@@ -70,7 +70,8 @@ int ctf_label_info(ctf_file_t *fp, const char *name, ctf_lblinfo_t *info)
     return 0;
 }
 
-/* The format keeps labels in the order in which they are added. */
+/* The format stores labels in the order in which they are added, so no earlier position is
+ * possible. */
 int ctf_add_label(ctf_file_t *fp, const char *name, ctf_id_t last, uint_t position)
 {
     if (name == NULL || last < 0 || last > CTF_MAX_TYPE)

@@ -3,7 +3,8 @@
 
 #include <string.h>
 
-/* The details of a type of which a call may be asked; NULL, and the error, for another. */
+/* The items of a type, which must be an enum, or a struct or union; NULL with the error set for
+ * others. */
 static struct ctfd__details *details_of(ctf_file_t *fp, uint16_t t, bool is_of_enum)
 {
     struct ctfd__details *details = ctfd__details(fp, t);
@@ -14,10 +15,10 @@ static struct ctfd__details *details_of(ctf_file_t *fp, uint16_t t, bool is_of_e
     return NULL;
 }
 
-/* A list of items that is walked. */
+/* A walk over a list of items. */
 struct walk {
-    ctf_file_t *fp, *of; /* the file that is asked, and the one that has the type */
-    const struct ctfd__details *details; /* as they are while that has dropped no more */
+    ctf_file_t *fp, *of; /* the file of the call, and the one that has the type */
+    const struct ctfd__details *details; /* valid until `of` drops its details */
     const char *name; /* of the item that was found last */
     uint64_t dropped;
     uint16_t t;
@@ -30,8 +31,8 @@ static struct walk walk_of(ctf_file_t *fp, uint16_t t, bool is_of_enum)
     return walk;
 }
 
-/* An item by its number, with its name; `left` is false behind the last. NULL on an error, and
- * behind the last. Where a callback has changed what is open, details are looked up anew. */
+/* An item by its number, with its name. NULL on an error and after the last item; `left` is false
+ * after the last. If a callback has changed what is open, the details are looked up again. */
 static inline const struct ctfd__item *item_at(struct walk *walk, uint32_t i, bool *left)
 {
     const struct ctfd__item *item;
@@ -91,7 +92,7 @@ int ctf_enum_iter(ctf_file_t *fp, ctf_id_t type, ctf_enum_f *each, void *arg)
     return left ? (int)CTF_ERR : 0;
 }
 
-/* The first name of a value; NULL where no enumerator has it. */
+/* The first name with a value; NULL if no enumerator has it. */
 const char *ctf_enum_name(ctf_file_t *fp, ctf_id_t type, int value)
 {
     struct ctfd__details *details;
@@ -110,7 +111,7 @@ const char *ctf_enum_name(ctf_file_t *fp, ctf_id_t type, int value)
     return NULL;
 }
 
-/* The value of the first enumerator of a name. */
+/* Finds the value of the first enumerator with a name. */
 static enum ctfd_status find_value(
     ctf_file_t *fp, uint16_t t, struct ctfd__details *details, const char *name, int32_t *value)
 {

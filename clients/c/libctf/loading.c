@@ -1,5 +1,5 @@
-/* loading.c - stands in libctfd.so for the part for ELF files, and loads it where it is needed: the
- * library then asks for no other to be there. */
+/* loading.c - replaces the part for ELF files in libctfd.so, and loads it when it is needed, so
+ * that the library itself depends on no other. */
 #define _GNU_SOURCE
 
 #include "private.h"
@@ -11,8 +11,8 @@
 HIDDEN int ctfd_elf_read(int fd, int program, struct ctfd_elf_lists *lists);
 HIDDEN int ctfd_elf_inflate(const void *bytes, size_t len, struct ctfd_elf_list *made);
 
-/* Looks up a call of the part, which stands beside this library or where the system has it. The
- * part stays loaded, so it is loaded once. */
+/* Looks up a call of the part, which is next to this library, or in a folder of the system. The
+ * part stays loaded, so it is loaded only once. */
 static bool found(const char *name, void *call, size_t size)
 {
     void *part = dlopen(CTFD_ELF_PART, RTLD_NOW | RTLD_LOCAL);
@@ -39,7 +39,7 @@ int ctfd_elf_inflate(const void *bytes, size_t len, struct ctfd_elf_list *made)
     return call(bytes, len, made);
 }
 
-/* Links that lead to the library are followed, as one from a system's folder to another. */
+/* Follows links to the library, such as those from one folder of the system to another. */
 bool ctfd__place(char *path)
 {
     static const char here;

@@ -1,4 +1,4 @@
-/* lookup.c - types by their names, as programs write them: with qualifiers and blanks. */
+/* lookup.c - types by names as programs write them, with qualifiers and blanks. */
 #include "private.h"
 
 #include <string.h>
@@ -8,7 +8,7 @@ static bool is_blank(char byte)
     return byte == ' ' || (byte >= '\t' && byte <= '\r');
 }
 
-/* What libctf passes over in a name. */
+/* The words that libctf ignores in a name. */
 static bool is_qualifier(const char *word, size_t len)
 {
     static const char *const words[] = { "const", "volatile", "restrict", "_Restrict", "static",
@@ -29,7 +29,8 @@ static size_t blanks(const char *text)
     return len;
 }
 
-/* A word ends before a blank, a star or the end; a star is a word by itself. */
+/* The length of a word, which ends before a blank, a star or the end; a star is a word by
+ * itself. */
 static size_t word_at(const char *text)
 {
     size_t len = 0;
@@ -40,8 +41,8 @@ static size_t word_at(const char *text)
     return len;
 }
 
-/* Writes the words of a name without qualifiers, one blank between two, to a place of at least its
- * length, and answers how many bytes that are. */
+/* Writes the words of a name without qualifiers, with one blank between words, and returns the
+ * length. The buffer must have twice the name's length. */
 static size_t plain(const char *name, char *made)
 {
     size_t len = 0, word;
@@ -56,7 +57,7 @@ static size_t plain(const char *name, char *made)
     return len;
 }
 
-/* The definition in place of a forward, and the pointers to it: of a name with a tag alone. */
+/* If a name with a tag leads to a forward, the definition, or the pointer to it. */
 static uint16_t defined(ctf_file_t *fp, const char *name, size_t len, uint16_t t)
 {
     size_t base = len, stars = 0;
@@ -87,14 +88,14 @@ static enum ctfd_status find(ctf_file_t *fp, const char *name, size_t len, uint1
     return status;
 }
 
-/* The name as it stands comes first: it may be one of a type that has blanks in it. */
+/* The name is tried unchanged first: it may be that of a type with blanks in it. */
 ctf_id_t ctf_lookup_by_name(ctf_file_t *fp, const char *name)
 {
     size_t len = strlen(name), plain_len;
     uint16_t t = 0;
     enum ctfd_status status = find(fp, name, len, &t);
     if (status == CTFD_NOT_FOUND || status == CTFD_BAD_SYNTAX) {
-        /* A star in front of a word gains a blank at most where it lost none. */
+        /* A word after a star gets a blank, so the result may be longer than the name. */
         if (!ctfd__make_room(fp, 2 * (uint64_t)len))
             return CTF_ERR;
         plain_len = plain(name, fp->room);

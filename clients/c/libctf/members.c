@@ -1,10 +1,10 @@
-/* members.c - a member by its name, also where it lies in a member without a name. */
+/* members.c - members by name, including those in members without a name. */
 #include "private.h"
 
 #include <stdlib.h>
 #include <string.h>
 
-/* A search: each struct and union is searched once, so that it costs what they hold. */
+/* A search. Each struct and union is searched once, so the cost is linear in their members. */
 struct search {
     ctf_file_t *fp;
     const char *name;
@@ -13,7 +13,8 @@ struct search {
     uint16_t type;
 };
 
-/* Whether a type was searched already, which it now was; -1 where there is no memory. */
+/* Marks a type as searched. Returns 1 if it was searched already, 0 if not, -1 if there is no
+ * memory. */
 static int is_searched(struct search *search, uint16_t t)
 {
     unsigned char bit = (unsigned char)(1u << t % 8);
@@ -27,7 +28,7 @@ static int is_searched(struct search *search, uint16_t t)
     return 0;
 }
 
-/* The struct or union that a member without a name is; 0 where it is none. */
+/* The struct or union of a member without a name; 0 if it is none. */
 static uint16_t nested_in(ctf_file_t *fp, uint16_t member)
 {
     uint32_t kind = 0;
@@ -40,7 +41,7 @@ static uint16_t nested_in(ctf_file_t *fp, uint16_t member)
 
 static enum ctfd_status search_in(struct search *search, uint16_t t, uint32_t depth);
 
-/* Looks in a member without a name, at a place of what holds it. */
+/* Searches a member without a name, at an offset in its parent. */
 static enum ctfd_status search_nested(
     struct search *search, uint16_t member, uint64_t at, uint32_t depth)
 {
@@ -73,14 +74,14 @@ static enum ctfd_status search_in(struct search *search, uint16_t t, uint32_t de
         }
         if (*item.name == '\0')
             status = search_nested(search, item.type, item.at, depth);
-        /* Others that were read may have dropped these. */
+        /* Reading others may have dropped these. */
         if (*item.name == '\0' || !is_own)
             details = ctfd__details(search->fp, t);
     }
     return details == NULL ? CTFD_MEMORY : status;
 }
 
-/* Why a type has no members, or CTFD_OK; and the struct or union that it stands for. */
+/* Finds the struct or union to which a type resolves; else returns the reason why there is none. */
 static enum ctfd_status aggregate_of(ctf_file_t *fp, uint16_t t, uint16_t *to)
 {
     uint32_t kind = 0;
@@ -92,8 +93,8 @@ static enum ctfd_status aggregate_of(ctf_file_t *fp, uint16_t t, uint16_t *to)
     return status;
 }
 
-/* A member of the type itself is found by the proved part; one that lies in a member without a name
- * is looked for here. */
+/* The proved library finds the type's own members; those in members without a name are searched
+ * here. */
 int ctf_member_info(ctf_file_t *fp, ctf_id_t type, const char *name, ctf_membinfo_t *member)
 {
     struct search search = { fp, name, NULL, 0, 0 };

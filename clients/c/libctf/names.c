@@ -1,4 +1,4 @@
-/* names.c - names that are handed out: each is kept once, until its file is closed. */
+/* names.c - names that are returned to callers: each is kept once, until its file is closed. */
 #define _DEFAULT_SOURCE
 
 #include "private.h"
@@ -29,7 +29,8 @@ bool ctfd__make_room(ctf_file_t *fp, uint64_t len)
     return true;
 }
 
-/* ---- SipHash-1-3 of a text, with the table's own seed: who makes names can't foresee it. */
+/* ---- SipHash-1-3 of a text, with the table's own seed, which the author of names can't
+ * predict. */
 
 struct sip {
     uint64_t v0, v1, v2, v3;
@@ -61,7 +62,7 @@ static void sip_word(struct sip *it, uint64_t word)
     it->v0 ^= word;
 }
 
-/* Takes a seed from the system, or, where it gives none, from where things lie in memory. */
+/* Takes a seed from the system or, if it gives none, from addresses in memory. */
 static void seed(struct ctfd__texts *texts)
 {
     texts->is_seeded = true;
@@ -103,7 +104,7 @@ uint64_t ctfd__hash(struct ctfd__texts *texts, const char *text, size_t len)
     return it.v0 ^ it.v1 ^ it.v2 ^ it.v3;
 }
 
-/* Makes twice as many heads, so that lists stay short. */
+/* Doubles the number of heads, so that lists stay short. */
 static bool more_heads(struct ctfd__texts *texts)
 {
     size_t i, len = texts->heads_len == 0 ? 64 : 2 * texts->heads_len;
@@ -125,7 +126,7 @@ static bool more_heads(struct ctfd__texts *texts)
     return true;
 }
 
-/* The text of a table, or NULL. */
+/* The text in a table; NULL if it is not there. */
 static struct ctfd__text *text_in(
     const struct ctfd__texts *texts, uint64_t hash, const char *text, size_t len)
 {
@@ -135,7 +136,7 @@ static struct ctfd__text *text_in(
     return it;
 }
 
-/* The text of a table, made where it is not there yet; NULL where there is no memory. */
+/* The text in a table, added if it is not there; NULL if there is no memory. */
 static struct ctfd__text *kept_in(struct ctfd__texts *texts, const char *text, size_t len)
 {
     struct ctfd__text *made, **head;
@@ -227,7 +228,7 @@ const char *ctfd__numbered(ctf_file_t *fp, ctfd__numbered_f *call, uint32_t numb
     return NULL;
 }
 
-/* The name of a type of one in the making, or of its parent. */
+/* The name of a type of a created dictionary, or of its parent. */
 static const char *recipe_name(ctf_file_t *fp, uint16_t t)
 {
     ctf_file_t *of = ctfd__owner(fp, t);

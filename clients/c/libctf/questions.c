@@ -1,9 +1,10 @@
-/* questions.c - questions of any file. Those of a file with its dictionary open are the proved
- * library's. It refuses the others with CTFD_NO_SLOT, and these are answered here: by the recipe of
- * one in the making, or by importing its parent anew into a child whose parent has changed. */
+/* questions.c - questions to any file. If the file has its dictionary open, the proved library
+ * answers. For other files it returns CTFD_NO_SLOT, and the functions here answer: from the recipe
+ * of a created dictionary, or by importing the changed parent into a child again. */
 #include "private.h"
 
-/* A parent that can't be written leaves the child as it was; it is tried again when that changes. */
+/* If the parent can't be written, the child keeps the old one; it is tried again at the next
+ * change. */
 enum ctfd_status ctfd__renew(ctf_file_t *fp)
 {
     uint64_t place;
@@ -26,8 +27,9 @@ enum ctfd_status ctfd__written(ctf_file_t *fp, struct ctfd **types)
     return status;
 }
 
-/* Whether a recipe has a type, which is written. Else whom to ask: the file, which is open again, or
- * the parent of one in the making; where that can't be, the status is not CTFD_OK. */
+/* Whether a recipe has a type, which is then stored. Else stores which file to ask: this one, which
+ * is open again, or the parent of a created dictionary. If neither is possible, the status is not
+ * CTFD_OK. */
 static bool is_own(ctf_file_t *fp, uint16_t t, const struct ctfd__type **type, ctf_file_t **asked,
     enum ctfd_status *status)
 {
@@ -102,7 +104,7 @@ enum ctfd_status ctfd__indirect_reference(ctf_file_t *fp, uint16_t t, uint16_t *
     return CTFD_OK;
 }
 
-/* A pointer to a type of the parent may be an own one. */
+/* Asks the dictionary itself, since a pointer to a type of the parent may be an own type. */
 enum ctfd_status ctfd__indirect_pointer(ctf_file_t *fp, uint16_t t, uint16_t *to)
 {
     enum ctfd_status status;
@@ -171,7 +173,7 @@ enum ctfd_status ctfd__indirect_encoding(ctf_file_t *fp, uint16_t t, struct ctfd
     return CTFD_OK;
 }
 
-/* A last argument of 0 stands for others that may follow. */
+/* A last argument of 0 means that more may follow. */
 enum ctfd_status ctfd__indirect_signature(ctf_file_t *fp, uint16_t t, struct ctfd_function *out)
 {
     const struct ctfd__type *type;

@@ -1,4 +1,5 @@
-/* reading.c - opens files: those of a CTF section alone, and ELF files by the part for these. */
+/* reading.c - opens files: those that are a CTF section and, with the part for ELF files, ELF
+ * files. */
 #define _DEFAULT_SOURCE
 
 #include "private.h"
@@ -10,13 +11,14 @@
 #include <sys/stat.h>
 #include <unistd.h>
 
-/* The most bytes that a dictionary has. */
+/* The greatest size of a dictionary in bytes. */
 #define LONGEST 67108864
 
-/* Not linked where a program leaves the part for ELF files out. */
+/* Not linked if a program leaves out the part for ELF files. */
 #pragma weak ctfd_elf_read
 
-/* Reads so many bytes from the front of a file, fewer where it ends; 0 or a number of errno. */
+/* Reads that many bytes from the beginning of a file, or fewer if it ends; 0 or a number of
+ * errno. */
 static int read_front(int fd, char *bytes, size_t wanted, size_t *got)
 {
     *got = 0;
@@ -33,7 +35,7 @@ static int read_front(int fd, char *bytes, size_t wanted, size_t *got)
     return 0;
 }
 
-/* A section that has a list of the part for ELF files. */
+/* A section with a list from the part for ELF files. */
 static ctf_sect_t section_of(const struct ctfd_elf_list *list)
 {
     ctf_sect_t made;
@@ -43,7 +45,7 @@ static ctf_sect_t section_of(const struct ctfd_elf_list *list)
     return made;
 }
 
-/* Opens lists, which the file then keeps; else they are freed. */
+/* Opens lists and gives them to the file. On an error they are freed. */
 static ctf_file_t *open_owned(struct ctfd_elf_lists *lists, int *error)
 {
     ctf_sect_t ctf = section_of(&lists->ctf), symbols = section_of(&lists->symbols),
@@ -78,7 +80,7 @@ static ctf_file_t *open_owned(struct ctfd_elf_lists *lists, int *error)
     return fp;
 }
 
-/* Opens a file that is a section and nothing else. */
+/* Opens a file that is a CTF section and nothing else. */
 static ctf_file_t *open_section(int fd, size_t size, int *error)
 {
     struct ctfd_elf_lists lists;
@@ -97,7 +99,7 @@ static ctf_file_t *open_section(int fd, size_t size, int *error)
     return open_owned(&lists, error);
 }
 
-/* Reads what a store has of the build of a file. */
+/* Reads the types that a store has for the build of a file. */
 static int read_fetched(int fd, struct ctfd_elf_lists *lists)
 {
     int made = -1;
@@ -109,7 +111,7 @@ static int read_fetched(int fd, struct ctfd_elf_lists *lists)
     return failed == 0 || failed == CTFD_MEMORY ? failed : CTFD__NOT_FETCHED;
 }
 
-/* The types of a file that has none are asked for by its build-id, where a store is named. */
+/* Opens an ELF file. If it has no types, stores are asked for them by its build-id. */
 static ctf_file_t *open_elf(int fd, int *error)
 {
     struct ctfd_elf_lists lists;
@@ -139,8 +141,8 @@ ctf_file_t *ctf_fdopen(int fd, int *error)
     return open_section(fd, (size_t)about.st_size, error);
 }
 
-/* What is no regular file is refused before it is opened, which might wait or set something off;
- * and after it too, since it may have become another meanwhile. */
+/* Refuses anything but a regular file before opening it, which might block or have side effects;
+ * and again after that, since the file may have changed meanwhile. */
 ctf_file_t *ctf_open(const char *name, int *error)
 {
     struct stat about;

@@ -1,6 +1,6 @@
-/* recipe.c - dictionaries in the making: what was added is kept as it was asked for, and answers for
- * itself. A type may get members and enumerators at any time, and what the parent gets is seen.
- * Nothing is written until bytes are wanted. */
+/* recipe.c - created dictionaries: additions are stored as they were requested, and questions are
+ * answered from them. So a type may get members and enumerators at any time, and additions to the
+ * parent are seen. Nothing is written until bytes are needed. */
 #include "private.h"
 
 #include <stdlib.h>
@@ -82,7 +82,7 @@ bool ctfd__is_there(ctf_file_t *fp, uint16_t t)
     return of == fp ? ctfd__own_type(fp, t) != NULL : ctfd__kind_of(of, t, &kind) == CTFD_OK;
 }
 
-/* ---- room */
+/* ---- memory */
 
 bool ctfd__room_for_one(void *block, uint32_t len, uint32_t *room, size_t size)
 {
@@ -98,7 +98,7 @@ bool ctfd__room_for_one(void *block, uint32_t len, uint32_t *room, size_t size)
     return true;
 }
 
-/* A walk that has the old details looks again. */
+/* Walks that use the old details have to look them up again. */
 bool ctfd__room_for_items(ctf_file_t *fp, struct ctfd__type *type, uint32_t items)
 {
     struct ctfd__details *more;
@@ -122,7 +122,7 @@ bool ctfd__room_for_items(ctf_file_t *fp, struct ctfd__type *type, uint32_t item
     return true;
 }
 
-/* What is found by values and names is found anew. */
+/* Drops the indexes by value and name. */
 static void forget_indexes(struct ctfd__details *details)
 {
     free(details->by_value);
@@ -133,7 +133,7 @@ static void forget_indexes(struct ctfd__details *details)
 
 /* ---- changes */
 
-/* Opened children import what the parent has become once they are asked again. */
+/* Suspends opened children, which import the changed parent when they are next asked. */
 static void close_children(ctf_file_t *fp)
 {
     ctf_file_t *child;
@@ -198,7 +198,7 @@ enum ctfd_status ctfd__add_type(
     return CTFD_OK;
 }
 
-/* What is pending becomes visible. */
+/* Makes pending additions visible. */
 void ctfd__show(ctf_file_t *fp)
 {
     struct ctfd__recipe *of = fp->recipe;
@@ -209,7 +209,7 @@ void ctfd__show(ctf_file_t *fp)
 
 /* ---- pointers */
 
-/* The last pointer to a type; NULL where the table has no room for it. */
+/* The place of the last pointer to a type; NULL if the table has no room for it. */
 static uint16_t *pointer_to(const ctf_file_t *fp, uint16_t t)
 {
     struct ctfd__recipe *of = fp->recipe;
@@ -220,7 +220,7 @@ static uint16_t *pointer_to(const ctf_file_t *fp, uint16_t t)
     return type != NULL ? &type->pointer : NULL;
 }
 
-/* Room in the table for a type of the parent; without it pointers to that are not found. */
+/* Makes room in the table for a type of the parent. If that fails, pointers to it are not found. */
 static void widen_parent_pointers(struct ctfd__recipe *of, uint16_t t)
 {
     uint32_t len = of->parent_pointers_len == 0 ? 64 : of->parent_pointers_len;
@@ -253,7 +253,7 @@ void ctfd__lead(ctf_file_t *fp, uint16_t t, uint16_t to)
     *last = t;
 }
 
-/* A type is no pointer to what it led to any more. */
+/* Removes a pointer from the list of pointers to its type. */
 static void unlead(ctf_file_t *fp, uint32_t place)
 {
     struct ctfd__type *type = &fp->recipe->types[place];
@@ -277,7 +277,8 @@ static bool has_item(const struct ctfd__details *details, const char *kept)
     return false;
 }
 
-/* Why an item is not put into a type, but for what the item is; and its kept name. */
+/* The reason why an item can't be added to a type, apart from the item itself; also finds the type,
+ * and keeps the item's name. */
 static enum ctfd_status refusal_of_item(ctf_file_t *fp, uint16_t t, bool is_of_enum,
     const char *name, struct ctfd__type **type, const char **kept)
 {
@@ -298,7 +299,7 @@ static enum ctfd_status refusal_of_item(ctf_file_t *fp, uint16_t t, bool is_of_e
     return has_item((*type)->details, *kept) ? CTFD_DUPLICATE : CTFD_OK;
 }
 
-/* Puts an item behind the others, and remembers when. */
+/* Adds an item after the others, and records the addition. */
 static enum ctfd_status put_item(
     ctf_file_t *fp, struct ctfd__type *type, const char *kept, uint64_t at, uint16_t names)
 {
@@ -402,7 +403,7 @@ enum ctfd_status ctfd__add_symbol(ctf_file_t *fp, const char *name, uint16_t typ
     return CTFD_OK;
 }
 
-/* ---- what becomes of types that are there */
+/* ---- changes of existing types */
 
 bool ctfd__promote(ctf_file_t *fp, uint16_t t, uint32_t kind, uint64_t size)
 {
@@ -419,7 +420,7 @@ bool ctfd__promote(ctf_file_t *fp, uint16_t t, uint32_t kind, uint64_t size)
     return true;
 }
 
-/* Takes an item out of a type; those behind it move. The size stays, as in libctf. */
+/* Removes an item of a type; those after it move. The size stays, as in libctf. */
 static void take_out(ctf_file_t *fp, struct ctfd__type *type, uint32_t item)
 {
     struct ctfd__recipe *of = fp->recipe;
@@ -435,7 +436,7 @@ static void take_out(ctf_file_t *fp, struct ctfd__type *type, uint32_t item)
     ctfd__touch(fp, type);
 }
 
-/* Whether a put item is of a type behind so many. */
+/* Whether an added item has a type after the first `count`. */
 static bool names_later(const ctf_file_t *fp, const struct ctfd__put *put, uint32_t count)
 {
     const struct ctfd__type *in = &fp->recipe->types[put->in];
@@ -443,8 +444,8 @@ static bool names_later(const ctf_file_t *fp, const struct ctfd__put *put, uint3
     return in->kind != CTFD_ENUM && place != UINT32_MAX && place >= count;
 }
 
-/* Types behind so many go: so does what was put into them, and what older ones got that names
- * them. It looks at what was put since there were so many. */
+/* Drops the items of types after the first `count`, and the items of older types that have such
+ * types. Looks only at items that were added since there were that many types. */
 static void drop_puts(ctf_file_t *fp, uint32_t count)
 {
     struct ctfd__recipe *of = fp->recipe;
@@ -486,7 +487,8 @@ void ctfd__drop_types(ctf_file_t *fp, uint32_t count)
     ctfd__change(fp);
 }
 
-/* The last one goes; another leaves a type of kind unknown, since numbers stay. */
+/* Removes the last type. Any other becomes a type of an unknown kind, so that numbers stay
+ * valid. */
 void ctfd__delete_type(ctf_file_t *fp, uint16_t t)
 {
     struct ctfd__recipe *of = fp->recipe;

@@ -1,5 +1,5 @@
-/* recipe_answers.c - look-ups, pointers and lists of a dictionary in the making: of what is visible,
- * and of its parent. */
+/* recipe_answers.c - look-ups, pointers and lists of a created dictionary: of its visible types,
+ * and those of its parent. */
 #include "private.h"
 
 #include <string.h>
@@ -23,7 +23,7 @@ struct ctfd__details *ctfd__recipe_details(ctf_file_t *fp, uint16_t t)
 
 /* ---- pointers */
 
-/* The last visible pointer in a list of them; 0 where there is none. */
+/* The last visible pointer in a list of pointers; 0 if there is none. */
 static uint16_t last_visible(const ctf_file_t *fp, uint16_t pointer)
 {
     while (pointer != 0 && ctfd__visible_type(fp, pointer) == NULL)
@@ -31,7 +31,7 @@ static uint16_t last_visible(const ctf_file_t *fp, uint16_t pointer)
     return pointer;
 }
 
-/* The last pointer to just this type: an own one before the parent's. */
+/* The last pointer to exactly this type: an own one before the parent's. */
 static uint16_t pointer_to(ctf_file_t *fp, uint16_t t)
 {
     const struct ctfd__recipe *of = fp->recipe;
@@ -62,16 +62,16 @@ enum ctfd_status ctfd__recipe_pointer(ctf_file_t *fp, uint16_t t, uint16_t *to)
     return *to != 0 ? CTFD_OK : CTFD_NOT_FOUND;
 }
 
-/* ---- look-ups: the name of a type, and stars behind it */
+/* ---- look-ups: the name of a type, followed by stars */
 
-/* A word in front of a tag. */
+/* The keyword before a tag. */
 struct tag {
     const char *word;
     size_t len;
     uint32_t kind;
 };
 
-/* The word that a text may begin with. */
+/* The keyword that may begin with a letter. */
 static const struct tag *tag_of(char first)
 {
     static const struct tag of_struct = { "struct", 6, CTFD_STRUCT },
@@ -85,7 +85,7 @@ static const struct tag *tag_of(char first)
     }
 }
 
-/* The own type of a name without stars. */
+/* The own type with a name without stars. */
 static enum ctfd_status find_base(ctf_file_t *fp, const char *text, size_t len, uint16_t *t)
 {
     const struct tag *tag = tag_of(*text);
@@ -100,7 +100,7 @@ static enum ctfd_status find_base(ctf_file_t *fp, const char *text, size_t len, 
     return *t != 0 ? CTFD_OK : CTFD_NOT_FOUND;
 }
 
-/* A type that one file has a name for, and the pointers that the file that is asked has to it. */
+/* The type that `in` has for a name, followed by pointers that `fp` has. */
 static enum ctfd_status find_in(
     ctf_file_t *fp, ctf_file_t *in, const char *text, size_t len, size_t stars, uint16_t *t)
 {
@@ -114,7 +114,7 @@ static enum ctfd_status find_in(
     return status;
 }
 
-/* Here, and else in the parent, whose types may have pointers here. */
+/* Looks here, then in the parent, to whose types there may be pointers here. */
 enum ctfd_status ctfd__recipe_find(ctf_file_t *fp, const char *text, size_t len, uint16_t *t)
 {
     size_t stars = 0;

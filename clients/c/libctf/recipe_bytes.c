@@ -1,7 +1,8 @@
-/* recipe_bytes.c - the bytes of a dictionary in the making. All that is visible is added to a draft
- * of the proved part in the order in which it was added here; that judges it and writes it. Sizes of
- * structs and places of members are stated, so that the bytes say what was answered, whatever has
- * become of the parent since. Where only types came since the last time, only these are added. */
+/* recipe_bytes.c - the bytes of a created dictionary. All that is visible is added to a draft of
+ * the proved library, in the order of the additions; the library checks and encodes it. Sizes of
+ * structs and offsets of members are stated, so the bytes agree with earlier answers, however the
+ * parent has changed since. If only types were added since the last time, only these are added to
+ * the draft. */
 #include "private.h"
 
 #include <stdlib.h>
@@ -33,7 +34,7 @@ static enum ctfd_status put_function(struct ctfd *to, const struct ctfd__type *t
         arguments, details->count, &t);
 }
 
-/* The call that adds a type which leads to another. */
+/* A call that adds a type which refers to another. */
 typedef enum ctfd_status add_reference_f(
     struct ctfd *, const char *, size_t, bool, uint16_t, uint16_t *);
 
@@ -76,12 +77,13 @@ static enum ctfd_status put_type(struct ctfd *to, const struct ctfd__type *type)
     }
 }
 
-/* How many types, items and labels a draft has. */
+/* The number of types, items and labels in a draft. */
 struct stand {
     uint32_t types, puts, marks;
 };
 
-/* Adds what is behind a stand, in order. A forward that was promoted is added as what it became. */
+/* Adds to an encoder's draft what comes after the first `from` types, items and labels, in order. A
+ * forward that was promoted is added as the type that it became. */
 static enum ctfd_status put_all(ctf_file_t *fp, struct ctfd *to, struct stand from)
 {
     const struct ctfd__recipe *of = fp->recipe;
@@ -109,7 +111,7 @@ static int by_names(const void *a, const void *b)
     return left->sort != right->sort ? left->sort - right->sort : strcmp(left->name, right->name);
 }
 
-/* Labels of the symbols, in the order of their names. */
+/* Adds the labels of symbols, ordered by their names. */
 static enum ctfd_status put_symbols(ctf_file_t *fp, struct ctfd *to)
 {
     struct ctfd__recipe *of = fp->recipe;
@@ -129,7 +131,7 @@ static enum ctfd_status put_symbols(ctf_file_t *fp, struct ctfd *to)
     return status;
 }
 
-/* A draft with nothing in it, over the parent as it stands. */
+/* Creates an empty draft, over the parent in its present state. */
 static enum ctfd_status begin(ctf_file_t *fp, struct ctfd *draft)
 {
     uint64_t place;
@@ -142,7 +144,7 @@ static enum ctfd_status begin(ctf_file_t *fp, struct ctfd *draft)
                              : status;
 }
 
-/* Writes all anew, in place of what was written. */
+/* Writes everything again, in place of the old draft. */
 static enum ctfd_status write_anew(ctf_file_t *fp)
 {
     struct ctfd draft = CTFD_NONE;
@@ -164,7 +166,7 @@ static enum ctfd_status write_anew(ctf_file_t *fp)
     return CTFD_OK;
 }
 
-/* Writes what came behind what was written. */
+/* Adds what is new to the draft. */
 static enum ctfd_status write_more(ctf_file_t *fp)
 {
     struct ctfd__recipe *of = fp->recipe;
@@ -196,7 +198,7 @@ enum ctfd_status ctfd__write(ctf_file_t *fp)
     status = is_anew ? write_anew(fp) : write_more(fp);
     if (status != CTFD_OK)
         return status;
-    /* What was put into types that are pending is put again from the beginning: seldom. */
+    /* Items of pending types are added again from the beginning, which is rare. */
     of->written.is_stale = of->visible != of->count;
     of->written.types = of->visible;
     of->written.puts = of->puts_len;

@@ -1,11 +1,11 @@
-/* recipe_names.c - the types of a name in a dictionary in the making. Each name has its types in a
- * list, the last one first, and knows which of them a look-up finds: so neither an addition nor a
- * look-up walks over types of the same name that are pending. */
+/* recipe_names.c - types by name in a created dictionary. Each name has a list of its types, the
+ * last one first, and stores which of them a look-up finds: so neither an addition nor a look-up
+ * walks over pending types with the same name. */
 #include "private.h"
 
 #include <stdlib.h>
 
-/* Structs, unions and enums have names of their own; all others share theirs. */
+/* The name space of a type: structs, unions and enums have one each; all others share one. */
 static uint8_t space_of(uint32_t kind, uint32_t tag)
 {
     if (kind == CTFD_FORWARD)
@@ -13,7 +13,7 @@ static uint8_t space_of(uint32_t kind, uint32_t tag)
     return kind == CTFD_STRUCT || kind == CTFD_UNION || kind == CTFD_ENUM ? (uint8_t)kind : 0;
 }
 
-/* Kept texts are the same where their places are. */
+/* The bucket of a kept text. Kept texts are equal exactly if their addresses are. */
 static uint32_t bucket_of(const struct ctfd__recipe *of, const char *text, uint8_t space)
 {
     uint64_t mixed = ((uint64_t)(uintptr_t)text / 8 + space) * 0x9e3779b97f4a7c15u;
@@ -47,7 +47,7 @@ bool ctfd__room_for_name(struct ctfd__recipe *of)
     return true;
 }
 
-/* A name that is there; NULL where it is not. */
+/* The entry of a name; NULL if there is none. */
 static struct ctfd__name *name_of(const struct ctfd__recipe *of, const char *text, uint8_t space)
 {
     uint32_t i = of->buckets_len == 0 ? 0 : of->buckets[bucket_of(of, text, space)];
@@ -56,7 +56,8 @@ static struct ctfd__name *name_of(const struct ctfd__recipe *of, const char *tex
     return i != 0 ? &of->names[i - 1] : NULL;
 }
 
-/* The name of a type, made where there is room for it; NULL of types that are not looked up. */
+/* The entry of a type's name; NULL for types that look-ups do not find. With `is_made`, a missing
+ * entry is made, for which there must be room. */
 static struct ctfd__name *name_at(struct ctfd__recipe *of, uint32_t place, bool is_made)
 {
     const struct ctfd__type *type = &of->types[place];
@@ -106,7 +107,8 @@ void ctfd__define_name(struct ctfd__recipe *of, uint32_t place)
         name->definition = (uint16_t)(place + 1);
 }
 
-/* The last of a list that is no forward, else the last, of those up to a place. */
+/* The last type of a list, among the first `count`, that is no forward; else, with `has_forwards`,
+ * the last forward. */
 static uint16_t found_in(
     const struct ctfd__recipe *of, uint16_t newest, uint32_t count, bool has_forwards)
 {

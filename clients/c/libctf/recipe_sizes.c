@@ -1,5 +1,5 @@
-/* recipe_sizes.c - sizes, alignments and places in a dictionary in the making: of what is pending
- * too, since what is added next goes by them. The rules are those of the proved draft. */
+/* recipe_sizes.c - sizes, alignments and offsets in a created dictionary, of pending types too,
+ * since later additions depend on them. The rules are those of the proved draft. */
 #include "private.h"
 
 #define MOST_TYPES 32766
@@ -35,7 +35,7 @@ static uint64_t enum_size(const struct ctfd__type *type)
     return type->size != 0 ? type->size : 4;
 }
 
-/* Arrays of arrays are followed as deep as the format lets them be. */
+/* Follows arrays of arrays as deep as the format allows. */
 static enum ctfd_status size_in(ctf_file_t *fp, uint16_t t, uint32_t depth, uint64_t *bytes)
 {
     ctf_file_t *of;
@@ -73,7 +73,7 @@ enum ctfd_status ctfd__recipe_size(ctf_file_t *fp, uint16_t t, uint64_t *bytes)
 
 static enum ctfd_status align_in(ctf_file_t *fp, uint16_t t, uint32_t depth, uint64_t *bytes);
 
-/* What changes when a type or its parent's may have another alignment. */
+/* A number that changes whenever alignments may change, here or in the parent. */
 static uint64_t state_of(const ctf_file_t *fp)
 {
     const ctf_file_t *parent = fp->parent;
@@ -81,7 +81,8 @@ static uint64_t state_of(const ctf_file_t *fp)
     return 1 + fp->recipe->changes + (has_recipe ? parent->recipe->changes : 0);
 }
 
-/* That of the first member, or, since members of unions lie in one another, the largest. */
+/* The alignment of the first member or, since all members of a union are at 0, the greatest in a
+ * union. */
 static enum ctfd_status align_of_members(
     ctf_file_t *fp, struct ctfd__type *type, uint32_t depth, uint64_t *bytes)
 {
@@ -135,9 +136,9 @@ enum ctfd_status ctfd__recipe_align(ctf_file_t *fp, uint16_t t, uint64_t *bytes)
     return align_in(fp, t, 0, bytes);
 }
 
-/* ---- places */
+/* ---- offsets */
 
-/* The width of an integer or a float, else all bits of its bytes. */
+/* The width of an integer or a float; for other types, all bits of their bytes. */
 enum ctfd_status ctfd__bits_of(ctf_file_t *fp, uint16_t t, ctfd__wide *bits)
 {
     struct ctfd_encoding encoding;
@@ -164,7 +165,8 @@ enum ctfd_status ctfd__bits_of(ctf_file_t *fp, uint16_t t, ctfd__wide *bits)
     return CTFD_OK;
 }
 
-/* The first place in whole bytes behind the last member that the alignment allows. */
+/* The first offset after the last member, in bits, that is at a whole byte and that the alignment
+ * allows; 0 in a union. */
 enum ctfd_status ctfd__place_for(
     ctf_file_t *fp, const struct ctfd__type *type, uint16_t member, ctfd__wide *at)
 {

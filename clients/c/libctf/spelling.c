@@ -1,4 +1,4 @@
-/* spelling.c - names of types as C spells them, with a qualifier in them or round a name. */
+/* spelling.c - names of types as C spells them, also with a qualifier in them, or around a name. */
 #include "private.h"
 
 #include <stdio.h>
@@ -7,19 +7,19 @@
 
 /* ---- declarations
  *
- * One begins with a type that has a name of its own. Around what is declared stand stars, brackets
- * and qualifiers, which are found from the outermost type to that one: those to the left of the
- * name from behind, those to the right from the front.
+ * A declaration begins with a type that has a name of its own. Around the declared name there are
+ * stars, brackets and qualifiers, which are found from the outermost type inwards: those to the
+ * left of the name from its right end, those to the right from their left end.
  */
 
-/* A text that grows at its end; `is_full` where it should have grown and could not. */
+/* A text that grows at its end. `is_full` is set if memory for that was refused. */
 struct grown {
     char *at;
     size_t len, room;
     bool is_full;
 };
 
-/* Room for more bytes, at the end. */
+/* Makes room for further bytes at the end, and returns where they begin. */
 static char *more(struct grown *text, size_t len)
 {
     if (text->len + len > text->room) {
@@ -43,7 +43,7 @@ static void append(struct grown *text, const char *piece, size_t len)
         memcpy(at, piece, len);
 }
 
-/* Appends a piece from behind, for a text that is turned in the end. */
+/* Appends a reversed piece, to a text that is reversed at the end. */
 static void append_turned(struct grown *text, const char *piece)
 {
     size_t i, len = strlen(piece);
@@ -52,12 +52,12 @@ static void append_turned(struct grown *text, const char *piece)
         at[i] = piece[len - 1 - i];
 }
 
-/* What is put around a name, and the type that the declaration begins with: 0 for void. The pointer
- * whose star comes next has the qualifiers `of_pointer`, a bit for each kind. */
+/* The text around a name, and the type that the declaration begins with: 0 for void. `of_pointer`
+ * has a bit for each qualifier of the pointer whose star comes next. */
 struct declaration {
     struct grown front, left, right;
     bool is_named;
-    bool repeats; /* qualifiers that are there twice are put twice, as the proved part does */
+    bool repeats; /* qualifiers that occur twice are written twice, as by the proved library */
     uint32_t of_pointer;
     uint16_t base;
 };
@@ -78,7 +78,8 @@ static const char *qualifier_of(uint32_t kind)
     }
 }
 
-/* The type that a pointer, an array, a function or a qualifier is made of; false for others. */
+/* The type of which a pointer, an array, a function or a qualifier is made; false for other
+ * types. */
 static bool inner_of(ctf_file_t *fp, uint16_t t, uint32_t kind, uint16_t *to)
 {
     struct ctfd_array array;
@@ -92,7 +93,7 @@ static bool inner_of(ctf_file_t *fp, uint16_t t, uint32_t kind, uint16_t *to)
     return true;
 }
 
-/* The kind of what qualifiers stand around. */
+/* The kind of a type without its qualifiers. */
 static uint32_t qualified(ctf_file_t *fp, uint16_t t)
 {
     uint32_t kind = kind_of(fp, t);
@@ -105,8 +106,8 @@ static uint32_t qualified(ctf_file_t *fp, uint16_t t)
     return kind;
 }
 
-/* Whether a qualifier of a type is one of pointers: of the type itself, or, since C knows no
- * qualified arrays, of what an array holds. */
+/* Whether a qualifier of a type qualifies pointers: the type itself or, since C has no qualified
+ * arrays, the elements of an array. */
 static bool qualifies_pointers(ctf_file_t *fp, uint16_t t, bool *is_array)
 {
     uint32_t kind = kind_of(fp, t);
@@ -121,8 +122,8 @@ static bool qualifies_pointers(ctf_file_t *fp, uint16_t t, bool *is_array)
     return kind == CTFD_POINTER;
 }
 
-/* Whether the spelled name of a type, which writes each qualifier of an array in front of all, is
- * another type in C: one qualifies an array of pointers. */
+/* Whether the spelled name of a type is that of another type in C: it has an array's qualifiers at
+ * the front of everything, even if they qualify an array of pointers. */
 static bool is_misspelled(ctf_file_t *fp, uint16_t t)
 {
     bool is_array = false;
@@ -138,7 +139,7 @@ static bool is_misspelled(ctf_file_t *fp, uint16_t t)
     return false;
 }
 
-/* A star, in brackets where an array or a function stands behind it. */
+/* Writes a star, with brackets around it if it points to an array or a function. */
 static void put_star(ctf_file_t *fp, struct declaration *made, uint16_t to)
 {
     uint32_t kind = qualified(fp, to);
@@ -150,8 +151,8 @@ static void put_star(ctf_file_t *fp, struct declaration *made, uint16_t to)
     }
 }
 
-/* A qualifier of a pointer stands behind its star, once: an array and what it holds may both have
- * it. Any other stands in front of all. */
+/* Writes a qualifier. That of a pointer comes after its star, and only once, since an array and its
+ * elements may both have it. Any other comes at the front of everything. */
 static void put_qualifier(ctf_file_t *fp, struct declaration *made, uint32_t kind, uint16_t of)
 {
     const char *word = qualifier_of(kind);
@@ -169,7 +170,7 @@ static void put_qualifier(ctf_file_t *fp, struct declaration *made, uint32_t kin
     append_turned(&made->left, word);
 }
 
-/* Puts what a type adds, and answers whether it leads on. */
+/* Writes what a type adds to the declaration. Returns whether it leads to another type. */
 static bool put_step(ctf_file_t *fp, struct declaration *made, uint16_t t, uint16_t *to)
 {
     uint32_t kind = kind_of(fp, t);
@@ -200,7 +201,7 @@ static void declare(ctf_file_t *fp, struct declaration *made, uint16_t t)
     made->base = t;
 }
 
-/* Writes as much of a spelled name as fits, and a zero byte; the length of all of it. */
+/* Writes as much of a spelled name as fits, and a zero byte. Returns its full length. */
 static ssize_t spelled(ctf_file_t *fp, uint16_t t, char *text, size_t size)
 {
     char none;
@@ -224,7 +225,7 @@ static void append_qualifier(struct grown *text, const char *qualifier)
     append(text, "`", 1);
 }
 
-/* The same of one in the making. */
+/* As append_base, for a created dictionary. */
 static bool append_recipe_base(
     ctf_file_t *fp, struct grown *text, uint16_t base, uint32_t kind, const char *qualifier)
 {
@@ -246,7 +247,8 @@ static bool append_recipe_base(
     return true;
 }
 
-/* Appends the name that a declaration begins with, a qualifier in front of the type's own name. */
+/* Appends the name with which a declaration begins; a qualifier comes before the type's own
+ * name. */
 static bool append_base(ctf_file_t *fp, struct grown *text, uint16_t base, const char *qualifier)
 {
     uint32_t kind = kind_of(fp, base);
@@ -274,7 +276,7 @@ static bool append_base(ctf_file_t *fp, struct grown *text, uint16_t base, const
     return true;
 }
 
-/* Puts all of a declaration together. */
+/* Appends the whole declaration. */
 static bool assemble(ctf_file_t *fp, struct declaration *made, struct grown *text,
     const char *qualifier, const char *name)
 {
@@ -297,7 +299,7 @@ static bool assemble(ctf_file_t *fp, struct declaration *made, struct grown *tex
     return true;
 }
 
-/* Writes as much as fits, and a zero byte; the length of all of it. */
+/* Writes as much of a text as fits, and a zero byte. Returns its full length. */
 static ssize_t put(const struct grown *made, char *text, size_t size)
 {
     size_t len = made->len < size ? made->len : size - (size != 0);
@@ -331,7 +333,7 @@ static ssize_t spell(
     return len;
 }
 
-/* A length, once it is told where the buffer is too small. */
+/* Returns a length, after setting the error if the buffer is too small. */
 static ssize_t measured(ctf_file_t *fp, ssize_t len, size_t size)
 {
     if (len >= 0 && (size_t)len >= size)
@@ -356,7 +358,7 @@ ssize_t ctf_type_qlname(
     return measured(fp, spell(fp, type, text, size, qualifier, ""), size);
 }
 
-/* NULL where it does not fit. */
+/* The text; NULL if it did not fit, or on an error. */
 static char *fitting(ssize_t len, char *text, size_t size)
 {
     return len >= 0 && (size_t)len < size ? text : NULL;

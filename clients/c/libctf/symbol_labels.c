@@ -1,5 +1,5 @@
-/* symbol_labels.c - labels that stand for symbols: version 2 has no symbols by name, so those that
- * GNU's calls add are written as labels "ctfd.function:NAME" and the like. */
+/* symbol_labels.c - labels that stand for symbols. Version 2 has no symbols by name, so those that
+ * GNU's calls add are written as labels such as "ctfd.function:NAME". */
 #include "private.h"
 
 #include <string.h>
@@ -13,7 +13,7 @@ uint32_t ctfd__label_count(ctf_file_t *fp)
     return (uint32_t)count;
 }
 
-/* Reads a label into the file's room: the length of its name, or -1. */
+/* Reads a label into the file's buffer. Returns the length of its name, or -1. */
 static int64_t read_label(ctf_file_t *fp, uint32_t i, uint16_t *type)
 {
     struct ctfd_label label;
@@ -30,7 +30,7 @@ static int64_t read_label(ctf_file_t *fp, uint32_t i, uint16_t *type)
     return (int64_t)label.name_len;
 }
 
-/* The sort that a label begins with, or -1. */
+/* The sort whose prefix a label has, or -1. */
 static int sort_of(const char *label, size_t len)
 {
     int sort;

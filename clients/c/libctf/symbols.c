@@ -1,12 +1,12 @@
-/* symbols.c - what is told of functions and objects, and function types. */
+/* symbols.c - the types of functions and objects, and function types. */
 #include "private.h"
 
 #include <string.h>
 
-/* How many arguments are read by one call. */
+/* The number of arguments that one call reads. */
 #define ROWS 32
 
-/* What is told of a function, as libctf has it. */
+/* Fills libctf's structure with a signature. */
 static void tell_function(ctf_funcinfo_t *info, const struct ctfd_function *out)
 {
     info->ctc_return = (ctf_id_t)out->ret;
@@ -24,7 +24,7 @@ int ctf_func_info_by_id(ctf_file_t *fp, ctf_id_t type, ctf_funcinfo_t *info)
     return 0;
 }
 
-/* Arguments of a type of one in the making. */
+/* The arguments of a function type in a created dictionary. */
 static void recipe_arguments(const struct ctfd__type *type, uint64_t count, ctf_id_t *argv)
 {
     uint64_t i;
@@ -58,7 +58,8 @@ int ctf_func_args_by_id(ctf_file_t *fp, ctf_id_t type, uint_t argc, ctf_id_t *ar
     return 0;
 }
 
-/* What an opened file answers of a symbol; one in the making has no symbol table. */
+/* The handle for questions on a symbol of an opened file. A created dictionary has no symbol
+ * table. */
 static enum ctfd_status symbol_table(ctf_file_t *fp, ulong_t symbol, struct ctfd **types)
 {
     if (symbol > 0xffffffffUL || fp->recipe != NULL)
@@ -66,7 +67,8 @@ static enum ctfd_status symbol_table(ctf_file_t *fp, ulong_t symbol, struct ctfd
     return ctfd__opened(fp, types);
 }
 
-/* What the rows of functions say of a symbol, or the function type of its label. */
+/* The signature of a symbol, from the entries of functions, or from the function type of its
+ * label. */
 static enum ctfd_status function_of(ctf_file_t *fp, ulong_t symbol, struct ctfd_function *out)
 {
     struct ctfd *types;
@@ -90,7 +92,7 @@ static enum ctfd_status object_of(ctf_file_t *fp, ulong_t symbol, uint16_t *t)
     return status;
 }
 
-/* The error of a function of which nothing is told is one of its own in libctf. */
+/* libctf has an error of its own for functions without type information. */
 static int done_of_function(ctf_file_t *fp, enum ctfd_status status)
 {
     if (status == CTFD_OK)
@@ -136,13 +138,13 @@ ctf_id_t ctf_lookup_by_symbol(ctf_file_t *fp, ulong_t symbol)
     return ctfd__done(fp, object_of(fp, symbol, &t)) == 0 ? (ctf_id_t)t : CTF_ERR;
 }
 
-/* A symbol's name, which lives as long as the file. */
+/* The name of a symbol, which lives as long as the file. */
 static const char *symbol_name(ctf_file_t *fp, uint32_t symbol)
 {
     return ctfd__numbered(fp, ctfd_symbol_name, symbol);
 }
 
-/* NULL where it does not fit. */
+/* NULL if there is no such symbol, or if its name does not fit. */
 char *ctf_symbol_name(ctf_file_t *fp, ulong_t symbol, char *text, size_t size)
 {
     struct ctfd *types;
@@ -159,7 +161,7 @@ char *ctf_symbol_name(ctf_file_t *fp, ulong_t symbol, char *text, size_t size)
     return text;
 }
 
-/* Calls with each symbol of which something is told, in the order of the symbol table. */
+/* Calls `each` for the symbols that have types, in the order of the symbol table. */
 int ctf_object_iter(ctf_file_t *fp, ctf_object_f *each, void *arg)
 {
     uint32_t i, count = (uint32_t)(fp->lists.len[1] / CTFD_SYMBOL);

@@ -1,9 +1,9 @@
-/* trusted.c - finds a command of ours, and never one that another user could have put there: the
+/* trusted.c - finds one of our commands, but never one that another user could have put there: the
  * rule of the Python package (client/trust.py).
  *
- * A path counts from the root on. Each folder and link on the way, and the file, belong to root or
- * to this user, and no other user may write to them. A folder such as /tmp, in which nobody renames
- * what is not theirs, may be on the way. */
+ * A path must be absolute. Each folder and link on the way, and the file, must belong to root or to
+ * this user, and no other user may write to them. A folder such as /tmp, in which users can't
+ * rename what is not theirs, may be on the way. */
 #define _GNU_SOURCE
 
 #include "private.h"
@@ -19,10 +19,10 @@
 #define BUILT "/clients/rust/target/release/"
 #define MOST_LINKS 40
 
-/* libctfd.so says where it is; the archive is a part of a program, which may be anywhere. */
+/* libctfd.so knows where it is; the archive is a part of a program, which may be anywhere. */
 #pragma weak ctfd__place
 
-/* Whether nobody else can put another file in the place of one, nor anything into it. */
+/* Whether nobody else can replace a file, or write to it. */
 static bool is_closed(const struct stat *about)
 {
     if (about->st_uid != 0 && about->st_uid != geteuid())
@@ -34,13 +34,14 @@ static bool is_closed(const struct stat *about)
     return (about->st_mode & S_IWGRP) == 0 || about->st_uid == 0;
 }
 
-/* The way of a path: the part that was gone is `done`, without links, and `left` is to come. */
+/* The state of following a path: `done` is the part already followed, without links, and `left` the
+ * rest. */
 struct way {
     char done[PATH_MAX], left[PATH_MAX];
     int links;
 };
 
-/* Puts what a link leads to in front of what is left; false where that is too long. */
+/* Puts the target of a link before the rest; false if that is too long. */
 static bool follow(struct way *way, const char *link)
 {
     char target[PATH_MAX], rest[PATH_MAX];
@@ -54,7 +55,7 @@ static bool follow(struct way *way, const char *link)
     return snprintf(way->left, sizeof way->left, "%s/%s", target, rest) < PATH_MAX;
 }
 
-/* Takes the next name of what is left; false at its end. */
+/* Takes the next name from the rest; false at its end. */
 static bool next_name(struct way *way, char *name)
 {
     const char *begin = way->left + strspn(way->left, "/");
@@ -65,7 +66,7 @@ static bool next_name(struct way *way, char *name)
     return len != 0;
 }
 
-/* Goes a step, to a name; false where that is not closed to others, or not there. */
+/* Follows a path by one name; false if others may write there, or it does not exist. */
 static bool step(struct way *way, const char *name)
 {
     char found[PATH_MAX];
@@ -106,14 +107,15 @@ static bool is_trusted(const char *path)
     return stat(way.done, &about) == 0 && S_ISREG(about.st_mode);
 }
 
-/* Whether a name stands in a folder, of whose path so many bytes count; `path` is it then. */
+/* Whether a folder, the first `len` bytes of a path, has a trusted command; writes its path
+ * then. */
 static bool is_in(const char *folder, size_t len, const char *name, char *path)
 {
     return len < PATH_MAX && folder[0] == '/' &&
         snprintf(path, PATH_MAX, "%.*s/%s", (int)len, folder, name) < PATH_MAX && is_trusted(path);
 }
 
-/* Beside the program that CTFD names. */
+/* Looks next to the program that CTFD names. */
 static bool beside_program(const char *name, char *path)
 {
     const char *program = secure_getenv("CTFD");
@@ -130,7 +132,8 @@ static const char *last_lib(const char *path)
     return found;
 }
 
-/* In the clone in which the shared library is, else in `bin` beside the `lib` in which it is. */
+/* Looks in the clone that contains the shared library, or else in the folder `bin` next to its
+ * `lib`. */
 static bool beside_library(const char *name, char *path)
 {
     char folder[PATH_MAX], place[PATH_MAX];
@@ -147,7 +150,7 @@ static bool beside_library(const char *name, char *path)
         is_in(folder, strlen(folder), name, path);
 }
 
-/* On the PATH, of whose folders those count that are named from the root on. */
+/* Looks in the folders of PATH that are absolute. */
 static bool on_path(const char *name, char *path)
 {
     const char *at = secure_getenv("PATH");

@@ -1,8 +1,8 @@
-/* types.c - what a type says of itself and comes to, and whether look-ups see it. */
+/* types.c - kinds, sizes, references and other properties of types, and iteration over types. */
 #include "private.h"
 
-/* A question that the proved part answers costs no more than that: what is left to do where it is
- * refused stands in functions of its own, which ask once more. */
+/* A question that the proved library answers costs no more than its call: all that is left to do if
+ * it refuses is in functions of their own, which ask once more. */
 #define COLD __attribute__((noinline, cold))
 
 static COLD int other_kind(ctf_file_t *fp, ctf_id_t type)
@@ -13,7 +13,7 @@ static COLD int other_kind(ctf_file_t *fp, ctf_id_t type)
     return (int)kind;
 }
 
-/* A number that may be one of a type: what ctfd__is_type tells without an error. */
+/* Whether a number may be that of a type: as ctfd__is_type, but without setting the error. */
 static inline bool may_be_type(ctf_id_t type)
 {
     return (ulong_t)type <= CTF_MAX_TYPE;
@@ -40,7 +40,7 @@ static enum ctfd_status align_of(ctf_file_t *fp, uint16_t t, uint64_t *bytes)
     return ctfd__align_of(fp, t, bytes);
 }
 
-/* A number of bytes, where it is one of a ssize_t. */
+/* A number of bytes, if it fits into a ssize_t. */
 static COLD ssize_t other_bytes(ctf_file_t *fp, ctf_id_t type, bytes_f *call)
 {
     uint64_t bytes = 0;
@@ -113,7 +113,7 @@ ctf_id_t ctf_type_reference(ctf_file_t *fp, ctf_id_t type)
     return other_type(fp, type, reference_of);
 }
 
-/* Most types have no pointer, and that is not asked twice. */
+/* Most types have no pointer, so a refusal is not asked again. */
 ctf_id_t ctf_type_pointer(ctf_file_t *fp, ctf_id_t type)
 {
     uint16_t to;
@@ -165,9 +165,9 @@ int ctf_type_cmp(ctf_file_t *lfp, ctf_id_t ltype, ctf_file_t *rfp, ctf_id_t rtyp
     return lfp < rfp ? -1 : 1;
 }
 
-/* ---- all of them */
+/* ---- all types */
 
-/* What a callback adds to one in the making is visited too. */
+/* Types that a callback adds to a created dictionary are visited too. */
 int ctf_type_iter(ctf_file_t *fp, boolean_t hidden, ctf_type_f *each, void *arg)
 {
     uint32_t i, count = 0, before = 0, root = 0;

@@ -1,28 +1,28 @@
-/* visits.c - all that lies in a type, as ctfd_visit has it. */
+/* visits.c - visits of a type and all that it contains, by ctfd_visit. */
 #include "private.h"
 
 #include <stdlib.h>
 
-/* How many rows are asked for first, and at most: no program has a type with so much in it. */
+/* The first number of rows, and the greatest: no program has a type that contains so much. */
 #define FIRST 128
 #ifndef MOST
 #define MOST 4194304
 #endif
 
-/* How many types can lie in each other at most: those of a child, and those of its parent. */
+/* The deepest nesting of types: those of a child, and those of its parent. */
 #define DEEPEST 1027
 
-/* A visit: rows that are asked for anew, twice as many, where they don't reach, and where a callback
- * has changed what is open. */
+/* A visit. Rows are requested again, twice as many, if there are more; and if a callback has
+ * changed what is open. */
 struct visit {
     ctf_file_t *fp;
     uint16_t t;
-    struct ctfd_visit_row *rows; /* first, or a block */
+    struct ctfd_visit_row *rows; /* `first`, or a block */
     size_t rows_len;
-    uint64_t count; /* those that are filled, and one more where there are more */
-    uint64_t generation; /* of what was open when they were */
-    size_t counted; /* how many rows are counted in passed */
-    uint16_t passed[DEEPEST + 2]; /* how many of them are members, at each depth */
+    uint64_t count; /* of filled rows, or one more than rows_len */
+    uint64_t generation; /* of what was open when they were filled */
+    size_t counted; /* how many rows `passed` takes into account */
+    uint16_t passed[DEEPEST + 2]; /* for each depth, the number of members passed */
     struct ctfd_visit_row first[FIRST];
 };
 
@@ -38,7 +38,7 @@ static enum ctfd_status fill(struct visit *visit)
     return ctfd_visit(types, visit->t, visit->rows, visit->rows_len, &visit->count);
 }
 
-/* Asks for twice as many rows. */
+/* Requests twice as many rows. */
 static enum ctfd_status widen(struct visit *visit)
 {
     struct ctfd_visit_row *more;
@@ -55,7 +55,7 @@ static enum ctfd_status widen(struct visit *visit)
     return fill(visit);
 }
 
-/* A row by its number; NULL behind the last, and where there is an error. */
+/* A row by its number; NULL after the last, and on an error. */
 static const struct ctfd_visit_row *row_at(struct visit *visit, size_t i, enum ctfd_status *status)
 {
     if (visit->generation != visit->fp->generation)
@@ -65,8 +65,8 @@ static const struct ctfd_visit_row *row_at(struct visit *visit, size_t i, enum c
     return *status == CTFD_OK && i < visit->count ? &visit->rows[i] : NULL;
 }
 
-/* The number of a row's member in its holder: how many rows of its depth came since the last row
- * above them. */
+/* The index of a row's member in its holder: the number of rows with its depth since the last row
+ * with a lower depth. */
 static size_t index_of(struct visit *visit, const struct ctfd_visit_row *row)
 {
     size_t i = visit->counted, end = (size_t)(row - visit->rows);
@@ -79,7 +79,7 @@ static size_t index_of(struct visit *visit, const struct ctfd_visit_row *row)
     return (size_t)visit->passed[row->depth] - 1;
 }
 
-/* The name of a member, by its number in its holder; NULL, and the error, where it can't be kept. */
+/* The name of a member, by its index in its holder; NULL with the error set if it can't be kept. */
 static const char *keep_name(ctf_file_t *fp, uint16_t holder, size_t index)
 {
     struct ctfd_member member = { 0, 0, 0 };
@@ -93,7 +93,7 @@ static const char *keep_name(ctf_file_t *fp, uint16_t holder, size_t index)
     return NULL;
 }
 
-/* The name of the member that a row is of. */
+/* The name of a row's member. */
 static const char *name_of(struct visit *visit, const struct ctfd_visit_row *row)
 {
     const ctf_file_t *fp = visit->fp;
@@ -104,7 +104,7 @@ static const char *name_of(struct visit *visit, const struct ctfd_visit_row *row
     return (const char *)fp->lists.data[row->name_list == CTFD_IN_SECTION ? 0 : 2] + row->name_at;
 }
 
-/* Says why a type stands for none that is there. */
+/* Sets the error for a type that resolves to none. */
 static void tell_missing(ctf_file_t *fp, uint16_t t)
 {
     uint16_t resolved = 0;
@@ -112,9 +112,9 @@ static void tell_missing(ctf_file_t *fp, uint16_t t)
         (void)ctfd__fail(fp, CTFD_NO_TYPE);
 }
 
-/* ---- of one in the making: by its lists, and those of its parent */
+/* ---- created dictionaries: by their lists, and those of their parents */
 
-/* Where a visit stands: a member's name, type and place. */
+/* A step of a visit: a member's name, type, offset and depth. */
 struct step {
     const char *name;
     uint16_t type;
@@ -124,7 +124,7 @@ struct step {
 
 static int visit_step(ctf_file_t *fp, struct step at, ctf_visit_f *each, void *arg);
 
-/* The members of a struct or union, as they are when each is come to. */
+/* Visits the members of a struct or union, each as it is when its turn comes. */
 static int visit_members(ctf_file_t *fp, uint16_t t, struct step at, ctf_visit_f *each, void *arg)
 {
     const struct ctfd__details *details;

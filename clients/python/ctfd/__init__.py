@@ -1,10 +1,9 @@
-"""Types of C programs as Python objects, out of CTF dictionaries that ctfd has judged.
+"""The types of C programs as Python objects, read from CTF dictionaries that ctfd has checked.
 
     with ctfd.open("examples/lua.ctf") as types:
         print(ctfd.listing(types["struct lua_State"]))
 
-Each name is imported where it is asked for first, so that `import ctfd` takes no longer than what
-is used of it.
+Each public name is imported at its first use, which keeps `import ctfd` fast.
 """
 import sys
 
@@ -21,7 +20,7 @@ __all__ = [
     "replies", "taken", "text", "values", "withdraw",
 ]
 
-TYPE_CHECKING = False  # as typing's, whose import takes as long as all else here
+TYPE_CHECKING = False  # as typing's, without its slow import
 if TYPE_CHECKING:
     from . import build, expressions, formats, replies, text, values
     from .client.connecting import connect

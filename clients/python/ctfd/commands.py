@@ -1,6 +1,6 @@
-"""The commands of a wheel: each becomes the compiled program of its name, which the wheel carries.
+"""Entry points of the commands in a wheel: each runs the compiled program of its name.
 
-One program is most of the commands, and goes by the name that it is started with.
+Most commands are one program, which reads from `argv[0]` which command to be.
 """
 from __future__ import annotations
 
@@ -12,12 +12,12 @@ MANY_NAMES = "ctfd-tools"
 
 
 def path_of(name: str) -> str:
-    """The program that is the command of a name, if this package carries its own."""
+    """The path of the program that the wheel has for a command."""
     own = os.path.join(FOLDER, name)
     return own if os.path.exists(own) else os.path.join(FOLDER, MANY_NAMES)
 
 
 def main() -> None:
-    """Becomes the command by whose name this was started."""
+    """Replaces this process by the command of the same name."""
     name = os.path.basename(sys.argv[0])
     os.execv(path_of(name), [name, *sys.argv[1:]])

@@ -1,11 +1,11 @@
-"""The types of a dictionary in drgn, without a debug file.
+"""The types of a dictionary in drgn, without debug information.
 
     program.add_type_finder(ctfd.drgn.type_finder(program, dictionary))
 
-drgn then finds structs, unions, enums, typedefs and numbers by their names. Where types of one name
-differ, that finds the first, and `struct dict__17` the one that is type 17: `names_of_several` tells
-of which there are. Members and arguments are made when drgn asks for them. Types have no addresses:
-those are drgn's own, or a debug file's.
+drgn then finds structs, unions, enums, typedefs and numbers by name. If several types have a name,
+the name finds the first, and `struct dict__17` the `struct dict` that is type 17;
+`names_of_several` lists such names. Members and arguments are created when drgn asks for them. CTF
+has no addresses: drgn reads them from the symbols or from a debug file.
 """
 from __future__ import annotations
 
@@ -31,17 +31,17 @@ QUALIFIED = {"const": drgn.Qualifiers.CONST, "volatile": drgn.Qualifiers.VOLATIL
 
 
 def type_finder(program: Any, dictionary: Dictionary) -> Finder:
-    """What `program.add_type_finder` takes: it finds the types of a dictionary."""
+    """A finder for `program.add_type_finder`, which finds the types of a dictionary."""
     return Types(program, dictionary).find
 
 
 def names_of_several(dictionary: Dictionary) -> str:
-    """A line on names that stand for several types; "" where each stands for one."""
-    return aliases.of_dictionary(dictionary).told()
+    """One line that lists the names that several types have, or "" if there are none."""
+    return aliases.of_dictionary(dictionary).ambiguities()
 
 
 class Types:
-    """The types of a dictionary as those of a drgn program, each made once."""
+    """The types of a dictionary as types of a drgn program, each created once."""
 
     def __init__(self, program: Any, dictionary: Dictionary) -> None:
         self.program = program
@@ -49,7 +49,8 @@ class Types:
         self._made: Dict[int, Any] = {}
 
     def find(self, kind: Any, name: str, filename: Optional[str]) -> Optional[Any]:
-        """The type of a kind and a name; none where a file is asked for, since CTF tells none."""
+        """The type of a kind and a name, or None. None too if `filename` is set: CTF records no
+        files."""
         if filename or not name:
             return None
         word = WORDS.get(kind)
@@ -59,19 +60,20 @@ class Types:
             return None
         wanted = word or NUMBERS.get(kind) or "typedef"
         if found.kind == "forward":
-            found = self._whole(f"{word} {name}", wanted) or found
+            found = self._complete_type(f"{word} {name}", wanted) or found
         elif found.kind != wanted:
             return None
         made = self.of(found)
         return made if made.kind == kind else None
 
-    def _whole(self, name: str, kind: str) -> Optional[Type]:
-        """A type that stands behind a forward of its name."""
+    def _complete_type(self, name: str, kind: str) -> Optional[Type]:
+        """The definition that a forward of this name declares, or None."""
         return next((one for one in self.dictionary.find_all(name)
                      if one.kind == kind and one.is_root), None)
 
     def of(self, t: Type) -> Any:
-        """A type as drgn has it. What wraps others is made from the innermost on."""
+        """A type as drgn's. Pointers, arrays, typedefs and qualifiers are created innermost
+        first."""
         wraps: List[Type] = []
         while t.number not in self._made and t.kind in WRAPS:
             wraps.append(t)
@@ -116,7 +118,8 @@ class Types:
         return self._number(t, kind)
 
     def _later(self, t: Type, is_member: bool) -> Callable[[], Any]:
-        """A type that is made when it is asked for; of a bit-field a value without a place."""
+        """A function that creates the type when drgn calls it; for a bit-field, an object of its
+        width."""
         def make() -> Any:
             lies = t.bit_field if is_member else None
             made = self.of(t)

@@ -1,4 +1,4 @@
-"""C's expressions over whatever can read memory and knows names (`Target`)."""
+"""C expressions, evaluated with any object that can read memory and look up names (`Target`)."""
 from .values.expressions import evaluate
 from .values.operands import BadExpression, Code, Located, Number, Operand, Steps, Target, Untold
 

@@ -1,4 +1,4 @@
-"""What the service replies to each word, by its fields: mypy checks what is read of an answer."""
+"""The fields of the service's reply to each word, as `TypedDict`s that mypy can check."""
 from __future__ import annotations
 
 from typing import List, TypedDict
@@ -29,7 +29,7 @@ class Own(TypedDict):
 
 
 class Record(Own, total=False):
-    """By its kind a record has a size, a type that it names, or the tag of what it declares."""
+    """The record of a type. Its kind decides which of `size`, `type` and `tag` it has."""
 
     size: int
     type: int
@@ -58,7 +58,7 @@ class Enumerators(TypedDict):
 
 
 class Arguments(Returned):
-    """What a function takes, and under `return` what it returns."""
+    """The type that a function returns (under the key `return`) and the types of its arguments."""
 
     args: List[int]
     varargs: bool

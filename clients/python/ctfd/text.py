@@ -1,8 +1,8 @@
-"""Names: bytes in a dictionary, escaped text in a line of the protocol, `str` in this package.
+"""Names in their three forms: bytes in a dictionary, escaped text in the protocol, `str` in Python.
 
-A name that the package hands out is a `str` without loss: UTF-8 where the bytes are that, and a
-lone surrogate for each byte that is not, as Python has file names. `raw` gives the bytes back.
-`printable` is for terminals, which a hostile name must not reach as it is.
+A `str` keeps every byte of a name: valid UTF-8 is decoded, and each other byte becomes a lone
+surrogate, as in Python's file names. `raw` gives the bytes back. `printable` escapes a name for a
+terminal: names come from files that may be hostile.
 """
 from __future__ import annotations
 
@@ -16,14 +16,14 @@ _PLAIN = re.compile(rb"[ -!#-\[\]-~]*\Z")
 
 
 def unescape(text: str) -> bytes:
-    """The bytes of a name as a reply has it."""
+    """The bytes of a name, unescaped from a reply."""
     if "\\" not in text:
         return text.encode("ascii")
     return _ESCAPE.sub(lambda found: chr(int(found[1], 16)), text).encode("latin-1")
 
 
 def escape(name: Name) -> str:
-    """A name as a request has it: each byte that is not plain as `\\x` and two digits."""
+    """A name escaped for a request: each byte that is not plain becomes `\\x` and two digits."""
     data = raw(name)
     if _PLAIN.match(data):
         return data.decode("ascii")
@@ -35,28 +35,29 @@ def _is_plain(byte: int) -> bool:
 
 
 def name(text: str) -> str:
-    """The name in a reply as a `str`, none of its bytes lost."""
+    """A name from a reply as a `str`; no byte is lost."""
     if "\\" not in text:
         return text
     return decoded(unescape(text))
 
 
 def decoded(data: bytes) -> str:
-    """The bytes of a name as a `str`, none of them lost."""
+    """The bytes of a name as a `str`; no byte is lost."""
     return data.decode("utf-8", "surrogateescape")
 
 
 def raw(name: Name) -> bytes:
-    """The bytes of a name; those that `name` was made of."""
+    """The bytes of a name."""
     return name if isinstance(name, bytes) else name.encode("utf-8", "surrogateescape")
 
 
 def printable(name: str) -> str:
-    """A name for a terminal: what is not printable as the escapes of its bytes."""
+    """A name that is safe to print on a terminal: other characters become escapes of their
+    bytes."""
     if name.isprintable():
         return name
-    return "".join(c if c.isprintable() else _escaped(c) for c in name)
+    return "".join(c if c.isprintable() else _escape(c) for c in name)
 
 
-def _escaped(character: str) -> str:
+def _escape(character: str) -> str:
     return "".join(f"\\x{byte:02x}" for byte in raw(character))

@@ -1,2 +1,2 @@
-"""The version of this package, which is that of the program it was written for."""
+"""The version of this package; it is also the version of the service it was written for."""
 VERSION = "0.2.0"

@@ -1,4 +1,5 @@
-"""A headless chromium, driven over its debugging pipe: messages of JSON that end in a zero byte."""
+"""A headless chromium, driven over its debugging pipe with JSON messages that end in a zero
+byte."""
 from __future__ import annotations
 
 import json
@@ -16,7 +17,7 @@ KEYS = {"Enter": ("Enter", "\r"), "/": ("Slash", "/")}
 
 
 class Browser:
-    """One page. `errors` are what its console and its scripts complained of."""
+    """One page. `errors` lists the errors of its console and scripts."""
 
     def __init__(self) -> None:
         self.errors: List[str] = []
@@ -52,7 +53,7 @@ class Browser:
         shutil.rmtree(self._folder, ignore_errors=True)
 
     def ask(self, method: str, **parameters: Any) -> Dict[str, Any]:
-        """What the browser answers; what it reports by itself in between is looked at."""
+        """The browser's answer; errors that it reports in between are collected."""
         self._asked += 1
         message: Dict[str, Any] = {"id": self._asked, "method": method, "params": parameters}
         if self._session:
@@ -93,7 +94,7 @@ class Browser:
         self.until("document.readyState === 'complete' && document.body !== null")
 
     def value(self, script: str) -> Any:
-        """What a script comes to."""
+        """The value of a script."""
         said = self.ask("Runtime.evaluate", expression=script, returnByValue=True)
         if "exceptionDetails" in said:
             raise AssertionError(str(said["exceptionDetails"]))
@@ -117,12 +118,12 @@ class Browser:
         self.ask("Input.insertText", text=text)
 
     def looks(self, wide: int, high: int, scheme: str) -> None:
-        """The size of the window, and whether the reader likes it light or dark."""
+        """Sets the size of the window, and the preferred color scheme: light or dark."""
         self.ask("Emulation.setDeviceMetricsOverride", width=wide, height=high,
                  deviceScaleFactor=1, mobile=False)
         self.ask("Emulation.setEmulatedMedia",
                  features=[{"name": "prefers-color-scheme", "value": scheme}])
 
     def picture(self) -> str:
-        """The window as PNG, in base 64."""
+        """A screenshot as PNG, in base64."""
         return str(self.ask("Page.captureScreenshot", format="png")["data"])

@@ -1,4 +1,4 @@
-"""The sections of a little-endian ELF file, for tests that look at one, or change it."""
+"""The sections of a little-endian ELF file, for tests that read or change one."""
 from __future__ import annotations
 
 import struct
@@ -11,7 +11,7 @@ DAMAGED = (struct.error, IndexError, KeyError, ValueError)
 
 
 class Section(NamedTuple):
-    """A section's name, what its header says, and where that is in the file."""
+    """A section's name, the fields of its header, and the header's offset in the file."""
 
     name: str
     kind: int
@@ -22,12 +22,12 @@ class Section(NamedTuple):
     header: int
 
     def bytes(self, whole: bytes) -> bytes:
-        """What it holds."""
+        """The section's content."""
         return whole[self.offset:self.offset + self.size]
 
 
 def sections(data: bytes) -> List[Section]:
-    """The sections of a file of 32 bits or of 64. Raises one of DAMAGED for what is none."""
+    """The sections of a file of 32 bits or of 64. Raises one of DAMAGED for any other file."""
     if data[:4] != b"\x7fELF":
         raise ValueError("no ELF file")
     word, at, counts, form = FORMS[data[4]]
@@ -40,8 +40,8 @@ def sections(data: bytes) -> List[Section]:
             for number, one in enumerate(headers)]
 
 
-def named(data: bytes, name: str) -> Section:
-    """The first section of a name, which is there."""
+def section_named(data: bytes, name: str) -> Section:
+    """The first section with a name, which must exist."""
     return next(one for one in sections(data) if one.name == name)
 
 

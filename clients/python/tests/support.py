@@ -1,4 +1,4 @@
-"""What the tests share: the service to ask, the examples, and small dictionaries made here."""
+"""Helpers of the tests: the service, the examples, and small dictionaries made here."""
 from __future__ import annotations
 
 import importlib.util
@@ -23,26 +23,26 @@ DEBUGINFO = COMPILED / "ctfd-debuginfo"
 DIFF = COMPILED / "ctfd-diff"
 EXPLORE = COMPILED / "ctfd-explore"
 PROGRAM = os.environ.get("CTFD", "")
-LIBRARY = os.environ.get("CTFD_LIBRARY", "")  # asked in place of the program, where it is named
+LIBRARY = os.environ.get("CTFD_LIBRARY", "")  # if set, used in place of the program
 TOOLS = all(shutil.which(tool) for tool in ("gcc", "objcopy"))
 
 INTEGER, POINTER, ARRAY, FUNCTION, STRUCT, UNION, ENUM, CONST = 1, 3, 4, 5, 6, 7, 8, 12
 
 
 def compiles(*options: str) -> bool:
-    """Whether gcc makes object files with some options."""
+    """Whether gcc can compile to object files with these options."""
     command = ["gcc", *options, "-c", "-x", "c", "/dev/null", "-o", "/dev/null"]
     return TOOLS and subprocess.run(command, capture_output=True).returncode == 0
 
 
 def has_library(name: str) -> bool:
-    """Whether this Python has a package that is needed for a part of the client alone."""
+    """Whether this Python has a package that only a part of the client needs."""
     return importlib.util.find_spec(name) is not None
 
 
 class WithService(unittest.TestCase):
-    """A test case with a service and a session of its own: the library where that is named, but for
-    cases on lines."""
+    """A test case with a service and a session of its own. If CTFD_LIBRARY is set, the library is
+    used, except by tests of the line protocol."""
 
     is_of_lines = False
 
@@ -54,11 +54,11 @@ class WithService(unittest.TestCase):
         self.addCleanup(self.client.close)
         self.session = self.client.session()
 
-    def opened(self, ctf: bytes, model: Optional[Model] = None) -> ctfd.Dictionary:
+    def open_dictionary(self, ctf: bytes, model: Optional[Model] = None) -> ctfd.Dictionary:
         return ctfd.open_source(self.session, ctfd.Source(ctf, model=model))
 
     def example(self, name: str, symbols: bool = False) -> ctfd.Dictionary:
-        """A dictionary of the examples, with its .sym and .str where symbols are wanted."""
+        """A dictionary of the examples, with its .sym and .str if `symbols` is true."""
         path = EXAMPLES / name
         if not symbols:
             return ctfd.open_file(self.session, str(path))
@@ -66,8 +66,8 @@ class WithService(unittest.TestCase):
         return ctfd.open_file(self.session, str(path), sym, strings)
 
 
-def staged(name: str) -> List[bytes]:
-    """The dictionaries that a file of requests hands in, each by one `part`."""
+def staged_dictionaries(name: str) -> List[bytes]:
+    """The dictionaries that a file of requests hands in, with one `part` each."""
     requests = map(json.loads, (EXAMPLES / name).read_text().splitlines())
     return [bytes.fromhex(r["bytes"]) for r in requests
             if r["op"] == "part" and r["section"] == "ctf" and len(r["bytes"]) > 72]
@@ -79,7 +79,7 @@ def record(kind: int, length: int, size: int, name: int = 0, tail: bytes = b"") 
 
 
 def dictionary(records: List[bytes], names: bytes = b"\0") -> bytes:
-    """A section of these types and nothing else."""
+    """A section with these types only."""
     body = b"".join(records)
     return b"\xf1\xcf\x02\0" + struct.pack("<8I", *[0] * 6, len(body), len(names)) + body + names
 
@@ -93,7 +93,7 @@ def pointer(to: int) -> bytes:
 
 
 def array(contents: int, count: int, size: int = 0) -> bytes:
-    """An array, which is indexed by type 1."""
+    """An array, with type 1 as its index."""
     return record(ARRAY, 0, size, 0, struct.pack("<HHI", contents, 1, count))
 
 
@@ -104,7 +104,7 @@ def member(name: int, t: int, offset: int) -> bytes:
 
 def object_file(folder: str, ctf: bytes, section: str = ".SUNW_ctf", code: str = "",
                 options: Sequence[str] = ()) -> Path:
-    """An object file of gcc with a section added by objcopy."""
+    """An object file of gcc, with a section added by objcopy."""
     place = Path(folder)
     (place / "code.c").write_text(code)
     (place / "section").write_bytes(ctf)
@@ -116,7 +116,7 @@ def object_file(folder: str, ctf: bytes, section: str = ".SUNW_ctf", code: str =
 
 
 def run(*words: str, command: Path = COMMAND) -> "subprocess.CompletedProcess[str]":
-    """A compiled command, run as a user would. Skips the test where it is not compiled."""
+    """Runs a compiled command as a user would. Skips the test if it is not compiled."""
     if not command.exists():
         raise unittest.SkipTest(f"there is no {command}: scripts/rust.py builds it")
     return subprocess.run([str(command), *words], capture_output=True, text=True)

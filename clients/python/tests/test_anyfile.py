@@ -1,4 +1,4 @@
-"""Any program: its types are converted on the way, and kept."""
+"""Any program: its types are converted when it is read, and cached."""
 import os
 import shutil
 import subprocess
@@ -11,12 +11,12 @@ from unittest import mock
 import ctfd
 from ctfd.client.gather import ALL_LISTS
 from ctfd.files import anyfile, compiled as compiled_command
-from ctfd.files.anyfile import Asked
+from ctfd.files.anyfile import FileOptions
 from ctfd.files.cache import Cache, key, user_cache
 from ctfd.files.opening import Opener
 
 from .support import EXAMPLES, compiles
-from .tools import CONVERTS, WHY_NOT, command, compiled
+from .tools import CONVERTS, WHY_NOT, command, compile_object
 from .whole.catalog import Catalog
 
 CODE = """
@@ -28,7 +28,7 @@ PLAIN = "struct point {\n\tint x;\n\tint y;\n\tstruct point *next;\n};\n"
 
 
 class Folder(unittest.TestCase):
-    """A test with a folder, and a cache of its own in it."""
+    """A test with a folder, and a cache in it."""
 
     def setUp(self) -> None:
         self.folder = tempfile.mkdtemp()
@@ -39,15 +39,14 @@ class Folder(unittest.TestCase):
         self.cache = Path(self.folder, "cache", "ctfd")
 
     def names(self, path: str, keeps: bool = True) -> List[str]:
-        """The names of all types, and of members, read by the package, which keeps what it
-        converts."""
+        """The names of all types and members, read by the package, which caches conversions."""
         with ctfd.connect() as client:
-            opener = Opener(client.session(), Asked(cache=user_cache if keeps else None))
+            opener = Opener(client.session(), FileOptions(cache=user_cache if keeps else None))
             catalog = Catalog(opener.open(path), ALL_LISTS)
             return [name for number in catalog.numbers for name in (
                 catalog[number].name, *(one.name for one in catalog[number].members))]
 
-    def told(self, *words: str) -> str:
+    def output(self, *words: str) -> str:
         done = command("ctfd-types", *words)
         self.assertEqual((done.returncode, done.stderr), (0, ""))
         return done.stdout
@@ -63,8 +62,8 @@ class Programs(Folder):
 
     def test_a_program_is_read_as_it_is(self) -> None:
         made = self.program()
-        self.assertEqual(self.told("--plain", made, "struct point"), PLAIN)
-        self.assertEqual(self.told(made, "moved"), "int moved(struct point *, long int);\n")
+        self.assertEqual(self.output("--plain", made, "struct point"), PLAIN)
+        self.assertEqual(self.output(made, "moved"), "int moved(struct point *, long int);\n")
         self.assertFalse(self.cache.exists())
         for _ in range(2):
             self.assertIn("point", self.names(made))
@@ -74,7 +73,7 @@ class Programs(Folder):
         made = self.program()
         self.names(made)
         with mock.patch.object(compiled_command, "bundle", side_effect=AssertionError):
-            kept = anyfile.read(made, Asked(cache=user_cache))
+            kept = anyfile.read(made, FileOptions(cache=user_cache))
         self.assertTrue(kept.is_made and kept.sources[0].sym)
         self.assertEqual(kept.sources[0].how, "named")
 
@@ -96,26 +95,26 @@ class Programs(Folder):
         subprocess.run(["objcopy", "--only-keep-debug", made, f"{made}.debug"], check=True)
         subprocess.run(["strip", made], check=True)
         subprocess.run(["objcopy", f"--add-gnu-debuglink={made}.debug", made], check=True)
-        self.assertEqual(self.told(made, "moved"), "int moved(struct point *, long int);\n")
+        self.assertEqual(self.output(made, "moved"), "int moved(struct point *, long int);\n")
 
     def test_a_pipe_and_an_archive(self) -> None:
-        made = compiled(self.folder, "code", CODE)
+        made = compile_object(self.folder, "code", CODE)
         subprocess.run(["ar", "rc", f"{self.folder}/libcode.a", made], check=True)
-        self.assertEqual(self.told("--plain", f"{self.folder}/libcode.a", "struct point"), PLAIN)
+        self.assertEqual(self.output("--plain", f"{self.folder}/libcode.a", "struct point"), PLAIN)
         os.mkfifo(f"{self.folder}/pipe")
         with subprocess.Popen(["sh", "-c", f"cat {made} > {self.folder}/pipe"]):
-            self.assertEqual(self.told("--plain", f"{self.folder}/pipe", "struct point"), PLAIN)
+            self.assertEqual(self.output("--plain", f"{self.folder}/pipe", "struct point"), PLAIN)
 
     @unittest.skipUnless(compiles("-m32"), "no gcc with -m32 here")
     def test_a_program_of_32_bits_tells_its_symbols(self) -> None:
-        made = compiled(self.folder, "code", CODE, "-m32")
-        self.assertEqual(self.told(made, "moved"), "int moved(struct point *, long int);\n")
-        self.assertEqual(self.told(made, "moved"), "int moved(struct point *, long int);\n")
+        made = compile_object(self.folder, "code", CODE, "-m32")
+        self.assertEqual(self.output(made, "moved"), "int moved(struct point *, long int);\n")
+        self.assertEqual(self.output(made, "moved"), "int moved(struct point *, long int);\n")
 
     def test_words_in_any_order(self) -> None:
         made = self.program()
         for words in ((made, "--plain", "struct point"), ("struct point", made, "--plain")):
-            self.assertEqual(self.told(*words), PLAIN)
+            self.assertEqual(self.output(*words), PLAIN)
 
     def test_what_goes_with_a_dictionary_alone(self) -> None:
         done = command("ctfd-types", "--symbols", str(EXAMPLES / "lua.sym"), self.program())

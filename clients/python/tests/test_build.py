@@ -1,4 +1,4 @@
-"""Types that are made from Python, and from C's declarations."""
+"""Types that are created in Python, and from C declarations."""
 from __future__ import annotations
 
 import subprocess
@@ -44,7 +44,7 @@ class FromPython(WithService):
             self.assertEqual(bits and bits.bits, 3)
 
     def test_what_the_service_would_place_elsewhere(self) -> None:
-        """The service aligns a struct by its first member, and gives it no padding at its end."""
+        """The service aligns a struct by its first member, and adds no padding at its end."""
         types = build.Types()
         types.struct("s", [("a", types.basic("int")), ("p", types.pointer()),
                            ("c", types.basic("char"))])
@@ -102,8 +102,9 @@ class Declarations(WithService):
         self.assertEqual(told, printed.split())
 
     def test_bit_fields_lie_where_gcc_has_them(self) -> None:
-        # as gcc 12 says, by programs that fill each: packed ones of characters are bits too, and
-        # units of a type that says more alignment are counted from the last 16 bytes
+        # As in gcc 12, found with programs that fill each: packed bit-fields of characters are
+        # placed as bits too, and units of a type with a greater alignment are counted from the last
+        # 16 bytes.
         cases = [
             ("signed char b : 7 __attribute__((packed)), c : 8 __attribute__((packed))", [3, 10]),
             ("void *p, *q; wide c : 39", [64, 128, 640]), ("void *p; wide c : 39", [64, 128])]
@@ -145,7 +146,7 @@ class Declarations(WithService):
                 '__asm__("g"); struct s { int a __attribute__((deprecated)); } __attribute__(('
                 'may_alias)); __extension__ typedef long long l;')
         self.assertEqual(build.declare(text)["struct s"].size, 4)
-        self.assertEqual(attributes.plain(text).marks, {})
+        self.assertEqual(attributes.without_attributes(text).marks, {})
 
 
 if __name__ == "__main__":

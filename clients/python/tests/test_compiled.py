@@ -1,4 +1,4 @@
-"""The compiled converter: by ours alone, wherever it stands."""
+"""The compiled converter: only our own version is used, wherever it is installed."""
 from __future__ import annotations
 
 import os
@@ -13,7 +13,7 @@ from unittest import mock
 import ctfd
 from ctfd.client import trust
 from ctfd.files import anyfile, compiled
-from ctfd.files.anyfile import Asked
+from ctfd.files.anyfile import FileOptions
 from ctfd.files.source import judge_parent
 
 from .support import CONVERT, EXAMPLES, run
@@ -21,7 +21,7 @@ from .support import CONVERT, EXAMPLES, run
 CODE = "struct point { int x, y : 3; struct point *next; } first; enum wide { A = 1L << 40 } w;\n"
 
 
-class Compiled(unittest.TestCase):
+class CompiledCommands(unittest.TestCase):
     def setUp(self) -> None:
         made = tempfile.TemporaryDirectory()
         self.addCleanup(made.cleanup)
@@ -37,14 +37,14 @@ class Compiled(unittest.TestCase):
 
     def test_what_the_command_writes(self) -> None:
         path, out = self.program(), self.folder / "out"
-        found = anyfile.read(path, Asked(form="dwarf"))
+        found = anyfile.read(path, FileOptions(form="dwarf"))
         self.assertEqual(run(path, str(out), command=CONVERT).returncode, 1)
         self.assertEqual((found.sources[0].ctf, found.sources[0].model), (out.read_bytes(), "lp64"))
         self.assertEqual([line[:24] for line in found.losses], ["enum wide: its enumerator"[:24]])
 
     def test_why_nothing_is_made(self) -> None:
         with self.assertRaisesRegex(ctfd.Unreadable, r"made\.o: it has no section \.BTF .*leave"):
-            anyfile.read(self.program(), Asked(form="btf"))
+            anyfile.read(self.program(), FileOptions(form="btf"))
 
     def test_what_is_not_ours(self) -> None:
         script = self.folder / "ctfd-convert"
@@ -72,10 +72,10 @@ class Compiled(unittest.TestCase):
         path = self.program()
         with mock.patch.object(compiled, "find", return_value=None), \
                 self.assertRaisesRegex(ctfd.Unreadable, r"made\.o: .*ctfd-convert .*: install it"):
-            anyfile.read(path, Asked())
+            anyfile.read(path, FileOptions())
 
     def test_a_dictionary_without_it(self) -> None:
-        """It is handed in as it is, where nothing else goes with it."""
+        """Without ctfd-convert, a plain dictionary is read, and other files are refused."""
         whole = (EXAMPLES / "lua.ctf").read_bytes()
         packed = whole[:3] + b"\1" + whole[4:36] + zlib.compress(whole[36:])
         path = self.folder / "types.ctf"

@@ -1,11 +1,11 @@
-"""`ctfd-diff`: a pair of programs in which each sort of change stands once."""
+"""`ctfd-diff`: a pair of programs with each sort of change once."""
 import json
 import shutil
 import tempfile
 import unittest
 
 from .support import EXAMPLES, PROGRAM
-from .tools import CONVERTS, WHY_NOT, command, converted
+from .tools import CONVERTS, WHY_NOT, command, convert_object
 
 LUA = str(EXAMPLES / "lua.ctf")
 
@@ -68,7 +68,7 @@ EDITS = (
     ("void left(void) { }", "void come(void) { }"),
 )
 
-# Each change as it is told, and what of it breaks.
+# The line for each change, and the part of it that breaks.
 TABLE = {
     "uid": ("is long unsigned int, was unsigned int", "*"),
     "hook": ("is int (*)(int, int), was int (*)(int)", "*"),
@@ -102,7 +102,7 @@ TABLE = {
 LARGE = ("struct all", "object all")
 
 
-def edited(code: str) -> str:
+def edit(code: str) -> str:
     for old, new in EDITS:
         assert code.count(old) == 1, old
         code = code.replace(old, new)
@@ -111,7 +111,7 @@ def edited(code: str) -> str:
 
 @unittest.skipUnless(CONVERTS, WHY_NOT)
 class Pair(unittest.TestCase):
-    """The two are compiled by gcc, and their debug information is converted."""
+    """The two programs are compiled by gcc, and their debug information is converted."""
 
     folder: str
     old: str
@@ -121,11 +121,11 @@ class Pair(unittest.TestCase):
     def setUpClass(cls) -> None:
         cls.folder = tempfile.mkdtemp()
         cls.addClassCleanup(shutil.rmtree, cls.folder)
-        cls.old = converted(cls.folder, "old", OLD)
-        cls.new = converted(cls.folder, "new", edited(OLD))
+        cls.old = convert_object(cls.folder, "old", OLD)
+        cls.new = convert_object(cls.folder, "new", edit(OLD))
 
     def lines(self, *words: str, status: int = 4) -> "dict[str, str]":
-        """What is told of all types and symbols, whatever is exported."""
+        """The lines about all types and symbols, whether or not they are exported."""
         done = command("ctfd-diff", "--all", *words)
         self.assertEqual((done.returncode, done.stderr), (status, ""))
         told = dict(line.split(": ", 1) for line in done.stdout.splitlines())

@@ -1,4 +1,4 @@
-"""drgn's types by a dictionary, where this Python has drgn."""
+"""drgn with the types of a dictionary, if this Python has drgn."""
 import unittest
 
 import ctfd
@@ -26,15 +26,15 @@ class Finder(WithService):
         flags = drgn.PlatformFlags.IS_LITTLE_ENDIAN | drgn.PlatformFlags.IS_64_BIT
         self.program = drgn.Program(drgn.Platform(drgn.Architecture.X86_64, flags))
 
-    def given(self, types: ctfd.Dictionary) -> None:
+    def add_types(self, types: ctfd.Dictionary) -> None:
         self.program.add_type_finder(type_finder(self.program, types))
 
     def test_each_kind(self) -> None:
-        self.given(self.opened(dictionary([
+        self.add_types(self.open_dictionary(dictionary([
             integer(name("int")),
             record(STRUCT, 4, 32, name("point"), member(name("x"), 1, 0)
-                   + member(name("next"), 3, 64) + member(name("bits"), 5, 128)
-                   + member(name("grid"), 4, 160)),
+                       + member(name("next"), 3, 64) + member(name("bits"), 5, 128)
+                       + member(name("grid"), 4, 160)),
             pointer(2), array(1, 3), integer(name("int"), 3, 4),
             record(ENUM, 1, 4, name("color"), name("RED").to_bytes(4, "little") + b"\5\0\0\0"),
             record(TYPEDEF, 0, 8, name("number")), record(CONST, 0, 1),
@@ -57,9 +57,9 @@ class Finder(WithService):
             self.program.type("struct none")
 
     def test_a_program(self) -> None:
-        """Sizes and offsets of all structs of a program by others are those of the dictionary."""
+        """Sizes and offsets of all structs of a real program match the dictionary."""
         types = self.example("lua.ctf")
-        self.given(types)
+        self.add_types(types)
         named = [t for t in types.types() if t.kind == "struct" and t.name and t.is_root]
         self.assertGreater(len(named), 30)
         for t in named:

@@ -1,4 +1,4 @@
-"""The package for people: `ctfd.open`, and dictionaries as Python's own containers."""
+"""The package for people: `ctfd.open`, and dictionaries as Python containers."""
 import gc
 import struct
 import subprocess
@@ -10,7 +10,7 @@ import ctfd
 from ctfd.files import compiled as compiled_command
 
 from .support import CONVERT, EXAMPLES, PROGRAM, run
-from .tools import CONVERTS, WHY_NOT, compiled
+from .tools import CONVERTS, WHY_NOT, compile_object
 
 MANY = 40_000
 LUA = str(EXAMPLES / "lua.ctf")
@@ -22,7 +22,7 @@ struct outer { char first; struct inner in; union { int number; float real; }; u
 
 
 def many_structs() -> bytes:
-    """BTF of more structs than a dictionary holds, each with an int."""
+    """BTF of more structs than one dictionary can have, each with an int."""
     names = b"\0int\0m\0" + b"".join(b"s%d\0" % n for n in range(MANY))
     types = struct.pack("<IIII", 1, 1 << 24, 4, 1 << 24 | 32)
     at = names.index(b"s0\0")
@@ -36,7 +36,7 @@ def many_structs() -> bytes:
 @unittest.skipUnless(PROGRAM, "CTFD names no built service")
 class Easy(unittest.TestCase):
     def test_a_program_in_parts_is_asked_as_one(self) -> None:
-        """The program itself, where ctfd-convert is there, and what that writes of it."""
+        """The program itself, if ctfd-convert is there, and the file that ctfd-convert writes."""
         if compiled_command.find() is None:
             self.skipTest("the compiled commands are not built")
         with tempfile.TemporaryDirectory() as folder:
@@ -77,7 +77,7 @@ class Easy(unittest.TestCase):
     @unittest.skipUnless(CONVERTS, WHY_NOT)
     def test_a_program_is_converted(self) -> None:
         with tempfile.TemporaryDirectory() as folder:
-            made = compiled(folder, "code", CODE)
+            made = compile_object(folder, "code", CODE)
             with ctfd.open(made, is_kept=False) as types:
                 outer = types["struct outer"]
                 self.assertEqual(outer.offsetof("in.b"), 4)
@@ -98,7 +98,7 @@ class Easy(unittest.TestCase):
             ctfd.open("/nowhere")
 
 
-class Checked(unittest.TestCase):
+class Checks(unittest.TestCase):
     def test_what_a_reply_holds_is_checked(self) -> None:
         mypy = Path("/usr/bin/mypy")
         if not mypy.exists():

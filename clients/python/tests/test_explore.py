@@ -11,7 +11,7 @@ from typing import Any, Dict
 
 from .browser import CHROMIUM, Browser
 from .support import EXAMPLES, PROGRAM, STRUCT, WithService, dictionary, integer, member, record
-from .tools import command, converted, whole_of, written
+from .tools import command, convert_object, whole_of, write_dictionary
 
 LUA = str(EXAMPLES / "lua.ctf")
 BITS = "typedef unsigned word; struct s { word a : 3, b : 5; char c : 8; char d; word e; } s;"
@@ -27,14 +27,14 @@ void none(void) { }
 
 
 def page(*words: str) -> str:
-    """What the command writes."""
+    """The output of the command."""
     done = command("ctfd-explore", *words)
     assert (done.returncode, done.stderr) == (0, ""), done.stderr
     return done.stdout
 
 
 def told_in(made: str) -> Dict[str, Any]:
-    """The types and symbols that a page has."""
+    """The types and symbols in a page."""
     told = json.loads(re.findall(r"json\">(.*?)</script>", made)[0])
     assert isinstance(told, dict)
     return told
@@ -42,7 +42,7 @@ def told_in(made: str) -> Dict[str, Any]:
 
 class Page(WithService):
     def test_what_stands_in_the_page_is_escaped(self) -> None:
-        made = page(written(self, evil()))
+        made = page(write_dictionary(self, evil()))
         self.assertEqual(made.count("<script"), 2)
         self.assertEqual(made.count("</script>"), 2)
         self.assertEqual(re.findall(r"(?:src|href)\s*=\s*[\"'](?!data:,)\w+:", made), [])
@@ -54,7 +54,7 @@ class Page(WithService):
         self.assertEqual(len(told["types"]), 2 * 526 + 1)
         self.assertTrue(all(told["types"]))
         with tempfile.TemporaryDirectory() as folder:
-            own = converted(folder, "own", "struct own { struct lua_State *p; } own;")
+            own = convert_object(folder, "own", "struct own { struct lua_State *p; } own;")
             child = f"{folder}/child.ctf"
             done = command("ctfd-convert", "--lossy", "--parent", LUA, own, child)
             self.assertEqual(done.returncode, 0, done.stderr)
@@ -64,7 +64,7 @@ class Page(WithService):
         self.assertTrue(all(told["types"]))
 
     def test_functions_and_variables(self) -> None:
-        told = told_in(page(converted(self.folder_of_files(), "symbols", CODE)))
+        told = told_in(page(convert_object(self.folder_of_files(), "symbols", CODE)))
         names = [row[1] for row in told["types"]]
         kinds = [told["kinds"][row[0]] for row in told["types"]]
         self.assertEqual({row[0] for row in told["objects"]}, {"count", "first", "names"})
@@ -75,7 +75,7 @@ class Page(WithService):
         self.assertEqual(by_name["none"], [0, [], 0, 0])
 
     def test_hidden_copies_of_bit_fields_are_known(self) -> None:
-        path = converted(self.folder_of_files(), "bits.c", BITS)
+        path = convert_object(self.folder_of_files(), "bits.c", BITS)
         told = told_in(page(path))
         by_name = [row[1] for row in told["types"]]
         self.assertEqual({by_name[one] for one in told["copies"]}, {"unsigned int", "word", "char"})
@@ -97,7 +97,7 @@ class Page(WithService):
 
 
 def evil() -> bytes:
-    """A struct and a member whose names are markup, and a name of control bytes."""
+    """A struct and a member whose names are markup, and a name of control characters."""
     names = b"\0int\0" + EVIL + b"\0\x1b[2J\x07\xff\0"
     second = 5 + len(EVIL) + 1
     return dictionary([integer(1), record(STRUCT, 1, 4, 5, member(5, 1, 0)),
@@ -116,8 +116,8 @@ class InBrowser(WithService):
         cls.browser = Browser()
         cls.addClassCleanup(cls.browser.close)
 
-    def opened(self, path: str) -> Browser:  # type: ignore[override]
-        """The page of a file."""
+    def open_page(self, path: str) -> Browser:
+        """Opens the page of a file."""
         place = Path(self.folder) / "page.html"
         place.write_text(page(path))
         self.browser.errors.clear()
@@ -128,7 +128,7 @@ class InBrowser(WithService):
         return self.browser.value("document.querySelector('h1').textContent")
 
     def test_search_follow_and_go_back(self) -> None:
-        page = self.opened(LUA)
+        page = self.open_page(LUA)
         page.press("/")
         self.assertEqual(page.value("document.activeElement.id"), "search")
         page.write("callinfo")
@@ -150,8 +150,8 @@ class InBrowser(WithService):
         self.assertEqual(page.errors, [])
 
     def test_a_member_by_its_name(self) -> None:
-        """What is found says whose it is; the address is the name of the type."""
-        page = self.opened(LUA)
+        """A result names the struct of the member; the address is the name of the type."""
+        page = self.open_page(LUA)
         page.press("/")
         page.write("nresults")
         page.until("document.querySelectorAll('#found a').length > 0")
@@ -167,7 +167,7 @@ class InBrowser(WithService):
         self.assertEqual(page.errors, [])
 
     def test_functions_variables_and_near_names(self) -> None:
-        page = self.opened(converted(self.folder, "symbols", CODE))
+        page = self.open_page(convert_object(self.folder, "symbols", CODE))
         page.press("/")
         page.write("mov")
         page.until("document.querySelectorAll('#found a').length === 1")
@@ -185,10 +185,10 @@ class InBrowser(WithService):
         self.assertEqual(page.errors, [])
 
     def test_boxes_are_where_members_are(self) -> None:
-        page = self.opened(LUA)
+        page = self.open_page(LUA)
         whole = whole_of(self, LUA)
         for name in ("struct lua_Debug", "struct CallInfo", "struct global_State"):
-            (number,) = whole.names.meant(name)
+            (number,) = whole.names.types_named(name)
             page.value(f"location.hash = '#t{number}'")
             page.until(f"document.title === '{name}'")
             drawn = page.value(BOXES)
@@ -198,12 +198,12 @@ class InBrowser(WithService):
                 self.assertAlmostEqual(x, start % 512 * 896 / 512, 3)
                 self.assertAlmostEqual(wide, bits * 896 / 512, 3)
             for place in whole.catalog.layout(number).places:
-                if place.member.name != "strcache":  # lines that it fills alone are left out
+                if place.member.name != "strcache":  # lines with nothing else are left out
                     self.assertEqual(told[place.member.name], place.bits, place.member.name)
         self.assertEqual(page.errors, [])
 
     def test_copies_of_bit_fields_are_not_listed(self) -> None:
-        page = self.opened(converted(self.folder, "bits.c", BITS))
+        page = self.open_page(convert_object(self.folder, "bits.c", BITS))
         names = page.value("[...document.querySelectorAll('#found a')].map(a => a.textContent)")
         self.assertEqual(names, ["char", "struct s", "unsigned int", "word"])
         page.value("location.hash = '#struct%20s'")
@@ -213,7 +213,7 @@ class InBrowser(WithService):
         self.assertEqual(page.errors, [])
 
     def test_names_are_no_markup(self) -> None:
-        page = self.opened(written(self, evil()))
+        page = self.open_page(write_dictionary(self, evil()))
         page.value("location.hash = '#t2'")
         page.until("document.title.includes('<script>')")
         self.assertIsNone(page.value("window.bad"))
@@ -224,7 +224,7 @@ class InBrowser(WithService):
         self.assertEqual(page.errors, [])
 
     def test_it_is_seen_in_two_widths_light_and_dark(self) -> None:
-        page = self.opened(LUA)
+        page = self.open_page(LUA)
         page.value("location.hash = '#t'")
         seen = set()
         for wide in (1280, 480):
@@ -243,7 +243,7 @@ BOXES = """[...document.querySelectorAll('#picture g')].map(g => [g.dataset.name
 
 
 if not os.environ.get("CTFD_BROWSER"):
-    del InBrowser  # these need a large package, so they run where that is asked for
+    del InBrowser  # these tests need a large package, so they run only on request
 
 
 if __name__ == "__main__":

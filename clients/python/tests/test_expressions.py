@@ -1,4 +1,4 @@
-"""C's expressions and linked lists, over a program that is a few bytes."""
+"""C expressions and linked lists, with a few bytes as the program's memory."""
 import struct
 import unittest
 from typing import Dict
@@ -21,7 +21,7 @@ START = 0x1000
 
 
 class Memory:
-    """A target whose memory are some bytes from START on."""
+    """A target whose memory is some bytes from START on."""
 
     def __init__(self, types: ctfd.Dictionary, data: bytes, names: Dict[str, Operand]) -> None:
         self.types = types
@@ -63,7 +63,7 @@ class Nodes(WithService):
         node = member(NUMBER, 1, 0) + member(NEXT, 2, 64) + member(LINK, 6, 128)
         bits = [record(INTEGER, 0, 4, INT, struct.pack("<I", 1 << 24 | width)) for width in (3, 5)]
         both = member(LOW, 4, 0) + member(HIGH, 5, 3)
-        types = self.opened(dictionary(
+        types = self.open_dictionary(dictionary(
             [integer(INT), record(POINTER, 0, 3), record(STRUCT, 3, 24, NODE, node), *bits,
              array(7, 2), record(STRUCT, 2, 4, 0, both)], NAMES))
         data = b"".join(struct.pack("<ixxxxQII", number, following, 0b11101_010, 1)
@@ -73,11 +73,11 @@ class Nodes(WithService):
             "first": Located(node_type, START), "nodes": Located(PointerTo(node_type), START + 8),
             "main": Code(None, 0x99)})
 
-    def told(self, expression: str) -> Operand:
+    def evaluate(self, expression: str) -> Operand:
         return evaluate(expression, self.target)
 
     def number(self, expression: str) -> int:
-        return Steps(self.target).number(self.told(expression))
+        return Steps(self.target).number(self.evaluate(expression))
 
     def test_members_and_elements(self) -> None:
         for expression, number in (
@@ -94,12 +94,12 @@ class Nodes(WithService):
         self.assertEqual(self.number("(int) 0x1ffffffff"), 0xFFFFFFFF)
         self.assertEqual(self.number("(int) - 1"), 0xFFFFFFFF)
         self.assertEqual(self.number("(first.number) - 1"), 0)
-        said = self.told("&first")
+        said = self.evaluate("&first")
         assert isinstance(said, Number) and said.type
         self.assertEqual(declaration(said.type), "struct node *")
 
     def test_a_whole_struct(self) -> None:
-        told = Steps(self.target).read(self.told("nodes[1].link"))
+        told = Steps(self.target).read(self.evaluate("nodes[1].link"))
         self.assertEqual(told, Parts([Parts([Leaf("2"), Leaf("-3")], 2),
                                       Parts([Leaf("1"), Leaf("0")], 2)], 2))
 
@@ -114,37 +114,37 @@ class Nodes(WithService):
             with self.assertRaisesRegex(BadExpression, said):
                 self.number(expression)
         with self.assertRaises(ctfd.NotFound):
-            self.told("(struct other *) 1")
+            self.evaluate("(struct other *) 1")
 
     def test_many_prefixes(self) -> None:
         self.assertEqual(self.number("-" * 5000 + "1"), 1)
 
     def test_a_list(self) -> None:
-        followed = follow(Steps(self.target), self.told("first"), "next", None, Bounds())
+        followed = follow(Steps(self.target), self.evaluate("first"), "next", None, Bounds())
         self.assertEqual([node.address for node in followed.nodes],
                          [START, START + 24, START + 48])
         self.assertEqual((followed.back, followed.more, followed.lost), (None, False, None))
-        again = follow(Steps(self.target), self.told("nodes"), "next", None, Bounds(elements=1))
+        again = follow(Steps(self.target), self.evaluate("nodes"), "next", None, Bounds(elements=1))
         self.assertEqual((len(again.nodes), again.more), (1, True))
 
     def test_a_list_that_goes_in_a_circle(self) -> None:
         data = bytearray(self.target.data)
         data[56:64] = struct.pack("<Q", START + 24)
         self.target.data = bytes(data)
-        followed = follow(Steps(self.target), self.told("&first"), "next", None, Bounds())
+        followed = follow(Steps(self.target), self.evaluate("&first"), "next", None, Bounds())
         self.assertEqual((len(followed.nodes), followed.back), (3, 1))
         data[56:64] = struct.pack("<Q", 0xDEAD0000)
         self.target.data = bytes(data)
-        followed = follow(Steps(self.target), self.told("&first"), "next", None, Bounds())
+        followed = follow(Steps(self.target), self.evaluate("&first"), "next", None, Bounds())
         self.assertEqual((len(followed.nodes), followed.lost), (3, 0xDEAD0008))
 
 
-class Embedded(WithService):
+class EmbeddedLinks(WithService):
     def test_links_within_nodes(self) -> None:
         """struct node { int number; struct link { struct link *next, *previous; } link; }"""
         link = member(NEXT, 2, 0) + member(LOW, 2, 64)
         node = member(NUMBER, 1, 0) + member(LINK, 3, 64)
-        types = self.opened(dictionary(
+        types = self.open_dictionary(dictionary(
             [integer(INT), record(POINTER, 0, 3), record(STRUCT, 2, 16, HIGH, link),
              record(STRUCT, 2, 24, NODE, node)], NAMES))
         data = struct.pack("<QQ", START + 24, 0)

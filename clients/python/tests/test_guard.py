@@ -1,7 +1,7 @@
-"""`ctfd-diff` as a guard of releases: what a library exports, and the types that these reach.
+"""`ctfd-diff` as a check of releases: the exports of a library, and the types that they use.
 
-Each made change is given to abidiff too, where it is here: what it calls a change is never the same
-to `ctfd-diff`, and what it calls incompatible breaks.
+abidiff, if installed, gets each change too: if it reports a change, so does `ctfd-diff`, and if it
+calls the change incompatible, `ctfd-diff` says that it breaks.
 """
 import json
 import random
@@ -41,8 +41,8 @@ int used(void) { return helper(&hidden); }
 """
 
 
-class Made(NamedTuple):
-    """A change of the code, and the status that it has; `says` is in what is told."""
+class Change(NamedTuple):
+    """A change to the code, and the expected status; `says` is a part of the output."""
 
     kind: str
     old: str
@@ -52,55 +52,56 @@ class Made(NamedTuple):
 
 
 MADE = (
-    Made("a member added at the end", "const char *text;", "const char *text; int more;", 4,
-         "struct node: size 80 -> 88; more added at 80"),
-    Made("a member added in a hole", "char tag; int key;", "char tag; char more; int key;", 1,
-         "struct node: more added at 1"),
-    Made("members moved", "short a, b;", "short b, a;", 4,
-         "struct far: a moved from 0 to 2; b moved from 2 to 0\n"
-         "    walk: takes struct near *, whose member far is struct far *"),
-    Made("a member removed", "short a, b;", "short a;", 4, "struct far: size 4 -> 2; b removed"),
-    Made("a member wider", "int a; long b;", "long a; long b;", 4, "a is long int, was int"),
-    Made("a member's sign", "short a, b;", "short a; unsigned short b;", 4,
-         "b is short unsigned int, was short int"),
-    Made("a member renamed", "short a, b;", "short a, c;", 1, "struct far: b renamed c"),
-    Made("an enumerator added", "BLUE }", "BLUE, BLACK }", 1, "enum color: BLACK = 3 added"),
-    Made("an enumerator's value", "GREEN,", "GREEN = 5,", 4, "GREEN 1 -> 5; BLUE 2 -> 6"),
-    Made("an enumerator removed", "BLUE }", "}", 4, "enum color: BLUE removed"),
-    Made("an argument's type", "word by", "long by", 4, "function scale: argument 1 is long int"),
-    Made("an argument added", "(void) { hidden", "(int n) { hidden", 4,
-         "function gone: takes 1 arguments, took 0"),
-    Made("what is returned", "long scale", "int scale", 4,
-         "function scale: what it returns is int"),
-    Made("a typedef of another", "typedef unsigned int word", "typedef unsigned long word", 4,
-         "function scale: argument 1 is another word"),
-    Made("a typedef renamed", "word", "wide", 0),
-    Made("a base type spelled otherwise", "unsigned long bytes", "long unsigned int bytes", 0),
-    Made("a bit-field wider", "low : 3, high : 5", "low : 4, high : 5", 4, "low 3 bits -> 4 bits"),
-    Made("a bit-field moved", "low : 3, high : 5", "high : 5, low : 3", 4,
-         "low moved from 36 to 36:5; high moved from 36:3 to 36"),
-    Made("an alignment", "struct inner {", "struct __attribute__((aligned(64))) inner {", 4,
-         "struct inner: size 16 -> 64"),
-    Made("packed", "struct inner {", "struct __attribute__((packed)) inner {", 4,
-         "struct inner: size 16 -> 12; b moved from 8 to 4"),
-    Made("an array's length", "name[16]", "name[24]", 4, "name is char [24], was char [16]"),
-    Made("static alone", "struct hidden { int q; }", "struct hidden { long q, r; }", 0),
-    Made("a function removed", "void gone(void) { hidden.q = total; }", "", 4,
-         "function gone: removed"),
-    Made("a function made static", "void gone(void)",
-         "static __attribute__((used)) void gone(void)",
-         4, "function gone: removed"),
-    Made("a function hidden", "void gone(void)",
-         "__attribute__((visibility(\"hidden\"))) void gone(void)", 4, "function gone: removed"),
-    Made("a function added", "void gone(void)", "void come(void) {}\nvoid gone(void)", 1,
-         "function come: added"),
-    Made("an object's type", "int total;", "long total;", 4, "object total: it is long int"),
-    Made("a pointer to const", "int (*each)(struct opaque *, char *)",
-         "int (*each)(struct opaque *, const char *)", 1, "argument 2 is const char *"),
-    Made("a callback's argument", "int (*hook)(int)", "int (*hook)(long)", 4,
-         "argument 1 is long int, was int"),
-    Made("a union's member", "long l;", "long l[2];", 4, "union both: size 8 -> 16"),
-    Made("a pointer's target", "struct far *far;", "struct inner *far;", 4, "a wider"),
+    Change("a member added at the end", "const char *text;", "const char *text; int more;", 4,
+           "struct node: size 80 -> 88; more added at 80"),
+    Change("a member added in a hole", "char tag; int key;", "char tag; char more; int key;", 1,
+           "struct node: more added at 1"),
+    Change("members moved", "short a, b;", "short b, a;", 4,
+           "struct far: a moved from 0 to 2; b moved from 2 to 0\n"
+           "    walk: takes struct near *, whose member far is struct far *"),
+    Change("a member removed", "short a, b;", "short a;", 4, "struct far: size 4 -> 2; b removed"),
+    Change("a member wider", "int a; long b;", "long a; long b;", 4, "a is long int, was int"),
+    Change("a member's sign", "short a, b;", "short a; unsigned short b;", 4,
+           "b is short unsigned int, was short int"),
+    Change("a member renamed", "short a, b;", "short a, c;", 1, "struct far: b renamed c"),
+    Change("an enumerator added", "BLUE }", "BLUE, BLACK }", 1, "enum color: BLACK = 3 added"),
+    Change("an enumerator's value", "GREEN,", "GREEN = 5,", 4, "GREEN 1 -> 5; BLUE 2 -> 6"),
+    Change("an enumerator removed", "BLUE }", "}", 4, "enum color: BLUE removed"),
+    Change("an argument's type", "word by", "long by", 4, "function scale: argument 1 is long int"),
+    Change("an argument added", "(void) { hidden", "(int n) { hidden", 4,
+           "function gone: takes 1 arguments, took 0"),
+    Change("what is returned", "long scale", "int scale", 4,
+           "function scale: what it returns is int"),
+    Change("a typedef of another", "typedef unsigned int word", "typedef unsigned long word", 4,
+           "argument 1: word changed from unsigned int to long unsigned int"),
+    Change("a typedef renamed", "word", "wide", 0),
+    Change("a base type spelled otherwise", "unsigned long bytes", "long unsigned int bytes", 0),
+    Change("a bit-field wider", "low : 3, high : 5", "low : 4, high : 5", 4,
+           "low 3 bits -> 4 bits"),
+    Change("a bit-field moved", "low : 3, high : 5", "high : 5, low : 3", 4,
+           "low moved from 36 to 36:5; high moved from 36:3 to 36"),
+    Change("an alignment", "struct inner {", "struct __attribute__((aligned(64))) inner {", 4,
+           "struct inner: size 16 -> 64"),
+    Change("packed", "struct inner {", "struct __attribute__((packed)) inner {", 4,
+           "struct inner: size 16 -> 12; b moved from 8 to 4"),
+    Change("an array's length", "name[16]", "name[24]", 4, "name is char [24], was char [16]"),
+    Change("static alone", "struct hidden { int q; }", "struct hidden { long q, r; }", 0),
+    Change("a function removed", "void gone(void) { hidden.q = total; }", "", 4,
+           "function gone: removed"),
+    Change("a function made static", "void gone(void)",
+           "static __attribute__((used)) void gone(void)",
+           4, "function gone: removed"),
+    Change("a function hidden", "void gone(void)",
+           "__attribute__((visibility(\"hidden\"))) void gone(void)", 4, "function gone: removed"),
+    Change("a function added", "void gone(void)", "void come(void) {}\nvoid gone(void)", 1,
+           "function come: added"),
+    Change("an object's type", "int total;", "long total;", 4, "object total: it is long int"),
+    Change("a pointer to const", "int (*each)(struct opaque *, char *)",
+           "int (*each)(struct opaque *, const char *)", 1, "argument 2 is const char *"),
+    Change("a callback's argument", "int (*hook)(int)", "int (*hook)(long)", 4,
+           "argument 1 is long int, was int"),
+    Change("a union's member", "long l;", "long l[2];", 4, "union both: size 8 -> 16"),
+    Change("a pointer's target", "struct far *far;", "struct inner *far;", 4, "a wider"),
 )
 
 
@@ -123,12 +124,12 @@ class Guard(unittest.TestCase):
                        check=True)
         return made
 
-    def told(self, *words: str, status: int) -> List[str]:
+    def output(self, *words: str, status: int) -> List[str]:
         done = command("ctfd-diff", "--no-cache", *words)
         self.assertEqual((done.returncode, done.stderr), (status, ""), done.stdout)
         return done.stdout.splitlines()
 
-    def changed(self, made: Made) -> str:
+    def change_code(self, made: Change) -> str:
         assert made.old in CODE, made.kind
         name = made.kind.replace(" ", "-").replace("'", "")
         done = f"{self.folder}/lib{name}.so"
@@ -138,8 +139,8 @@ class Guard(unittest.TestCase):
     def test_each_made_change(self) -> None:
         for made in MADE:
             with self.subTest(made.kind):
-                new = self.changed(made)
-                told = "\n".join(self.told(self.old, new, status=made.status))
+                new = self.change_code(made)
+                told = "\n".join(self.output(self.old, new, status=made.status))
                 if made.kind == "a pointer's target":
                     self.assertIn("struct far", told)
                 else:
@@ -147,46 +148,46 @@ class Guard(unittest.TestCase):
 
     @unittest.skipUnless(shutil.which("abidiff"), "no abidiff here")
     def test_abidiff_tells_no_more(self) -> None:
-        """Its status 4 is a change, and 8 one that is incompatible."""
+        """abidiff reports no more: its status has bit 4 for a change, 8 for an incompatible one."""
         for made in MADE:
             with self.subTest(made.kind):
-                theirs = subprocess.run(["abidiff", self.old, self.changed(made)],
+                theirs = subprocess.run(["abidiff", self.old, self.change_code(made)],
                                         capture_output=True).returncode
                 self.assertEqual(theirs & 3, 0)
                 self.assertFalse(theirs & 4 and made.status == 0)
                 self.assertFalse(theirs & 8 and made.status != 4)
 
     def test_static_ones_are_told_with_all(self) -> None:
-        new = self.changed(next(one for one in MADE if one.kind == "static alone"))
+        new = self.change_code(next(one for one in MADE if one.kind == "static alone"))
         self.assertIn("struct hidden: size 4 -> 16; q is long int, was int; r added at 8",
-                      self.told("--all", self.old, new, status=4))
+                      self.output("--all", self.old, new, status=4))
 
     def test_the_same_by_another_compiler_and_optimised(self) -> None:
-        self.told(self.old, self.library("fast", CODE, "-O2", "-flto"), status=0)
+        self.output(self.old, self.library("fast", CODE, "-O2", "-flto"), status=0)
         if shutil.which("clang"):
             made = f"{self.folder}/clang.so"
             subprocess.run(["clang", "-g", "-fPIC", "-shared", f"{self.folder}/old.c", "-o", made],
                            check=True)
-            self.told(self.old, made, status=0)
-            self.told(made, self.old, status=0)
+            self.output(self.old, made, status=0)
+            self.output(made, self.old, status=0)
 
     def test_what_is_suppressed(self) -> None:
         new = self.library("new", CODE.replace("short a, b;", "short b, a;")
                            .replace("int total;", "long total;"))
         listed = Path(self.folder, "listed")
-        self.assertEqual(len(self.told(self.old, new, status=4)), 3)
+        self.assertEqual(len(self.output(self.old, new, status=4)), 3)
         listed.write_text("# known\nstruct fa*\n")
-        self.assertEqual(self.told("--suppress", str(listed), self.old, new, status=4),
+        self.assertEqual(self.output("--suppress", str(listed), self.old, new, status=4),
                          ["object total: it is long int, was int"])
         listed.write_text("total # an object\nfunction walk\n")
-        self.told("--suppress", str(listed), self.old, new, status=0)
+        self.output("--suppress", str(listed), self.old, new, status=0)
         done = command("ctfd-diff", "--suppress", "/nowhere", self.old, new)
         self.assertEqual((done.returncode, done.stderr),
                          (2, "ctfd-diff: /nowhere: No such file or directory\n"))
 
     def test_objects_of_json(self) -> None:
         new = self.library("new", CODE.replace("short a, b;", "short a;"))
-        (told,) = map(json.loads, self.told("--json", self.old, new, status=4))
+        (told,) = map(json.loads, self.output("--json", self.old, new, status=4))
         self.assertEqual(told["reached"], [{"symbols": ["walk"], "steps": [
             "takes struct near *", "whose member far is struct far *"]}])
 
@@ -198,7 +199,7 @@ class Guard(unittest.TestCase):
         script.write_text("V1 { global: gone; local: *; };\nV2 { global: find; };\n")
         other = self.library("other", CODE, f"-Wl,--version-script={script}",
                              "-Wl,-soname,lib.so.2")
-        told = self.told(first, other, status=4)
+        told = self.output(first, other, status=4)
         self.assertIn("function find@V1: removed", told)
         self.assertIn("function find@V2: added", told)
         self.assertTrue(any(line.startswith("the library: soname lib.so.1 -> lib.so.2")
@@ -207,7 +208,7 @@ class Guard(unittest.TestCase):
     def test_what_is_only_declared_in_one_is_told_once(self) -> None:
         new = self.library("new", CODE.replace("struct far { short a, b; };", "struct far;")
                            .replace("start->far->a = 1;", ""))
-        self.assertEqual(self.told(self.old, new, status=1), [
+        self.assertEqual(self.output(self.old, new, status=1), [
             "struct far: only declared now, and not compared",
             "    walk: takes struct near *, whose member far is struct far *"])
 
@@ -234,9 +235,9 @@ class Guard(unittest.TestCase):
     def test_libraries_of_32_bits(self) -> None:
         old, new = (self.library(name, code, "-m32", "-nostdlib") for name, code in (
             ("old32", CODE), ("new32", CODE.replace("short a, b;", "short b, a;"))))
-        self.told(old, old, status=0)
+        self.output(old, old, status=0)
         self.assertIn("struct far: a moved from 0 to 2; b moved from 2 to 0",
-                      self.told(old, new, status=4))
+                      self.output(old, new, status=4))
 
     def test_a_program_that_exports_nothing_is_compared_as_a_whole(self) -> None:
         code = "struct s { int a; } s; int main(void) { return s.a; }\n"
@@ -245,7 +246,7 @@ class Guard(unittest.TestCase):
             Path(self.folder, f"{name}.c").write_text(text)
             made.append(f"{self.folder}/{name}")
             subprocess.run(["gcc", "-g", f"{made[-1]}.c", "-o", made[-1]], check=True)
-        self.assertIn("struct s: size 4 -> 8; a is long int, was int", self.told(*made, status=4))
+        self.assertIn("struct s: size 4 -> 8; a is long int, was int", self.output(*made, status=4))
 
 
 if __name__ == "__main__":

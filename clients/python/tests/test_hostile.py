@@ -1,4 +1,4 @@
-"""Hostile dictionaries: each tool ends, escapes what it prints, and says what it cut."""
+"""Hostile dictionaries: each command ends, escapes its output, and reports what it cut."""
 import struct
 import unittest
 import xml.etree.ElementTree as ET
@@ -6,7 +6,7 @@ from typing import Dict, Tuple
 
 from .support import (FUNCTION, POINTER, PROGRAM, STRUCT, UNION, WithService, dictionary, integer,
                       member, record)
-from .tools import command, written
+from .tools import command, write_dictionary
 
 EVIL = b"<script>alert(1)</script>\"'&\x1b[2J\r\n*/"
 
@@ -27,7 +27,7 @@ def cycles() -> bytes:
 
 
 def many() -> bytes:
-    """A union and a struct of 1,023 members each, the one in the other."""
+    """A union and a struct of 1,023 members each, one inside the other."""
     parts = b"".join(member(5, 1, 32 * n) for n in range(1023))
     within = b"".join(member(5, 2, 0) for _ in range(1023))
     return dictionary([integer(1), record(STRUCT, 1023, 4092, 5, parts),
@@ -43,8 +43,8 @@ def doubles() -> bytes:
     return dictionary(records, b"\0int\0s\0")
 
 
-def deep() -> bytes:
-    """As deep as the service lets values stand in each other."""
+def deep_value() -> bytes:
+    """Values nested as deep as the service allows."""
     records = [integer(1)] + [record(STRUCT, 1, 4, 5, member(5, t, 0)) for t in range(1, 500)]
     return dictionary(records, b"\0int\0s\0")
 
@@ -56,7 +56,7 @@ def overlapping() -> bytes:
                       b"\0int\0")
 
 
-MADE = {"control": control, "cycles": cycles, "many": many, "doubles": doubles, "deep": deep,
+MADE = {"control": control, "cycles": cycles, "many": many, "doubles": doubles, "deep": deep_value,
         "overlapping": overlapping}
 TYPES: Tuple[Tuple[str, ...], ...] = (
     ("--sizes",), ("--holes",), ("--c",), ("--json",), ("--svg-sizes",), ("--expand", "-C", "*"),
@@ -68,11 +68,12 @@ TYPES: Tuple[Tuple[str, ...], ...] = (
 class Hostile(WithService):
     def setUp(self) -> None:
         super().setUp()
-        self.paths: Dict[str, str] = {name: written(self, make()) for name, make in MADE.items()}
+        self.paths: Dict[str, str] = {name: write_dictionary(self, make())
+                                      for name, make in MADE.items()}
 
-    def ended(self, name: str, *words: str) -> str:
-        """What a command printed, once it is judged how it ended: of `ctfd-diff` 4 is of what
-        breaks, and 2 of what could not be compared, which is told."""
+    def run_to_end(self, name: str, *words: str) -> str:
+        """The output of a command, after a check of its status: for `ctfd-diff`, 4 means a breaking
+        change, and 2 that something could not be compared, with a message."""
         done = command(name, *words)
         statuses = (0, 1, 2, 4) if name == "ctfd-diff" else (0, 1)
         if name == "ctfd-diff" and done.returncode == 2:
@@ -86,11 +87,11 @@ class Hostile(WithService):
     def test_ctfd_types(self) -> None:
         for path in self.paths.values():
             for words in TYPES:
-                self.ended("ctfd-types", *words, path)
+                self.run_to_end("ctfd-types", *words, path)
 
     def test_pictures(self) -> None:
         for name, path in self.paths.items():
-            made = self.ended("ctfd-types", "--svg", "*", path)
+            made = self.run_to_end("ctfd-types", "--svg", "*", path)
             if made:
                 self.assertEqual(ET.fromstring(made).findall(".//{*}script"), [])
             else:
@@ -104,12 +105,12 @@ class Hostile(WithService):
 
     def test_ctfd_diff(self) -> None:
         for path in self.paths.values():
-            self.assertEqual(self.ended("ctfd-diff", path, path), "")
-            self.ended("ctfd-diff", self.paths["control"], path)
+            self.assertEqual(self.run_to_end("ctfd-diff", path, path), "")
+            self.run_to_end("ctfd-diff", self.paths["control"], path)
 
     def test_ctfd_explore(self) -> None:
         for path in self.paths.values():
-            self.assertEqual(self.ended("ctfd-explore", path).count("<script"), 2)
+            self.assertEqual(self.run_to_end("ctfd-explore", path).count("<script"), 2)
 
 
 if __name__ == "__main__":

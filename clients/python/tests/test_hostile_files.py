@@ -1,5 +1,5 @@
-"""ctfd-convert on files that were made to lead it astray: refused or read, in time and memory that
-go with their bytes."""
+"""ctfd-convert on files that were made to mislead it: refused or read, in time and memory
+proportional to their size."""
 from __future__ import annotations
 
 import os
@@ -16,7 +16,7 @@ from .support import CONVERT, PROGRAM, TOOLS
 from .test_convert import CODE, WithFiles
 
 SECONDS, MEGABYTES = 20, 1000
-# Abbreviations: the code, the tag, whether it has children, and attributes with their forms.
+# Abbreviations: the code, the tag, whether there are children, and attributes with their forms.
 (UNIT, BASE, STRUCT, MEMBER, POINTER, SUBPROGRAM, COPY, FORMAL, TYPEDEF, BITS, LINKED,
  ENUM) = range(1, 13)
 Abbreviation = Tuple[int, int, bool, Sequence[Tuple[int, int]]]
@@ -43,14 +43,14 @@ def abbreviations() -> bytes:
 
 
 class Unit:
-    """A unit of DWARF 4 that is written entry by entry."""
+    """A unit of DWARF 4, written entry by entry."""
 
     def __init__(self) -> None:
         self.body = bytearray(bytes([UNIT, 0x0C]))
 
     @property
     def here(self) -> int:
-        """Where the next entry begins, as others name it."""
+        """The offset of the next entry."""
         return 11 + len(self.body)
 
     def add(self, code: int, *values: bytes) -> int:
@@ -59,7 +59,7 @@ class Unit:
         return at
 
     def end(self) -> None:
-        """The end of a list of children."""
+        """Ends a list of children."""
         self.body += b"\0"
 
     @property
@@ -73,7 +73,7 @@ def to(place: int) -> bytes:
 
 
 def same_name_and_others_behind() -> bytes:
-    """Structs of one name that differ in what they point to alone."""
+    """Structs of one name that differ only in what they point to."""
     made = b""
     for first in (0, 6000):
         unit = Unit()
@@ -88,7 +88,7 @@ def same_name_and_others_behind() -> bytes:
 
 
 def a_long_chain() -> bytes:
-    """Pointers to pointers, and no name on the way."""
+    """Pointers to pointers, without a name on the way."""
     unit = Unit()
     last = unit.add(BASE, b"int\0", b"\4\5")
     for _ in range(40_000):
@@ -140,18 +140,18 @@ MADE = (same_name_and_others_behind, a_long_chain, copies_of_one_function,
         bit_fields_behind_typedefs, names_that_are_ends_of_one, the_shortest_entries)
 
 
-def _bounded() -> None:
+def _set_limits() -> None:
     resource.setrlimit(resource.RLIMIT_CPU, (2 * SECONDS, 2 * SECONDS))
 
 
-class Bounded(WithFiles):
-    """A test case in which a command takes no more than it may."""
+class BoundedCase(WithFiles):
+    """A test case that limits a command's time and memory."""
 
-    def judged(self, name: str) -> str:
-        """Converts a file within bounds; what was told."""
+    def convert_bounded(self, name: str) -> str:
+        """Converts a file within limits, and returns the messages."""
         command = [str(CONVERT), str(self.folder / name), str(self.folder / "out")]
         with tempfile.TemporaryFile("w+") as told:
-            child = subprocess.Popen(command, stderr=told, preexec_fn=_bounded)
+            child = subprocess.Popen(command, stderr=told, preexec_fn=_set_limits)
             _, status, used = os.wait4(child.pid, 0)
             child.returncode = os.WEXITSTATUS(status)
             told.seek(0)
@@ -164,9 +164,9 @@ class Bounded(WithFiles):
 
 
 @unittest.skipUnless(TOOLS and PROGRAM, "no service, gcc or objcopy here")
-class Made(Bounded):
+class HostileFiles(BoundedCase):
     def test_time_and_memory_go_with_the_bytes(self) -> None:
-        empty = self.compiled("empty.o", "int wanted(void) { return 0; }", "-g0")
+        empty = self.compile_code("empty.o", "int wanted(void) { return 0; }", "-g0")
         sections = {"abbrev": abbreviations(), "str": b"x" * 100_000 + b"\0"}
         for make in MADE:
             with self.subTest(make.__name__):
@@ -175,31 +175,31 @@ class Made(Bounded):
                     words[1:1] = ["--add-section",
                                   f".debug_{name}={self.file(name, data)}"]
                 subprocess.run(words, check=True)
-                self.judged("made.o")
+                self.convert_bounded("made.o")
 
 
 @unittest.skipUnless(TOOLS and PROGRAM, "no service, gcc or objcopy here")
-class Named(Bounded):
-    """Files that other files name, and places that lead out of a file."""
+class NamedFiles(BoundedCase):
+    """Files that other files name, and paths and offsets that lead outside."""
 
-    def refused(self, *words: str) -> str:
-        told = self.converted(*words, status=2)[1]
+    def refusal(self, *words: str) -> str:
+        told = self.convert(*words, status=2)[1]
         self.assertEqual(len(told.splitlines()), 1, told)
         return told
 
     def test_a_header_that_names_no_place(self) -> None:
-        data = bytearray(Path(self.compiled("code.o", CODE)).read_bytes())
+        data = bytearray(Path(self.compile_code("code.o", CODE)).read_bytes())
         for place in ((1 << 64) - 1, 1 << 63, len(data) - 1):
             struct.pack_into("<Q", data, 40, place)
             path = self.file("far.o", bytes(data))
-            self.assertIn("a damaged ELF file", self.refused(path))
+            self.assertIn("a damaged ELF file", self.refusal(path))
 
     def test_what_is_read_is_a_file(self) -> None:
-        self.assertIn("/dev/zero: not a regular file", self.refused("/dev/zero"))
-        self.assertIn("it is a folder", self.refused(str(self.folder)))
+        self.assertIn("/dev/zero: not a regular file", self.refusal("/dev/zero"))
+        self.assertIn("is a directory", self.refusal(str(self.folder)))
 
     def test_a_debug_link_names_a_regular_file_beside_it(self) -> None:
-        bare = self.compiled("bare.o", CODE, "-g0")
+        bare = self.compile_code("bare.o", CODE, "-g0")
         for name, make in (("zero.debug", lambda to: os.symlink("/dev/zero", to)),
                            ("pipe.debug", os.mkfifo)):
             apart, linked = self.folder / name, str(self.folder / f"{name}.o")
@@ -207,7 +207,7 @@ class Named(Bounded):
             subprocess.run(["objcopy", f"--add-gnu-debuglink={apart}", bare, linked], check=True)
             apart.unlink()
             make(apart)
-            self.assertIn("no debug information", self.judged(f"{name}.o"))
+            self.assertIn("no debug information", self.convert_bounded(f"{name}.o"))
 
     @unittest.skipUnless(shutil.which("dwz"), "no dwz here")
     def test_a_link_of_dwz_stays_in_the_folders_that_are_searched(self) -> None:
@@ -219,26 +219,26 @@ class Named(Bounded):
         subprocess.run(["dwz", "-m", "../common", "-M", "../common", "one", "two"], check=True,
                        cwd=self.folder / "inside")
         two = str(self.folder / "inside/two")
-        self.assertIn("name its folder by --debug-folder", self.refused(two))
-        self.converted(two, "--debug-folder", str(self.folder))
+        self.assertIn("name its folder by --debug-folder", self.refusal(two))
+        self.convert(two, "--debug-folder", str(self.folder))
         (self.folder / "common").unlink()
         os.mkfifo(self.folder / "common")
-        self.assertIn("a file that dwz made", self.refused(two, "--debug-folder", str(self.folder)))
+        self.assertIn("a file that dwz made", self.refusal(two, "--debug-folder", str(self.folder)))
 
     def test_sections_that_say_more_than_they_can_inflate_to(self) -> None:
-        path = self.compiled("packed.o", CODE, "-g", "-gz")
+        path = self.compile_code("packed.o", CODE, "-g", "-gz")
         data = bytearray(Path(path).read_bytes())
         at = data.index(struct.pack("<I", 1) + bytes(4), 64)  # the header of a compressed section
         struct.pack_into("<Q", data, at + 8, 1 << 40)
-        self.assertIn("damage", self.refused(self.file("far.o", bytes(data))))
+        self.assertIn("damage", self.refusal(self.file("far.o", bytes(data))))
 
     def test_an_archive_that_leads_back(self) -> None:
-        self.compiled("code.o", CODE)
+        self.compile_code("code.o", CODE)
         subprocess.run(["ar", "rc", "code.a", "code.o"], cwd=self.folder, check=True)
         data = (self.folder / "code.a").read_bytes()
         for size in (b"-60       ", b"9999999999"):
             path = self.file("bad.a", data[:8 + 48] + size + data[8 + 58:])
-            self.assertRegex(self.refused(path), "a damaged archive|an archive that is cut off")
+            self.assertRegex(self.refusal(path), "a damaged archive|an archive that is cut off")
 
 
 if __name__ == "__main__":

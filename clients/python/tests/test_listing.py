@@ -1,4 +1,4 @@
-"""Declarations and listings: as C writes them, and as pahole prints places and holes."""
+"""Declarations and listings: as C writes them, and with pahole's offsets and holes."""
 import re
 import shutil
 import struct
@@ -11,7 +11,7 @@ import ctfd
 from ctfd.client.types import QUALIFIERS
 
 from .support import (EXAMPLES, STRUCT, TOOLS, WithService, dictionary, integer, object_file,
-                      record, staged)
+                      record, staged_dictionaries)
 
 DEBUG = """\
 struct lua_Debug {
@@ -74,8 +74,8 @@ OTHERS = {"expdesc", "global_State", "inflate_state"}
 
 class Declarations(WithService):
     def test_all_types_are_declared_as_the_service_spells_them(self) -> None:
-        """But for arguments, which the service leaves out, and for the qualifiers of an array,
-        which C says of what it holds, and the service in front of all, as libctf does."""
+        """Arguments are not compared, which the service leaves out, nor are qualifiers of arrays,
+        which C puts at the elements, and the service in front, as libctf does."""
         for name in ("lua.ctf", "zlib.ctf"):
             types = self.example(name).types()
             for t in types:
@@ -108,7 +108,7 @@ class Declarations(WithService):
                          "typedef int (*lua_CFunction)(lua_State *);")
 
     def test_an_enum(self) -> None:
-        opened = self.opened(staged("struct.jsonl")[0])
+        opened = self.open_dictionary(staged_dictionaries("struct.jsonl")[0])
         self.assertEqual(ctfd.definition(opened.find("enum color")),
                          "enum color {\n\tred   = 0,\n\tgreen = 1,\n\tnone  = -1,\n};")
 
@@ -121,7 +121,7 @@ class Listings(WithService):
         self.assertEqual(ctfd.definition(self.example("lua.ctf").find("struct MatchState")), MATCH)
 
     def test_bit_fields(self) -> None:
-        flags = self.opened(staged("bits.jsonl")[0]).find("struct flags")
+        flags = self.open_dictionary(staged_dictionaries("bits.jsonl")[0]).find("struct flags")
         self.assertEqual(ctfd.listing(flags), FLAGS)
 
     def test_a_struct_that_doubles_at_each_level(self) -> None:
@@ -129,13 +129,13 @@ class Listings(WithService):
         for level in range(2, 100):
             two = struct.pack("<IHHIHH", 0, level - 1, 0, 0, level - 1, 0)
             records.append(record(STRUCT, 2, 8, 5 if level == 99 else 0, two))
-        found = self.opened(dictionary(records, b"\0int\0s\0")).find("struct s")
+        found = self.open_dictionary(dictionary(records, b"\0int\0s\0")).find("struct s")
         self.assertLess(len(ctfd.listing(found).splitlines()), 30_000)
 
 
 @unittest.skipUnless(TOOLS and shutil.which("pahole"), "no gcc, objcopy or pahole here")
 class BesidePahole(WithService):
-    """All structs and unions, each line but for its blanks."""
+    """Compares all structs and unions with pahole, line by line, without blanks."""
 
     def test_lua_and_zlib(self) -> None:
         for name, count in (("lua.ctf", 61), ("zlib.ctf", 10)):
@@ -146,7 +146,7 @@ class BesidePahole(WithService):
                 word, tag = block.split(None, 2)[:2]
                 if tag not in OTHERS:
                     mine = ctfd.listing(types.find(f"{word} {tag}"))
-                    self.assertEqual(squeezed(mine), squeezed(block))
+                    self.assertEqual(squeeze(mine), squeeze(block))
 
     def pahole(self, name: str) -> List[str]:
         with tempfile.TemporaryDirectory() as folder:
@@ -156,8 +156,8 @@ class BesidePahole(WithService):
         return re.findall(r"^(?:struct|union) \w+ \{\n.*?^\};", said.stdout, re.M | re.S)
 
 
-def squeezed(listed: str) -> List[str]:
-    """Its lines without blanks between stars, and with one blank for many."""
+def squeeze(listed: str) -> List[str]:
+    """The lines without blanks between stars, and otherwise with single blanks."""
     return [re.sub(r"\s*\*(?!/)", "*", re.sub(r"\s+", " ", line)).strip()
             for line in listed.splitlines()]
 

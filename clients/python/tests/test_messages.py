@@ -1,4 +1,5 @@
-"""What the commands say of each thing that goes wrong: one line, what to, and what to do next."""
+"""The commands' error messages: one line that says what is wrong, in which file, and what to do
+next."""
 from __future__ import annotations
 
 import os
@@ -12,9 +13,9 @@ import unittest
 from pathlib import Path
 from typing import List, NamedTuple
 
-from .elf import named
+from .elf import section_named
 from .support import (EXAMPLES, PROGRAM, TOOLS, dictionary, integer, object_file, pointer,
-                      staged)
+                      staged_dictionaries)
 from .tools import RUST
 
 FOLDER = Path(__file__).resolve().parents[1]
@@ -22,7 +23,7 @@ LUA = EXAMPLES / "lua.ctf"
 
 
 class Case(NamedTuple):
-    """A command, and what it says: `{}` in its words is the folder of the files."""
+    """A command and its expected message; `{}` in its arguments is the folder of the files."""
 
     cause: str
     words: str
@@ -132,7 +133,7 @@ DEBUG = [
 
 def damaged_elf(data: bytes) -> bytes:
     """The file with zeros in place of the abbreviations of its debug information."""
-    section = named(data, ".debug_abbrev")
+    section = section_named(data, ".debug_abbrev")
     start = section.offset
     return data[:start] + bytes(section.size) + data[start + section.size:]
 
@@ -146,7 +147,7 @@ class Messages(unittest.TestCase):
         cls.folder = tempfile.mkdtemp()
         cls.addClassCleanup(shutil.rmtree, cls.folder)
         place = Path(cls.folder)
-        parent, child = staged("parent.jsonl")[:2]
+        parent, child = staged_dictionaries("parent.jsonl")[:2]
         lua = LUA.read_bytes()
         files = {
             "empty": b"", "text": b"plain text\n", "big": b"\xcf\xf1\x02\0" + bytes(60),
@@ -162,10 +163,10 @@ class Messages(unittest.TestCase):
     def say(self, cases: List[Case]) -> None:
         for case in cases:
             with self.subTest(case.cause, words=case.words):
-                self.said(case)
+                self.check_message(case)
 
-    def said(self, case: Case) -> None:
-        """The command says one line, which begins with its name."""
+    def check_message(self, case: Case) -> None:
+        """Asserts that the command prints one line, which begins with its name."""
         words = case.words.replace("{}", self.folder).split()
         environment = {**os.environ, "CTFD": PROGRAM}
         while "=" in words[0]:
@@ -215,9 +216,9 @@ class Messages(unittest.TestCase):
         (place / "gone.debug").unlink()
 
     def squeeze(self, path: Path) -> None:
-        """Sets the flag of the section's header that says that it is compressed."""
+        """Sets the flag in the section's header that says that it is compressed."""
         data = bytearray(path.read_bytes())
-        section = named(bytes(data), ".SUNW_ctf")
+        section = section_named(bytes(data), ".SUNW_ctf")
         struct.pack_into("<Q", data, section.header + 8, section.flags | 0x800)
         path.write_bytes(data)
 

@@ -1,4 +1,4 @@
-"""Data models: what pointers of 4 bytes change, of 8 beside them."""
+"""Data models: programs with pointers of 4 bytes, compared with 8."""
 import struct
 import tempfile
 import unittest
@@ -15,7 +15,7 @@ from ctfd.values.program import open_program
 from ctfd.values.reading import Bounds, Wanted, values
 
 from .support import (EXAMPLES, FUNCTION, POINTER, STRUCT, WithService, array, dictionary, integer,
-                      member, record, staged)
+                      member, record, staged_dictionaries)
 from .test_expressions import START, Memory
 from .test_source import BITS_32, elf
 
@@ -27,20 +27,20 @@ HERE = str(EXAMPLES / "lua.ctf")
 class Sizes(WithService):
     """int, int *, an array of three of these, and a function that returns int."""
 
-    def asked(self, model: Optional[Model]) -> ctfd.Dictionary:
+    def dictionary_of(self, model: Optional[Model]) -> ctfd.Dictionary:
         records = [integer(INT), record(POINTER, 0, 1), array(2, 3), record(FUNCTION, 0, 1)]
-        return self.opened(dictionary(records, NAMES), model)
+        return self.open_dictionary(dictionary(records, NAMES), model)
 
     def test_pointers_functions_and_arrays(self) -> None:
         for model, size in POINTER_SIZES.items():
-            types = self.asked(model)
+            types = self.dictionary_of(model)
             self.assertEqual((types.model, types.pointer_size), (model, size))
             self.assertEqual([types.type(t).size for t in (2, 3)], [size, 3 * size])
             self.assertEqual([types.type(t).align for t in (2, 3, 4)], [size] * 3)
 
     def test_types_that_are_made_here(self) -> None:
         for model, size in POINTER_SIZES.items():
-            types = self.asked(model)
+            types = self.dictionary_of(model)
             pointer = types.find("int **")
             self.assertEqual((pointer.size, pointer.align), (size, size))
             function = FunctionOf(types.type(4).signature)
@@ -48,10 +48,10 @@ class Sizes(WithService):
 
     def test_addresses_end_where_pointers_do(self) -> None:
         for model, size in POINTER_SIZES.items():
-            self.assertEqual(self.asked(model).address(-1), (1 << 8 * size) - 1)
+            self.assertEqual(self.dictionary_of(model).address(-1), (1 << 8 * size) - 1)
 
     def test_none_is_lp64(self) -> None:
-        self.assertEqual(self.asked(None).model, "lp64")
+        self.assertEqual(self.dictionary_of(None).model, "lp64")
         self.assertEqual(ctfd.open_file(self.session, HERE).model, "lp64")
 
     def test_a_model_that_the_caller_says(self) -> None:
@@ -72,29 +72,29 @@ class Sizes(WithService):
 
 class Parents(WithService):
     def test_both_are_of_one_model(self) -> None:
-        one, other = staged("parent.jsonl")[:2]
+        one, other = staged_dictionaries("parent.jsonl")[:2]
         for model, size in POINTER_SIZES.items():
-            parent, child = self.opened(one, model), self.opened(other, model)
+            parent, child = self.open_dictionary(one, model), self.open_dictionary(other, model)
             child.import_parent(parent)
             self.assertEqual(child.type(0x8001).size, size)
 
     def test_two_models(self) -> None:
-        one, other = staged("parent.jsonl")[:2]
+        one, other = staged_dictionaries("parent.jsonl")[:2]
         with self.assertRaises(ctfd.Refused) as caught:
-            self.opened(other, "ilp32").import_parent(self.opened(one))
+            self.open_dictionary(other, "ilp32").import_parent(self.open_dictionary(one))
         self.assertEqual((caught.exception.code, caught.exception.name), (60, "ModelDiffers"))
         self.assertIn("open both with the data model", str(caught.exception))
 
     def test_a_publication_has_its_model(self) -> None:
-        slot = self.opened(dictionary([integer(INT)], NAMES), "ilp32").slot
+        slot = self.open_dictionary(dictionary([integer(INT)], NAMES), "ilp32").slot
         self.session.ask("publish", d=slot, name="base")
         taken = ctfd.taken(self.client.session(), self.session.number, "base")
         self.assertEqual(taken.model, "ilp32")
 
 
 class Drafts(WithService):
-    def made(self, model: Optional[Model]) -> ctfd.Dictionary:
-        """struct { char c; int *p; char d; }, whose members say no offset."""
+    def draft_of(self, model: Optional[Model]) -> ctfd.Dictionary:
+        """struct { char c; int *p; char d; }, whose members have no given offset."""
         slot = self.session.create(model=model)["d"]
 
         def add(what: str, **fields: Any) -> None:
@@ -110,14 +110,14 @@ class Drafts(WithService):
 
     def test_members_are_placed_by_the_model(self) -> None:
         for model, size in POINTER_SIZES.items():
-            types = self.made(model)
+            types = self.draft_of(model)
             self.assertEqual(types.model, model)
             self.assertEqual([m.offset for m in types.type(3).members], [0, 8 * size, 16 * size])
             self.assertEqual(types.type(3).size, 2 * size + 1)
-        self.assertEqual(self.made(None).model, "lp64")
+        self.assertEqual(self.draft_of(None).model, "lp64")
 
     def test_a_draft_over_a_parent(self) -> None:
-        parent = self.made("ilp32").slot
+        parent = self.draft_of("ilp32").slot
         slot = self.session.create(parent, 'a "parent"\xff', "label")["d"]
         child = ctfd.Dictionary(self.session, slot)
         self.assertEqual((child.model, child.is_child), ("ilp32", True))
@@ -133,7 +133,7 @@ class Narrow(WithService):
     def setUp(self) -> None:
         super().setUp()
         node = member(NUMBER, 1, 0) + member(NEXT, 2, 32)
-        self.types = self.opened(dictionary(
+        self.types = self.open_dictionary(dictionary(
             [integer(INT), record(POINTER, 0, 3), record(STRUCT, 2, 8, NODE, node)],
             NAMES), "ilp32")
         data = struct.pack("<iIiIiI", 1, START + 8, 2, START + 16, 3, 0)
@@ -141,14 +141,14 @@ class Narrow(WithService):
             "first": Located(self.types.type(3), START),
             "unknown": Untold("unknown", START + 8, "nothing tells its type")})
 
-    def told(self, expression: str) -> Operand:
+    def evaluate(self, expression: str) -> Operand:
         return evaluate(expression, self.target)
 
     def number(self, expression: str) -> int:
-        return Steps(self.target).number(self.told(expression))
+        return Steps(self.target).number(self.evaluate(expression))
 
     def test_values(self) -> None:
-        told = Steps(self.target).read(self.told("*first.next"))
+        told = Steps(self.target).read(self.evaluate("*first.next"))
         self.assertEqual(told, Parts([Leaf("2"), Leaf("0x00001010")], 2))
 
     def test_a_pointer_that_the_dictionary_has_not(self) -> None:
@@ -170,7 +170,7 @@ class Narrow(WithService):
             self.assertEqual(self.number(expression), address, expression)
 
     def test_a_list(self) -> None:
-        followed = follow(Steps(self.target), self.told("first"), "next", None, Bounds())
+        followed = follow(Steps(self.target), self.evaluate("first"), "next", None, Bounds())
         self.assertEqual([node.address for node in followed.nodes], [START, START + 8, START + 16])
         self.assertEqual((followed.back, followed.more, followed.lost), (None, False, None))
 
@@ -181,7 +181,7 @@ class Narrow(WithService):
             self.assertEqual(self.number(expression), number, expression)
         for expression in ("*unknown", "unknown.number", "unknown->number"):
             with self.assertRaisesRegex(BadExpression, "cast it"):
-                self.told(expression)
+                self.evaluate(expression)
 
 
 if __name__ == "__main__":

@@ -1,4 +1,4 @@
-"""How the package is put together: what is public, which packages it has."""
+"""The structure of the package: its public names and its subpackages."""
 from __future__ import annotations
 
 import re
@@ -12,7 +12,7 @@ import ctfd
 
 CLIENT = Path(__file__).resolve().parents[1]
 PACKAGE = CLIENT / "ctfd"
-# What stands in no package is public.
+# Modules outside subpackages are public.
 PUBLIC = {"drgn", "expressions", "formats", "replies", "text"}
 
 
@@ -24,7 +24,7 @@ class Package(unittest.TestCase):
             getattr(ctfd, "nothing")
 
     def test_public_modules(self) -> None:
-        """Each is imported where it is first asked for, and `layout` is the function."""
+        """The public modules are imported at their first use, and `layout` is the function."""
         code = ("import ctfd;"
                 " print(ctfd.values.Bounds().elements, ctfd.build.Types('lp64').names(),"
                 " ctfd.formats.Style().repeats, ctfd.expressions.evaluate.__name__,"

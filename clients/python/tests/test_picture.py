@@ -1,4 +1,4 @@
-"""`--svg`: each box is where its member lies and as wide; `--svg-sizes`: areas are bytes."""
+"""`--svg`: each box has the position and width of its member; `--svg-sizes`: areas are bytes."""
 import subprocess
 import unittest
 import xml.etree.ElementTree as ET
@@ -6,15 +6,15 @@ from typing import Dict, List, NamedTuple
 
 from ctfd.layout.places import Layout
 
-from .support import EXAMPLES, WithService, run, staged
-from .tools import whole_of, written
+from .support import EXAMPLES, WithService, run, staged_dictionaries
+from .tools import whole_of, write_dictionary
 
 LUA = str(EXAMPLES / "lua.ctf")
 SVG = "{http://www.w3.org/2000/svg}"
 WIDTH, MARGIN = 896, 64
 
 
-class Drawn(NamedTuple):
+class Box(NamedTuple):
     name: str
     start: int
     bits: int
@@ -25,22 +25,22 @@ class Drawn(NamedTuple):
     high: float
 
 
-def drawn(made: str) -> List[Drawn]:
+def boxes_of(made: str) -> List[Box]:
     """The boxes of a picture."""
-    boxes: List[Drawn] = []
+    boxes: List[Box] = []
     for group in ET.fromstring(made).iter(f"{SVG}g"):
         rect = group.find(f"{SVG}rect")
         assert rect is not None
         numbers = [float(rect.get(key, "")) for key in ("x", "y", "width", "height")]
-        boxes.append(Drawn(group.get("data-name", ""), int(group.get("data-start", "")),
-                           int(group.get("data-bits", "")), rect.get("class", "").split()[1],
-                           *numbers))
+        boxes.append(Box(group.get("data-name", ""), int(group.get("data-start", "")),
+                         int(group.get("data-bits", "")), rect.get("class", "").split()[1],
+                         *numbers))
     return boxes
 
 
 class Pictures(WithService):
-    def judged(self, boxes: List[Drawn], layout: Layout, row_bits: int) -> None:
-        """That boxes are in proportion, and have what the members of the layout have."""
+    def check_boxes(self, boxes: List[Box], layout: Layout, row_bits: int) -> None:
+        """Asserts that boxes are in proportion, and match the members of the layout."""
         scale = WIDTH / row_bits
         total: Dict[str, int] = {}
         for box in boxes:
@@ -57,15 +57,15 @@ class Pictures(WithService):
     def test_members_are_where_they_lie(self) -> None:
         whole = whole_of(self, LUA)
         for name in ("struct lua_Debug", "struct CallInfo", "struct TString", "struct luaL_Reg"):
-            (number,) = whole.names.meant(name)
+            (number,) = whole.names.types_named(name)
             layout = whole.catalog.layout(number)
-            boxes = drawn(run("--svg", name, LUA).stdout)
-            self.judged(boxes, layout, 8 * min(64, -(-layout.size // 8) * 8))
+            boxes = boxes_of(run("--svg", name, LUA).stdout)
+            self.check_boxes(boxes, layout, 8 * min(64, -(-layout.size // 8) * 8))
             holes = sum(box.bits for box in boxes if box.sort == "hole" and "." not in box.name)
             self.assertEqual(holes, 8 * sum(layout.holes), name)
 
     def test_nothing_overlaps_but_groups(self) -> None:
-        boxes = [b for b in drawn(run("--svg", "struct lua_State", LUA).stdout)
+        boxes = [b for b in boxes_of(run("--svg", "struct lua_State", LUA).stdout)
                  if b.sort != "group"]
         for place, one in enumerate(boxes):
             for other in boxes[place + 1:]:
@@ -75,13 +75,14 @@ class Pictures(WithService):
                 self.assertTrue(apart, (one, other))
 
     def test_bit_fields_to_the_bit(self) -> None:
-        path = written(self, staged("bits.jsonl")[0])
+        path = write_dictionary(self, staged_dictionaries("bits.jsonl")[0])
         whole = whole_of(self, path)
-        boxes = drawn(run("--svg", "struct flags", path).stdout)
+        boxes = boxes_of(run("--svg", "struct flags", path).stdout)
         told = [(b.name, b.start, b.bits, b.sort) for b in boxes]
         self.assertEqual(told, [("ready", 0, 1, "bits"), ("mode", 1, 3, "bits"),
                                 ("padding", 4, 28, "padding")])
-        self.judged(boxes, whole.catalog.layout(whole.names.meant("struct flags").pop()), 64)
+        self.check_boxes(boxes, whole.catalog.layout(whole.names.types_named("struct flags").pop()),
+                         64)
 
     def test_lines_of_one_member_are_left_out(self) -> None:
         made = run("--svg", "struct LoadF", LUA).stdout
@@ -89,7 +90,7 @@ class Pictures(WithService):
         self.assertLess(len(made), 20_000)
 
     def test_areas_are_bytes(self) -> None:
-        boxes = drawn(run("--svg-sizes", LUA).stdout)
+        boxes = boxes_of(run("--svg-sizes", LUA).stdout)
         each = [box.wide * box.high / box.bits for box in boxes]
         self.assertLess(max(each) / min(each), 1.02)
         self.assertGreater(len(boxes), 90)

@@ -1,4 +1,4 @@
-"""Programs beside their dictionaries: what names stand for, and where."""
+"""Programs with their dictionaries: symbols, types and addresses."""
 import tempfile
 import unittest
 from pathlib import Path
@@ -17,7 +17,7 @@ SYMBOLS, STRINGS = ((EXAMPLES / f"lua.{suffix}").read_bytes() for suffix in ("sy
 
 
 class NoProgram:
-    """A target that is never asked."""
+    """A target that is never used."""
 
     def read(self, address: int, length: int) -> bytes:
         raise Error("there is no memory")
@@ -33,14 +33,14 @@ class NoProgram:
 
 
 class Lua(WithService):
-    def opened(self, data: bytes) -> Program:  # type: ignore[override]
+    def open_program(self, data: bytes) -> Program:
         with tempfile.TemporaryDirectory() as folder:
             path = Path(folder) / "program"
             path.write_bytes(data)
             return open_program(self.session, str(path))
 
     def test_functions_and_objects(self) -> None:
-        program = self.opened(file_of(LUA, 2, SYMBOLS, STRINGS))
+        program = self.open_program(file_of(LUA, 2, SYMBOLS, STRINGS))
         found = program.symbol("closepaux", 0x1000)
         assert isinstance(found, Code)
         (listed,) = program.symbols["closepaux"]
@@ -55,27 +55,27 @@ class Lua(WithService):
         self.assertEqual(held.type.resolved.kind, "array")
 
     def test_names_that_are_none(self) -> None:
-        program = self.opened(file_of(LUA, 2, SYMBOLS, STRINGS))
+        program = self.open_program(file_of(LUA, 2, SYMBOLS, STRINGS))
         with self.assertRaisesRegex(Error, "has no symbol nothing"):
             program.symbol("nothing", 0)
 
     def test_a_section_by_itself(self) -> None:
-        program = self.opened(LUA)
+        program = self.open_program(LUA)
         self.assertEqual((program.image, program.symbols), (None, {}))
 
     def test_a_program_of_32_bits_says_its_model_and_has_no_symbols(self) -> None:
-        program = self.opened(file_of(LUA, 2, SYMBOLS, STRINGS, BITS_32))
+        program = self.open_program(file_of(LUA, 2, SYMBOLS, STRINGS, BITS_32))
         self.assertEqual((program.types.model, program.types.how), ("ilp32", "unread"))
         self.assertEqual(program.symbols, {})
 
     def test_symbols_that_do_not_fit_are_not_used(self) -> None:
-        program = self.opened(file_of(LUA, 0, bytes(23), b"\0"))
+        program = self.open_program(file_of(LUA, 0, bytes(23), b"\0"))
         self.assertEqual((program.types.how, program.symbols), ("refused", {}))
 
 
     def test_a_table_that_is_cut_off(self) -> None:
-        whole = self.opened(file_of(LUA, 2, SYMBOLS, STRINGS))
-        cut = self.opened(file_of(LUA, 0, SYMBOLS + b"rest", STRINGS))
+        whole = self.open_program(file_of(LUA, 2, SYMBOLS, STRINGS))
+        cut = self.open_program(file_of(LUA, 0, SYMBOLS + b"rest", STRINGS))
         self.assertTrue(whole.symbols and all(whole.symbols))
         self.assertEqual((cut.types.how, cut.symbols), ("refused", {}))
 

@@ -1,4 +1,5 @@
-"""Questions on all types of a file: members at offsets and by name, functions, orders, records."""
+"""Questions about all types of a file: members at offsets and by name, functions, orders,
+records."""
 import json
 import shutil
 import subprocess
@@ -8,7 +9,7 @@ from pathlib import Path
 from typing import List
 
 from .support import EXAMPLES, PROGRAM, dictionary, integer, record, run
-from .tools import CONVERTS, WHY_NOT, compiled, converted
+from .tools import CONVERTS, WHY_NOT, compile_object, convert_object
 
 LUA = str(EXAMPLES / "lua.ctf")
 CODE = """
@@ -34,14 +35,14 @@ class Questions(unittest.TestCase):
     def setUpClass(cls) -> None:
         cls.folder = tempfile.mkdtemp()
         cls.addClassCleanup(shutil.rmtree, cls.folder)
-        cls.file = compiled(cls.folder, "code", CODE)
+        cls.file = compile_object(cls.folder, "code", CODE)
 
-    def told(self, *words: str) -> List[str]:
+    def output(self, *words: str) -> List[str]:
         done = run(self.file, *words)
         self.assertEqual((done.returncode, done.stderr), (0, ""))
         return done.stdout.splitlines()
 
-    def refused(self, *words: str) -> str:
+    def refusal(self, *words: str) -> str:
         done = run(self.file, *words)
         self.assertEqual((done.returncode, done.stdout, done.stderr.count("\n")), (1, "", 1))
         return done.stderr
@@ -56,63 +57,63 @@ class Questions(unittest.TestCase):
                 ("2", ["       2  struct holes  (a hole)"]),
                 ("24", ["      22  struct holes  struct inner in[1]  (byte 2 of it)",
                         "      24  struct holes  short int in[1].b"])):
-            self.assertEqual(self.told("--at", "struct holes", at), wanted)
+            self.assertEqual(self.output("--at", "struct holes", at), wanted)
         self.assertIn("struct holes has 40 bytes, and none at 0x28",
-                      self.refused("--at", "struct holes", "0x28"))
-        self.assertIn("x is no offset", self.refused("--at", "struct holes", "x"))
-        self.assertIn("is no struct", self.refused("--at", "enum mode", "0"))
+                      self.refusal("--at", "struct holes", "0x28"))
+        self.assertIn("x is no offset", self.refusal("--at", "struct holes", "x"))
+        self.assertIn("is no struct", self.refusal("--at", "enum mode", "0"))
 
     def test_members_by_name(self) -> None:
-        self.assertEqual(self.told("--members", "b"), ["       2  struct inner  short int b",
-                                                       "       1  struct packed  long int b"])
-        self.assertEqual(self.told("--members", "numb*"), ["      32  struct holes  int number"])
-        self.assertIn("no member is called none", self.refused("--members", "none"))
+        self.assertEqual(self.output("--members", "b"), ["       2  struct inner  short int b",
+                                                         "       1  struct packed  long int b"])
+        self.assertEqual(self.output("--members", "numb*"), ["      32  struct holes  int number"])
+        self.assertIn("no member is called none", self.refusal("--members", "none"))
 
     def test_functions_of_a_type(self) -> None:
         find = "struct holes *find(struct inner);"
         other = "int other(int (*)(struct inner *), struct holes **);"
-        self.assertEqual(self.told("--functions", "struct inner"), [find])
-        self.assertEqual(self.told("--functions", "struct holes"), [find, other])
+        self.assertEqual(self.output("--functions", "struct inner"), [find])
+        self.assertEqual(self.output("--functions", "struct holes"), [find, other])
         told = [json.loads(line)["how"]
-                for line in self.told("--json", "--functions", "struct holes")]
+                for line in self.output("--json", "--functions", "struct holes")]
         self.assertEqual(told, [["returns"], ["takes"]])
 
     def test_an_order_without_holes_is_what_gcc_takes(self) -> None:
-        lines = self.told("--reorganize", "struct holes")
+        lines = self.output("--reorganize", "struct holes")
         self.assertTrue(lines[-1].endswith("/* struct holes: 32 bytes, was 40: saves 8 */"), lines)
         code = "struct inner { short a, b; };\n" + "\n".join(lines)
         code += "\n_Static_assert(sizeof(struct holes) == 32, \"\");\n"
         subprocess.run(["gcc", "-x", "c", "-fsyntax-only", "-"], input=code, text=True, check=True)
-        self.assertEqual(self.told("--reorganize", "struct inner"),
+        self.assertEqual(self.output("--reorganize", "struct inner"),
                          ["/* struct inner: no order of its members is smaller than its 4 bytes"
                           " */"])
-        self.assertIn("no struct", self.refused("--reorganize", "enum mode"))
-        everything = self.told("--reorganize")
+        self.assertIn("no struct", self.refusal("--reorganize", "enum mode"))
+        everything = self.output("--reorganize")
         self.assertIn("struct holes {", everything)
         self.assertFalse([line for line in everything if "no order" in line])
 
     def test_hexadecimal(self) -> None:
-        self.assertIn("\tON  = 0x12c,", self.told("--hex", "enum mode"))
+        self.assertIn("\tON  = 0x12c,", self.output("--hex", "enum mode"))
         self.assertTrue(any(line.endswith("/*   0x8   0x8 */")
-                            for line in self.told("--hex", "struct holes")))
+                            for line in self.output("--hex", "struct holes")))
 
     def test_records_of_a_file(self) -> None:
         raw = Path(self.folder, "raw")
         raw.write_bytes(bytes.fromhex("ffff 0100 0200 0300 0400 0500"))
         shown = ["       0  {a = -1, b = 1}", "       4  {a = 2, b = 3}",
                  "       8  {a = 4, b = 5}"]
-        self.assertEqual(self.told("--show", "struct inner", str(raw)), shown)
-        self.assertEqual(self.told("--show", "struct inner", str(raw), "4", "1"), shown[1:2])
-        self.assertEqual(self.told("--hex", "--show", "struct inner", str(raw), "0x8"),
+        self.assertEqual(self.output("--show", "struct inner", str(raw)), shown)
+        self.assertEqual(self.output("--show", "struct inner", str(raw), "4", "1"), shown[1:2])
+        self.assertEqual(self.output("--hex", "--show", "struct inner", str(raw), "0x8"),
                          ["     0x8  {a = 4, b = 5}"])
         self.assertIn("records of 4 are asked for",
-                      self.refused("--show", "struct inner", str(raw), "4", "3"))
+                      self.refusal("--show", "struct inner", str(raw), "4", "3"))
         raw.write_bytes(bytes(6))
         done = run(self.file, "--show", "struct inner", str(raw))
         self.assertIn("2 bytes behind the last record of 4", done.stderr)
 
     def test_a_star_behind_a_blank_is_a_pointers(self) -> None:
-        self.assertIn("'struct ?*' is the pattern of all", self.refused("struct *"))
+        self.assertIn("'struct ?*' is the pattern of all", self.refusal("struct *"))
 
 
 @unittest.skipUnless(PROGRAM, "CTFD names no built service")
@@ -128,7 +129,7 @@ class Numbers(unittest.TestCase):
     def test_copies_that_bit_fields_have_are_no_types_of_a_name(self) -> None:
         code = "typedef unsigned word; struct s { word a : 3, b : 5; word c; } s;"
         with tempfile.TemporaryDirectory() as folder:
-            made = converted(folder, "bits", code)
+            made = convert_object(folder, "bits", code)
             for words in ((), ("--all",)):
                 done = run(made, "word", *words)
                 self.assertEqual((done.stdout, done.stderr), ("typedef unsigned int word;\n", ""))

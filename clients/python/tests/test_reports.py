@@ -1,4 +1,4 @@
-"""`--sizes`, `--holes`, `--contains`, `--uses` and `--expand`, beside pahole and gcc."""
+"""`--sizes`, `--holes`, `--contains`, `--uses` and `--expand`, compared with pahole and gcc."""
 import json
 import re
 import shutil
@@ -10,10 +10,11 @@ from typing import Dict, List, Set, Tuple
 import ctfd
 from ctfd.layout.records import AGGREGATES
 
-from .support import COMMAND, EXAMPLES, PROGRAM, TOOLS, WithService, object_file, run, staged
+from .support import (COMMAND, EXAMPLES, PROGRAM, TOOLS, WithService, object_file, run,
+                      staged_dictionaries)
 from .test_listing import OTHERS
-from .tools import whole_of, written
-from .whole import Whole
+from .tools import whole_of, write_dictionary
+from .whole import WholeFile
 from .whole.embeds import Embeds
 
 LUA, ZLIB = str(EXAMPLES / "lua.ctf"), str(EXAMPLES / "zlib.ctf")
@@ -23,8 +24,8 @@ FIELD = re.compile(r"(\w+)(?:\[[^;]*|\)\([^;]*)?;\s*/\*\s+(\d+)\s+(\d+) \*/")
 
 @unittest.skipUnless(TOOLS and shutil.which("pahole"), "no gcc, objcopy or pahole here")
 class BesidePahole(WithService):
-    """What differs is pahole's: it takes the bytes of an enum for bits (`OTHERS`), and follows
-    neither typedefs nor arrays nor members without a name."""
+    """The differences are due to pahole: it takes the bytes of an enum for bits (`OTHERS`), and
+    does not follow typedefs, arrays and unnamed members."""
 
     def setUp(self) -> None:
         super().setUp()
@@ -38,11 +39,11 @@ class BesidePahole(WithService):
                               text=True)
         return said.stdout.splitlines()
 
-    def figures(self, whole: Whole) -> Dict[str, "set[Tuple[int, int]]"]:
+    def figures(self, whole: WholeFile) -> Dict[str, "set[Tuple[int, int]]"]:
         made: Dict[str, Set[Tuple[int, int]]] = {}
         for number in whole.catalog.aggregates():
             one = whole.sizes.figures(number)
-            for name in whole.names.called(number):
+            for name in whole.names.names_of(number):
                 made.setdefault(name, set()).add((one.size, one.holes))
         return made
 
@@ -63,7 +64,7 @@ class BesidePahole(WithService):
         whole = whole_of(self, LUA)
         for name in HELD:
             held = Embeds(whole.catalog, whole.names).containing(
-                whole.names.meant(name) & whole.names.meant(f"* {name}"))
+                whole.names.types_named(name) & whole.names.types_named(f"* {name}"))
             direct = {whole.catalog[one.owner].name for one in held
                       if len(one.path) == 1 and whole.catalog[one.type].kind in AGGREGATES}
             self.assertEqual(set(self.pahole(LUA, f"--contains={name}")), direct, name)
@@ -72,7 +73,7 @@ class BesidePahole(WithService):
         whole = whole_of(self, LUA)
         for name in ("lua_State", "GCObject", "TString", "CallInfo", "Table"):
             told = set()
-            for one in Embeds(whole.catalog, whole.names).pointing(whole.names.meant(name)):
+            for one in Embeds(whole.catalog, whole.names).pointing(whole.names.types_named(name)):
                 to = whole.catalog[whole.catalog[one.type].type]
                 if len(one.path) == 1 and to.kind in AGGREGATES and to.name == name:
                     told.add(f"{whole.catalog[one.owner].name}: {one.name}")
@@ -81,7 +82,7 @@ class BesidePahole(WithService):
             self.assertEqual(pahole, {line for line in told if not line.startswith(":")}, name)
 
     def test_expanded(self) -> None:
-        """Each member that is no struct stands where pahole has it, with the size it has there."""
+        """Each member that is not a struct has pahole's offset and size."""
         types = self.example("lua.ctf")
         for name in ("CallInfo", "global_State", "lua_State", "Table", "LexState", "Proto"):
             theirs = "\n".join(self.pahole(LUA, "-E", "-C", name))
@@ -90,9 +91,9 @@ class BesidePahole(WithService):
 
 
 @unittest.skipUnless(shutil.which("gcc"), "no gcc here")
-class Saved(WithService):
+class SavedReports(WithService):
     def test_an_order_by_alignment_has_the_size_that_is_told(self) -> None:
-        """gcc gives each struct that has a better order the size that is told of that."""
+        """gcc gives each struct with a better order the reported size."""
         lines = [run("--c", ZLIB).stdout]
         saved = {line.split("  ")[-1]: int(line.split()[5])
                  for line in run("--sizes", ZLIB).stdout.splitlines()[1:]}
@@ -109,16 +110,16 @@ class Saved(WithService):
 
 
 @unittest.skipUnless(PROGRAM, "CTFD names no built service")
-class Told(WithService):
-    """What the command prints."""
+class CommandOutput(WithService):
+    """The output of the command."""
 
-    def told(self, *words: str) -> List[str]:
+    def output(self, *words: str) -> List[str]:
         done = run(*words)
         self.assertEqual((done.returncode, done.stderr), (0, ""))
         return done.stdout.splitlines()
 
     def test_sizes(self) -> None:
-        lines = self.told("--sizes", LUA, "lua_*")
+        lines = self.output("--sizes", LUA, "lua_*")
         self.assertEqual(lines[0].split(),
                          "bytes members holes in holes padding saves type".split())
         self.assertEqual([line.split()[-1] for line in lines[1:]],
@@ -126,38 +127,39 @@ class Told(WithService):
         self.assertEqual(lines[2].split(), "200 24 1 2 4 0 struct lua_State".split())
 
     def test_order_and_least_holes(self) -> None:
-        lines = self.told("--holes", "6", "--sort", "name", LUA)[1:]
+        lines = self.output("--holes", "6", "--sort", "name", LUA)[1:]
         labels = [line.split("  ")[-1] for line in lines]
         self.assertEqual(labels, sorted(labels))
         self.assertTrue(all(int(line.split()[3]) >= 6 for line in lines))
-        self.assertEqual(self.told("--holes", LUA), self.told("--holes=1", LUA))
+        self.assertEqual(self.output("--holes", LUA), self.output("--holes=1", LUA))
 
     def test_holders(self) -> None:
-        self.assertEqual(self.told("--contains", "TString", LUA)[0].split(),
+        self.assertEqual(self.output("--contains", "TString", LUA)[0].split(),
                          "0 union GCUnion struct TString ts".split())
-        self.assertIn("       0  struct luaL_Stream  FILE *f", self.told("--uses", "FILE", LUA))
-        deep = self.told("--contains", "CallInfo", "--recursive", LUA)
+        self.assertIn("       0  struct luaL_Stream  FILE *f", self.output("--uses", "FILE", LUA))
+        deep = self.output("--contains", "CallInfo", "--recursive", LUA)
         self.assertIn("     104  struct LX  CallInfo l.base_ci", deep)
 
     def test_json(self) -> None:
-        (told,) = map(json.loads, self.told("--json", LUA, "struct luaL_Reg"))
+        (told,) = map(json.loads, self.output("--json", LUA, "struct luaL_Reg"))
         self.assertEqual(told["members"], [
             {"name": "name", "type": "const char *", "number": 72, "offset": 0, "bits": 64},
             {"name": "func", "type": "lua_CFunction", "number": 30, "offset": 64, "bits": 64}])
-        self.assertEqual(len(self.told("--json", LUA)), 526)
-        (held,) = map(json.loads, self.told("--contains", "stringtable", "--json", LUA))
+        self.assertEqual(len(self.output("--json", LUA)), 526)
+        (held,) = map(json.loads, self.output("--contains", "stringtable", "--json", LUA))
         self.assertEqual((held["label"], held["path"], held["offset"]),
                          ("struct global_State", ["strt"], 384))
 
     def test_several_files_and_cache_lines(self) -> None:
-        lines = self.told("--sizes", LUA, ZLIB, "*_state")
+        lines = self.output("--sizes", LUA, ZLIB, "*_state")
         self.assertEqual(lines[0], f"{ZLIB}:")
         self.assertIn("cacheline 1 boundary (32 bytes)",
-                      "\n".join(self.told("--cachelines", "32", LUA, "struct lua_Debug")))
+                      "\n".join(self.output("--cachelines", "32", LUA, "struct lua_Debug")))
 
     def test_a_child(self) -> None:
-        parent, child = (written(self, ctf) for ctf in staged("parent.jsonl")[:2])
-        self.assertEqual(self.told("--sizes", "--parent", parent, child)[1:], [])
+        parent, child = (write_dictionary(self, ctf)
+                         for ctf in staged_dictionaries("parent.jsonl")[:2])
+        self.assertEqual(self.output("--sizes", "--parent", parent, child)[1:], [])
         done = run("--sizes", child)
         self.assertEqual((done.returncode, done.stderr.count("\n")), (1, 1))
         self.assertIn("name the parent's file by --parent", done.stderr)

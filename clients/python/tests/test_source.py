@@ -1,4 +1,4 @@
-"""Files: ELF, compressed sections, and formats that are told as what they are."""
+"""Files: ELF, compressed sections, and errors that name other formats."""
 import struct
 import tempfile
 import unittest
@@ -17,12 +17,12 @@ LUA = (EXAMPLES / "lua.ctf").read_bytes()
 ENTRY = 0x1234
 
 
-def compressed(ctf: bytes, body: bytes = b"") -> bytes:
+def compress(ctf: bytes, body: bytes = b"") -> bytes:
     return ctf[:3] + b"\x01" + ctf[4:36] + zlib.compress(body or ctf[36:])
 
 
 class Shape(NamedTuple):
-    """How the headers of a class of ELF files are packed."""
+    """The formats of the headers in a class of ELF files."""
 
     number: int
     header: struct.Struct
@@ -35,7 +35,7 @@ BITS_32 = Shape(1, struct.Struct("<HHIIIIIHHHHHH"), struct.Struct("<10I"))
 
 def elf(ctf: bytes, link: int = 2, sym: bytes = b"", strings: bytes = b"\0",
         shape: Shape = BITS_64) -> bytes:
-    """An ELF file of the sections .SUNW_ctf, .symtab and .strtab, which has all names."""
+    """An ELF file of the sections .SUNW_ctf, .symtab and .strtab, and one with their names."""
     names = b"\0.SUNW_ctf\0.symtab\0.strtab\0"
     listed = [(0, 0, b"", 0), (1, 1, ctf, link), (11, 2, sym, 3), (19, 3, strings, 0),
               (19, 3, names, 0)]
@@ -51,7 +51,7 @@ def elf(ctf: bytes, link: int = 2, sym: bytes = b"", strings: bytes = b"\0",
 
 
 class WithFile(unittest.TestCase):
-    """A test of what is handed in for some bytes as a file."""
+    """A test that reads some bytes as a file."""
 
     def of_bytes(self, data: bytes) -> ctfd.Source:
         with tempfile.NamedTemporaryFile() as file:
@@ -59,43 +59,43 @@ class WithFile(unittest.TestCase):
             file.flush()
             return ctfd.read(file.name)
 
-    def told(self, data: bytes, words: str) -> None:
+    def check_output(self, data: bytes, words: str) -> None:
         with self.assertRaisesRegex(ctfd.Unreadable, words):
             self.of_bytes(data)
 
 
 class Inflating(WithFile):
     def test_a_compressed_section(self) -> None:
-        self.assertEqual(self.of_bytes(compressed(LUA)), self.of_bytes(LUA))
+        self.assertEqual(self.of_bytes(compress(LUA)), self.of_bytes(LUA))
         self.assertEqual(self.of_bytes(LUA).ctf, LUA)
 
     def test_the_header_bounds_what_is_inflated(self) -> None:
-        self.told(compressed(LUA, bytes(100_000_000)), "inflates to more than 22979 bytes")
-        self.told(compressed(LUA, b"short"), "inflates to 5 bytes")
-        self.told(compressed(LUA[:28] + struct.pack("<II", 1 << 31, 1 << 31)), "67108864")
+        self.check_output(compress(LUA, bytes(100_000_000)), "inflates to more than 22979 bytes")
+        self.check_output(compress(LUA, b"short"), "inflates to 5 bytes")
+        self.check_output(compress(LUA[:28] + struct.pack("<II", 1 << 31, 1 << 31)), "67108864")
 
     def test_damage(self) -> None:
-        self.told(compressed(LUA)[:36] + b"no zlib", "does not inflate .*: damage")
-        self.told(compressed(LUA)[:200], "does not inflate .*: damage")
+        self.check_output(compress(LUA)[:36] + b"no zlib", "does not inflate .*: damage")
+        self.check_output(compress(LUA)[:200], "does not inflate .*: damage")
 
 
 class Foreign(WithFile):
     def test_formats_are_told_as_what_they_are(self) -> None:
         for data in (b"\xf2\xdf\x04\0", b"\xdf\xf2\x04\0", b"\xcf\xf1\x02\0", b"\xf1\xcf\x03\0"):
-            self.told(data + bytes(60), "no named types of C")
-        self.told(struct.pack("<Q", 0x8B47F2A4D7623EEB), "GNU CTF is damaged or cut off")
-        self.told(b"\xf1\xcf\x01\0" + bytes(60), "CTF version 1, which is not read")
-        self.told(b"", "it is empty")
-        self.told(b"#!/bin/sh", "begins with 23212f62")
-        self.told(b"BC\xc0\xde", "bitcode")
+            self.check_output(data + bytes(60), "no named types of C")
+        self.check_output(struct.pack("<Q", 0x8B47F2A4D7623EEB), "GNU CTF is damaged or cut off")
+        self.check_output(b"\xf1\xcf\x01\0" + bytes(60), "CTF version 1, which is not read")
+        self.check_output(b"", "it is empty")
+        self.check_output(b"#!/bin/sh", "begins with 23212f62")
+        self.check_output(b"BC\xc0\xde", "bitcode")
         for damaged in (b"\x02\x02" + bytes(60), b"", b"\x02", b"\x03\x01", b"\x01\x03"):
-            self.told(b"\x7fELF" + damaged, "a damaged ELF file")
+            self.check_output(b"\x7fELF" + damaged, "a damaged ELF file")
 
     def test_a_foreign_section_in_an_elf_file(self) -> None:
-        self.told(elf(b"\xf2\xdf\x04\0" + bytes(60)), "it has no debug information")
+        self.check_output(elf(b"\xf2\xdf\x04\0" + bytes(60)), "it has no debug information")
 
     def test_no_such_file(self) -> None:
-        for name, why in (("/nowhere/at/all", "No such file"), ("/", "it is a folder"),
+        for name, why in (("/nowhere/at/all", "No such file"), ("/", "is a directory"),
                           ("/dev/null", "not a regular file"), ("a\0b", "null byte")):
             with self.assertRaisesRegex(ctfd.Unreadable, why):
                 ctfd.read(name)
@@ -116,7 +116,7 @@ class ElfFiles(WithService, WithFile):
             self.assertEqual(found[:5], (LUA, None, b"\0s\0", how, "ilp32"))
 
     def test_a_file_of_32_bits(self) -> None:
-        """int *, and the name of int in the strings of the file's symbol table."""
+        """int *, with the name of int in the strings of the file's symbol table."""
         ctf = dictionary([integer(0x8000_0001), record(POINTER, 0, 1)])
         slot = ctfd.open_source(self.session, self.of_bytes(
             elf(ctf, 2, bytes(16), b"\0int\0", BITS_32)))
@@ -147,7 +147,7 @@ class ElfFiles(WithService, WithFile):
 
     def test_symbols_answer_by_name(self) -> None:
         sym, strings = ((EXAMPLES / f"lua.{s}").read_bytes() for s in ("sym", "str"))
-        whole = elf(compressed(LUA), 2, sym, strings)
+        whole = elf(compress(LUA), 2, sym, strings)
         slot = ctfd.open_source(self.session, self.of_bytes(whole))
         said = slot.symbol("closepaux")
         assert isinstance(said, ctfd.Signature)
@@ -162,7 +162,7 @@ class ElfFiles(WithService, WithFile):
     @unittest.skipUnless(TOOLS, "no gcc or objcopy here")
     def test_an_object_file_of_gcc(self) -> None:
         for section in (".SUNW_ctf", ".ctf"):
-            for ctf in (LUA, compressed(LUA)):
+            for ctf in (LUA, compress(LUA)):
                 with tempfile.TemporaryDirectory() as folder:
                     made = object_file(folder, ctf, section)
                     found = ctfd.read(str(made))

@@ -1,4 +1,4 @@
-"""What Python's modules the package asks for late are imported before, where `.` is a place."""
+"""Python modules that the package imports late are imported early if modules may come from `.`."""
 from __future__ import annotations
 
 import ast
@@ -14,7 +14,7 @@ ELSEWHERE = {"gdb", "drgn", "pycparser"}
 
 
 def names() -> Iterator[str]:
-    """Of each module of the package, the modules of others that it imports."""
+    """For each module of the package, the modules of others that it imports."""
     for path in PACKAGE.rglob("*.py"):
         for node in ast.walk(ast.parse(path.read_text(encoding="utf-8"))):
             if isinstance(node, ast.Import):

@@ -1,4 +1,4 @@
-"""Names: bytes, the escapes of the protocol, and what a terminal may show."""
+"""Names: bytes, the escapes of the protocol, and text that is safe for a terminal."""
 import unittest
 
 from ctfd import text
@@ -13,7 +13,7 @@ class Text(unittest.TestCase):
 
     def test_escapes_are_those_of_the_protocol(self) -> None:
         self.assertEqual(text.escape(b'a"\\\n\x7f\xc3 z'), "a\\x22\\x5c\\x0a\\x7f\\xc3 z")
-        self.assertEqual(text.unescape("\\x5cx41"), b"\\x41")  # not read again
+        self.assertEqual(text.unescape("\\x5cx41"), b"\\x41")  # escapes are not decoded twice
 
     def test_names_are_utf8_where_they_are(self) -> None:
         self.assertEqual(text.name("na\\xc3\\xafve"), "na\u00efve")

@@ -1,11 +1,12 @@
-"""Types as objects: what they say, by what names they are found, and in how few rounds."""
+"""Types as objects: their properties, the names that find them, and the number of round trips."""
 import struct
 import unittest
 
 import ctfd
 from ctfd.client.dictionary import normal
 
-from .support import (FUNCTION, POINTER, STRUCT, WithService, dictionary, integer, record, staged)
+from .support import (FUNCTION, POINTER, STRUCT, WithService, dictionary, integer, record,
+                      staged_dictionaries)
 
 
 class Lua(WithService):
@@ -95,7 +96,8 @@ class Zlib(WithService):
 class Parents(WithService):
     def setUp(self) -> None:
         super().setUp()
-        self.parent, self.child = (self.opened(ctf) for ctf in staged("parent.jsonl")[:2])
+        self.parent, self.child = (self.open_dictionary(ctf)
+                                   for ctf in staged_dictionaries("parent.jsonl")[:2])
 
     def test_a_child_alone(self) -> None:
         self.assertTrue(self.child.is_child)
@@ -120,9 +122,9 @@ class Parents(WithService):
         self.assertEqual(caught.exception.name, "NotChild")
 
 
-class Small(WithService):
+class SmallTypes(WithService):
     def test_names_of_any_bytes(self) -> None:
-        types = self.opened(dictionary([integer(1)], b'\0a"\\\x1b\xff\0'))
+        types = self.open_dictionary(dictionary([integer(1)], b'\0a"\\\x1b\xff\0'))
         found = types.type(1)
         self.assertEqual(found.raw_name, b'a"\\\x1b\xff')
         self.assertEqual(types.find(found.name), found)
@@ -131,7 +133,7 @@ class Small(WithService):
 
     def test_names_that_compilers_spell_in_two_ways(self) -> None:
         for name in (b"unsigned long", b"long unsigned int"):
-            types = self.opened(dictionary([integer(1, 64, 8)], b"\0" + name + b"\0"))
+            types = self.open_dictionary(dictionary([integer(1, 64, 8)], b"\0" + name + b"\0"))
             for asked in ("unsigned long", "long unsigned int", "const unsigned long int"):
                 self.assertEqual(types.find(asked), types.type(1), asked)
                 self.assertEqual(types.find_all(asked), [types.type(1)], asked)
@@ -139,36 +141,36 @@ class Small(WithService):
     def test_unnamed_members_that_double_at_each_level(self) -> None:
         wholes = [record(STRUCT, 2, 4, 0, struct.pack("<IHHIHH", 0, t, 0, 0, t, 0))
                   for t in range(1, 65)]
-        types = self.opened(dictionary([integer(1), *wholes], b"\0int\0"))
+        types = self.open_dictionary(dictionary([integer(1), *wholes], b"\0int\0"))
         with self.assertRaises(KeyError):
             types.type(65).gather().member("nothing")
 
     def test_members_of_unnamed_members(self) -> None:
-        """struct { struct { int a; }; struct { int b; }; }: b is reached too."""
+        """struct { struct { int a; }; struct { int b; }; }: b is found too."""
         one, two = (record(STRUCT, 1, 4, 0, struct.pack("<IHH", name, 1, 0)) for name in (5, 7))
         both = record(STRUCT, 2, 8, 0, struct.pack("<IHHIHH", 0, 2, 0, 0, 3, 32))
-        types = self.opened(dictionary([integer(1), one, two, both], b"\0int\0a\0b\0"))
+        types = self.open_dictionary(dictionary([integer(1), one, two, both], b"\0int\0a\0b\0"))
         self.assertEqual([types.type(4).member(name).offset for name in "ab"], [0, 32])
 
     def test_a_list_that_is_too_long_for_a_reply(self) -> None:
         name = b"\xff" * 8000
         members = b"".join(struct.pack("<IHH", 5, 1, 0) for _ in range(600))
         held = [integer(1), record(STRUCT, 600, 4, 0, members)]
-        types = self.opened(dictionary(held, b"\0int\0" + name + b"\0"))
+        types = self.open_dictionary(dictionary(held, b"\0int\0" + name + b"\0"))
         found = types.type(2).members
         self.assertEqual((len(found), ctfd.text.raw(found[599].name)), (600, name))
 
     def test_a_function_that_takes_a_pointer_to_itself(self) -> None:
         takes = struct.pack("<100H", *[3] * 100)
-        types = self.opened(dictionary([integer(1), record(FUNCTION, 100, 1, 0, takes),
-                                        record(POINTER, 0, 2)], b"\0int\0"))
+        types = self.open_dictionary(dictionary([integer(1), record(FUNCTION, 100, 1, 0, takes),
+                                                 record(POINTER, 0, 2)], b"\0int\0"))
         said = ctfd.declaration(types.type(3).gather(), "f")
         self.assertTrue(said.startswith("int (*f)(int (*)(int (*)("))
         self.assertLess(len(said), 100_000)
 
     def test_the_deepest_declaration(self) -> None:
         records = [integer(1), *(record(POINTER, 0, t) for t in range(1, 511))]
-        types = self.opened(dictionary(records, b"\0int\0"))
+        types = self.open_dictionary(dictionary(records, b"\0int\0"))
         self.assertEqual(ctfd.declaration(types.type(511), "x"), "int " + "*" * 510 + "x")
 
     def test_hostile_dictionaries_are_refused(self) -> None:
@@ -179,7 +181,7 @@ class Small(WithService):
                                  ("BadName", 36, dictionary([integer(99)])),
                                  ("ValueDeep", 1, dictionary([itself]))):
             with self.assertRaises(ctfd.BadDictionary) as caught:
-                self.opened(ctf)
+                self.open_dictionary(ctf)
             fault = caught.exception
             self.assertEqual((fault.name, fault.place, fault.op), (name, place, "open"))
             self.assertIn(fault.advice, str(fault))

@@ -1,4 +1,4 @@
-"""Values read out of memory by the service, and what a hostile type may cost."""
+"""Values that the service reads from memory, and the cost of hostile types."""
 import struct
 import unittest
 
@@ -17,11 +17,11 @@ def character() -> bytes:
     return record(INTEGER, 0, 1, CHAR, struct.pack("<I", 3 << 24 | 8))
 
 
-class Whole(WithService):
+class WholeValues(WithService):
     def setUp(self) -> None:
         super().setUp()
         both = member(A, 1, 0) + member(B, 3, 32)
-        self.types = self.opened(dictionary(
+        self.types = self.open_dictionary(dictionary(
             [integer(INT), character(), array(2, 4, 4), record(STRUCT, 2, 8, 0, both)], NAMES))
         self.pair = self.types.type(4)
 
@@ -51,9 +51,9 @@ class Whole(WithService):
         self.assertEqual(told, [Leaf("5")])
 
 
-class Large(WithService):
+class LargeValues(WithService):
     def test_an_array_that_is_too_long_for_a_text(self) -> None:
-        types = self.opened(dictionary([integer(INT), array(1, 1_000_000)], NAMES))
+        types = self.open_dictionary(dictionary([integer(INT), array(1, 1_000_000)], NAMES))
         memory = struct.pack("<10i", *range(10))
         told = value(types.type(2), memory, Bounds(elements=12))
         assert isinstance(told, Parts)
@@ -61,7 +61,7 @@ class Large(WithService):
         self.assertEqual(told.items[8:], [Leaf("8"), Leaf("9"), *[Lost("ShortMemory")] * 2])
 
     def test_memory_that_ends_within_a_value(self) -> None:
-        types = self.opened(dictionary([integer(INT), array(1, 200_000)], NAMES))
+        types = self.open_dictionary(dictionary([integer(INT), array(1, 200_000)], NAMES))
 
         def read(at: int, size: int) -> bytes:
             if at >= 8:
@@ -76,7 +76,8 @@ class Large(WithService):
             values([Wanted(types.type(2), 8)], read)
 
     def test_long_arrays_of_characters_are_taken_from_memory(self) -> None:
-        types = self.opened(dictionary([integer(INT), character(), array(2, 1_000_000)], NAMES))
+        types = self.open_dictionary(dictionary([integer(INT), character(), array(2, 1_000_000)],
+                                                NAMES))
         before = self.client.requests
         told = value(types.type(3), b"x" * 1_000_000)
         self.assertEqual(told, Characters(b"x" * 65_536, 1_000_000))
@@ -85,7 +86,7 @@ class Large(WithService):
 
 class Hostile(WithService):
     def doubling(self, kind: int, levels: int) -> bytes:
-        """Structs or unions of two of the one before, from an int on."""
+        """Structs or unions of two of the previous one, beginning with an int."""
         wholes = []
         for level in range(levels):
             size = 4 << level + 1 if kind == STRUCT else 4
@@ -95,15 +96,15 @@ class Hostile(WithService):
         return dictionary([integer(INT), *wholes], NAMES)
 
     def test_a_union_that_doubles_ends_at_the_bounds(self) -> None:
-        types = self.opened(self.doubling(UNION, 24))
+        types = self.open_dictionary(self.doubling(UNION, 24))
         before = self.client.requests
         told = value(types.type(25), bytes(4), Bounds(pieces=64, text=300_000))
         self.assertIsInstance(told, Parts)
         self.assertLess(self.client.requests - before, 256)
 
     def test_arrays_of_arrays_end_at_the_bounds(self) -> None:
-        """char [60000][60000][60000]: none is asked for, and each has as many parts."""
-        types = self.opened(dictionary(
+        """char [60000][60000][60000]: none is asked for as a whole, and each has 60,000 parts."""
+        types = self.open_dictionary(dictionary(
             [integer(INT), character(), array(2, 60_000, 60_000), array(3, 60_000),
              array(4, 60_000)], NAMES))
         told = value(types.type(5), b"x" * 10, Bounds(elements=3000, pieces=4000))
@@ -114,7 +115,7 @@ class Hostile(WithService):
 
     def test_values_that_lie_deep_in_each_other(self) -> None:
         wholes = [record(STRUCT, 1, 4, 0, member(A, level + 1, 0)) for level in range(500)]
-        types = self.opened(dictionary([integer(INT), *wholes], NAMES))
+        types = self.open_dictionary(dictionary([integer(INT), *wholes], NAMES))
         told = value(types.type(501), struct.pack("<i", 9))
         for _ in range(500):
             assert isinstance(told, Parts)
@@ -122,17 +123,17 @@ class Hostile(WithService):
         self.assertEqual(told, Leaf("9"))
 
     def test_enumerators_whose_names_look_like_text(self) -> None:
-        """enum { "A", "A, b = 1" }: both texts of a struct would be the same."""
+        """enum { "A", "A, b = 1" }: both members of the struct would give the same text."""
         listed = struct.pack("<IiIi", 1, 0, 3, 1)
         parts = member(18, 1, 0) + member(20, 1, 32)
-        types = self.opened(dictionary(
+        types = self.open_dictionary(dictionary(
             [record(ENUM, 2, 4, 0, listed), record(STRUCT, 2, 8, 0, parts)],
             b"\0A\0A, b = 1}, {A\0a\0b\0"))
         told = value(types.type(2), struct.pack("<ii", 1, 0))
         self.assertEqual(told, Parts([Leaf("A, b = 1}, {A"), Leaf("A")], 2))
 
     def test_a_text_of_another_value_is_unclear(self) -> None:
-        types = self.opened(dictionary([integer(INT), array(1, 2, 8)], NAMES))
+        types = self.open_dictionary(dictionary([integer(INT), array(1, 2, 8)], NAMES))
         for shown in ("", "[1, 2", "[1, 2]]", "[1]", "{1, 2}", "[1, 2, 3]"):
             with self.assertRaises(Unclear):
                 parse(types.type(2), shown)

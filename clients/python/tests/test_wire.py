@@ -16,19 +16,19 @@ from .support import EXAMPLES, PROGRAM, WithService, dictionary, integer
 MANY = 20_000
 
 
-class Interrupted(Exception):
-    """What the alarm of a test raises."""
+class AlarmInterrupt(Exception):
+    """Raised by the alarm of a test."""
 
 
 def interrupt(*_: object) -> None:
-    raise Interrupted
+    raise AlarmInterrupt
 
 
 class Pipelines(WithService):
     is_of_lines = True
 
     def test_many_long_answers_in_one_round(self) -> None:
-        slot = self.opened((EXAMPLES / "lua.ctf").read_bytes())
+        slot = self.open_dictionary((EXAMPLES / "lua.ctf").read_bytes())
         t = slot.find("struct lua_State").number
         answers = self.session.ask_all([("members", {"d": slot.slot, "t": t})] * MANY)
         self.assertEqual(len(answers), MANY)
@@ -36,20 +36,20 @@ class Pipelines(WithService):
         self.assertTrue(all(answer == answers[0] for answer in answers))
 
     def test_an_interrupt_leaves_replies_owed_and_none_mixed_up(self) -> None:
-        slot = self.opened((EXAMPLES / "lua.ctf").read_bytes()).slot
+        slot = self.open_dictionary((EXAMPLES / "lua.ctf").read_bytes()).slot
 
         before = signal.signal(signal.SIGALRM, interrupt)
         self.addCleanup(signal.signal, signal.SIGALRM, before)
         for number in range(40):
-            with self.assertRaises(Interrupted):
-                # Once more where it came in a destructor, which lets no exception out.
+            with self.assertRaises(AlarmInterrupt):
+                # Once more if it came in a destructor, which lets no exception out.
                 signal.setitimer(signal.ITIMER_REAL, 0.001 + 0.0007 * number, 1)
                 self.ask_for_ever(slot)
             signal.setitimer(signal.ITIMER_REAL, 0)
             try:
                 told = self.session.ask("kind", d=slot, t=30)
             except ctfd.Gone:
-                return  # it came amid the few steps that belong together, and is told
+                return  # it came amid steps that must not be separated, and is reported
             self.assertEqual(told, {"kind": "typedef"})
 
     def ask_for_ever(self, slot: int) -> None:
@@ -57,24 +57,24 @@ class Pipelines(WithService):
             self.session.ask_all([("members", {"d": slot, "t": 218})] * 1000)
 
     def test_sessions_do_not_see_each_other(self) -> None:
-        self.opened(dictionary([integer(1)], b"\0int\0"))
+        self.open_dictionary(dictionary([integer(1)], b"\0int\0"))
         with self.assertRaises(ctfd.Refused) as caught:
             self.client.session().ask("kind", d=1, t=1)
         self.assertEqual(caught.exception.name, "NoSlot")
 
     def test_lists_longer_than_a_line(self) -> None:
         names = b"\0int\0" + b"x" * (3 * PIECE) + b"\0"
-        slot = self.opened(dictionary([integer(1), integer(5)], names))
+        slot = self.open_dictionary(dictionary([integer(1), integer(5)], names))
         self.assertEqual(slot.type(2).name, "x" * (3 * PIECE))
 
     def test_a_dictionary_taken_from_another_session(self) -> None:
-        slot = self.opened((EXAMPLES / "lua.ctf").read_bytes())
+        slot = self.open_dictionary((EXAMPLES / "lua.ctf").read_bytes())
         slot.publish("base")
         other = ctfd.taken(self.client.session(), self.session.number, "base")
         self.assertEqual(other.find("struct lua_State").size, 200)
 
     def test_what_is_withdrawn_stays_with_who_took_it(self) -> None:
-        slot = self.opened((EXAMPLES / "lua.ctf").read_bytes())
+        slot = self.open_dictionary((EXAMPLES / "lua.ctf").read_bytes())
         slot.publish("base")
         early = ctfd.taken(self.client.session(), self.session.number, "base")
         ctfd.withdraw(self.session, "base")
@@ -93,7 +93,7 @@ class Faults(WithService):
     is_of_lines = True
 
     def test_a_fault_names_word_and_fields_and_what_to_do(self) -> None:
-        slot = self.opened(dictionary([integer(1)], b"\0int\0"))
+        slot = self.open_dictionary(dictionary([integer(1)], b"\0int\0"))
         with self.assertRaises(ctfd.Refused) as caught:
             self.session.ask("members", d=slot.slot, t=1)
         fault = caught.exception
@@ -102,7 +102,7 @@ class Faults(WithService):
         self.assertEqual(str(fault), f"WrongKind (members, d {slot.slot}, t 1): {fault.advice}")
 
     def test_refusals_stand_in_their_place(self) -> None:
-        slot = self.opened(dictionary([integer(1)], b"\0int\0")).slot
+        slot = self.open_dictionary(dictionary([integer(1)], b"\0int\0")).slot
         asked = [("kind", {"d": slot, "t": t}) for t in (9, 1)]
         first, second = self.session.ask_all(asked)
         self.assertIsInstance(first, ctfd.Refused)
@@ -125,10 +125,10 @@ class Faults(WithService):
         with self.assertRaises(ctfd.Refused) as caught:
             self.session.open((EXAMPLES / "lua.ctf").read_bytes(), None, bytes(67_108_865))
         self.assertEqual(caught.exception.name, "StageFull")
-        self.assertEqual(self.opened((EXAMPLES / "lua.ctf").read_bytes()).own, 526)
+        self.assertEqual(self.open_dictionary((EXAMPLES / "lua.ctf").read_bytes()).own, 526)
         self.assertEqual(self.session.ask("kind", d=2, t=1), {"kind": "integer"})
         with self.assertRaises(ctfd.Refused):
-            self.session.ask("kind", d=1, t=1)  # what was opened of cut lists is closed again
+            self.session.ask("kind", d=1, t=1)  # cut lists are closed again
 
 
 class Advice(unittest.TestCase):

@@ -1,4 +1,4 @@
-"""What the tests of the tools share: dictionaries of C files, and whole types of them."""
+"""Helpers for the tests of commands: dictionaries of C files, and all their types."""
 from __future__ import annotations
 
 import os
@@ -13,7 +13,7 @@ from ctfd.client.gather import ALL_LISTS
 from ctfd.files.opening import Opener
 
 from .support import (COMMAND, CONVERT, DEBUGINFO, DIFF, EXPLORE, PROGRAM, WithService, run)
-from .whole import Whole, whole
+from .whole import WholeFile, whole_of as whole_of_types
 
 RUST = {one.name: one for one in (COMMAND, CONVERT, DEBUGINFO, DIFF, EXPLORE)}
 CLIENT = Path(__file__).resolve().parents[1]
@@ -24,7 +24,7 @@ WHY_NOT = "no service or gcc here"
 
 
 def command(name: str, *words: str) -> "subprocess.CompletedProcess[str]":
-    """A command, run as a user would."""
+    """Runs a command as a user would."""
     if name in RUST:
         return run(*words, command=RUST[name])
     environment = {**os.environ, "CTFD": PROGRAM}
@@ -32,7 +32,7 @@ def command(name: str, *words: str) -> "subprocess.CompletedProcess[str]":
                           text=True, env=environment)
 
 
-def compiled(folder: str, name: str, code: str, *options: str) -> str:
+def compile_object(folder: str, name: str, code: str, *options: str) -> str:
     """The path of an object file of C code, with debug information."""
     source, made = Path(folder) / f"{name}.c", Path(folder) / f"{name}.o"
     source.write_text(code)
@@ -40,16 +40,16 @@ def compiled(folder: str, name: str, code: str, *options: str) -> str:
     return str(made)
 
 
-def converted(folder: str, name: str, code: str, *options: str) -> str:
-    """The path of an object file with a dictionary of its debug information."""
-    made = compiled(folder, name, code, *options)
+def convert_object(folder: str, name: str, code: str, *options: str) -> str:
+    """The path of an object file with a dictionary made from its debug information."""
+    made = compile_object(folder, name, code, *options)
     told = command("ctfd-convert", "--lossy", "--section", made, f"{made}.ctf.o")
     assert told.returncode == 0, told.stderr
     return f"{made}.ctf.o"
 
 
-def written(case: WithService, ctf: bytes, name: str = "types.ctf") -> str:
-    """The path of a file of a dictionary's bytes, as long as the test runs."""
+def write_dictionary(case: WithService, ctf: bytes, name: str = "types.ctf") -> str:
+    """The path of a file with a dictionary's bytes, which lasts until the end of the test."""
     folder = tempfile.mkdtemp()
     case.addCleanup(shutil.rmtree, folder)
     path = Path(folder) / name
@@ -57,11 +57,11 @@ def written(case: WithService, ctf: bytes, name: str = "types.ctf") -> str:
     return str(path)
 
 
-def whole_of(case: WithService, path: str, lists: Optional[Iterable[str]] = None) -> Whole:
+def whole_of(case: WithService, path: str, lists: Optional[Iterable[str]] = None) -> WholeFile:
     """All types of a file."""
-    return whole(Opener(case.session).open(path), path, lists or ALL_LISTS)
+    return whole_of_types(Opener(case.session).open(path), path, lists or ALL_LISTS)
 
 
-def by_label(whole: Whole) -> Dict[str, int]:
-    """The numbers of the types by what they are called."""
+def by_label(whole: WholeFile) -> Dict[str, int]:
+    """The numbers of the types, by label."""
     return {whole.names.label(number): number for number in reversed(whole.catalog.own)}

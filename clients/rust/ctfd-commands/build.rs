@@ -1,4 +1,4 @@
-//! Links the programs anew where libctfd.a has changed.
+//! Links the programs again if libctfd.a has changed.
 
 use std::env;
 use std::path::PathBuf;

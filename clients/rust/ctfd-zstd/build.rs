@@ -1,4 +1,4 @@
-//! Links libzstd.a where the C compiler knows one: Debian's package libzstd-dev brings it.
+//! Links libzstd.a if the C compiler finds it; it is in Debian's package libzstd-dev.
 
 use std::env;
 use std::path::PathBuf;
@@ -6,7 +6,8 @@ use std::process::Command;
 
 const ARCHIVE: &str = "libzstd.a";
 
-/// Where the archive is; None where there is none, and then no section that zstd compressed is read.
+/// The path of the archive; `None` if there is none, and then sections compressed with zstd are not
+/// read.
 fn archive() -> Option<PathBuf> {
     let compiler = env::var("CC").unwrap_or_else(|_| "cc".into());
     let asked = Command::new(compiler).arg(format!("-print-file-name={ARCHIVE}")).output().ok()?;

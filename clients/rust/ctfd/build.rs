@@ -1,12 +1,12 @@
-//! Finds libctfd.a: the file that CTFD_ARCHIVE names, the one that pkg-config knows, or the one
-//! that this clone has built. With the feature `shared` it is libctfd.so, which CTFD_LIBRARY names.
+//! Finds libctfd.a: the file that CTFD_ARCHIVE names, else the one that pkg-config finds, else the
+//! one built in this clone. With the feature `shared`, libctfd.so, which CTFD_LIBRARY may name.
 
 use std::env;
 use std::fs;
 use std::path::{Path, PathBuf};
 use std::process::Command;
 
-/// The one that `make install` installed.
+/// The library that `make install` installed, found by pkg-config.
 fn installed_library(name: &str) -> Option<PathBuf> {
     let asked = Command::new(env::var("PKG_CONFIG").unwrap_or_else(|_| "pkg-config".into()))
         .args(["--libs-only-L", "--keep-system-libs", "ctfd"])
@@ -19,13 +19,14 @@ fn installed_library(name: &str) -> Option<PathBuf> {
         .find(|library| asked.status.success() && library.exists())
 }
 
-/// The one of the clone that this crate stands in.
+/// The library built in the clone that contains this crate.
 fn library_of_clone(name: &str) -> Option<PathBuf> {
     let top = Path::new(&env::var_os("CARGO_MANIFEST_DIR")?).join("../../..");
     Some(top.join("crates/ctf_c/out").join(name)).filter(|library| library.exists())
 }
 
-/// The library of a name, which a word of the environment may name by its path.
+/// The path of a library: the value of the environment variable `word`, else an installed library,
+/// else that of the clone.
 fn library_path(name: &str, word: &str) -> PathBuf {
     let named = env::var_os(word).map(PathBuf::from);
     let library = named.or_else(|| installed_library(name)).or_else(|| library_of_clone(name));
@@ -35,8 +36,8 @@ fn library_path(name: &str, word: &str) -> PathBuf {
     library
 }
 
-/// Names an archive that is still being made: who links a program waits for it. Nothing is compiled
-/// anew where it changes, so a program sees to it itself that it is linked anew.
+/// Links an archive that does not exist yet: the caller builds it before it links a program. Cargo
+/// does not see when the archive changes, so the caller must also have the program linked again.
 fn name_archive() {
     let archive = env::var_os("CTFD_ARCHIVE").map(PathBuf::from).unwrap_or_default();
     let folder = archive.parent().expect("CTFD_ARCHIVE names a file");
@@ -44,7 +45,8 @@ fn name_archive() {
     println!("cargo:rustc-link-lib=static:-bundle=ctfd");
 }
 
-/// A copy of the archive by itself, since beside it stands the shared library, which is preferred.
+/// Copies the archive into a folder of its own: next to it is the shared library, which the linker
+/// would prefer.
 fn link_archive() {
     let archive = library_path("libctfd.a", "CTFD_ARCHIVE");
     let out = env::var("OUT_DIR").expect("cargo says where");
@@ -54,7 +56,8 @@ fn link_archive() {
     println!("cargo:rustc-link-lib=static=ctfd");
 }
 
-/// The folder is told to the crates that use this one, as DEP_CTFD_FOLDER, for a run path.
+/// Links the shared library. Crates that use this one get its folder as DEP_CTFD_FOLDER, for a run
+/// path.
 fn link_shared() {
     let library = library_path("libctfd.so", "CTFD_LIBRARY");
     let folder = library.parent().expect("a file stands in a folder");
@@ -69,7 +72,7 @@ fn main() {
     }
     println!("cargo:rerun-if-env-changed=PKG_CONFIG_PATH");
     println!("cargo:rerun-if-env-changed=PKG_CONFIG_SYSROOT_DIR");
-    // What makes pages alone links nothing.
+    // A documentation build links nothing.
     if env::var_os("DOCS_RS").is_some() {
         return;
     }

@@ -1,4 +1,4 @@
-//! What a granted request is answered.
+//! The answer to a request that is not refused.
 ghost use Rattle.std.specs.Prelude.{◌≡◌, ◌<◌, [], ◌∷◌, codes, length, IfSome, Some, slice_get};
 ghost use Rattle.ctf_protocol.specs.answers.Answers.{says, lists, number, truth, text as said_text};
 ghost use Rattle.ctf_answers.specs.Singles.{single_of};
@@ -7,14 +7,14 @@ ghost use Rattle.ctf_answers.specs.Said.{entry_view, fields_view};
 ghost use Rattle.ctf_answers.specs.Told.{record_view, info_view};
 
 use crate::fields::{Field, Value};
-use crate::item_lists::Listed;
+use crate::item_lists::ItemWindow;
 use crate::singles::{KeyedValue, Single};
 use crate::type_fields::{InfoAnswer, RecordAnswer, field};
 use crate::values::Said;
 use ctf_protocol::Bytes;
 use std::marker::Model;
 
-/// What a granted request is answered: at most eight fields, their keys in byte order.
+/// The answer to a request that is not refused: at most eight fields, their keys in byte order.
 #[derive(Drop)]
 pub struct Answer<'a> {
     said: Said<'a>,
@@ -36,14 +36,14 @@ fn entry<'a>(key: &'static str, value: Single<'a>) -> KeyedValue<'a>
 }
 
 impl<'a> Answer<'a> {
-    /// Nothing but that it is done.
+    /// An answer without fields, for success.
     pub fn of_success() -> Answer<'a>
         ensures { result ≡ [] }
     {
         Answer { said: Said::Done }
     }
 
-    /// A single value.
+    /// An answer with a single value.
     pub fn one(key: &'static str, value: Single<'a>) -> Answer<'a>
         ensures { result ≡ says key.now (single_of value.entry) ∷ [] }
     {
@@ -52,7 +52,7 @@ impl<'a> Answer<'a> {
         }
     }
 
-    /// Two single values.
+    /// An answer with two single values.
     pub fn two(
         key: &'static str,
         value: Single<'a>,
@@ -67,7 +67,7 @@ impl<'a> Answer<'a> {
         }
     }
 
-    /// Three single values.
+    /// An answer with three single values.
     pub fn three(
         key: &'static str,
         value: Single<'a>,
@@ -84,8 +84,8 @@ impl<'a> Answer<'a> {
         }
     }
 
-    /// Some items of a list, and how many it has.
-    pub fn window(key: &'static str, items: Listed<'a>, total: u64) -> Answer<'a>
+    /// Some items of a list, and how many the whole list has.
+    pub fn window(key: &'static str, items: ItemWindow<'a>, total: u64) -> Answer<'a>
         ensures { result ≡ lists key.now items.entry ∷ says (codes "total") (number total) ∷ [] }
     {
         Answer {
@@ -94,7 +94,7 @@ impl<'a> Answer<'a> {
     }
 
     /// What a function takes and returns.
-    pub fn signature(args: Listed<'a>, ret: u64, varargs: bool) -> Answer<'a>
+    pub fn signature(args: ItemWindow<'a>, ret: u64, varargs: bool) -> Answer<'a>
         ensures { result ≡ lists (codes "args") args.entry ∷ says (codes "return") (number ret)
             ∷ says (codes "varargs") (truth varargs) ∷ [] }
     {
@@ -112,7 +112,7 @@ impl<'a> Answer<'a> {
         }
     }
 
-    /// A dictionary as a whole.
+    /// The answer of `info`: what a dictionary has in all.
     pub fn info(told: InfoAnswer<'a>) -> Answer<'a>
         ensures { result ≡ info_view told.entry }
     {
@@ -121,7 +121,7 @@ impl<'a> Answer<'a> {
         }
     }
 
-    /// A text that was made for it.
+    /// A text that was made for this answer.
     pub fn with_text(key: &'static str, text: Bytes) -> Answer<'a>
         ensures { result ≡ says key.now (said_text text) ∷ [] }
     {
@@ -147,7 +147,7 @@ impl<'a> Answer<'a> {
         }
     }
 
-    /// The dictionary as a whole, where that is what it is of.
+    /// The answer of `info`, if this is one.
     pub fn as_info(&self) -> Option<InfoAnswer<'a>>
         ensures { IfSome result (λ told. self.now ≡ info_view told) }
     {
@@ -178,7 +178,7 @@ impl<'a> Answer<'a> {
     }
 }
 
-fn list_field<'a, 'b>(key: &'static str, items: &'b Listed<'a>) -> Field<'a, 'b>
+fn list_field<'a, 'b>(key: &'static str, items: &'b ItemWindow<'a>) -> Field<'a, 'b>
     ensures { field_of result ≡ lists key.now items.now }
 {
     Field {
@@ -226,7 +226,7 @@ fn pick_three<'a, 'b>(
 
 fn pick_window<'a, 'b>(
     key: &'static str,
-    items: &'b Listed<'a>,
+    items: &'b ItemWindow<'a>,
     total: u64,
     index: usize,
 ) -> Field<'a, 'b>
@@ -241,7 +241,7 @@ fn pick_window<'a, 'b>(
 }
 
 fn pick_signature<'a, 'b>(
-    args: &'b Listed<'a>,
+    args: &'b ItemWindow<'a>,
     ret: u64,
     varargs: bool,
     index: usize,

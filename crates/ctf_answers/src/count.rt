@@ -1,4 +1,4 @@
-//! A number that a change is answered.
+//! A number in the answer to a change.
 ghost use Rattle.std.specs.Prelude.{◌<◌, ◌≤◌, ◌^◌, length};
 
 /// A number under a short key.

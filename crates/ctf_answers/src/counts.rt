@@ -1,4 +1,4 @@
-//! What a change is answered: few numbers, owned.
+//! The answer to a change: a few owned numbers.
 ghost use Rattle.std.specs.Prelude.{◌≡◌, ◌≤◌, [], ◌∷◌, length};
 ghost use Rattle.ctf_protocol.specs.answers.Answers.{says, number as number_said};
 ghost use Rattle.ctf_answers.specs.Counts.{counts_view};
@@ -7,7 +7,7 @@ use crate::answers::Answer;
 use crate::count::Count;
 use crate::singles::Single;
 
-/// What a granted change is answered: nothing but that it is done, or one or two numbers.
+/// The answer to a change that is not refused: no field, or one or two numbers.
 #[derive(Clone, Copy)]
 pub struct Counts {
     pub first: Option<Count>,
@@ -49,7 +49,7 @@ impl Counts {
         }
     }
 
-    /// The answer that says so.
+    /// The answer with these numbers.
     pub fn answer<'a>(self) -> Answer<'a>
         ensures { result ≡ counts_view self }
     {

@@ -1,13 +1,13 @@
 //! The fields of an answer.
 
-use crate::item_lists::Listed;
+use crate::item_lists::ItemWindow;
 use crate::singles::Single;
 
-/// The value of a field, lent from its answer.
+/// The value of a field, borrowed from its answer.
 #[derive(Clone, Copy)]
 pub enum Value<'a, 'b> {
     One(Single<'a>),
-    Many(&'b Listed<'a>),
+    Many(&'b ItemWindow<'a>),
     /// A text that was made for the answer, which owns it.
     Made(&'b [u8]),
 }

@@ -1,4 +1,4 @@
-//! The items of a list that are answered.
+//! The items of a list that an answer has.
 ghost use Rattle.std.specs.Prelude.{◌≡◌, ◌<◌, ◌≤◌, length, take, Some, IfSome, slice_get};
 ghost use Rattle.ctf_protocol.specs.answers.Questions.{member_item as said_member, window_of};
 ghost use Rattle.ctf_views.specs.ItemsView.{member as member_view};
@@ -9,15 +9,15 @@ use ctf_protocol::Window;
 use ctf_views::Member;
 use std::marker::Model;
 
-/// Some items of a list: those from one on, as many as are answered.
+/// Some items of a list, beginning at one of them, as many as the answer has.
 #[derive(Drop)]
-pub struct Listed<'a> {
+pub struct ItemWindow<'a> {
     items: Items<'a>,
     from: usize,
     count: usize,
 }
 
-impl<'a> Model for Listed<'a> {
+impl<'a> Model for ItemWindow<'a> {
     ghost use Rattle.std.specs.Prelude.{List, ◌+◌, ◌<◌, ◌≤◌, ◌^◌, length, take, drop};
     ghost use Rattle.ctf_protocol.specs.answers.Answers.{Item as SaidItem};
     ghost use Rattle.ctf_answers.specs.Items.{items_of};
@@ -30,9 +30,9 @@ impl<'a> Model for Listed<'a> {
         × (l.from + l.count < 2 ^ 64) };
 }
 
-impl<'a> Listed<'a> {
-    /// The items that a window shows.
-    pub fn new(items: Items<'a>, window: Window) -> Listed<'a>
+impl<'a> ItemWindow<'a> {
+    /// The items in a window.
+    pub fn new(items: Items<'a>, window: Window) -> ItemWindow<'a>
         ensures { result ≡ window_of window (items_of items.entry) }
     {
         let len = items.len();
@@ -41,15 +41,15 @@ impl<'a> Listed<'a> {
             Some(count) => (len - from).min(count as usize),
             None => len - from,
         };
-        Listed { items, from, count }
+        ItemWindow { items, from, count }
     }
 
     /// The first items.
-    pub fn front(items: Items<'a>, count: usize) -> Listed<'a>
+    pub fn front(items: Items<'a>, count: usize) -> ItemWindow<'a>
         requires { count ≤ length (items_of items) }
         ensures { result ≡ take count (items_of items.entry) }
     {
-        Listed {
+        ItemWindow {
             items,
             from: 0,
             count,
@@ -69,7 +69,7 @@ impl<'a> Listed<'a> {
     {
         self.items.get(self.from + index)
     }
-    /// The member with a number, from 0, where the list is of members.
+    /// The member with a number, from 0, if the list is of members.
     pub fn member(&self, index: usize) -> Option<Member<'a>>
         requires { index < length self.now }
         ensures { IfSome result (λ member.

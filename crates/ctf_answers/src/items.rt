@@ -10,7 +10,7 @@ ghost use Rattle.ctf_answers.specs.Items.{item_of, items_of};
 use crate::singles::{KeyedValue, Single};
 use ctf_views::{Args, Enumerator, Enumerators, Label, Labels, Member, Members};
 
-/// An item of a list: a value by itself, or an object of two or three parts.
+/// An item of a list: a single value, or an object of two or three values.
 #[derive(Clone, Copy)]
 pub enum Item<'a> {
     Bare(Single<'a>),
@@ -87,7 +87,7 @@ impl<'a> Items<'a> {
             Items::Labels(labels) => label_item(labels.get(index).unwrap()),
         }
     }
-    /// The member with a number, from 0, where the list is of members.
+    /// The member with a number, from 0, if the list is of members.
     pub(crate) fn member(&self, index: usize) -> Option<Member<'a>>
         requires { index < length (items_of self.now) }
         ensures { IfSome result (λ member.

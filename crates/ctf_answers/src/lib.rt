@@ -1,4 +1,4 @@
-//! What a session is answered: fields of single values and of lists, lent from its dictionaries.
+//! The answers to a session: fields with single values and lists, borrowed from its dictionaries.
 //!
 //! ```rust
 //! use ctf_answers::{Answer, Counts, Reply, Single};
@@ -38,7 +38,7 @@ pub use count::Count;
 pub use counts::Counts;
 pub use fields::{Field, Value};
 pub use fixed_words::{class_name, tag_name};
-pub use item_lists::Listed;
+pub use item_lists::ItemWindow;
 pub use items::{Item, Items};
 pub use replies::Reply;
 pub use singles::{KeyedValue, Single};

@@ -1,6 +1,6 @@
-//! Values that stand by themselves.
+//! Single values.
 
-/// A value that stands by itself.
+/// A single value.
 #[derive(Clone, Copy)]
 pub enum Single<'a> {
     Number(u64),
@@ -8,9 +8,9 @@ pub enum Single<'a> {
     Truth(bool),
     /// A word of this service.
     Word(&'static str),
-    /// Bytes that are read as text.
+    /// Bytes that are written as text, with escapes.
     Text(&'a [u8]),
-    /// Bytes that aren't.
+    /// Bytes that are written as hexadecimal digits.
     Bytes(&'a [u8]),
 }
 

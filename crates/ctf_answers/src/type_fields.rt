@@ -1,4 +1,4 @@
-//! What a type and a dictionary are told as: their fields are made where they are asked for.
+//! The fields of a type and of a dictionary; each is made when it is asked for.
 ghost use Rattle.std.specs.Prelude.{◌≡◌, ◌<◌, length, Some, slice_get};
 ghost use Rattle.ctf_protocol.specs.answers.Answers.{says};
 ghost use Rattle.ctf_answers.specs.Told.{record_view, size_on, tag_on, type_on, info_view};
@@ -23,7 +23,8 @@ pub struct RecordAnswer<'a> {
     pub vlen: u64,
 }
 
-/// A dictionary as a whole, and how much its draft has pending.
+/// The answer of `info`: what a dictionary has in all, and how many additions to its draft are
+/// pending.
 #[derive(Clone, Copy)]
 pub struct InfoAnswer<'a> {
     pub child: bool,

@@ -1,26 +1,26 @@
-//! What is answered, by what it is.
+//! The values of an answer, by what it is about.
 
-use crate::item_lists::Listed;
+use crate::item_lists::ItemWindow;
 use crate::singles::KeyedValue;
 use crate::type_fields::{InfoAnswer, RecordAnswer};
 use ctf_protocol::Bytes;
 
-/// What is answered. Its fields are made where they are asked for.
+/// The content of an answer. A field is made when it is asked for.
 #[derive(Drop)]
 pub enum Said<'a> {
     Done,
     One(KeyedValue<'a>),
     Two(KeyedValue<'a>, KeyedValue<'a>),
     Three(KeyedValue<'a>, KeyedValue<'a>, KeyedValue<'a>),
-    /// Some items of a list, and how many it has.
+    /// Some items of a list, and how many the whole list has.
     Window {
         key: &'static str,
-        items: Listed<'a>,
+        items: ItemWindow<'a>,
         total: u64,
     },
     /// What a function takes and returns.
     Signature {
-        args: Listed<'a>,
+        args: ItemWindow<'a>,
         ret: u64,
         varargs: bool,
     },

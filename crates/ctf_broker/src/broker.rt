@@ -25,7 +25,7 @@ use std::marker::Model;
 const OPERATOR: u32 = 0;
 
 /// The libraries of all sessions, each made at the session's first change, and the dictionaries
-/// that they opened lately.
+/// that were opened last.
 #[derive(Drop)]
 pub struct Broker {
     alloc: Global,
@@ -42,7 +42,7 @@ impl Model for Broker {
 }
 
 impl Broker {
-    /// A broker in which no session holds anything.
+    /// A broker whose sessions are all new.
     pub fn new(alloc: Global) -> Broker
         ensures empty { (session : ℕ) → library_at result session ≡ empty_state }
         ensures good { AreGood (library_at result) }
@@ -59,7 +59,7 @@ impl Broker {
         self.alloc
     }
 
-    /// Publishes a dictionary for the operator, under a name that has none yet.
+    /// Publishes a dictionary for the operator, under a name that is not in use.
     pub fn load(&mut self, name: &PublicationName, dictionary: Loaded) -> Result<Counts, Fault>
         ensures own { Answered (library_at self.old 0)
             (publishes_kept name.now dictionary (library_at self.old 0))
@@ -83,9 +83,8 @@ impl Broker {
         publish_in(self.alloc, &mut self.libraries, OPERATOR, name, dictionary)
     }
 
-    /// Publishes a CTF section for the operator, without the symbols
-    /// and strings of a program. It is
-    /// judged before its name is.
+    /// Publishes a CTF section for the operator, without the symbols and strings of a program. The
+    /// section is checked before its name.
     pub fn load_section(&mut self, name: &PublicationName, ctf: Vec<u8>) -> Result<Counts, Fault>
         ensures own { Answered (library_at self.old 0)
             (loads_section name.now ctf.items (library_at self.old 0))
@@ -105,7 +104,8 @@ impl Broker {
         }
     }
 
-    /// Forgets all that a session holds and has published. Others keep what they took from it.
+    /// Forgets a session: all that it has, and all that it has published. Others keep what they
+    /// took from it.
     pub fn leave(&mut self, session: u32)
         ensures own { kept_for self.new session ≡ None }
         ensures others { (other : ℕ) → other ≢ session
@@ -115,10 +115,10 @@ impl Broker {
         self.libraries.remove(&session);
     }
 
-    /// Makes the step of a change: the session's own library makes it, with what its owner has
-    /// published for a take, and all others stay.
+    /// Makes the step of a change in the session's own library; a take gets what its owner has
+    /// published. All other libraries stay as they are.
     ///
-    /// The library is found in a time that grows with the logarithm of the number of sessions.
+    /// The library is found in time logarithmic in the number of sessions.
     pub fn step(&mut self, session: u32, change: &Change) -> Result<Counts, Fault>
         requires session { session ≢ 0 }
         ensures step { Steps (library_at self.old) session (Changes change.now)
@@ -130,10 +130,10 @@ impl Broker {
             → library_at self.old session ≢ empty_state
             → IsGranted (library_at self.old) session (Changes change.now)
             (said_to session result) (library_at self.new) }
-        // Good libraries stay good, where the numbers of what is added have their fields' widths.
+        // Good libraries stay good, if the numbers of what is added fit their fields.
         ensures good { AreGood (library_at self.old) → FitsChange change.now
             → AreGood (library_at self.new) }
-        // A session whose library is as new takes no memory.
+        // A session whose library equals a new one takes no memory.
         ensures spare { library_at self.new session ≡ empty_state
             → kept_for self.new session ≡ None }
     {
@@ -164,7 +164,7 @@ impl Broker {
         )
     }
 
-    /// Answers a question of a session. Names and lists are lent from its own library.
+    /// Answers a question of a session. Names and lists are borrowed from its own library.
     pub fn answer<'a>(
         &'a self,
         session: u32,

@@ -15,7 +15,7 @@ use ctf_protocol::{Change, Fault, PublicationName, placeless};
 use std::alloc::{AllocError, Global};
 use std::collections::BTreeMap;
 
-/// What a change finds: a take, what its owner has published under the name.
+/// What a change finds: for a take, what its owner has published under the name.
 pub fn found_by(
     libraries: &BTreeMap<u32, SessionLibrary>,
     change: &Change,
@@ -36,7 +36,7 @@ pub fn found_by(
     }
 }
 
-/// Gives back the memory of a session's library that is as new.
+/// Frees the memory of a session's library that equals a new one.
 pub fn drop_new(libraries: &mut BTreeMap<u32, SessionLibrary>, session: u32)
     ensures own { library_at libraries.new.entries session
         ≡ library_at libraries.old.entries session }
@@ -54,7 +54,7 @@ pub fn drop_new(libraries: &mut BTreeMap<u32, SessionLibrary>, session: u32)
     }
 }
 
-/// Makes the step of a change in the session's own library, which is made where there is none yet.
+/// Makes the step of a change in the session's own library, which is made if there is none yet.
 pub fn step_in(
     alloc: Global,
     libraries: &mut BTreeMap<u32, SessionLibrary>,
@@ -83,7 +83,7 @@ pub fn step_in(
     held.step(change, found, pool)
 }
 
-/// Publishes a dictionary in the library of a session, which is made where there is none yet.
+/// Publishes a dictionary in the library of a session, which is made if there is none yet.
 pub fn publish_in(
     alloc: Global,
     libraries: &mut BTreeMap<u32, SessionLibrary>,

@@ -11,8 +11,8 @@ use ctf_protocol::{Change, Fault, PublicationName};
 use std::alloc::{AllocError, Global};
 use std::marker::Model;
 
-/// A library, of which a table of sessions keeps no more than where it is: a node of the table has
-/// room for eleven, and only six are in use where sessions come by rising numbers.
+/// A library, behind a pointer: a node of the table of sessions has room for eleven, and only six
+/// are in use if sessions come with rising numbers.
 #[derive(Drop)]
 pub struct SessionLibrary {
     library: Box<Library>,
@@ -59,7 +59,7 @@ impl SessionLibrary {
         self.library.step(change, found, pool)
     }
 
-    /// Publishes a dictionary that stands in no slot.
+    /// Publishes a dictionary that is in no slot.
     pub fn publish_loaded(
         &mut self,
         name: &PublicationName,

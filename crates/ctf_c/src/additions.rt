@@ -19,7 +19,7 @@ use ctf_records::Tag;
 use ctf_views::{ArrayInfo, Encoding};
 use std::alloc::{AllocError, Global};
 
-/// Adds a type to the draft that is open, and gives its number.
+/// Adds a type to the open draft, and gives its number.
 fn add(
     alloc: Global,
     dictionary: &mut OptionBox<OpenDictionary>,
@@ -44,7 +44,7 @@ fn add(
     }
 }
 
-/// Adds to the draft that is open, and gives what is answered.
+/// Adds to the open draft, and gives the number in the answer.
 fn add_part(
     alloc: Global,
     dictionary: &mut OptionBox<OpenDictionary>,
@@ -127,7 +127,7 @@ pub extern "C" fn ctfd_add_float(
     add(alloc, handle.option_box(), name, root, body, out)
 }
 
-/// Adds a pointer to a type; 0 is void, and gives its number.
+/// Adds a pointer to a type, where 0 stands for `void`, and gives its number.
 #[unsafe(no_mangle)]
 pub extern "C" fn ctfd_add_pointer(
     alloc: Global,
@@ -299,7 +299,7 @@ pub extern "C" fn ctfd_add_enum(
     add(alloc, handle.option_box(), name, root, body, out)
 }
 
-/// Adds a type of no known kind, and gives its number.
+/// Adds a type of unknown kind, and gives its number.
 #[unsafe(no_mangle)]
 pub extern "C" fn ctfd_add_unknown(
     alloc: Global,
@@ -327,8 +327,8 @@ fn numbers(alloc: Global, numbers: &[u16]) -> Result<Vec<TypeNum>, AllocError>
     Ok(types)
 }
 
-/// Adds a function, with what it returns and its arguments, and gives its number. A last argument 0
-/// says that more may follow.
+/// Adds a function, with the type that it returns and those of its arguments, and gives its number.
+/// A last argument 0 says that more may follow.
 #[unsafe(no_mangle)]
 pub extern "C" fn ctfd_add_function(
     alloc: Global,
@@ -352,7 +352,7 @@ pub extern "C" fn ctfd_add_function(
     }
 }
 
-/// What a number says that a forward declares: 6 for a struct, 7 for a union, 8 for an enum.
+/// The tag with a number: 6 for a struct, 7 for a union, 8 for an enum.
 fn tag_of(number: u32) -> Option<Tag>
     ensures { option_map tag_shown result ≡ tag_numbered number }
 {
@@ -387,7 +387,7 @@ pub extern "C" fn ctfd_add_forward(
     }
 }
 
-/// A number, if it is there.
+/// A number, if the caller gives one.
 fn number_if(there: bool, number: u64) -> Option<u64>
     ensures { result ≡ number_there there number }
 {
@@ -395,7 +395,7 @@ fn number_if(there: bool, number: u64) -> Option<u64>
 }
 
 /// Adds a member to a struct or union that was added since the last update, and gives its offset in
-/// bits. Where none is stated, it stands behind the last one.
+/// bits. If none is stated, it follows the last member.
 #[unsafe(no_mangle)]
 pub extern "C" fn ctfd_add_member(
     alloc: Global,
@@ -417,7 +417,7 @@ pub extern "C" fn ctfd_add_member(
 }
 
 /// Adds a member to a struct or union that was added since the last update, at an offset in bits,
-/// and gives the struct or union a size in bytes.
+/// and sets the size of the struct or union in bytes.
 #[unsafe(no_mangle)]
 pub extern "C" fn ctfd_add_member_at(
     alloc: Global,

@@ -19,7 +19,7 @@ use ctf_model::{Fault, TypeNum, placeless};
 use ctf_open::{OpenDictionary, named_count};
 use ctf_views::{Args, Variant};
 
-/// The type of an argument, from 0.
+/// The type of an argument, counted from 0.
 fn argument_at(args: &Args<'_>, index: usize) -> u16
     requires { index < length args.now }
     ensures { slice_get args.now index ≡ Some result }
@@ -27,7 +27,7 @@ fn argument_at(args: &Args<'_>, index: usize) -> u16
     args.get(index).unwrap().0
 }
 
-/// Fills rows with the first arguments of some, from a number on.
+/// Fills rows with arguments, of which there are `all`, from a number on.
 fn fill_arguments(args: &Args<'_>, all: usize, from: usize, rows: &mut [u16])
     requires { all ≤ length args.now }
     ensures { Fills IsArgument (take all args.now) from rows.old rows.new }
@@ -39,7 +39,7 @@ fn fill_arguments(args: &Args<'_>, all: usize, from: usize, rows: &mut [u16])
     }
 }
 
-/// Fills rows with the arguments of a type that was found, and answers how many it has.
+/// Fills rows with the arguments of a type, and returns how many it has.
 fn arguments_into(found: &Typed<'_>, from: usize, rows: &mut [u16]) -> Result<u64, Fault>
     ensures { FillsFrom IsArgument
         (on_shape arguments_answered (shape_of (or_no_type (term_in found.now))))
@@ -55,7 +55,7 @@ fn arguments_into(found: &Typed<'_>, from: usize, rows: &mut [u16]) -> Result<u6
     }
 }
 
-/// Fills rows with the arguments of a function type from a number on, and answers how many it has.
+/// Fills rows with the arguments of a function type, from a number on, and returns how many it has.
 fn arguments(
     dictionary: &OpenDictionary,
     t: TypeNum,
@@ -70,8 +70,7 @@ fn arguments(
     arguments_into(&found, from, rows)
 }
 
-/// Fills rows with the first arguments of a program's function, as many as it names, and answers
-/// how many these are.
+/// Fills rows with the named arguments of a program's function, and returns how many these are.
 fn named_into(args: &Args<'_>, from: usize, rows: &mut [u16]) -> u64
     ensures count { result ≡ length (named_arguments args.now) }
     ensures filled { Fills IsArgument (named_arguments args.now) from rows.old rows.new }
@@ -81,8 +80,8 @@ fn named_into(args: &Args<'_>, from: usize, rows: &mut [u16]) -> u64
     all as u64
 }
 
-/// Fills rows with the arguments that a function of the program names, from a number on, and
-/// answers how many it names.
+/// Fills rows with the named arguments of a program's function, from a number on, and returns how
+/// many these are.
 fn function_arguments(
     dictionary: &OpenDictionary,
     number: u32,

@@ -1,4 +1,4 @@
-//! Exports that answer of a dictionary as a whole, and find by names.
+//! Exports for a dictionary as a whole, and look-ups by name.
 ghost use Rattle.std.specs.Prelude.{◌≡◌, Ok, length};
 ghost use Rattle.ctf_c.specs.Given.{Gives, GivesText, ask, flag as flag_of, model_number as number_of_model};
 ghost use Rattle.ctf_model.specs.opened.Questions.{parent_types};
@@ -11,7 +11,7 @@ use crate::out_pointers::{
     dictionary_of, flag, give, give_short, give_text, give_type, model_number,
 };
 
-/// The type that a written name finds, as "struct node *".
+/// The type that a written name finds, such as "struct node *".
 #[unsafe(no_mangle)]
 pub extern "C" fn ctfd_find(handle: &mut Handle, text: &[u8], out: &mut u16) -> u32
     ensures same { handle.new.held.dictionary ≡ handle.old.held.dictionary }
@@ -22,7 +22,7 @@ pub extern "C" fn ctfd_find(handle: &mut Handle, text: &[u8], out: &mut u16) -> 
     give_type(dictionary.find(text), out)
 }
 
-/// The number of the first symbol of a name.
+/// The number of the first symbol with a name.
 #[unsafe(no_mangle)]
 pub extern "C" fn ctfd_symbol(handle: &mut Handle, name: &[u8], out: &mut u32) -> u32
     ensures same { handle.new.held.dictionary ≡ handle.old.held.dictionary }
@@ -33,7 +33,7 @@ pub extern "C" fn ctfd_symbol(handle: &mut Handle, name: &[u8], out: &mut u32) -
     give_short(dictionary.symbol(name), out)
 }
 
-/// The last type of the first label of a name.
+/// The last type of the first label with a name.
 #[unsafe(no_mangle)]
 pub extern "C" fn ctfd_label_last(handle: &mut Handle, name: &[u8], out: &mut u32) -> u32
     ensures same { handle.new.held.dictionary ≡ handle.old.held.dictionary }
@@ -66,7 +66,7 @@ pub extern "C" fn ctfd_count(handle: &mut Handle, out: &mut u64) -> u32
     give(Ok(dictionary.count()), out)
 }
 
-/// 1 where the low numbers of types are those of a parent, else 0.
+/// 1 if the low numbers of types are those of a parent, else 0.
 #[unsafe(no_mangle)]
 pub extern "C" fn ctfd_child(handle: &mut Handle, out: &mut u32) -> u32
     ensures same { handle.new.held.dictionary ≡ handle.old.held.dictionary }
@@ -88,7 +88,7 @@ pub extern "C" fn ctfd_parent_count(handle: &mut Handle, out: &mut u64) -> u32
     give(dictionary.parent_count(), out)
 }
 
-/// The name of the parent, as the dictionary says it. As much of it is written as fits.
+/// The name of the parent in the dictionary's header. As much of it is written as fits.
 #[unsafe(no_mangle)]
 pub extern "C" fn ctfd_parent_name(handle: &mut Handle, text: &mut [u8], len: &mut u64) -> u32
     ensures same { handle.new.held.dictionary ≡ handle.old.held.dictionary }
@@ -100,7 +100,7 @@ pub extern "C" fn ctfd_parent_name(handle: &mut Handle, text: &mut [u8], len: &m
     give_text(Ok(dictionary.parname()), text, len)
 }
 
-/// The label of the parent, as the dictionary says it. As much of it is written as fits.
+/// The label of the parent in the dictionary's header. As much of it is written as fits.
 #[unsafe(no_mangle)]
 pub extern "C" fn ctfd_parent_label(handle: &mut Handle, text: &mut [u8], len: &mut u64) -> u32
     ensures same { handle.new.held.dictionary ≡ handle.old.held.dictionary }
@@ -112,7 +112,7 @@ pub extern "C" fn ctfd_parent_label(handle: &mut Handle, text: &mut [u8], len: &
     give_text(Ok(dictionary.parlabel()), text, len)
 }
 
-/// 1 where the pointers of its program have 4 bytes, else 0.
+/// 1 if the program's pointers have 4 bytes, else 0.
 #[unsafe(no_mangle)]
 pub extern "C" fn ctfd_model(handle: &mut Handle, out: &mut u32) -> u32
     ensures same { handle.new.held.dictionary ≡ handle.old.held.dictionary }

@@ -30,8 +30,8 @@ fn new_draft(
     Ok(to_box(alloc, draft)?)
 }
 
-/// Makes a draft without a parent, in place of what was open. Where it is refused, what was open
-/// stays, and `place` is 0 or says where.
+/// Makes a draft without a parent, in place of what was open. If it is refused, what was open
+/// stays, and `place` is 0 or the place of the fault.
 #[unsafe(no_mangle)]
 pub extern "C" fn ctfd_create(
     alloc: Global,
@@ -54,7 +54,7 @@ pub extern "C" fn ctfd_create(
     }
 }
 
-/// A new draft on the heap, over what is open.
+/// A new draft on the heap, over the open dictionary.
 fn drafted_under(
     alloc: Global,
     parent: &OpenDictionary,
@@ -72,8 +72,8 @@ fn drafted_under(
     new_draft(alloc, Some(parent.own()), parname, parlabel, parent.model())
 }
 
-/// Makes a draft over what is open in another handle, of that one's data model, in place of what
-/// was open. The parent has to have a name.
+/// Makes a draft over the dictionary that is open in another handle, with that one's data model, in
+/// place of what was open. The parent has to have a name.
 #[unsafe(no_mangle)]
 pub extern "C" fn ctfd_create_child(
     alloc: Global,
@@ -104,7 +104,7 @@ pub extern "C" fn ctfd_create_child(
     }
 }
 
-/// Updates the draft that is open.
+/// Updates the open draft.
 fn update(
     alloc: Global,
     dictionary: &mut OptionBox<OpenDictionary>,
@@ -130,8 +130,8 @@ fn update(
     }
 }
 
-/// Makes all that was added part of the dictionary, and gives how many types that has. Where it is
-/// refused, `place` says where, and nothing changes.
+/// Makes all additions part of the dictionary, and gives the number of its types. If it is refused,
+/// `place` is the place of the fault, and nothing changes.
 #[unsafe(no_mangle)]
 pub extern "C" fn ctfd_update(
     alloc: Global,
@@ -145,7 +145,7 @@ pub extern "C" fn ctfd_update(
     update(alloc, handle.option_box(), types, place)
 }
 
-/// Drops what the draft that is open has pending.
+/// Drops what is pending in the open draft.
 fn discard(dictionary: &mut OptionBox<OpenDictionary>, types: &mut u64) -> u32
     ensures { Does (ask dictionary.old.held.value discard_step) result types.old types.new
         dictionary.old.held.value dictionary.new.held.value }
@@ -162,7 +162,7 @@ fn discard(dictionary: &mut OptionBox<OpenDictionary>, types: &mut u64) -> u32
     }
 }
 
-/// Drops what was added since the last update, and gives how many types the dictionary has.
+/// Drops the additions since the last update, and gives the number of the dictionary's types.
 #[unsafe(no_mangle)]
 pub extern "C" fn ctfd_discard(handle: &mut Handle, types: &mut u64) -> u32
     ensures { Does (ask handle.old.held.dictionary discard_step) result types.old types.new
@@ -171,14 +171,14 @@ pub extern "C" fn ctfd_discard(handle: &mut Handle, types: &mut u64) -> u32
     discard(handle.option_box(), types)
 }
 
-/// What stands behind a place.
+/// The bytes from a place on.
 fn behind(bytes: &[u8], from: u64) -> &[u8]
     ensures { result.now ≡ drop from bytes.now }
 {
     bytes.get(from as usize..).unwrap_or(&[])
 }
 
-/// The bytes of the dictionary from a place on, as much as fits, and how many it has in all.
+/// The bytes of the dictionary from a place on, as many as fit, and how many it has in all.
 #[unsafe(no_mangle)]
 pub extern "C" fn ctfd_bytes(handle: &mut Handle, from: u64, bytes: &mut [u8], len: &mut u64) -> u32
     ensures same { handle.new.held.dictionary ≡ handle.old.held.dictionary }

@@ -18,7 +18,7 @@ pub struct GivenEncoding {
     pub bits: u32,
 }
 
-/// What an array holds: `struct ctfd_array`.
+/// The element type, the index type and the number of elements of an array: `struct ctfd_array`.
 #[repr(C)]
 #[derive(Drop)]
 pub struct GivenArray {
@@ -50,7 +50,7 @@ pub extern "C" fn ctfd_encoding(handle: &mut Handle, t: u16, out: &mut GivenEnco
     }
 }
 
-/// What an array holds.
+/// The element type, the index type and the number of elements of an array.
 #[unsafe(no_mangle)]
 pub extern "C" fn ctfd_array(handle: &mut Handle, t: u16, out: &mut GivenArray) -> u32
     ensures same { handle.new.held.dictionary ≡ handle.old.held.dictionary }
@@ -73,7 +73,7 @@ pub extern "C" fn ctfd_array(handle: &mut Handle, t: u16, out: &mut GivenArray) 
     }
 }
 
-/// Where the first member of a name lies in a struct or union, in bits, and its type.
+/// The offset of the first member with a name in a struct or union, in bits, and the member's type.
 #[unsafe(no_mangle)]
 pub extern "C" fn ctfd_field(
     handle: &mut Handle,

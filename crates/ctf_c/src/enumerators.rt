@@ -15,7 +15,7 @@ use ctf_model::{Fault, TypeNum};
 use ctf_open::OpenDictionary;
 use ctf_views::Enumerator;
 
-/// The first enumerator of an enum that has a value.
+/// The first enumerator of an enum with a value.
 fn of_value(dictionary: &OpenDictionary, t: TypeNum, value: i32) -> Result<Enumerator<'_>, Fault>
     ensures { result_map_both enumerator_view (λ f. f) result
         ≡ on_shape (valued_answered value) (shape_of (space_type (space_in dictionary.now) t.0)) }
@@ -24,7 +24,7 @@ fn of_value(dictionary: &OpenDictionary, t: TypeNum, value: i32) -> Result<Enume
     with_value(&found, value)
 }
 
-/// The first enumerator of an enum that has a name.
+/// The first enumerator of an enum with a name.
 fn of_name<'a>(
     dictionary: &'a OpenDictionary,
     t: TypeNum,
@@ -37,7 +37,7 @@ fn of_name<'a>(
     with_name(&found, name)
 }
 
-/// The name of the first enumerator that has a value. As much of it is written as fits.
+/// The name of the first enumerator with a value. As much of it is written as fits.
 #[unsafe(no_mangle)]
 pub extern "C" fn ctfd_enum_name(
     handle: &mut Handle,
@@ -62,7 +62,7 @@ pub extern "C" fn ctfd_enum_name(
     }
 }
 
-/// The value of the first enumerator that has a name.
+/// The value of the first enumerator with a name.
 #[unsafe(no_mangle)]
 pub extern "C" fn ctfd_enum_value(handle: &mut Handle, t: u16, name: &[u8], value: &mut i32) -> u32
     ensures same { handle.new.held.dictionary ≡ handle.old.held.dictionary }

@@ -1,4 +1,4 @@
-//! A handle, as C has it.
+//! The handle that C has.
 ghost use Rattle.std.specs.Prelude.{◌≡◌, Option, is_some};
 ghost use Rattle.ctf_c.specs.Owned.{pointer_coded, pointer_owns};
 ghost use Rattle.ctf_model.specs.opened.Open.{Open};
@@ -8,7 +8,8 @@ use ctf_open::OpenDictionary;
 use std::alloc::Global;
 use std::marker::Model;
 
-/// A dictionary on the heap, or nothing: `Held` without type parameters, since C is given none.
+/// A dictionary on the heap, or nothing: a `Held` without type parameters, since C has no generic
+/// types.
 #[repr(C)]
 #[derive(Drop)]
 pub struct HeapPointer {
@@ -34,7 +35,7 @@ impl Handle {
     ghost use Rattle.std.specs.Borrow.{sem};
     ghost use Rattle.ctf_c.specs.OptionBoxes.{HandleLends};
 
-    /// The optional box that it is in memory.
+    /// The same memory as an optional box.
     #[inline(always)]
     pub fn option_box(&mut self) -> &mut OptionBox<OpenDictionary>
         ensures* writes_back { sem 𝓛 (HandleLends self.entry result) }

@@ -1,4 +1,4 @@
-//! What C holds of a value on the heap: a pointer to it, or nothing.
+//! How C holds a value on the heap: a pointer to it, or nothing.
 
 ghost use Rattle.std.specs.Prelude.{◌≡◌, IfOk};
 

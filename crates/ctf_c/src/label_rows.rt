@@ -1,4 +1,4 @@
-//! The export that answers many labels at once, and where their names stand.
+//! The export that gives many labels at once, and where their names are.
 ghost use Rattle.std.specs.Prelude.{◌≡◌, Ok, Some, length};
 ghost use Rattle.ctf_c.specs.Given.{ask};
 ghost use Rattle.ctf_c.specs.ItemRows.{TellsLabel, own_lists_of};
@@ -11,8 +11,8 @@ use crate::names::label_row;
 use crate::out_pointers::dictionary_of;
 use ctf_open::OpenDictionary;
 
-/// A label: `struct ctfd_label_row`. Its name stands so many bytes behind the beginning of a list,
-/// a zero byte behind it.
+/// A label: `struct ctfd_label_row`. Its name begins at an offset in one of the lists, and ends
+/// with a zero byte.
 #[repr(C)]
 #[derive(Clone, Copy)]
 pub struct GivenLabelRow {
@@ -21,7 +21,7 @@ pub struct GivenLabelRow {
     pub last: u32,
 }
 
-/// Fills rows with the labels from a number on, and answers how many there are.
+/// Fills rows with the labels from a number on, and returns how many there are.
 fn labels_into(dictionary: &OpenDictionary, from: usize, rows: &mut [GivenLabelRow]) -> u64
     ensures count { result ≡ length (own_in dictionary.now).labels }
     ensures filled { Fills (TellsLabel (own_lists_of (Some dictionary.now)))

@@ -1,4 +1,5 @@
-//! What C asks in process, of dictionaries and of a whole service. The header is clients/c/ctfd.h.
+//! The calls for C: on dictionaries, and on a whole service in process. The header is
+//! clients/c/ctfd.h.
 //!
 //! ```c
 //! /* How many bytes a type of a dictionary has; 0 where it has none of the name. */
@@ -15,9 +16,9 @@
 //! }
 //! ```
 //!
-//! A call answers `CTFD_OK`, or 1 and the code of a fault; docs/FAULTS.md says what `place` counts.
+//! A call returns `CTFD_OK`, or 1 + the code of a fault; docs/FAULTS.md says what `place` counts.
 //! What is refused changes nothing and writes nothing but `place`. Sizes are in bytes, offsets in
-//! bits. The head of the header says what a caller owes and is given.
+//! bits. The comment at the top of the header says what a caller has to keep to.
 #![tactic(auto)]
 
 mod additions;

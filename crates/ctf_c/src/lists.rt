@@ -1,4 +1,4 @@
-//! Exports that answer an item of a list.
+//! Exports that give one item of a list.
 ghost use Rattle.std.specs.Prelude.{◌≡◌};
 ghost use Rattle.ctf_c.specs.Given.{GivesEnumerator, GivesMember, ask};
 ghost use Rattle.ctf_model.specs.opened.Questions.{enumerator_answered, member_answered, on_shape, shape_of};
@@ -18,7 +18,7 @@ pub struct GivenMember {
     pub tnum: u16,
 }
 
-/// A member of a struct or union, from 0. As much of its name is written as fits.
+/// A member of a struct or union, counted from 0. As much of its name is written as fits.
 #[unsafe(no_mangle)]
 pub extern "C" fn ctfd_member(
     handle: &mut Handle,
@@ -49,7 +49,7 @@ pub extern "C" fn ctfd_member(
     }
 }
 
-/// An enumerator of an enum, from 0. As much of its name is written as fits.
+/// An enumerator of an enum, counted from 0. As much of its name is written as fits.
 #[unsafe(no_mangle)]
 pub extern "C" fn ctfd_enumerator(
     handle: &mut Handle,

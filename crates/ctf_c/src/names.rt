@@ -1,4 +1,4 @@
-//! Members and enumerators by their names: which is found, and where each name stands.
+//! Members and enumerators by their names: which one a name finds, and where each name is.
 
 mod asking;
 mod filling;
@@ -17,4 +17,4 @@ pub use labels::label_row;
 pub use places::{NOWHERE, NamePosition, name_position};
 pub use symbols::{names_end, symbol_position};
 pub use type_home::held_type;
-pub use visiting::{Standing, put, stands_for, visit_inside};
+pub use visiting::{put, stands_for, visit_inside};

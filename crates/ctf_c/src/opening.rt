@@ -33,7 +33,7 @@ fn open_copies(
     Ok(to_box(alloc, dictionary)?)
 }
 
-/// A dictionary on the heap, over lists that are lent to it.
+/// A dictionary on the heap, over lists that it borrows.
 fn opened_lent(
     alloc: Global,
     ctf: &'static [u8],
@@ -54,8 +54,8 @@ fn opened_lent(
     Ok(to_box(alloc, dictionary)?)
 }
 
-/// Opens a dictionary from copies of its lists, in place of what was open. Where it is refused,
-/// `place` says where its fault is, and what was open stays.
+/// Opens a dictionary from copies of its lists, in place of what was open. If it is refused,
+/// `place` is the place of the fault, and what was open stays.
 #[unsafe(no_mangle)]
 pub extern "C" fn ctfd_open(
     alloc: Global,
@@ -96,11 +96,11 @@ pub extern "C" fn ctfd_open(
     }
 }
 
-/// Opens a dictionary over lists that are lent to it, in place of what was open: nothing of them is
-/// copied. Where it is refused, `place` says where its fault is, and what was open stays.
+/// Opens a dictionary over lists that it borrows, in place of what was open: no list is copied. If
+/// it is refused, `place` is the place of the fault, and what was open stays.
 ///
-/// The type says that the lists stay for good. A caller gives them back once no handle has the
-/// dictionary, or has it as its parent: only these keep the lists.
+/// By its type, the function borrows the lists for ever. The caller may free them once no handle
+/// has the dictionary open, or has it as its parent: only such handles use the lists.
 #[unsafe(no_mangle)]
 pub extern "C" fn ctfd_open_lent(
     alloc: Global,
@@ -144,7 +144,7 @@ pub extern "C" fn ctfd_close(alloc: Global, handle: &mut Handle)
     drop(handle.option_box().take(alloc));
 }
 
-/// Imports what another box has open.
+/// Imports the dictionary that is open in another box.
 fn import(
     alloc: Global,
     dictionary: &mut OptionBox<OpenDictionary>,
@@ -169,7 +169,8 @@ fn import(
     }
 }
 
-/// Imports what is open in another handle as the parent. They share it. A refusal changes nothing.
+/// Imports the dictionary that is open in another handle as the parent. Both handles share it. A
+/// refusal changes nothing.
 #[unsafe(no_mangle)]
 pub extern "C" fn ctfd_import(
     alloc: Global,

@@ -1,4 +1,4 @@
-//! Statuses, and what is written through the pointers of a caller.
+//! Statuses, and results that are written through the pointers of a caller.
 ghost use Rattle.std.specs.Prelude.{◌≡◌, ◌+◌, ◌++◌, ◌<◌, Ok, Err, drop, length, min, option_copied, take};
 ghost use Rattle.std.specs.Result.{result_map_both};
 ghost use Rattle.ctf_c.specs.Given.{Gives, GivesText, flag as flag_of, list_if as list_there, model_if, model_number as number_of_model, number_of_kind, number_of_tag, status_of};
@@ -8,10 +8,10 @@ ghost use Rattle.ctf_records.specs.RecordView.{tag_of as tag_shown};
 use ctf_model::{DataModel, Fault, Kind, TypeNum};
 use ctf_records::Tag;
 
-/// The status where nothing is open: that of `Fault::NO_SLOT`.
+/// The status if nothing is open: that of `Fault::NO_SLOT`.
 pub const NOT_OPEN: u32 = 50;
 
-/// What is open behind a handle. Where nothing is, the export that asks is left with that status.
+/// The dictionary that is open in a handle. If none is, the export returns with that status.
 macro_rules! dictionary_of {
     ($handle:ident) => {
         match $handle.option_box().get() {
@@ -23,7 +23,7 @@ macro_rules! dictionary_of {
 
 pub(crate) use dictionary_of;
 
-/// The status of a refusal: 1 and the number of its fault.
+/// The status of a refusal: 1 + the number of its fault.
 #[inline(always)]
 pub fn status(fault: Fault) -> u32
     ensures { result ≡ status_of fault }
@@ -31,7 +31,7 @@ pub fn status(fault: Fault) -> u32
     u32::from(fault.code) + 1
 }
 
-/// Gives a number, or the status of a refusal.
+/// Writes a number, or returns the status of a refusal.
 #[inline(always)]
 pub fn give(answer: Result<u64, Fault>, out: &mut u64) -> u32
     ensures { Gives answer result out.old out.new }
@@ -45,7 +45,7 @@ pub fn give(answer: Result<u64, Fault>, out: &mut u64) -> u32
     }
 }
 
-/// The same of a number of 32 bits.
+/// The same for a number of 32 bits.
 #[inline(always)]
 pub fn give_short(answer: Result<u32, Fault>, out: &mut u32) -> u32
     ensures { Gives answer result out.old out.new }
@@ -59,7 +59,7 @@ pub fn give_short(answer: Result<u32, Fault>, out: &mut u32) -> u32
     }
 }
 
-/// The same of the number of a type.
+/// The same for the number of a type.
 #[inline(always)]
 pub fn give_type(answer: Result<TypeNum, Fault>, out: &mut u16) -> u32
     ensures { Gives (result_map_both (λ t. t.0) (λ f. f) answer) result out.old out.new }
@@ -73,7 +73,7 @@ pub fn give_type(answer: Result<TypeNum, Fault>, out: &mut u16) -> u32
     }
 }
 
-/// Writes the front of some bytes over the front of others, as much as fits.
+/// Writes the front of `from` over the front of `to`, as much as fits.
 #[inline(always)]
 pub fn write_front(from: &[u8], to: &mut [u8])
     ensures { to.new ≡ take (length to.old) from.now ++ drop (length from.now) to.old }
@@ -85,7 +85,7 @@ pub fn write_front(from: &[u8], to: &mut [u8])
     }
 }
 
-/// Gives a text as far as it fits, and its length, or the status of a refusal.
+/// Writes as much of a text as fits, and its length, or returns the status of a refusal.
 #[inline(always)]
 pub fn give_text(answer: Result<&[u8], Fault>, text: &mut [u8], len: &mut u64) -> u32
     ensures { GivesText (result_map_both (λ t. t.now) (λ f. f) answer.entry) result
@@ -124,7 +124,7 @@ pub fn kind_number(kind: Kind) -> u32
     }
 }
 
-/// The same, where there is a type.
+/// The same, if there is a type.
 #[inline(always)]
 pub fn kind_result(kind: Result<Kind, Fault>) -> Result<u32, Fault>
     ensures { result ≡ answer_map number_of_kind kind }
@@ -132,7 +132,7 @@ pub fn kind_result(kind: Result<Kind, Fault>) -> Result<u32, Fault>
     Ok(kind_number(kind?))
 }
 
-/// The number of what a forward declares, if there is one.
+/// The number of what a forward declares, if it is a forward.
 pub fn tag_result(tag: Result<Tag, Fault>) -> Result<u32, Fault>
     ensures { result ≡ answer_map number_of_tag (result_map_both tag_shown (λ f. f) tag) }
 {
@@ -143,14 +143,14 @@ pub fn tag_result(tag: Result<Tag, Fault>) -> Result<u32, Fault>
     })
 }
 
-/// 1 for what holds, else 0, where there is a type.
+/// 1 for true, else 0, if there is a type.
 pub fn flag_result(holds: Result<bool, Fault>) -> Result<u32, Fault>
     ensures { result ≡ answer_map flag_of holds }
 {
     Ok(flag(holds?))
 }
 
-/// 1 where a program's pointers have 4 bytes, else 0.
+/// 1 if a program's pointers have 4 bytes, else 0.
 pub fn model_number(model: DataModel) -> u32
     ensures { result ≡ number_of_model model }
 {
@@ -160,7 +160,7 @@ pub fn model_number(model: DataModel) -> u32
     }
 }
 
-/// 1 for what holds, else 0.
+/// 1 for true, else 0.
 #[inline(always)]
 pub fn flag(holds: bool) -> u32
     ensures { result ≡ flag_of holds }
@@ -168,7 +168,7 @@ pub fn flag(holds: bool) -> u32
     u32::from(holds)
 }
 
-/// A list, if it is there.
+/// A list, if the caller gives one.
 pub fn list_if(there: bool, list: &[u8]) -> Option<&[u8]>
     ensures { option_copied result ≡ list_there there list.now }
 {

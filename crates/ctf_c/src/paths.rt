@@ -13,7 +13,7 @@ use ctf_model::{Fault, TypeNum};
 use ctf_open::OpenDictionary;
 use std::alloc::{AllocError, Global};
 
-/// The names in some bytes, each closed by a zero byte; the last one may stand without it.
+/// The names in some bytes, each ended by a zero byte, which the last one may lack.
 fn names_in(alloc: Global, bytes: &[u8]) -> Result<Vec<&[u8]>, AllocError>
     ensures { IfOk result (λ names. map (λ name. name.now) names.items ≡ names_given bytes.now) }
 {
@@ -31,7 +31,7 @@ fn names_in(alloc: Global, bytes: &[u8]) -> Result<Vec<&[u8]>, AllocError>
     Ok(names)
 }
 
-/// Where the member lies that names lead to, from a type on, and its type.
+/// The offset of the member that names lead to, from a type on, and its type.
 fn path_along(
     alloc: Global,
     dictionary: &OpenDictionary,
@@ -47,8 +47,8 @@ fn path_along(
     dictionary.path(t, names.as_slice())
 }
 
-/// Where the member lies that names lead to, from a type on: how many bits lie in front of it, and
-/// its type. Each name is closed by a zero byte. Where it is refused, `place` says at which step.
+/// The offset in bits of the member that names lead to, from a type on, and its type. Each name
+/// ends with a zero byte. If it is refused, `place` is the step.
 #[unsafe(no_mangle)]
 pub extern "C" fn ctfd_path(
     alloc: Global,

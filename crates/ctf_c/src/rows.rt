@@ -1,4 +1,4 @@
-//! Exports that answer many members or enumerators at once, and where their names stand.
+//! Exports that give many members or enumerators at once, and where their names are.
 ghost use Rattle.std.specs.Prelude.{◌≡◌, Some};
 ghost use Rattle.ctf_c.specs.Given.{ask};
 ghost use Rattle.ctf_c.specs.Rowed.{GivesRows, lists_with};
@@ -13,8 +13,8 @@ use crate::out_pointers::{dictionary_of, status};
 use ctf_model::{Fault, TypeNum};
 use ctf_open::OpenDictionary;
 
-/// A member: `struct ctfd_member_row`. Its name stands so many bytes behind the beginning of a
-/// list, a zero byte behind it. The offset is in bits.
+/// A member: `struct ctfd_member_row`. Its name begins at an offset in one of the lists, and ends
+/// with a zero byte. The member's own offset is in bits.
 #[repr(C)]
 #[derive(Clone, Copy)]
 pub struct GivenMemberRow {
@@ -33,7 +33,7 @@ pub struct GivenEnumeratorRow {
     pub value: i32,
 }
 
-/// Fills rows with the members of a type from a number on, and answers how many it has.
+/// Fills rows with the members of a type, from a number on, and returns how many it has.
 fn members(
     dictionary: &OpenDictionary,
     t: TypeNum,
@@ -48,7 +48,7 @@ fn members(
     members_into(&found, from, rows)
 }
 
-/// The same of the enumerators of a type.
+/// The same for the enumerators of a type.
 fn enumerators(
     dictionary: &OpenDictionary,
     t: TypeNum,

@@ -1,4 +1,4 @@
-//! The whole protocol in process, for C. The header is clients/c/ctfd.h.
+//! The whole service in process, for C. The header is clients/c/ctfd.h.
 
 ghost use Rattle.std.specs.Prelude.{◌≡◌, None};
 ghost use Rattle.ctf_c.specs.service.Given.{Begins, Repeats, Serves};
@@ -16,13 +16,13 @@ use crate::service::state::Service;
 use ctf_protocol::{Fault, PublicationName, placeless};
 use std::alloc::Global;
 
-/// The status where nothing is open.
+/// The status if no service is open.
 const NOT_OPEN: u32 = 50;
 
-/// The status where memory was refused.
+/// The status if memory was refused.
 const MEMORY: u32 = 1;
 
-/// Opens a service in which no session holds anything, in place of what was open.
+/// Opens a service whose sessions are all new, in place of what was open.
 #[unsafe(no_mangle)]
 pub extern "C" fn ctfd_begin(alloc: Global, handle: &mut Handle) -> u32
     ensures { Begins result handle.old.held.service handle.new.held.service }
@@ -39,7 +39,7 @@ pub extern "C" fn ctfd_begin(alloc: Global, handle: &mut Handle) -> u32
     }
 }
 
-/// Closes what is open.
+/// Closes the open service.
 #[unsafe(no_mangle)]
 pub extern "C" fn ctfd_end(alloc: Global, handle: &mut Handle)
     ensures { handle.new.held.service ≡ None }
@@ -47,7 +47,7 @@ pub extern "C" fn ctfd_end(alloc: Global, handle: &mut Handle)
     drop(handle.option_box().take(alloc));
 }
 
-/// Answers a line by the service that is open.
+/// Answers a line with the open service.
 fn answer(service: &mut OptionBox<Service>, line: &[u8], text: &mut [u8], len: &mut u64) -> u32
     ensures { Serves service.old.held.value line.now result
         (record { text = text.old; len = len.old }) (record { text = text.new; len = len.new })
@@ -71,7 +71,7 @@ pub extern "C" fn ctfd_line(handle: &mut Handle, line: &[u8], text: &mut [u8], l
     answer(handle.option_box(), line, text, len)
 }
 
-/// Answers a line as a session by the service that is open.
+/// Answers a line of a given session with the open service.
 fn answer_as(
     service: &mut OptionBox<Service>,
     session: u32,
@@ -94,8 +94,8 @@ fn answer_as(
     0
 }
 
-/// Answers a line as a session, whatever number it names; the reply has the number that it names.
-/// Session 0 is the operator's, which makes no requests.
+/// Answers a line of a given session, whatever number the line names; the reply has the number that
+/// the line names. Session 0 is the operator's, which makes no requests.
 #[unsafe(no_mangle)]
 pub extern "C" fn ctfd_line_as(
     handle: &mut Handle,
@@ -111,7 +111,7 @@ pub extern "C" fn ctfd_line_as(
     answer_as(handle.option_box(), session, line, text, len)
 }
 
-/// Publishes a CTF section for the operator, whose name is a text of the caller.
+/// Publishes a CTF section for the operator, under a name that the caller gives.
 fn load(alloc: Global, service: &mut Service, name: &[u8], ctf: &[u8]) -> u32
     ensures { LoadsNamed name.now ctf.now result service.old service.new }
 {
@@ -127,7 +127,7 @@ fn load(alloc: Global, service: &mut Service, name: &[u8], ctf: &[u8]) -> u32
     service.load(&name, ctf)
 }
 
-/// The same by the service that is open.
+/// The same with the open service.
 fn load_open(alloc: Global, service: &mut OptionBox<Service>, name: &[u8], ctf: &[u8]) -> u32
     ensures { OfOpen (LoadsNamed name.now ctf.now result) service.old.held.value result
         service.new.held.value }
@@ -138,7 +138,7 @@ fn load_open(alloc: Global, service: &mut OptionBox<Service>, name: &[u8], ctf: 
     }
 }
 
-/// Publishes a CTF section for the operator, session 0, under a name that has none yet.
+/// Publishes a CTF section for the operator, session 0, under a name that is not in use.
 #[unsafe(no_mangle)]
 pub extern "C" fn ctfd_load(alloc: Global, handle: &mut Handle, name: &[u8], ctf: &[u8]) -> u32
     ensures { OfOpen (LoadsNamed name.now ctf.now result) handle.old.held.service result
@@ -147,7 +147,7 @@ pub extern "C" fn ctfd_load(alloc: Global, handle: &mut Handle, name: &[u8], ctf
     load_open(alloc, handle.option_box(), name, ctf)
 }
 
-/// Forgets a session by the service that is open.
+/// Forgets a session of the open service.
 fn leave(service: &mut OptionBox<Service>, session: u32) -> u32
     ensures { OfOpen (λ s after. (result ≡ 0) × Leaves session s after) service.old.held.value
         result service.new.held.value }
@@ -161,7 +161,8 @@ fn leave(service: &mut OptionBox<Service>, session: u32) -> u32
     }
 }
 
-/// Forgets all that a session holds and has published. Others keep what they took from it.
+/// Forgets a session: all that it has, and all that it has published. Others keep what they took
+/// from it.
 #[unsafe(no_mangle)]
 pub extern "C" fn ctfd_leave(handle: &mut Handle, session: u32) -> u32
     ensures { OfOpen (λ s after. (result ≡ 0) × Leaves session s after) handle.old.held.service
@@ -170,7 +171,7 @@ pub extern "C" fn ctfd_leave(handle: &mut Handle, session: u32) -> u32
     leave(handle.option_box(), session)
 }
 
-/// Gives the last reply again.
+/// Writes the last reply again.
 #[unsafe(no_mangle)]
 pub extern "C" fn ctfd_reply(handle: &mut Handle, text: &mut [u8], len: &mut u64) -> u32
     ensures same { handle.new.held.service ≡ handle.old.held.service }

@@ -1,4 +1,4 @@
-//! The export that answers many symbols of a program at once, and where their names stand.
+//! The export that gives many symbols of a program at once, and where their names are.
 ghost use Rattle.std.specs.Prelude.{◌≡◌, ◌<◌, ◌≤◌, ◌*◌, ◌%◌, ◌^◌, Ok, Some, drop, length, min, slice_index};
 ghost use Rattle.std.specs.List.{range_with_len};
 ghost use Rattle.std.specs.Result.{result_map_both};
@@ -19,21 +19,21 @@ use ctf_model::{Fault, TypeNum};
 use ctf_open::OpenDictionary;
 use ctf_sections::bytes::u32_at;
 
-/// What a symbol stands for that is no object and no function.
+/// The class of a symbol that is neither an object nor a function.
 const OTHER: u32 = 0;
 
-/// What an object stands for.
+/// The class of an object.
 const OBJECT: u32 = 1;
 
-/// What a function stands for.
+/// The class of a function.
 const FUNCTION: u32 = 2;
 
-/// As many symbols as have a number.
+/// The greatest number of symbols that have a number.
 const MOST_SYMBOLS: usize = 0x1_0000_0000;
 
-/// A symbol: `struct ctfd_symbol_row`. Its type is that of an object, or what a function returns;
-/// where the call that asks for it alone is refused, it is 0, with the status of the refusal. Its
-/// name stands so many bytes behind the beginning of a list, a zero byte behind it.
+/// A symbol: `struct ctfd_symbol_row`. Its type is that of an object, or the one that a function
+/// returns; if the call for that type alone would be refused, it is 0, with the status of the
+/// refusal. Its name begins at an offset in one of the lists, and ends with a zero byte.
 #[repr(C)]
 #[derive(Clone, Copy)]
 pub struct GivenSymbolRow {
@@ -53,7 +53,7 @@ fn symbol_count(dictionary: &Checked<'_>) -> usize
     (parts.sym.len() / 24).min(MOST_SYMBOLS)
 }
 
-/// The bytes that a symbol begins, from 0.
+/// The bytes at which a symbol begins, counted from 0.
 fn symbol_at(sym: &[u8], number: usize) -> &[u8]
     requires { 24 * number ≤ length sym.now }
     ensures { result.now ≡ drop (24 * number) sym.now }
@@ -61,7 +61,7 @@ fn symbol_at(sym: &[u8], number: usize) -> &[u8]
     &sym[24 * number..]
 }
 
-/// What the symbol stands for that begins some bytes.
+/// The class of the symbol at the front of some bytes.
 fn symbol_class(bytes: &[u8]) -> u32
     requires { 24 ≤ length bytes.now }
     ensures { result ≡ class_of_sort (slice_index bytes.now 4 % 16) }
@@ -73,7 +73,7 @@ fn symbol_class(bytes: &[u8]) -> u32
     }
 }
 
-/// What a function returns, or the type of an object.
+/// The type that a function returns, or the type of an object.
 fn type_told(dictionary: &OpenDictionary, class: u32, number: u32) -> Result<TypeNum, Fault>
     ensures function { class ≡ 2 → result_map_both (λ t. t.0) (λ f. f) result
         ≡ return_of (function_of (own_in dictionary.now) number) }
@@ -87,7 +87,7 @@ fn type_told(dictionary: &OpenDictionary, class: u32, number: u32) -> Result<Typ
     }
 }
 
-/// What is told of a symbol, from 0, where the names of symbols end at a place.
+/// The row of a symbol, counted from 0; the names of symbols end at `end`.
 fn symbol_row(dictionary: &OpenDictionary, end: usize, number: u32) -> GivenSymbolRow
     requires there { number < length (own_in dictionary.now).symbols }
     requires ends { EndsAt dictionary.now.own.lists.strs end }
@@ -110,7 +110,7 @@ fn symbol_row(dictionary: &OpenDictionary, end: usize, number: u32) -> GivenSymb
     }
 }
 
-/// Fills rows with the symbols from a number on, and answers how many there are.
+/// Fills rows with the symbols from a number on, and returns how many there are.
 fn symbols_into(dictionary: &OpenDictionary, from: usize, rows: &mut [GivenSymbolRow]) -> u64
     ensures count { result ≡ length (symbol_numbers (own_in dictionary.now)) }
     ensures filled { Fills (TellsSymbol (Some dictionary.now))

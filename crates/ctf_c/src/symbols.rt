@@ -1,4 +1,4 @@
-//! Exports that answer of a program's functions and symbols, and of labels.
+//! Exports for a program's functions and symbols, and for labels.
 ghost use Rattle.std.specs.Prelude.{◌≡◌, Ok, length};
 ghost use Rattle.std.specs.Result.{result_map_both};
 ghost use Rattle.ctf_check.specs.FactsView.{shape_view};
@@ -15,7 +15,7 @@ use ctf_model::{Fault, TypeNum, placeless};
 use ctf_open::{OpenDictionary, named_count};
 use ctf_views::{Variant, is_variadic};
 
-/// A function of the program: `struct ctfd_function`. A last argument 0 is not counted: it says
+/// A function of the program: `struct ctfd_function`. A last argument 0 is not counted; it says
 /// that more may follow.
 #[repr(C)]
 #[derive(Drop)]
@@ -99,7 +99,7 @@ fn signature(x: Shape<'_>) -> Result<GivenFunction, Fault>
     }
 }
 
-/// The same of the type that a number names.
+/// The same for the type of a number.
 fn signature_of(dictionary: &OpenDictionary, t: TypeNum) -> Result<GivenFunction, Fault>
     ensures { answer_map (λ f. record { arguments = f.arguments; varargs = f.varargs; ret = f.ret })
         result ≡ function_answer (on_shape signature_answered
@@ -108,8 +108,7 @@ fn signature_of(dictionary: &OpenDictionary, t: TypeNum) -> Result<GivenFunction
     signature(shape(dictionary, t)?)
 }
 
-/// What a function type returns, and how many arguments it names, as `ctfd_function` has it of a
-/// program's function.
+/// What a function type returns, and how many arguments it names, in the form of `ctfd_function`.
 #[unsafe(no_mangle)]
 pub extern "C" fn ctfd_signature(handle: &mut Handle, t: u16, out: &mut GivenFunction) -> u32
     ensures same { handle.new.held.dictionary ≡ handle.old.held.dictionary }
@@ -128,7 +127,7 @@ pub extern "C" fn ctfd_signature(handle: &mut Handle, t: u16, out: &mut GivenFun
     }
 }
 
-/// An argument that a function of the program names, from 0.
+/// An argument that a function of the program names, counted from 0.
 #[unsafe(no_mangle)]
 pub extern "C" fn ctfd_function_argument(
     handle: &mut Handle,
@@ -155,7 +154,7 @@ pub extern "C" fn ctfd_label_count(handle: &mut Handle, out: &mut u64) -> u32
     give(Ok(dictionary.label_count()), out)
 }
 
-/// A label, from 0. As much of its name is written as fits.
+/// A label, counted from 0. As much of its name is written as fits.
 #[unsafe(no_mangle)]
 pub extern "C" fn ctfd_label(
     handle: &mut Handle,

@@ -1,4 +1,4 @@
-//! Exports that answer a text.
+//! Exports that give a text.
 ghost use Rattle.std.specs.Prelude.{◌≡◌};
 ghost use Rattle.ctf_c.specs.Given.{GivesText, MayGiveText, ask};
 ghost use Rattle.ctf_model.specs.opened.Open.{space_in};
@@ -11,7 +11,7 @@ use crate::out_pointers::{dictionary_of, give_text, status, write_front};
 use ctf_model::TypeNum;
 use std::alloc::Global;
 
-/// The name that a type's record has. As much of it is written as fits.
+/// The name in a type's record. As much of it is written as fits.
 #[unsafe(no_mangle)]
 pub extern "C" fn ctfd_declared_name(
     handle: &mut Handle,
@@ -55,7 +55,8 @@ pub extern "C" fn ctfd_name(
     }
 }
 
-/// What a value of a type shows, in memory and from a bit on. As much of it is written as fits.
+/// The text of the value of a type that begins at a bit of some memory. As much of it is written as
+/// fits.
 #[unsafe(no_mangle)]
 pub extern "C" fn ctfd_show(
     alloc: Global,

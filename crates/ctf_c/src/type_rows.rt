@@ -1,4 +1,4 @@
-//! The export that answers many types at once, and where their names stand.
+//! The export that gives many types at once, and where their names are.
 ghost use Rattle.std.specs.Prelude.{◌≡◌, ◌<◌, ℕ, List, Ok, Some, length};
 ghost use Rattle.std.specs.Result.{result_map_both};
 ghost use Rattle.ctf_c.specs.Given.{Gives, ask, flag as flag_of, number_of_kind};
@@ -28,9 +28,9 @@ use ctf_open::OpenDictionary;
 use ctf_space::Space;
 use ctf_views::Variant;
 
-/// A type: `struct ctfd_type_row`. Sizes and alignments are in bytes. Where the call that asks for
-/// one of its numbers alone is refused, that number is 0, with the status of the refusal. Its name
-/// stands so many bytes behind the beginning of a list, a zero byte behind it.
+/// A type: `struct ctfd_type_row`. Sizes and alignments are in bytes. If the call for one of its
+/// numbers alone would be refused, that number is 0, with the status of the refusal. Its name
+/// begins at an offset in one of the lists, and ends with a zero byte.
 #[repr(C)]
 #[derive(Clone, Copy)]
 pub struct GivenTypeRow {
@@ -60,7 +60,7 @@ struct RecordNumbers {
     reference: u16,
 }
 
-/// Fills a row with what is worked out of a type.
+/// Fills a row with the size, the alignment and the resolved type.
 #[inline(always)]
 fn put_figures(layout: &Layout, t: TypeNum, row: &mut GivenTypeRow)
     ensures { (s : WholeSpace) → Fits s layout.now → 0 < t.0 → TellsFigures s t.0 row.new }
@@ -80,7 +80,7 @@ fn put_figures(layout: &Layout, t: TypeNum, row: &mut GivenTypeRow)
     row.resolved = resolved;
 }
 
-/// The number of a kind: kinds stand in the order of their numbers.
+/// The number of a kind: kinds are declared in the order of their numbers.
 #[inline(always)]
 fn number_of(kind: Kind) -> u32
     ensures { result ≡ number_of_kind kind }
@@ -141,7 +141,7 @@ fn numbers_of(found: &Typed<'_>) -> RecordNumbers
     }
 }
 
-/// Where the name of a type stands.
+/// Where the name of a type is.
 #[inline(always)]
 fn name_place(found: &Typed<'_>) -> NamePosition
     ensures { (name : List ℕ) × (name_in (or_no_type (term_in found.now)) ≡ Ok name)
@@ -150,7 +150,7 @@ fn name_place(found: &Typed<'_>) -> NamePosition
     name_position(&found.dictionary(), found.name_reference())
 }
 
-/// An own type, from 0.
+/// An own type, counted from 0.
 #[inline(always)]
 fn own_type<'a>(space: &Space<'a>, index: usize) -> Typed<'a>
     requires there { index < length (space_of space.now).own.terms }
@@ -162,7 +162,7 @@ fn own_type<'a>(space: &Space<'a>, index: usize) -> Typed<'a>
     space.dictionary().type_at(index + 1).unwrap()
 }
 
-/// The number of an own type, from 0.
+/// The number of an own type that is counted from 0.
 #[inline(always)]
 fn own_number(child: bool, index: usize) -> TypeNum
     requires { index < 32767 }
@@ -175,7 +175,7 @@ fn own_number(child: bool, index: usize) -> TypeNum
     }
 }
 
-/// Fills a row with what is told of an own type, from 0, of a child or of another dictionary.
+/// Fills the row of an own type, counted from 0, of a child or of another dictionary.
 #[inline(always)]
 fn fill_row(space: &Space<'_>, layout: &Layout, child: bool, index: usize, row: &mut GivenTypeRow)
     requires there { index < length (space_of space.now).own.terms }
@@ -206,7 +206,7 @@ fn fill_row(space: &Space<'_>, layout: &Layout, child: bool, index: usize, row: 
     };
 }
 
-/// Fills rows with the own types from a number on, counted from 0, and answers how many there are.
+/// Fills rows with the own types from a number on, counted from 0, and returns how many there are.
 fn types_into(dictionary: &OpenDictionary, from: usize, rows: &mut [GivenTypeRow]) -> u64
     ensures count { result ≡ length (own_numbers (own_in dictionary.now)) }
     ensures filled { Fills (TellsType (Some dictionary.now)) (own_numbers (own_in dictionary.now))

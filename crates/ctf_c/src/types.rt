@@ -1,4 +1,4 @@
-//! Exports that answer a number of a type.
+//! Exports that give a number of a type.
 ghost use Rattle.std.specs.Prelude.{◌≡◌, Some, option_map};
 ghost use Rattle.std.specs.Result.{result_map_both};
 ghost use Rattle.ctf_c.specs.Given.{Gives, ask, flag as flag_of, number_of_kind, number_of_tag};
@@ -29,7 +29,7 @@ pub extern "C" fn ctfd_kind(handle: &mut Handle, t: u16, out: &mut u32) -> u32
     give_short(kind_result(dictionary.kind(TypeNum(t))), out)
 }
 
-/// 1 where look-ups by name see a type, else 0.
+/// 1 if look-ups by name find a type, else 0.
 #[unsafe(no_mangle)]
 pub extern "C" fn ctfd_root(handle: &mut Handle, t: u16, out: &mut u32) -> u32
     ensures same { handle.new.held.dictionary ≡ handle.old.held.dictionary }
@@ -88,7 +88,7 @@ pub extern "C" fn ctfd_align(handle: &mut Handle, t: u16, out: &mut u64) -> u32
     give(dictionary.align(TypeNum(t)), out)
 }
 
-/// The type that a type stands for, along typedefs and qualifiers: 0 where that is `void`.
+/// The type that a type resolves to, through typedefs and qualifiers; 0 if that is `void`.
 #[unsafe(no_mangle)]
 pub extern "C" fn ctfd_resolve(handle: &mut Handle, t: u16, out: &mut u16) -> u32
     ensures same { handle.new.held.dictionary ≡ handle.old.held.dictionary }
@@ -99,7 +99,7 @@ pub extern "C" fn ctfd_resolve(handle: &mut Handle, t: u16, out: &mut u16) -> u3
     give_type(dictionary.resolve(TypeNum(t)), out)
 }
 
-/// What a type that was found points to, renames or qualifies.
+/// The type that a type points to, renames or qualifies.
 #[inline(always)]
 fn referred_type(found: &Typed<'_>) -> Result<TypeNum, Fault>
     ensures { option_map (λ x. referred_of (shape x.body)) (term_in found.now)
@@ -114,7 +114,7 @@ fn referred_type(found: &Typed<'_>) -> Result<TypeNum, Fault>
     Ok(to)
 }
 
-/// The same of the type that a number names.
+/// The same for the type of a number.
 #[inline(always)]
 fn reference(dictionary: &OpenDictionary, t: TypeNum) -> Result<TypeNum, Fault>
     ensures { result_map_both (λ t. t.0) (λ f. f) result
@@ -135,7 +135,7 @@ pub extern "C" fn ctfd_reference(handle: &mut Handle, t: u16, out: &mut u16) -> 
     give_type(reference(dictionary, TypeNum(t)), out)
 }
 
-/// The least pointer to a type, or to what it stands for.
+/// The least pointer to a type; if there is none, to the type that it resolves to.
 #[unsafe(no_mangle)]
 pub extern "C" fn ctfd_pointer(handle: &mut Handle, t: u16, out: &mut u16) -> u32
     ensures same { handle.new.held.dictionary ≡ handle.old.held.dictionary }
@@ -158,7 +158,7 @@ pub extern "C" fn ctfd_return(handle: &mut Handle, t: u16, out: &mut u16) -> u32
     give_type(dictionary.return_type(TypeNum(t)), out)
 }
 
-/// An argument of a function type, from 0, as it is stored: a last 0 says that more may follow.
+/// An argument of a function type, counted from 0, as stored: a last 0 says that more may follow.
 #[unsafe(no_mangle)]
 pub extern "C" fn ctfd_argument(handle: &mut Handle, t: u16, index: usize, out: &mut u16) -> u32
     ensures same { handle.new.held.dictionary ≡ handle.old.held.dictionary }

@@ -1,4 +1,4 @@
-//! The export that answers what lies in a type, and in what lies in it.
+//! The export that gives a type, its members, and all that these contain.
 ghost use Rattle.std.specs.Prelude.{◌≡◌, Ok, Some};
 ghost use Rattle.ctf_c.specs.Given.{ask};
 ghost use Rattle.ctf_c.specs.Visiting.{GivesVisit, TellsIn, Visits};
@@ -8,18 +8,18 @@ ghost use Rattle.ctf_model.specs.opened.Open.{space_in};
 ghost use Rattle.ctf_model.specs.spaces.Space.{space_type};
 
 use crate::handle::Handle;
-use crate::names::{NOWHERE, Standing, held_type, put, stands_for, visit_inside};
+use crate::names::{NOWHERE, held_type, put, stands_for, visit_inside};
 use crate::out_pointers::{dictionary_of, status};
 use ctf_model::{Fault, TypeNum};
 use ctf_open::OpenDictionary;
 
-/// As many types as can lie in each other at most.
+/// How deep types can be nested at most.
 const MOST_VALUES: u32 = 1027;
 
 /// A type in a visit: `struct ctfd_visit_row`. The offset is in bits, from the beginning of the
-/// outermost type. The name stands in a list of the dictionary that has the holder, which is the
-/// struct or union whose member this is; the outermost type is its own holder. `stands_for` is the
-/// type that its type stands for, typedefs and qualifiers followed, and 0 where that is none.
+/// outermost type. The holder is the struct or union that has this member; the outermost type is
+/// its own holder. The name is in a list of the dictionary that has the holder. `stands_for` is the
+/// type that the member's type resolves to, and 0 if that is no type.
 #[repr(C)]
 #[derive(Clone, Copy)]
 pub struct GivenVisitRow {
@@ -32,8 +32,8 @@ pub struct GivenVisitRow {
     pub stands_for: u16,
 }
 
-/// Fills rows with a type and what lies in it, and answers how many there are: one more than there
-/// are rows, where these don't reach.
+/// Fills rows with a type and all that it contains, and returns how many there are; if there are
+/// too few rows, one more than there are rows.
 fn visit(dictionary: &OpenDictionary, t: TypeNum, rows: &mut [GivenVisitRow]) -> Result<u64, Fault>
     ensures { Visits (TellsIn (Some dictionary.now))
         (if_there (Ok (visits_of (space_in dictionary.now) t.0))
@@ -51,16 +51,11 @@ fn visit(dictionary: &OpenDictionary, t: TypeNum, rows: &mut [GivenVisitRow]) ->
         stands_for: holder.0,
     };
     put(rows, 0, outermost);
-    let at = Standing {
-        offset: 0,
-        depth: 0,
-        left: MOST_VALUES,
-    };
-    Ok(visit_inside(dictionary, t, holder, at, rows, 1) as u64)
+    Ok(visit_inside(dictionary, outermost, MOST_VALUES, rows, 1) as u64)
 }
 
-/// A type, and what lies in it: the members of the struct or union that it stands for, each
-/// followed by what lies in that. As many are written as there are rows.
+/// A type and all that it contains: the members of the struct or union that it resolves to, each
+/// followed by all that it contains. As many are written as there are rows.
 #[unsafe(no_mangle)]
 pub extern "C" fn ctfd_visit(
     handle: &mut Handle,

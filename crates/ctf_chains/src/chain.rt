@@ -3,8 +3,8 @@
 /// A sort of steps from one type to types that it names.
 #[derive(Clone, Copy, Debug, PartialEq, Eq)]
 pub enum Chain {
-    /// To the types whose values a value of the type is, or holds.
+    /// To the types of the values that a value of the type is or contains.
     ByValue,
-    /// To the types that a declaration of the type goes on with.
+    /// To the types that come next in a declaration of the type.
     Declarator,
 }

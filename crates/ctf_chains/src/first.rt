@@ -1,4 +1,4 @@
-//! The first type of a section that a chain of too many steps begins at.
+//! The first type of a section from which a chain has too many steps.
 ghost use Rattle.std.specs.Prelude.{◌≡◌, ◌+◌, ◌<◌, ◌≤◌, length, IfOk, IfSome, None, Ok};
 ghost use Rattle.ctf_model.specs.rules.Faults.{walk_fault};
 ghost use Rattle.ctf_model.specs.format.Name.{Tables};
@@ -17,8 +17,8 @@ use std::alloc::{AllocError, Global};
 use std::marker::Brand;
 use std::sync::ledger::{Blank, Ledger};
 
-/// The first own type, from 0, that a chain of more than `LONGEST_CHAIN` steps begins at, if there
-/// is one.
+/// The first own type, counted from 0, from which a chain has more than `LONGEST_CHAIN` steps, if
+/// there is one.
 ///
 /// Takes two bytes for each record while it runs. No name is read.
 pub fn first_deep_type(
@@ -37,7 +37,7 @@ pub fn first_deep_type(
     first_deep_with::<Brand>(alloc, &types, Blank::new(1))
 }
 
-/// The same in a ledger of its own, which nobody reads.
+/// The same, with a ledger of its own that nobody reads.
 fn first_deep_with<L: Ledger>(
     alloc: Global,
     types: &Types<'_>,
@@ -54,10 +54,10 @@ fn first_deep_with<L: Ledger>(
     first_deep_counted(alloc, types, &mut work)
 }
 
-/// The same, with what it costs in `work`: a tick for each record that is opened, and one for each
+/// The same, and counts its cost in `work`: a tick for each record that is opened, and one for each
 /// type number that is read.
 ///
-/// It is handed nothing of the section but what `Types` shows by ticks.
+/// It sees of the section only what `Types` gives for ticks.
 pub fn first_deep_counted<L: Ledger>(
     alloc: Global,
     types: &Types<'_>,

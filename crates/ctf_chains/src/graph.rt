@@ -5,10 +5,10 @@ ghost use Rattle.ctf_chains.specs.Places.{Places, places_at};
 use crate::ticks::Ticks;
 use std::sync::ledger::Ledger;
 
-/// Records by their numbers from 0, each with places that may lead to one of them. To open a record
-/// is a tick, and so is to read a place.
+/// Records, numbered from 0. Each has places, and a place may lead to a record. Opening a record is
+/// a tick, and so is reading a place.
 pub trait Graph<L: Ledger> {
-    /// A record that was opened.
+    /// An opened record.
     type Opened: Copy;
 
     ghost places: { Self → Places };

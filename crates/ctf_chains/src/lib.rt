@@ -1,4 +1,4 @@
-//! Chains of types that are too long: the first type of a dictionary that one begins at.
+//! Finds the first type of a dictionary at which a chain of types begins that is too long.
 //!
 //! ```rust
 //! use ctf_chains::{Chain, first_deep_type, record_starts};

@@ -1,4 +1,4 @@
-//! Where in its bytes a record says the types that its steps lead to.
+//! Where a record has the numbers of the types that its steps lead to.
 ghost use Rattle.std.specs.Prelude.{◌≡◌, ◌<◌, drop, length, slice_index};
 ghost use Rattle.ctf_model.specs.rules.Chains.{own_index as own_index_of};
 ghost use Rattle.ctf_model.specs.spaces.TypePlaces.{own_number};
@@ -8,9 +8,9 @@ ghost use Rattle.ctf_chains.specs.Numbers.{numbers, spot};
 
 use crate::chain::Chain;
 use ctf_model::{Kind, TypeNum};
-use ctf_records::{Listed, Record};
+use ctf_records::{Record, ReferenceList};
 
-/// Where the numbers of the types stand.
+/// Where the type numbers are.
 #[derive(Clone, Copy)]
 enum Spot {
     Nowhere,
@@ -31,28 +31,28 @@ fn spot_of(chain: Chain, kind: Kind) -> Spot
     }
 }
 
-/// The numbers of the types that the steps from a record lead to, counted as often as it names
-/// them. No name is read.
+/// The numbers of the types that the steps from a record lead to, each as often as the record names
+/// it. No name is read.
 #[inline(always)]
-pub fn places<'a>(source: &Record<'a>, chain: Chain) -> Listed<'a>
+pub fn places<'a>(source: &Record<'a>, chain: Chain) -> ReferenceList<'a>
     ensures { numbers_listed result ≡ numbers chain (bytes_of source.now) }
 {
     match spot_of(chain, source.kind()) {
-        Spot::Nowhere => Listed::new(&[], 2, 0, 0),
-        Spot::Head => Listed::new(field_on(source), 2, 0, 1),
-        Spot::Contents => Listed::new(source.rest(), 2, 0, 1),
-        Spot::Members => source.listed(),
+        Spot::Nowhere => ReferenceList::new(&[], 2, 0, 0),
+        Spot::Head => ReferenceList::new(field_on(source), 2, 0, 1),
+        Spot::Contents => ReferenceList::new(source.rest(), 2, 0, 1),
+        Spot::Members => source.reference_list(),
     }
 }
 
-/// The bytes of a record from its reference on.
+/// The bytes of a record from its reference field on.
 fn field_on<'a>(source: &Record<'a>) -> &'a [u8]
     ensures { result.now ≡ drop 6 (bytes_of source.now) }
 {
     &source.bytes()[6..]
 }
 
-/// How many types the steps from a record lead to, counted as often as it names them.
+/// How many types the steps from a record lead to, each counted as often as the record names it.
 pub fn place_count(source: &Record<'_>, chain: Chain) -> usize
     ensures { result ≡ length (numbers chain (bytes_of source.now)) }
 {
@@ -75,7 +75,7 @@ fn first_own(child: bool) -> u16
     if child { 0x8001 } else { 1 }
 }
 
-/// The own type that a number names, from 0, where there are that many.
+/// The own type with a number, counted from 0, if there are that many types.
 #[inline(always)]
 #[tactic(auto, using(crate::proofs::OwnNumbers::below_own, crate::proofs::OwnNumbers::at_own))]
 pub(crate) fn own_index(child: bool, count: usize, number: TypeNum) -> Option<usize>

@@ -1,4 +1,4 @@
-//! The first record that a chain of too many steps begins at.
+//! The first record from which a chain has too many steps.
 ghost use Rattle.std.specs.Prelude.{◌≡◌, ℕ, ◌+◌, ◌<◌, ◌≤◌, ◌⊎◌, length, IfOk, IfSome, IsSome, None, Ok, slice_index_or};
 ghost use Rattle.ctf_model.specs.rules.Chains.{longest_chain};
 ghost use Rattle.ctf_chains.specs.Deep.{IsLeastDeep};
@@ -24,8 +24,8 @@ fn longer(a: u16, b: u16) -> u16
 /// The depth of record `i`, which is the length of the longest chain from it, if the budget is
 /// enough for that.
 ///
-/// `known` has for each record 0, or `BUSY` while its visit is under way, or one more than its
-/// depth. A busy record that is met again is on a cycle.
+/// `known` has for each record 0 if it was not visited, `BUSY` while it is being visited, and then
+/// its depth plus one. A busy record that is met again is on a cycle.
 #[cycle(deep)]
 #[inline(always)]
 fn depth<L: Ledger, G: Graph<L>>(
@@ -154,7 +154,7 @@ fn depth_first<L: Ledger, G: Graph<L>>(
     }
 }
 
-/// Looks through the records in turn, with a table that knows nothing yet.
+/// Searches the records in turn, beginning with an empty table.
 fn first_of<L: Ledger, G: Graph<L>>(
     graph: &G,
     known: &mut [u16],
@@ -175,11 +175,11 @@ fn first_of<L: Ledger, G: Graph<L>>(
     None
 }
 
-/// The first record that a chain of more than `LONGEST_CHAIN` steps begins at, if there is one. A
+/// The first record from which a chain has more than `LONGEST_CHAIN` steps, if there is one. A
 /// cycle of steps is a chain without end.
 ///
-/// Nothing of the graph can be seen but by its ticks, so that these bound what the search looks at.
-/// Takes two bytes for each record while it runs.
+/// The graph can be seen only by its ticks, so they bound what the search looks at. Takes two bytes
+/// for each record while it runs.
 pub fn first_deep<L: Ledger, G: Graph<L>>(
     alloc: Global,
     graph: &G,

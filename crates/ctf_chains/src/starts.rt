@@ -45,8 +45,8 @@ fn end_of(places: &[u32], i: usize, len: usize) -> usize
     }
 }
 
-/// The record with a number from 0, found without reading those before it by the places at which
-/// all begin.
+/// The record with a number from 0. The places at which all records begin give it without reading
+/// those before it.
 #[inline(always)]
 pub fn record_started<'a>(types: &'a [u8], places: &[u32], i: usize) -> Record<'a>
     requires whole { walk_fault (records types.now) ≡ None }
@@ -59,7 +59,7 @@ pub fn record_started<'a>(types: &'a [u8], places: &[u32], i: usize) -> Record<'
     record_of_len(types, at, end - at, i as u64 + 1)
 }
 
-/// Where the records of a section begin, of which there are `count`.
+/// Where the `count` records of a section begin.
 pub fn record_starts(alloc: Global, types: &[u8], count: usize) -> Result<Starts, AllocError>
     requires count { count ≡ length (records types.now) }
     requires short { length types.now < 2 ^ 32 }

@@ -5,8 +5,8 @@ ghost use Rattle.ctf_chains.specs.Places.{cap};
 use std::marker::Model;
 use std::sync::ledger::{Blank, Book, Ledger, Share};
 
-/// How many ticks there were in a ledger. Whoever is handed one can neither set it back nor make a
-/// second one of the same ledger.
+/// The number of ticks in a ledger. Code that has one can neither set it back nor make a second one
+/// for the same ledger.
 #[derive(Drop)]
 pub struct Ticks<L: Ledger> {
     count: u64,
@@ -26,7 +26,7 @@ impl<L: Ledger> Model for Ticks<L> {
 }
 
 impl<L: Ledger> Ticks<L> {
-    /// None yet, in a ledger that no type stands for before.
+    /// No ticks yet, in a new ledger.
     pub fn new(blank: Blank) -> Ticks<L>
         requires name { blank.name ≡ L.name }
         requires parts { blank.parts ≡ L.parts }
@@ -49,7 +49,7 @@ impl<L: Ledger> Ticks<L> {
         self.count = self.count.saturating_add(1);
     }
 
-    /// The number, as far as 64 bits go.
+    /// The number of ticks, at most 2^64 - 1.
     pub fn count(&self) -> u64
         ensures { result ≡ cap self.now }
     {

@@ -12,11 +12,11 @@ use crate::graph::Graph;
 use crate::place::{own_index, places};
 use crate::starts::{Starts, record_started};
 use crate::ticks::Ticks;
-use ctf_records::Listed;
+use ctf_records::ReferenceList;
 use std::sync::ledger::Ledger;
 
-/// The types of a section, and the steps of one sort between them. Whoever has only this can see
-/// nothing of the section but by ticks.
+/// The types of a section, and the steps of one sort between them. Code that has only this can read
+/// the section only by ticks.
 #[derive(Clone, Copy)]
 pub struct Types<'a> {
     bytes: &'a [u8],
@@ -47,7 +47,7 @@ impl<'a> Types<'a> {
 }
 
 impl<'a, L: Ledger> Graph<L> for Types<'a> {
-    type Opened = Listed<'a>;
+    type Opened = ReferenceList<'a>;
 
     ghost places = { λ g. section_places g.chain g.child (records g.bytes.now) };
 
@@ -60,18 +60,18 @@ impl<'a, L: Ledger> Graph<L> for Types<'a> {
     }
 
     #[inline(always)]
-    fn open(&self, i: usize, work: &mut Ticks<L>) -> Listed<'a> {
+    fn open(&self, i: usize, work: &mut Ticks<L>) -> ReferenceList<'a> {
         work.tick();
         places(&record_started(self.bytes, self.starts, i), self.chain)
     }
 
     #[inline(always)]
-    fn place_count(&self, opened: Listed<'a>) -> usize {
+    fn place_count(&self, opened: ReferenceList<'a>) -> usize {
         opened.count()
     }
 
     #[inline(always)]
-    fn place(&self, opened: Listed<'a>, k: usize, work: &mut Ticks<L>) -> Option<usize> {
+    fn place(&self, opened: ReferenceList<'a>, k: usize, work: &mut Ticks<L>) -> Option<usize> {
         work.tick();
         own_index(self.child, self.starts.len(), opened.get(k))
     }

@@ -2,7 +2,7 @@ pub mod CheckedView
 pub mod EndsView
 pub mod Enough
 pub mod FactsView
-pub mod HeldView
+pub mod DictionaryListsView
 pub mod Holdings
 pub mod ListsView
 pub mod Named

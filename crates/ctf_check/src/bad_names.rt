@@ -1,4 +1,4 @@
-//! The rule of names: each name reference names something.
+//! The rule of names: each reference to a name names something.
 ghost use Rattle.std.specs.Prelude.{◌≡◌, ◌≤◌, ◌<◌, ◌+◌, ◌*◌, ◌^◌, length};
 ghost use Rattle.ctf_model.specs.format.Header.{fields};
 ghost use Rattle.ctf_model.specs.rules.Faults.{first_nameless, label_sites, item_sites, list_sites, record_sites, sites, types};
@@ -13,7 +13,7 @@ use ctf_records::Record;
 use ctf_sections::Header;
 use ctf_sections::bytes::u32_at;
 
-/// The first of the header's names that is bad: its place in the dictionary.
+/// The place in the dictionary of the first bad reference to a name in the header.
 #[tactic(auto, unfolding(ctf_model::specs::rules::Faults::first_nameless))]
 fn bad_in_header(header: Header, ends: NameEnds<'_>) -> Option<u64>
     ensures { result ≡ first_nameless (tables_in ends.entry) (header_sites header) }
@@ -27,7 +27,7 @@ fn bad_in_header(header: Header, ends: NameEnds<'_>) -> Option<u64>
     }
 }
 
-/// The first of the names of `count` labels that is bad: its place in the dictionary.
+/// The place in the dictionary of the first bad reference to a name among `count` labels.
 #[tactic(auto, using(crate::proofs::Sites::label_sites_next, crate::proofs::Sites::label_sites_end), unfolding(ctf_model::specs::rules::Faults::first_nameless))]
 fn bad_in_labels(ctf: &[u8], start: usize, count: usize, ends: NameEnds<'_>) -> Option<u64>
     requires { start + 8 * count ≤ length ctf.now }
@@ -42,8 +42,8 @@ fn bad_in_labels(ctf: &[u8], start: usize, count: usize, ends: NameEnds<'_>) -> 
     None
 }
 
-/// The first of the names of `count` items of a list that is bad: its place in the dictionary,
-/// where the list begins at `start`.
+/// The place in the dictionary of the first bad reference to a name among `count` items of a list
+/// that begins at `start`.
 #[tactic(auto, using(crate::proofs::Sites::item_sites_next, crate::proofs::Sites::item_sites_end), unfolding(ctf_model::specs::rules::Faults::first_nameless))]
 #[inline(never)]
 fn bad_in_items(
@@ -67,8 +67,8 @@ fn bad_in_items(
     None
 }
 
-/// The first of the names in the list of a record that is bad: its place in the dictionary, where
-/// the record begins at `start`.
+/// The place in the dictionary of the first bad reference to a name in the list of a record that
+/// begins at `start`.
 #[tactic(auto, unfolding(ctf_model::specs::rules::Faults::first_nameless))]
 fn bad_in_list(term: &Record<'_>, start: usize, ends: &NameEnds<'_>) -> Option<u64>
     requires near { start + length (bytes_of term.now) < 2 ^ 64 }
@@ -86,8 +86,8 @@ fn bad_in_list(term: &Record<'_>, start: usize, ends: &NameEnds<'_>) -> Option<u
     }
 }
 
-/// The first of the names of a record that is bad: its place in the dictionary, where the record
-/// begins at `start`.
+/// The place in the dictionary of the first bad reference to a name in a record that begins at
+/// `start`.
 #[tactic(auto, unfolding(ctf_model::specs::rules::Faults::first_nameless))]
 pub fn bad_in_record(term: &Record<'_>, start: usize, ends: &NameEnds<'_>) -> Option<u64>
     requires near { start + length (bytes_of term.now) < 2 ^ 64 }
@@ -99,8 +99,8 @@ pub fn bad_in_record(term: &Record<'_>, start: usize, ends: &NameEnds<'_>) -> Op
     bad_in_list(term, start, ends)
 }
 
-/// The first name of a dictionary that is bad, where that of its records is known: the place of its
-/// reference.
+/// The place of the first bad reference to a name in a dictionary, given the first one in its
+/// records.
 pub fn bad_name(
     ctf: &[u8],
     header: Header,

@@ -10,10 +10,8 @@ ghost use Rattle.ctf_model.specs.format.Spelling.{term_of};
 ghost use Rattle.ctf_sections.specs.StringsView.{tables};
 ghost use Rattle.ctf_check.specs.ListsView.{lists_in};
 ghost use Rattle.ctf_model.specs.format.Section.{records};
-ghost use Rattle.ctf_model.specs.format.Shown.{shown};
 ghost use Rattle.ctf_records.specs.Pieces.{piece_numbered};
 ghost use Rattle.ctf_records.specs.RecordView.{piece};
-ghost use Rattle.ctf_views.specs.VariantView.{shown_of};
 
 use crate::judged::Judged;
 use crate::lists::LentLists;
@@ -22,17 +20,16 @@ use ctf_chains::record_started;
 use ctf_model::Section;
 use ctf_records::Record;
 use ctf_sections::Strings;
-use ctf_views::{Variant, variant};
 
-/// A dictionary that breaks no rule, lent. Each call answers from the lists that it was handed in
-/// as.
+/// A dictionary that breaks no rule, borrowed. Each call answers from the lists that were handed
+/// in.
 #[derive(Clone, Copy)]
 pub struct Checked<'a> {
     judged: &'a Judged<'a>,
     pub ghost faultless: { first_fault judged.now.kept.lists ≡ None },
 }
 
-/// The record with a number of a section, by the places at which all begin.
+/// The record with a number of a section, by the places at which all records begin.
 fn find<'a>(types: &'a [u8], starts: &[u32], index: usize) -> Option<Record<'a>>
     requires whole { walk_fault (records types.now) ≡ None }
     requires begin { starts.now ≡ starts_in (records types.now) }
@@ -51,7 +48,7 @@ impl<'a> Checked<'a> {
     ghost use Rattle.ctf_check.specs.CheckedView.{lists_of, dictionary_of, tables_of, type_at, IsOwn};
     ghost use Rattle.ctf_records.specs.RecordView.{index_of, bytes_of};
 
-    /// What was judged, lent.
+    /// The checked dictionary of a `Judged`, borrowed.
     pub(crate) fn of(judged: &'a Judged<'a>) -> Checked<'a>
         requires { first_fault judged.now.kept.lists ≡ None }
         ensures { lists_of result ≡ judged.now.kept.lists }
@@ -75,7 +72,7 @@ impl<'a> Checked<'a> {
     }
 
     /// The name of a reference of the dictionary.
-    fn name_at(&self, reference: u32) -> &'a [u8]
+    pub(crate) fn name_at(&self, reference: u32) -> &'a [u8]
         ensures { result.now ≡ text_or_empty (tables_of self.now) reference }
     {
         match self.strings().name(reference) {
@@ -115,9 +112,9 @@ impl<'a> Checked<'a> {
         self.name_at(self.judged.header().parlabel())
     }
 
-    /// The record of an own type; they count from 1. It is found in constant time.
+    /// The record of an own type; types are counted from 1. Takes constant time.
     #[inline(always)]
-    pub fn term(&self, index: usize) -> Option<Record<'a>>
+    pub(crate) fn term(&self, index: usize) -> Option<Record<'a>>
         ensures exact { IsSome result ↔ IsSome (type_at (dictionary_of self.now) index) }
         ensures spells { IfSome result (λ r. term_of (tables_of self.now) (bytes_of r)
             ≡ type_at (dictionary_of self.now) index) }
@@ -127,9 +124,8 @@ impl<'a> Checked<'a> {
         find(self.section(Section::STypes), self.judged.starts(), index)
     }
 
-    /// The greatest number below 0x8000 that the types of a child name, or that is told of its
-    /// symbols: so many types it needs in its parent. It is 0 where there is none, and where the
-    /// dictionary is not a child.
+    /// How many types a child needs in its parent: the greatest number below 0x8000 that its types
+    /// or the entries of its symbols name. 0 if there is none, or if the dictionary is no child.
     ///
     /// Reads each member, argument and symbol once.
     pub fn needs(&self) -> u16
@@ -145,27 +141,7 @@ impl<'a> Checked<'a> {
         }
     }
 
-    /// The name of a type of the dictionary.
-    #[inline(always)]
-    pub fn name(&self, term: &Record<'a>) -> &'a [u8]
-        requires own { IsOwn self.now term.now }
-        ensures { option_map (λ x. x.name) (term_of (tables_of self.now) (bytes_of term.now))
-            ≡ Some result.now }
-    {
-        self.name_at(term.name_ref())
-    }
-
-    /// What stands behind the head of a type of the dictionary.
-    #[inline(always)]
-    pub fn variant(&self, term: &Record<'a>) -> Variant<'a>
-        requires own { IsOwn self.now term.now }
-        ensures { option_map (λ x. shown x.body) (term_of (tables_of self.now) (bytes_of term.now))
-            ≡ Some (shown_of result) }
-    {
-        variant(term, self.strings())
-    }
-
-    /// The lists that it was handed in as.
+    /// The lists that were handed in.
     pub fn lists(&self) -> LentLists<'a>
         ensures same { lists_in result ≡ lists_of self.now }
         ensures denotes { denoted (lists_of self.now) ≡ Some (dictionary_of self.now) }

@@ -1,4 +1,4 @@
-//! Which references name something, told by where names end, without reading the names.
+//! Which references name something: decided by where names end, without reading the names.
 ghost use Rattle.std.specs.Prelude.{◌≡◌, ◌≤◌, ◌^◌, Some, is_none};
 ghost use Rattle.ctf_model.specs.format.Name.{name};
 ghost use Rattle.ctf_sections.specs.StringsView.{tables};
@@ -6,14 +6,14 @@ ghost use Rattle.ctf_sections.specs.TableEnds.{EndsAt};
 
 use ctf_sections::{Strings, end_of_names};
 
-/// A reference below this is to the internal table, and is its offset there.
+/// A reference below this is an offset in the internal table.
 const INTERNAL: usize = 0x8000_0000;
 
-/// The tables of names, with the place behind the last name of each; 0 where a table is absent.
+/// The tables of names, with the place after the last name of each; 0 if a table is absent.
 #[derive(Clone, Copy)]
 pub struct NameEnds<'a> {
     strings: Strings<'a>,
-    /// Each reference below this names something: it is told by one compare.
+    /// Each reference below this names something: one comparison decides that.
     plain_end: usize,
     internal_end: usize,
     elf_end: usize,

@@ -34,13 +34,13 @@ fn enough_for(child: bool, number: TypeNum) -> usize
     }
 }
 
-/// How many are enough for the types that stand behind the head of a record.
+/// How many are enough for the types that a record names after its head.
 #[tactic(auto, using(crate::proofs::Listed::enough_next, crate::proofs::Listed::enough_end))]
 #[inline(always)]
 fn enough_for_listed(child: bool, term: &Record<'_>) -> usize
     ensures { result ≡ enough_among child (listed_types (bytes_of term.now)) }
 {
-    let listed = term.listed();
+    let listed = term.reference_list();
     let mut enough = 0;
     for item in 0..listed.count() {
         enough = more(enough, enough_for(child, listed.get(item)));

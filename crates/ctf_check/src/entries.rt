@@ -1,5 +1,5 @@
-//! The rules of what is told of symbols: the entry of each function is good, and each type that an
-//! entry names is there.
+//! The rules of symbols' entries: each function's entry is well formed, and each type that an entry
+//! names exists.
 ghost use Rattle.std.specs.Prelude.{◌≡◌, IfErr, OnOk, None, Some, if◌then◌else◌};
 ghost use Rattle.std.specs.List.{list_any};
 ghost use Rattle.std.specs.Option.{option_map, option_or};
@@ -17,7 +17,7 @@ use ctf_model::{Fault, TypeNum};
 use ctf_views::Args;
 
 impl Numbers {
-    /// Whether an argument has a type that is not there.
+    /// Whether the type of an argument is missing.
     fn misses_argument(self, args: Args<'_>) -> bool
         ensures { result ≡ list_any (missing self.child self.count) args.entry }
     {
@@ -29,7 +29,7 @@ impl Numbers {
         false
     }
 
-    /// Whether an object has a type that is not there.
+    /// Whether the type of an object is missing.
     fn misses_object(self, said: Option<TypeNum>) -> bool
         ensures { result ≡ list_any (missing self.child self.count)
             (types_named (told.object (option_map (λ t. t.0) said))) }
@@ -40,7 +40,7 @@ impl Numbers {
         }
     }
 
-    /// Whether the signature of a function names a type that is not there.
+    /// Whether a type in the signature of a function is missing.
     fn misses_signature(self, said: Option<Signature<'_>>) -> bool
         ensures { result ≡ list_any (missing self.child self.count)
             (types_named (told.function (option_map signature said.entry))) }
@@ -52,7 +52,7 @@ impl Numbers {
     }
 }
 
-/// The place that was found before, else that of a symbol where it breaks a rule.
+/// The place that was found before; else that of a symbol, if it breaks a rule.
 fn or_here(found: Option<u64>, breaks: bool, number: u32) -> Option<u64>
     ensures { result ≡ option_or found (if breaks then Some number else None) }
 {
@@ -63,8 +63,8 @@ fn or_here(found: Option<u64>, breaks: bool, number: u32) -> Option<u64>
     }
 }
 
-/// Judges the entries of considered symbols. A bad entry comes before a type that is not there,
-/// wherever the two stand. Reads each symbol and each entry once.
+/// Checks the entries of considered symbols. A malformed entry is reported before a missing type,
+/// wherever the two are. Reads each symbol and each entry once.
 pub fn judge_entries(
     symbols: Considered<'_>,
     objects: &[u8],

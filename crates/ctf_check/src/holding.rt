@@ -1,26 +1,26 @@
-//! The lists of a dictionary: its own, or lent.
+//! The lists of a dictionary, owned or borrowed.
 ghost use Rattle.std.specs.Prelude.{◌≡◌};
-ghost use Rattle.ctf_check.specs.HeldView.{lists_held};
+ghost use Rattle.ctf_check.specs.DictionaryListsView.{lists_held};
 ghost use Rattle.ctf_check.specs.ListsView.{lists_in};
 
-use crate::lists::{LentLists, lent};
+use crate::lists::{LentLists, lent_lists};
 use ctf_model::Parts;
 
-/// The lists of a dictionary, which it owns or is lent.
+/// The lists of a dictionary, owned or borrowed.
 #[derive(Drop)]
-pub(crate) enum HeldLists<'a> {
+pub(crate) enum DictionaryLists<'a> {
     Owned(Parts),
     Lent(LentLists<'a>),
 }
 
-impl<'a> HeldLists<'a> {
-    /// The lists, lent.
+impl<'a> DictionaryLists<'a> {
+    /// The lists, borrowed.
     pub(crate) fn lists(&self) -> LentLists<'_>
         ensures { lists_in result ≡ lists_held self.now }
     {
         match self {
-            HeldLists::Owned(parts) => lent(parts),
-            HeldLists::Lent(lists) => *lists,
+            DictionaryLists::Owned(parts) => lent_lists(parts),
+            DictionaryLists::Lent(lists) => *lists,
         }
     }
 
@@ -30,8 +30,8 @@ impl<'a> HeldLists<'a> {
         ensures { result.now ≡ (lists_held self.now).ctf }
     {
         match self {
-            HeldLists::Owned(parts) => parts.ctf.as_slice(),
-            HeldLists::Lent(lists) => lists.ctf,
+            DictionaryLists::Owned(parts) => parts.ctf.as_slice(),
+            DictionaryLists::Lent(lists) => lists.ctf,
         }
     }
 }

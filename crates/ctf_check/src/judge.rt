@@ -23,16 +23,17 @@ use ctf_model::{Fault, Section};
 use ctf_sections::Header;
 use std::alloc::Global;
 
-/// What the check of a dictionary finds out: what its header says, and where its types begin.
+/// What the check of a dictionary finds: what its header says, and where its types begin.
 #[derive(Drop)]
 pub struct Findings {
     pub header: Header,
     pub starts: Starts,
 }
 
-/// Judges the types of records: what they name, and then their chains. Answers where they begin.
+/// Checks the types of records: which types they name, and then their chains. Returns where the
+/// records begin.
 ///
-/// Takes six bytes for each record while it runs, of which the answer keeps four.
+/// Takes six bytes for each record while it runs, of which the result keeps four.
 fn judge_types(
     alloc: Global,
     types: &[u8],
@@ -60,12 +61,12 @@ fn judge_types(
     }
 }
 
-/// Judges a dictionary that is handed in as its CTF section and, where they are there, the
-/// program's symbol table and its strings.
+/// Checks a dictionary: its CTF section and, if there are any, the program's symbol table and its
+/// strings.
 ///
 /// Reads each record, member, enumerator, argument and symbol a bounded number of times, and takes
-/// six bytes for each record while it runs. Where that is refused, the fault is `Memory`: it may
-/// stand for a fault of chains, and for no other before them. No name is searched for its end.
+/// six bytes for each record while it runs. If that memory is refused, the fault is `Memory`; all
+/// rules before those of chains are kept then. No name is searched for its end.
 pub fn check(
     alloc: Global,
     ctf: &[u8],

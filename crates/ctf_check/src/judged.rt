@@ -11,9 +11,9 @@ ghost use Rattle.ctf_model.specs.rules.Faults.{first_fault, types as types_of};
 ghost use Rattle.ctf_model.specs.rules.Refusals.{out_of_memory};
 
 use crate::checked::Checked;
-use crate::holding::HeldLists;
+use crate::holding::DictionaryLists;
 use crate::judge::{Findings, check};
-use crate::lists::{LentLists, lent};
+use crate::lists::{LentLists, lent_lists};
 use crate::sections::bytes_in;
 use ctf_chains::Starts;
 use ctf_model::{DataModel, Fault, Parts, Section};
@@ -21,14 +21,14 @@ use ctf_sections::Header;
 use std::alloc::Global;
 use std::marker::Model;
 
-/// A dictionary that breaks no rule, with the data model of its program. Its lists are its own, or
-/// lent: then nothing of them is copied.
+/// A dictionary that breaks no rule, with the data model of its program. It owns its lists or
+/// borrows them; borrowed lists are not copied.
 ///
 /// The header is read once, and a type is found in constant time. The places at which types begin
-/// take four bytes a type. A contract sees the lists, whether they are its own, and the data model.
+/// take four bytes a type. A contract sees the lists, whether they are owned, and the data model.
 #[derive(Drop)]
 pub struct Judged<'a> {
-    held: HeldLists<'a>,
+    held: DictionaryLists<'a>,
     header: Header,
     starts: Starts,
     model: DataModel,
@@ -37,7 +37,7 @@ pub struct Judged<'a> {
 impl<'a> Model for Judged<'a> {
     ghost use Rattle.std.specs.Prelude.{◌≡◌, ◌≤◌, ◌+◌, length, None};
     ghost use Rattle.ctf_chains.specs.Starts.{starts_in};
-    ghost use Rattle.ctf_check.specs.HeldView.{is_owned, lists_held};
+    ghost use Rattle.ctf_check.specs.DictionaryListsView.{is_owned, lists_held};
     ghost use Rattle.ctf_check.specs.Holdings.{Holding};
     ghost use Rattle.ctf_model.specs.format.Header.{fields};
     ghost use Rattle.ctf_model.specs.rules.Faults.{first_fault, types as types_of};
@@ -56,8 +56,8 @@ impl<'a> Model for Judged<'a> {
 }
 
 impl<'a> Judged<'a> {
-    /// Judges the lists, and keeps them, or hands them back beside the first fault. Where memory is
-    /// refused, the rules before those of chains are kept.
+    /// Checks the lists and keeps them, or hands them back with the first fault. If memory is
+    /// refused, all rules before those of chains are kept.
     pub fn build(
         alloc: Global,
         parts: Parts,
@@ -71,10 +71,10 @@ impl<'a> Judged<'a> {
             ⊎ (first_fault (lists_owned parts) ≡ Some e.0)) }
         ensures back { IfErr result (λ e. lists_owned e.1 ≡ lists_owned parts) }
     {
-        let lists = lent(&parts);
+        let lists = lent_lists(&parts);
         match check(alloc, lists.ctf, lists.sym, lists.strs) {
             Ok(Findings { header, starts }) => Ok(Judged {
-                held: HeldLists::Owned(parts),
+                held: DictionaryLists::Owned(parts),
                 header,
                 starts,
                 model,
@@ -83,8 +83,8 @@ impl<'a> Judged<'a> {
         }
     }
 
-    /// Judges lists that are lent, and keeps them so, or tells the first fault. Where memory is
-    /// refused, the rules before those of chains are kept.
+    /// Checks borrowed lists and keeps them borrowed, or gives the first fault. If memory is
+    /// refused, all rules before those of chains are kept.
     pub fn judge(alloc: Global, lists: LentLists<'a>, model: DataModel) -> Result<Judged<'a>, Fault>
         ensures ok { IfOk result (λ j. j ≡ lent_for (lists_in lists.entry) model) }
         ensures exact_ok { OnOk result (first_fault (lists_in lists.entry) ≡ None) }
@@ -95,38 +95,38 @@ impl<'a> Judged<'a> {
     {
         let Findings { header, starts } = check(alloc, lists.ctf, lists.sym, lists.strs)?;
         Ok(Judged {
-            held: HeldLists::Lent(lists),
+            held: DictionaryLists::Lent(lists),
             header,
             starts,
             model,
         })
     }
 
-    /// The dictionary, lent.
+    /// The dictionary, borrowed.
     pub fn view(&self) -> Checked<'_>
         ensures { lists_of result ≡ self.now.kept.lists }
     {
-        // A look at a field tells the proof the invariant.
+        // Reading a field gives the proof the invariant.
         let _ = &self.held;
         Checked::of(self)
     }
 
-    /// That it breaks no rule, for a proof.
+    /// That it breaks no rule, for proofs.
     pub fn keeps_rules(&self)
         ensures { first_fault self.now.kept.lists ≡ None }
     {
-        // A look at a field tells the proof the invariant.
+        // Reading a field gives the proof the invariant.
         let _ = &self.held;
     }
 
-    /// Its lists, handed back where they are its own.
+    /// Its lists, handed back if it owns them.
     pub fn into_parts(self) -> Option<Parts>
         ensures { option_map lists_owned result ≡ lists_owned_by self.entry }
     {
         let Judged { held, .. } = self;
         match held {
-            HeldLists::Owned(parts) => Some(parts),
-            HeldLists::Lent(_) => None,
+            DictionaryLists::Owned(parts) => Some(parts),
+            DictionaryLists::Lent(_) => None,
         }
     }
 

@@ -11,7 +11,7 @@ use ctf_chains::{Chain, Starts, first_deep_type, record_starts};
 use ctf_model::Fault;
 use std::alloc::Global;
 
-/// Judges the chains of one sort: the fault has the code.
+/// Checks the chains of one sort: if one is too long, the fault has the code `code`.
 fn judge_chain(
     alloc: Global,
     types: &[u8],
@@ -36,10 +36,10 @@ fn judge_chain(
     }
 }
 
-/// Judges the chains of the types of records: first those of steps by value, then those of
-/// declarator steps. Answers where the records begin.
+/// Checks the chains of the types of records: first those of steps by value, then those of
+/// declarator steps. Returns where the records begin.
 ///
-/// Takes six bytes for each record while it runs, of which the answer keeps four.
+/// Takes six bytes for each record while it runs, of which the result keeps four.
 pub fn judge_chains(alloc: Global, types: &[u8], numbers: Numbers) -> Result<Starts, Fault>
     requires whole { walk_fault (records types.now) ≡ None }
     requires count { numbers.count ≡ length (records types.now) }

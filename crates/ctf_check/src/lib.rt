@@ -20,7 +20,7 @@
 //! ```
 //!
 //! A fault's place counts what docs/FAULTS.md says for its code; code 0 says that memory was
-//! refused. Types are counted from 0 here, and by their numbers from `ctf_space` on.
+//! refused. Own types are counted from 1 here; from `ctf_space` on, types go by their numbers.
 #![tactic(auto)]
 
 mod bad_names;
@@ -29,7 +29,6 @@ mod ends;
 mod enough;
 mod entries;
 mod facts;
-mod heads;
 mod holding;
 mod judge;
 mod judged;
@@ -48,6 +47,6 @@ pub use checked::Checked;
 pub use facts::{Facts, Shape};
 pub use judge::{Findings, check};
 pub use judged::Judged;
-pub use lists::{LentLists, lent};
+pub use lists::{LentLists, lent_lists};
 pub use symbol_answers::SymbolParts;
 pub use typed::Typed;

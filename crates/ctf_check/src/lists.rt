@@ -1,11 +1,11 @@
-//! The byte lists that a dictionary is handed in as, lent.
+//! The byte lists of a dictionary, borrowed.
 ghost use Rattle.std.specs.Prelude.{◌≡◌, option_copied};
 ghost use Rattle.ctf_check.specs.ListsView.{lists_in};
 ghost use Rattle.ctf_model.specs.format.OwnedLists.{lists_owned};
 
 use ctf_model::{Bytes, Parts};
 
-/// The CTF section, and the program's symbol table and its strings where they are there.
+/// The CTF section, and the program's symbol table and its strings, if there are any.
 #[derive(Clone, Copy)]
 pub struct LentLists<'a> {
     pub ctf: &'a [u8],
@@ -13,7 +13,7 @@ pub struct LentLists<'a> {
     pub strs: Option<&'a [u8]>,
 }
 
-/// The bytes of a list, if it is there.
+/// The bytes of a list, if there is one.
 fn list_bytes(list: &Option<Bytes>) -> Option<&[u8]>
     ensures { option_copied result ≡ list.now }
 {
@@ -23,8 +23,8 @@ fn list_bytes(list: &Option<Bytes>) -> Option<&[u8]>
     }
 }
 
-/// Owned lists, lent.
-pub fn lent(parts: &Parts) -> LentLists<'_>
+/// Owned lists, borrowed.
+pub fn lent_lists(parts: &Parts) -> LentLists<'_>
     ensures { lists_in result ≡ lists_owned parts.now }
 {
     LentLists {

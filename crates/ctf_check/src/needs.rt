@@ -30,12 +30,12 @@ fn in_parent(number: TypeNum) -> u16
     }
 }
 
-/// The greatest number of a parent's type that stands behind the head of a record.
+/// The greatest number of a parent's type that a record names after its head.
 #[tactic(auto, using(crate::proofs::Listed::greatest_next, crate::proofs::Listed::greatest_end))]
 fn listed_needs(term: &Record<'_>) -> u16
     ensures { result ≡ greatest_in_parent (listed_types (bytes_of term.now)) }
 {
-    let listed = term.listed();
+    let listed = term.reference_list();
     let mut greatest = 0;
     for item in 0..listed.count() {
         greatest = greater(greatest, in_parent(listed.get(item)));
@@ -88,7 +88,7 @@ fn signature_needs(told: Signature<'_>) -> u16
     greater(in_parent(told.ret), args_need(told.args))
 }
 
-/// The greatest number of a parent's type that is told of a symbol.
+/// The greatest number of a parent's type in what a dictionary says of a symbol.
 #[tactic(auto, unfolding(ctf_model::specs::rules::Needs::greatest_in_parent))]
 fn told_needs(told: Told<'_>) -> u16
     ensures { result ≡ greatest_in_parent (types_named (told_in told.entry)) }
@@ -100,7 +100,7 @@ fn told_needs(told: Told<'_>) -> u16
     }
 }
 
-/// The greatest number of a parent's type that is told of symbols.
+/// The greatest number of a parent's type in what a dictionary says of symbols.
 #[tactic(auto, unfolding(crate::specs::Needed::entries_need))]
 pub fn entries_need(entries: Entries<'_>) -> u16
     ensures { result ≡ entries_need_in entries.entry }

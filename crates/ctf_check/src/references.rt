@@ -1,4 +1,4 @@
-//! The rule of references: each type that a record names is there.
+//! The rule of references: each type that a record names exists.
 ghost use Rattle.std.specs.Prelude.{◌≡◌, ◌≤◌};
 ghost use Rattle.std.specs.List.{list_any};
 ghost use Rattle.ctf_model.specs.rules.References.{has_long_tag as long_tag_in, is_missing as missing};
@@ -11,7 +11,7 @@ ghost use Rattle.ctf_check.specs.Named.{first_that_misnames, misnames as misname
 use ctf_model::{Kind, Place, TypeNum};
 use ctf_records::{Record, Records};
 
-/// Which numbers name a type: whether the dictionary is a child, and how many types it has.
+/// Which numbers are those of types: whether the dictionary is a child, and how many types it has.
 #[derive(Clone, Copy)]
 pub struct Numbers {
     pub child: bool,
@@ -19,7 +19,7 @@ pub struct Numbers {
     ghost few: { count ≤ 32766 },
 }
 
-/// Whether the mark of the long form stands where a forward has what it declares.
+/// Whether a forward has the mark of the long form in place of its tag.
 pub fn has_long_tag(term: &Record<'_>) -> bool
     ensures { result ≡ long_tag_in (bytes_of term.now) }
 {
@@ -30,7 +30,7 @@ pub fn has_long_tag(term: &Record<'_>) -> bool
 }
 
 impl Numbers {
-    /// Whether a number names a type that is not there.
+    /// Whether the type of a number is missing.
     pub fn is_missing(self, number: TypeNum) -> bool
         ensures { result ≡ missing self.child self.count number.0 }
     {
@@ -41,13 +41,13 @@ impl Numbers {
         }
     }
 
-    /// Whether a type that stands behind the head of a record is not there.
+    /// Whether a type that a record names after its head is missing.
     #[tactic(auto, using(crate::proofs::Listed::any_next, crate::proofs::Listed::any_end))]
     fn misses_listed(self, term: &Record<'_>) -> bool
         ensures { result
             ≡ list_any (missing self.child self.count) (listed_types (bytes_of term.now)) }
     {
-        let listed = term.listed();
+        let listed = term.reference_list();
         for item in 0..listed.count() {
             if self.is_missing(listed.get(item)) {
                 return true;
@@ -56,7 +56,7 @@ impl Numbers {
         false
     }
 
-    /// Whether a record names a type that is not there.
+    /// Whether a record names a missing type.
     #[tactic(auto, unfolding(crate::specs::Named::misnames))]
     fn misnames(self, term: &Record<'_>) -> bool
         ensures { result ≡ misnames_in self.child self.count (bytes_of term.now) }
@@ -71,7 +71,7 @@ impl Numbers {
     }
 }
 
-/// The first record that names a type which is not there: its number.
+/// The number of the first record that names a missing type.
 #[tactic(auto, unfolding(crate::specs::Named::first_that_misnames))]
 fn search_records(types: &[u8], numbers: Numbers) -> Option<u64>
     ensures { result ≡ first_that_misnames numbers.child numbers.count (records types.now) }
@@ -85,8 +85,8 @@ fn search_records(types: &[u8], numbers: Numbers) -> Option<u64>
     None
 }
 
-/// The same, where it is known how many types are enough for the records: they are read only to
-/// find the one for which there are too few.
+/// The same, given how many types are enough for the records: only if there are fewer are the
+/// records read, to find the first one.
 #[tactic(auto, using(crate::proofs::Served::none_misnames))]
 pub fn bad_reference(types: &[u8], numbers: Numbers, enough: usize) -> Option<u64>
     requires enough { enough ≡ records_enough numbers.child (records types.now) }

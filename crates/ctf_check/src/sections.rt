@@ -5,7 +5,7 @@ ghost use Rattle.ctf_model.specs.format.Header.{fields, section as bytes_of_sect
 use ctf_model::Section;
 use ctf_sections::Header;
 
-/// The bytes of a section, lent from the dictionary whose header is given.
+/// The bytes of a section, borrowed from the dictionary whose header is given.
 pub fn bytes_in<'a>(ctf: &'a [u8], header: Header, section: Section) -> &'a [u8]
     requires fields { header ≡ fields ctf.now }
     requires inside { 36 + header.stroff + header.strlen ≤ length ctf.now }

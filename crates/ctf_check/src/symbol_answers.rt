@@ -1,4 +1,4 @@
-//! What a dictionary that passed tells of the program's symbols.
+//! What an accepted dictionary says of the program's symbols.
 ghost use Rattle.std.specs.Prelude.{◌≡◌, ◌<◌, ◌^◌, length, unwrap_or, [], None, option_copied};
 ghost use Rattle.ctf_model.specs.format.Header.{section};
 ghost use Rattle.ctf_model.specs.symbols.Symbols.{with_types, symbols_of};
@@ -11,8 +11,8 @@ use crate::symbols::table_of;
 use ctf_entries::Entries;
 use ctf_model::Section;
 
-/// The bytes that tell of symbols: the symbol table, empty where it is absent, its strings, and the
-/// sections of objects and of functions.
+/// The bytes about symbols: the symbol table, empty if it is absent, its strings, and the sections
+/// of objects and of functions.
 #[derive(Clone, Copy)]
 pub struct SymbolParts<'a> {
     pub sym: &'a [u8],
@@ -22,7 +22,7 @@ pub struct SymbolParts<'a> {
 }
 
 impl<'a> Checked<'a> {
-    /// The bytes that tell of symbols.
+    /// The bytes about symbols.
     pub fn symbol_parts(&self) -> SymbolParts<'a>
         ensures sym { result.sym.now ≡ unwrap_or (lists_of self.now).sym [] }
         ensures strs { option_copied result.strs ≡ (lists_of self.now).strs }
@@ -30,7 +30,7 @@ impl<'a> Checked<'a> {
         ensures functions { result.functions.now ≡ section (lists_of self.now).ctf SFunctions }
         ensures short_objects { length result.objects.now < 2 ^ 32 }
         ensures short_functions { length result.functions.now < 2 ^ 32 }
-        // No function's entry is bad.
+        // No function's entry is malformed.
         ensures sound { bad_place (with_types (symbols_of (option_copied result.strs)
             result.sym.now)) result.functions.now ≡ None }
     {
@@ -43,8 +43,8 @@ impl<'a> Checked<'a> {
         }
     }
 
-    /// The symbols that it tells something of, in order, and what it tells of each. Names and
-    /// arguments are lent.
+    /// The considered symbols in order, and what the dictionary says of each. Names and arguments
+    /// are borrowed.
     pub fn entries(&self) -> Entries<'a>
         ensures { result ≡ (dictionary_of self.now).entries }
     {

@@ -1,5 +1,5 @@
-//! The rules of symbols: their entries are good and name types that are there, and no symbol is cut
-//! off.
+//! The rules of symbols: their entries are well formed and name types that exist, and no symbol is
+//! cut off.
 ghost use Rattle.std.specs.Prelude.{◌≡◌, ◌≤◌, ◌+◌, length, IfErr, OnOk, None, Some, unwrap_or, option_copied, []};
 ghost use Rattle.ctf_model.specs.rules.Faults.{types};
 ghost use Rattle.ctf_model.specs.format.Header.{fields, is_child};
@@ -14,7 +14,7 @@ use ctf_entries::{Considered, SymbolNames};
 use ctf_model::{Fault, Section, placeless};
 use ctf_sections::Header;
 
-/// The bytes of a symbol table; none where it is not there.
+/// The bytes of a symbol table; empty if there is none.
 pub fn table_of(sym: Option<&[u8]>) -> &[u8]
     ensures { result.now ≡ unwrap_or (option_copied sym.entry) [] }
 {
@@ -24,8 +24,8 @@ pub fn table_of(sym: Option<&[u8]>) -> &[u8]
     }
 }
 
-/// Judges the symbols of a dictionary whose types are good. It takes no memory, and reads each
-/// symbol and each entry once, and of a name at most eight bytes.
+/// Checks the symbols of a dictionary whose types were checked. Takes no memory, reads each symbol
+/// and each entry once, and at most eight bytes of a name.
 pub fn judge_symbols(lists: LentLists<'_>, header: Header, numbers: Numbers) -> Result<(), Fault>
     requires fields { header ≡ fields lists.ctf.now }
     requires inside { 36 + header.stroff + header.strlen ≤ length lists.ctf.now }

@@ -2,7 +2,7 @@
 ghost use Rattle.std.specs.Prelude.{◌≡◌, ◌<◌, ◌↔◌, length, slice_index, IsSome, IfSome, Some};
 ghost use Rattle.std.specs.Option.{option_map};
 ghost use Rattle.ctf_model.specs.rules.Chains.{by_value};
-ghost use Rattle.ctf_model.specs.format.Shown.{facts, kind_of, reference_of, shape, shown};
+ghost use Rattle.ctf_model.specs.format.Shown.{facts, kind_of, reference_of, shape, shown, size_of};
 ghost use Rattle.ctf_records.specs.RecordView.{index_of};
 ghost use Rattle.ctf_views.specs.VariantView.{shown_of};
 ghost use Rattle.ctf_check.specs.CheckedView.{dictionary_of, tables_of, type_at, IsOwn};
@@ -11,12 +11,13 @@ ghost use Rattle.ctf_check.specs.FactsView.{facts_view, shape_view};
 
 use crate::checked::Checked;
 use crate::facts::{Facts, Shape};
+use ctf_chains::{Chain, place_count, place_number};
 use ctf_model::{Kind, TypeNum};
 use ctf_records::Record;
-use ctf_views::Variant;
+use ctf_views::{Variant, variant};
 
-/// A type of a dictionary: its record, beside the dictionary that has it. A bare record does not
-/// know which tables name it.
+/// A type of a dictionary: its record, with the dictionary. A record alone does not say which
+/// tables have its name.
 #[derive(Clone, Copy)]
 pub struct Typed<'a> {
     dictionary: Checked<'a>,
@@ -27,7 +28,7 @@ pub struct Typed<'a> {
 impl<'a> Checked<'a> {
     ghost use Rattle.ctf_check.specs.TypedView.{dictionary_in, record_in, term_in};
 
-    /// An own type; they count from 1.
+    /// An own type; types are counted from 1.
     #[inline(always)]
     pub fn type_at(&self, index: usize) -> Option<Typed<'a>>
         ensures exact { IsSome result ↔ IsSome (type_at (dictionary_of self.now) index) }
@@ -64,10 +65,10 @@ impl<'a> Typed<'a> {
     pub fn name(&self) -> &'a [u8]
         ensures { option_map (λ x. x.name) (term_in self.now) ≡ Some result.now }
     {
-        self.dictionary.name(&self.source)
+        self.dictionary.name_at(self.source.name_ref())
     }
 
-    /// The reference to its name. No name is read for it.
+    /// The reference to its name. No name is read.
     pub fn name_reference(&self) -> u32
         ensures { option_map (λ x. Some x.name) (term_in self.now)
             ≡ Some (named_by (tables_of (dictionary_in self.now)) result) }
@@ -82,18 +83,25 @@ impl<'a> Typed<'a> {
         self.source.root()
     }
 
-    /// What stands behind its head: members, enumerators, arguments and the like.
+    /// What follows its head: members, enumerators, arguments and the like.
     #[inline(always)]
     pub fn variant(&self) -> Variant<'a>
         ensures { option_map (λ x. shown x.body) (term_in self.now) ≡ Some (shown_of result) }
     {
-        self.dictionary.variant(&self.source)
+        variant(&self.source, self.dictionary.strings())
     }
 
     pub fn kind(&self) -> Kind
         ensures { option_map (λ x. kind_of x.body) (term_in self.now) ≡ Some result }
     {
-        self.dictionary.kind(&self.source)
+        self.source.kind()
+    }
+
+    /// Its size in bytes, if its head has one.
+    pub fn size(&self) -> Option<u64>
+        ensures { option_map (λ x. size_of x.body) (term_in self.now) ≡ Some result }
+    {
+        self.source.size()
     }
 
     /// What it points to, returns, renames or qualifies.
@@ -101,28 +109,42 @@ impl<'a> Typed<'a> {
         ensures { option_map (λ x. reference_of x.body) (term_in self.now)
             ≡ Some (option_map (λ t. t.0) result) }
     {
-        self.dictionary.reference(&self.source)
+        self.source.reference()
     }
 
-    /// What it is, apart from its name. It takes constant time.
+    /// What it is, apart from its name. Takes constant time.
     #[inline(always)]
     pub fn shape(&self) -> Shape<'a>
         ensures { option_map (λ x. shape x.body) (term_in self.now) ≡ Some (shape_view result) }
     {
-        self.dictionary.shape(&self.source)
+        Shape {
+            kind: self.source.kind(),
+            size: self.source.size(),
+            reference: self.source.reference(),
+            declares: self.source.tag(),
+            behind: self.variant(),
+        }
     }
 
-    /// One of the types whose values its own values are or hold, from 0: that of a typedef or a
-    /// qualifier, of an array's elements, of each member. It takes constant time and reads no name.
+    /// How many types the values of this type are or contain, each counted as often as this type
+    /// names it: for a struct or a union, the number of its members.
+    pub fn value_count(&self) -> usize
+        ensures { option_map (λ x. length (by_value x.body)) (term_in self.now) ≡ Some result }
+    {
+        place_count(&self.source, Chain::ByValue)
+    }
+
+    /// One of these types, counted from 0: the type of a typedef or a qualifier, of an array's
+    /// elements, or of a member. Takes constant time and reads no name.
     pub fn value_type(&self, item: usize) -> TypeNum
         requires { IfSome (term_in self.now) (λ x. item < length (by_value x.body)) }
         ensures { option_map (λ x. slice_index (by_value x.body) item) (term_in self.now)
             ≡ Some result.0 }
     {
-        self.dictionary.value_type(&self.source, item)
+        place_number(&self.source, Chain::ByValue, item)
     }
 
-    /// All that it says of itself.
+    /// All that its record says.
     pub fn facts(&self) -> Facts<'a>
         ensures { option_map facts (term_in self.now) ≡ Some (facts_view result) }
     {

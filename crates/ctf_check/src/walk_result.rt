@@ -1,4 +1,4 @@
-//! All that is found out of records in one walk through them.
+//! What one walk through the records finds.
 ghost use Rattle.std.specs.Prelude.{◌≡◌, ◌≤◌, ◌<◌, ◌+◌, ◌^◌, length, IfOk, IfErr, OnOk, Some, None};
 ghost use Rattle.std.specs.Option.{option_or};
 ghost use Rattle.ctf_model.specs.rules.Faults.{first_nameless, record_sites};
@@ -14,18 +14,18 @@ use crate::enough::{enough_for_record, more};
 use ctf_model::Fault;
 use ctf_records::{Record, Records};
 
-/// What records are together.
+/// What a walk finds in all records.
 #[derive(Clone, Copy)]
 pub struct Walked {
-    /// How many they are.
+    /// The number of records.
     pub count: usize,
-    /// The first of their names that is bad: its place in the dictionary.
+    /// The place in the dictionary of the first bad reference to a name.
     pub bad_name: Option<u64>,
-    /// Where there are so many types, they name none that is not there.
+    /// So many types are enough: then no record names a missing type.
     pub enough: usize,
 }
 
-/// The place that was found before, else that of the first bad name of a record.
+/// The place that was found before; else that of the first bad reference to a name in a record.
 fn or_in_record(
     found: Option<u64>,
     term: &Record<'_>,

@@ -13,8 +13,8 @@ use std::io::{ErrorKind, Read};
 /// The greatest length of a file, in bytes.
 const LONGEST_FILE: u32 = 67_108_864;
 
-/// What is left of a reader, unless it is longer than so many bytes. `name` is what an error calls
-/// it.
+/// All bytes that a reader has left, unless they are more than a file may have. An error calls the
+/// file `name`.
 pub fn read_whole<R: Read + Drop>(
     alloc: Global,
     name: &str,
@@ -38,7 +38,7 @@ pub fn read_whole<R: Read + Drop>(
     }
 }
 
-/// The bytes of a file that was opened, or was not.
+/// The bytes of a file, if it could be opened.
 pub fn read_opened<R: Read + Drop>(
     alloc: Global,
     name: &str,
@@ -62,10 +62,10 @@ pub fn read_opened<R: Read + Drop>(
     }
 }
 
-/// What reads files whole. Which bytes a file has is not known: that these are its bytes, or that
-/// it has none for this reason, is a fact that no other call gives.
+/// Reads whole files. What a file contains is not known to contracts: only this call says that
+/// these are its bytes, or that it has none for this reason.
 pub trait FileReader {
-    /// Which file gave which bytes, or why none.
+    /// Which file gave which bytes, or why it gave none.
     ghost gave: { Self → Readings };
 
     /// The bytes of the file with a name.

@@ -1,5 +1,5 @@
-//! What the words of the command line ask for, the files that they name, and how the program ends:
-//! what of `ctfd` has a contract. It passes on what the program calls of the crates below.
+//! The parts of `ctfd` that have contracts: the words of the command line, the files that they
+//! name, and how the program ends. It re-exports what the program calls in the crates below.
 //!
 //! ```rust
 //! use ctf_command::{FromReader, ToWriter, end, serve_lines, start};

@@ -1,4 +1,4 @@
-//! What is to be published before any line is read: words NAME=FILE of the command line.
+//! What is published before any line is read: the words NAME=FILE of the command line.
 ghost use Rattle.std.specs.Prelude.{◌≡◌, IfOk, is_some, option_map, map};
 ghost use Rattle.std.specs.List.{list_all};
 ghost use Rattle.ctf_protocol.specs.sessions.Publications.{is_name_byte, is_publication_name};
@@ -29,14 +29,15 @@ fn are_name_letters(bytes: &[u8]) -> bool
     bytes.iter().all(|byte| is_name_letter(*byte))
 }
 
-/// Whether a publication may have a name. `PublicationName::new` says so too, and takes memory.
+/// Whether a name may be that of a publication. `PublicationName::new` decides the same, but takes
+/// memory.
 fn is_name(bytes: &[u8]) -> bool
     ensures { result ≡ is_publication_name bytes.now }
 {
     !bytes.is_empty() && bytes.len() <= LONGEST_NAME && are_name_letters(bytes)
 }
 
-/// Whether a word asks for something.
+/// Whether a word is NAME=FILE.
 fn is_wanted(word: &str) -> bool
     ensures { result ≡ is_some (asked_by word.now) }
 {
@@ -46,7 +47,7 @@ fn is_wanted(word: &str) -> bool
     }
 }
 
-/// Whether all words do. Takes no memory.
+/// Whether all words are NAME=FILE. Takes no memory.
 pub fn are_wanted(words: &[&str]) -> bool
     ensures { result ≡ is_some (all_asked (map (λ w. w.now) words.now)) }
 {
@@ -58,7 +59,7 @@ pub fn are_wanted(words: &[&str]) -> bool
     true
 }
 
-/// What a word asks for, if it is NAME=FILE. It is cut at its first `=`.
+/// The name and the file of a word NAME=FILE. The first `=` separates the two.
 pub fn wanted_by<'a>(alloc: Global, word: &'a str) -> Result<Option<Wanted<'a>>, AllocError>
     ensures { IfOk result (λ wanted. option_map asked_of wanted ≡ asked_by word.now) }
 {
@@ -72,7 +73,7 @@ pub fn wanted_by<'a>(alloc: Global, word: &'a str) -> Result<Option<Wanted<'a>>,
     }
 }
 
-/// What the words ask for, in their order, or none where one of them is no NAME=FILE.
+/// The names and files of all words, in order; none if one of the words is not NAME=FILE.
 pub fn all_wanted<'a>(
     alloc: Global,
     words: &[&'a str],

@@ -13,7 +13,7 @@ use ctf_dump::DumpEnd;
 use ctf_wire::Broker;
 use std::alloc::Global;
 
-/// Publishes what was read of a file for the operator.
+/// Publishes the bytes of a file for the operator.
 fn publish_read<'a>(
     broker: &mut Broker,
     wanted: &Wanted<'a>,
@@ -48,8 +48,8 @@ fn publish<'a, F: FileReader>(
     publish_read(broker, wanted, files.read(wanted.file))
 }
 
-/// A broker that has published what the words ask for, in their order. All words are judged before
-/// a file is read.
+/// A broker that has published the files of all words, in order. All words are checked before a
+/// file is read.
 pub fn start<'a, F: FileReader>(
     alloc: Global,
     files: &F,

@@ -7,8 +7,8 @@ use ctf_wire::{Broker, FromReader, RunFault, Sink, Source, ToWriter, serve};
 use std::alloc::Global;
 use std::io::{Read, Write};
 
-/// Serves the lines of a reader, and writes their replies to a writer. Both are lent, so what was
-/// read and what was written and flushed stands in them.
+/// Serves the lines of a reader, and writes their replies to a writer. It borrows both, so its
+/// contract says what was read, written and flushed.
 pub fn serve_lines<R: Read + Drop, W: Write + Drop>(
     alloc: Global,
     broker: &mut Broker,

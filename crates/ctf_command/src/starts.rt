@@ -12,14 +12,14 @@ use std::fmt::{Display, Formatter};
 /// Why the service did not start. Nothing was served then.
 #[derive(Clone, Copy)]
 pub enum NotStarted<'a> {
-    /// A word is no NAME=FILE.
+    /// A word is not NAME=FILE.
     Misused,
     /// A file was refused or could not be read, or memory was refused.
     File(DumpEnd<'a>),
 }
 
 impl<'a> NotStarted<'a> {
-    /// That a file was not published, and why.
+    /// The end of a run in which a file was not published, and the reason.
     pub fn by(file: &'a str, fault: Fault) -> NotStarted<'a>
         ensures memory { fault.code ≡ MEMORY → result ≡ NotStarted.File DumpEnd.Memory }
         ensures refused { fault.code ≢ MEMORY

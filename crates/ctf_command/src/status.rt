@@ -11,7 +11,7 @@ pub const DONE: u8 = 0;
 /// The words of the command line were wrong.
 pub const MISUSED: u8 = 2;
 
-/// A read or a write failed, or the bound on reads was met.
+/// A read or a write failed, or the bound on reads was reached.
 pub const FAILED: u8 = 3;
 
 /// Memory was refused.
@@ -27,7 +27,7 @@ pub fn status_of(fault: RunFault) -> u8
     }
 }
 
-/// The status beside a text that was asked for, or that says what is wrong with the words.
+/// The status after help or the version was printed, or a message on wrong words.
 pub fn usage_status(kind: ErrorKind) -> u8
     ensures { result ≡ status_beside kind }
 {
@@ -38,7 +38,8 @@ pub fn usage_status(kind: ErrorKind) -> u8
     }
 }
 
-/// Says on standard error which fault ended a run, if one did, and answers the exit status.
+/// Writes the fault that ended a run to standard error, if there is one, and returns the exit
+/// status.
 pub fn end(rt: &HostRuntime, outcome: Result<(), RunFault>) -> u8
     ensures done { OnOk outcome (result ≡ 0) }
     ensures fault { IfErr outcome (λ f. result ≡ status_after f) }

@@ -19,10 +19,10 @@ use crate::pushing::push_type;
 use crate::types::ReferenceKind;
 use ctf_model::{Bytes, Fault, Place, TypeNum, placeless};
 
-/// As many types as a dictionary may have.
+/// The greatest number of types of a dictionary.
 const MOST_TYPES: usize = 32_766;
 
-/// As many members, enumerators or arguments as a type may have.
+/// The greatest number of members, enumerators or arguments of a type.
 pub(crate) const MOST_ITEMS: usize = 1023;
 
 impl Draft {
@@ -40,14 +40,14 @@ impl Draft {
         }
     }
 
-    /// The same, where 0 may stand for no type.
+    /// The same, if 0 may stand for no type.
     pub(crate) fn is_absent(&self, n: TypeNum) -> bool
         ensures { result ≡ is_absent_in self.now.draft n.0 }
     {
         n.0 != 0 && self.is_unknown(n)
     }
 
-    /// Whether one of the numbers names no type.
+    /// Whether one of the numbers is that of no type.
     fn any_absent(&self, numbers: &[TypeNum]) -> bool
         ensures { result ≡ list_any (is_absent_in self.now.draft) (map number_of numbers.now) }
     {
@@ -59,7 +59,7 @@ impl Draft {
         false
     }
 
-    /// Whether a new type names one that is not there.
+    /// Whether a new type names a missing one.
     fn names_absent(&self, new: &NewBody<'_>) -> bool
         ensures { result ≡ list_any (is_absent_in self.now.draft)
             (references (new_body (new_body_of new.now))) }
@@ -74,7 +74,7 @@ impl Draft {
         }
     }
 
-    /// Why a type is not added, if it isn't.
+    /// The fault for which a type is not added, if there is one.
     fn against_type(&self, new: &NewType<'_>) -> Option<Fault>
         ensures { result ≡ first_met (against_type self.now.draft (new_term (new_of new.now))) }
     {
@@ -101,7 +101,7 @@ impl Draft {
         TypeNum(self.types.len() as u16 + first)
     }
 
-    /// The type of a draft that a new type holds by value, if it does.
+    /// The type of a draft that a new type contains by value, if there is one.
     fn held_by(&self, new: &NewBody<'_>) -> Option<usize>
         ensures held { AllByRecursion (λ n. own_index_of (is_some self.now.draft.parent)
             (count_of self.now.draft) n ≡ result) (by_value (new_body (new_body_of new.now))) }
@@ -115,7 +115,7 @@ impl Draft {
         }
     }
 
-    /// Adds a type behind the others, and answers its number.
+    /// Adds a type, and returns its number.
     #[tactic(auto, unfolding(ctf_model::specs::drafts::Adders::add_type))]
     pub fn add(&mut self, new: NewType<'_>) -> Result<TypeNum, Fault>
         ensures ok { IfOk result (λ n. add_type self.old.draft (new_of new.entry)
@@ -136,7 +136,7 @@ impl Draft {
         Ok(number)
     }
 
-    /// Adds a label behind the others.
+    /// Adds a label.
     #[tactic(auto, unfolding(ctf_model::specs::drafts::Adders::add_label))]
     pub fn label(&mut self, name: Bytes, last: u32) -> Result<(), Fault>
         ensures ok { OnOk result (add_label self.old.draft (record { name = name; last = last })

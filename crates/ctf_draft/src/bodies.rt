@@ -1,4 +1,4 @@
-//! What a type says by its kind.
+//! The parts of a type, by its kind.
 ghost use Rattle.std.specs.Prelude.{◌≡◌, [], map, option_map, unwrap_or};
 ghost use Rattle.ctf_draft.specs.TypeView.{body_of, enumerator_of, member_of};
 ghost use Rattle.ctf_model.specs.drafts.Adders.{is_taken};
@@ -31,7 +31,7 @@ impl Body {
 }
 
 impl DraftType {
-    /// Whether a member has the name, where that isn't empty.
+    /// Whether a member has the name, unless the name is empty.
     pub(crate) fn has_member(&self, name: &[u8]) -> bool
         ensures { result ≡ is_taken name.now (map (λ m. m.name)
             (unwrap_or (members_in (shown (body_of self.now.body))) [])) }
@@ -42,7 +42,7 @@ impl DraftType {
         }
     }
 
-    /// Whether an enumerator has the name, where that isn't empty.
+    /// Whether an enumerator has the name, unless the name is empty.
     pub(crate) fn has_enumerator(&self, name: &[u8]) -> bool
         ensures { result ≡ is_taken name.now (map (λ e. e.name)
             (unwrap_or (enumerators_in (shown (body_of self.now.body))) [])) }

@@ -1,31 +1,30 @@
-//! How deep types are at most, and who is above them.
+//! Bounds on the depths of types, and the types that contain them.
 ghost use Rattle.std.specs.Prelude.{◌≡◌, ◌+◌, ◌<◌, ◌≤◌, ℕ, [], true, length, min, slice_index_or, MatchOption, OnOk};
 ghost use Rattle.ctf_draft.specs.Bounding.{IsAbove, IsBounded, IsLifted, IsNoted, IsOver, IsReady, above_of, bound, over_held};
 ghost use Rattle.ctf_model.specs.drafts.Drafts.{Draft as Making, count_of};
 
 use std::alloc::{AllocError, Global};
 
-/// A depth that says nothing: more than the longest chain of steps.
+/// The bound that stands for "unknown": more than the longest chain of steps.
 pub(crate) const UNKNOWN: u16 = 513;
 
-/// How many types a rise goes up through at most, one after the other, each with 150 bytes of
-/// stack. Where no type contains itself, that is no more than the greatest bound; around a circle
-/// it may be more.
+/// How many types a rise may go up through, one after the other, each with 150 bytes of stack. If
+/// no type contains itself, that is no more than the greatest bound; around a cycle it may be more.
 const MOST_RISES: u16 = 1026;
 
-/// How many holders of types a rise looks at before it says of all further ones that nothing is
-/// known: a type may have to rise by each of the ways that lead to it.
+/// How many holders of types a rise visits before it gives all further ones the unknown bound: a
+/// type may have to rise once for each way that leads to it.
 const MOST_LOOKS: usize = 65_536;
 
-/// For each type a number of steps by value that no chain from it exceeds, and for each pending
-/// type those that hold it by value. Of a type without a bound nothing is known.
+/// For each type a bound: no chain of steps by value from it is longer. For each pending type also
+/// its holders, the types that contain it by value. A type without a bound is unknown.
 #[derive(Drop)]
 pub(crate) struct Depths {
     pub(crate) bounds: Vec<u16>,
     pub(crate) above: Vec<Vec<u16>>,
 }
 
-/// The bound of a type that holds one of a bound.
+/// The bound of a type that contains one with this bound.
 #[inline(always)]
 fn over(bound: u16) -> u16
     ensures { result ≡ min 513 (bound + 1) }
@@ -33,8 +32,8 @@ fn over(bound: u16) -> u16
     if bound < UNKNOWN { bound + 1 } else { UNKNOWN }
 }
 
-/// The bound that a type gets which needs one at least so great: that one, as long as so many may
-/// be looked at.
+/// The bound of a type that needs at least `least`: that one, as long as further types may be
+/// visited.
 #[inline(always)]
 fn raised_bound(least: u16, looks: usize) -> u16
     ensures { least ≤ result }
@@ -46,7 +45,7 @@ fn raised_bound(least: u16, looks: usize) -> u16
     }
 }
 
-/// Whether no type holds one.
+/// Whether a type has no holders.
 #[inline(always)]
 fn is_on_top(above: &[Vec<u16>], i: usize) -> bool
     ensures { result ≡ true → slice_index_or (above_of above.now) i [] ≡ [] }
@@ -54,8 +53,8 @@ fn is_on_top(above: &[Vec<u16>], i: usize) -> bool
     i >= above.len() || above[i].is_empty()
 }
 
-/// Makes the bound of a pending type at least so great, where this changes no other: its bound is
-/// that great, or no type holds it. Whether this is done.
+/// Raises the bound of a pending type if that changes no other: the bound is high enough, or the
+/// type has no holders. Returns whether it did.
 #[inline(always)]
 fn lift_alone(bounds: &mut [u16], above: &[Vec<u16>], first: usize, i: usize, least: u16) -> bool
     ensures len { length bounds.new ≡ length bounds.old }
@@ -75,8 +74,8 @@ fn lift_alone(bounds: &mut [u16], above: &[Vec<u16>], first: usize, i: usize, le
     false
 }
 
-/// Makes the bound of a type at least so great, and those of all above it accordingly. Whether
-/// this is done: settled types, from 0 to `first`, are not changed.
+/// Raises the bound of a type, and those of its holders accordingly. Updated types, from 0 to
+/// `first`, are not changed. Returns whether it succeeded.
 fn lift(
     bounds: &mut [u16],
     above: &[Vec<u16>],
@@ -129,14 +128,14 @@ impl Depths {
         }
     }
 
-    /// Whether no more than 512 steps by value begin at a type.
+    /// Whether the bound shows that no more than 512 steps by value begin at a type.
     pub(crate) fn is_shallow(&self, i: usize) -> bool
         ensures { result ≡ true → bound self.now.bounds.items i ≤ 512 }
     {
         i < self.bounds.len() && self.bounds[i] < UNKNOWN
     }
 
-    /// The bound of a type that holds one, or holds none.
+    /// The bound of a type that contains this one, or none.
     fn bound_over(&self, held: Option<usize>) -> u16
         ensures { result ≡ over_held self.now.bounds.items held }
     {
@@ -156,7 +155,7 @@ impl Depths {
         }
     }
 
-    /// Has a list of those above for the first so many types.
+    /// Makes lists of holders for the first so many types.
     fn make_lists(&mut self, alloc: Global, count: usize) -> Result<(), AllocError>
         ensures bounds { self.new.bounds.items ≡ self.old.bounds.items }
         ensures same { (k : ℕ) → slice_index_or (above_of self.new.above.items) k []
@@ -169,7 +168,7 @@ impl Depths {
         Ok(())
     }
 
-    /// Adds a type to those above another one.
+    /// Adds a holder to a type.
     fn note(&mut self, alloc: Global, j: usize, i: u16) -> Result<(), AllocError>
         requires small { j < 65536 }
         ensures bounds { self.new.bounds.items ≡ self.old.bounds.items }
@@ -186,7 +185,7 @@ impl Depths {
         Ok(())
     }
 
-    /// The same, unless the other one is settled.
+    /// The same, unless the type is updated.
     fn note_pending(
         &mut self,
         alloc: Global,
@@ -206,8 +205,8 @@ impl Depths {
         self.note(alloc, j, i)
     }
 
-    /// Makes the bound of a type enough for one that it holds, and those of all above it. Where
-    /// that leads too far, all bounds are forgotten.
+    /// Raises the bound of a type for one that it contains, and those of all its holders. If that
+    /// leads too far, all bounds are dropped.
     fn rise(&mut self, first: usize, i: usize, j: usize)
         requires noted { IsNoted first (above_of self.old.above.items) i j }
         ensures above { self.new.above.items ≡ self.old.above.items }
@@ -224,7 +223,7 @@ impl Depths {
         }
     }
 
-    /// Makes ready for a type that holds one more, before it does.
+    /// Prepares for a type that gets one more type by value, before it does.
     pub(crate) fn make_ready(
         &mut self,
         alloc: Global,
@@ -246,8 +245,7 @@ impl Depths {
         Ok(())
     }
 
-    /// Gives the type at a place, behind all that have one, a bound. Where one in front has none,
-    /// it gets none.
+    /// Gives the next type a bound. If an earlier type has none, it gets none.
     fn set_next(&mut self, count: usize, value: u16) -> Result<(), AllocError>
         requires known { value ≤ 513 }
         ensures above { self.new.above.items ≡ self.old.above.items }
@@ -262,7 +260,7 @@ impl Depths {
         Ok(())
     }
 
-    /// Makes ready for a new type behind so many others, which holds one of them or none.
+    /// Prepares for a new type, which contains one of the others or none.
     pub(crate) fn make_next(
         &mut self,
         alloc: Global,
@@ -283,7 +281,7 @@ impl Depths {
         self.set_next(count, value)
     }
 
-    /// Keeps the bounds of the first types, which are settled.
+    /// Keeps the bounds of the first types, which are updated.
     pub(crate) fn truncate(&mut self, first: usize)
         ensures front { (k : ℕ) → k < first
             → bound self.new.bounds.items k ≡ bound self.old.bounds.items k }

@@ -1,4 +1,4 @@
-//! A draft, and its life.
+//! A draft, from creation to updates and discards.
 ghost use Rattle.std.specs.Prelude.{◌≡◌, ◌⊎◌, ◌++◌, ◌==◌, not, is_some, length, map, None, Some, Ok, Err, IfOk, IfErr, option_map};
 ghost use Rattle.std.specs.Option.{ForSome};
 ghost use Rattle.ctf_draft.specs.ParentView.{FitsParent, parent_in};
@@ -21,10 +21,10 @@ use std::alloc::{AllocError, Global};
 use std::marker::Model;
 use std::rc::Rc;
 
-/// A dictionary that is being made: types and labels that the last update made part of it, and
-/// pending ones behind these. A contract sees which these are, and the dictionary that the last
-/// update made. Every draft is sound, with what is pending and without it: its types fit the
-/// format, and name no type that isn't there. `types` says so.
+/// A dictionary to which types and labels are added: those that the last update wrote, followed by
+/// pending ones. Contracts see these, and the dictionary of the last update. Every draft is sound,
+/// with and without what is pending: its types fit the format, and name no missing type. `types`
+/// says so.
 #[derive(Drop)]
 pub struct Draft {
     pub(crate) alloc: Global,
@@ -73,9 +73,8 @@ impl Model for Draft {
 }
 
 impl Draft {
-    /// A draft with nothing in it. It has a parent just where that has a name,
-    /// of its own data model,
-    /// and keeps it for good.
+    /// A draft with nothing in it. It has a parent exactly if the parent's name is not empty; the
+    /// parent has the same data model, and stays for good.
     #[tactic(auto, unfolding(ctf_model::specs::drafts::Drafts::new_draft))]
     pub fn new(
         alloc: Global,
@@ -139,7 +138,7 @@ impl Draft {
         self.depths.truncate(self.updated);
     }
 
-    /// Makes all that was added part of the dictionary, which is the given one from now on.
+    /// Marks all additions as updated; the given dictionary has them.
     pub fn settle(&mut self, dictionary: Rc<Judged<'static>>)
         requires denotes { Denotes dictionary.value.kept.lists (content self.old.draft) }
         requires model { dictionary.value.kept.model ≡ self.old.draft.model }
@@ -187,7 +186,7 @@ impl Draft {
         }
     }
 
-    /// What the last update made; nothing before the first one.
+    /// The dictionary of the last update; nothing before the first one.
     pub fn dictionary(&self) -> Option<&Rc<Judged<'static>>>
         ensures { option_map (λ p. p.now.value.kept) result ≡ self.now.dictionary }
     {
@@ -212,7 +211,7 @@ fn is_childs(parent: &Option<Rc<Judged<'static>>>) -> bool
     }
 }
 
-/// Whether a parent is of another data model.
+/// Whether a parent has another data model.
 fn is_of_other(model: DataModel, parent: &Option<Rc<Judged<'static>>>) -> bool
     ensures { result ≡ is_of_other_model model
         (option_map (λ p. modelled_by p.value.kept) parent.now) }

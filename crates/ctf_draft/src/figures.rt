@@ -1,4 +1,4 @@
-//! Sizes of types of a draft, and the types that they stand for.
+//! Sizes of types of a draft, and the types that they resolve to.
 ghost use Rattle.std.specs.Prelude.{◌≡◌, ◌<◌, ℕ, suc, option_map, None, Some, slice_get, is_some, MatchOption};
 ghost use Rattle.std.specs.Result.{result_map_both};
 ghost use Rattle.ctf_draft.specs.Elsewhere.{NamesNone, NamesParents};
@@ -15,12 +15,12 @@ use ctf_layout::resolve;
 use ctf_model::{Fault, Place, TypeNum, placeless};
 use ctf_space::Space;
 
-/// As many numbers as can follow on each other: the longest chain of steps, one type more, and
-/// what stands behind that.
+/// The greatest number of types in a chain: the steps of the longest chain, one more type, and the
+/// number after it.
 pub(crate) const MOST_NUMBERS: u16 = 514;
 
 impl Draft {
-    /// The place of an own type, from 0, if the number names one.
+    /// The index of an own type, from 0, if the number is one's.
     #[inline(always)]
     pub(crate) fn own_index(&self, n: TypeNum) -> Option<usize>
         ensures { let d = self.now.draft in
@@ -32,7 +32,7 @@ impl Draft {
         }
     }
 
-    /// What an own type is.
+    /// The body of an own type.
     #[inline(always)]
     pub(crate) fn own_body(&self, i: usize) -> &Body
         requires { i < count_of self.now.draft }
@@ -42,7 +42,7 @@ impl Draft {
         &self.types[i].body
     }
 
-    /// The parent whose type a number names, if it does.
+    /// The parent, if the number is that of one of its types.
     pub(crate) fn parent_of(&self, n: TypeNum) -> Option<&Parent>
         requires some { 0 < n.0 }
         requires not_own { let d = self.now.draft in
@@ -59,7 +59,7 @@ impl Draft {
         }
     }
 
-    /// The size of a number that names no own type.
+    /// The size of a number that is no own type's.
     fn size_elsewhere(&self, n: TypeNum) -> Result<u64, Fault>
         requires some { 0 < n.0 }
         requires not_own { let d = self.now.draft in
@@ -73,7 +73,7 @@ impl Draft {
         }
     }
 
-    /// The size of a type, where so many numbers may follow on each other.
+    /// The size of a type, following at most so many types.
     fn size_within(&self, n: TypeNum, most: u16) -> Result<u64, Fault>
         ensures { let s = space_of self.now.draft in result ≡ comes_to
             (sizing s.model) (parents_figure (sizing s.model) s.parent) s.own most n.0 }
@@ -104,7 +104,7 @@ impl Draft {
         self.size_within(n, MOST_NUMBERS)
     }
 
-    /// What a number that names no own type stands for.
+    /// The resolved type of a number that is no own type's.
     fn resolve_elsewhere(&self, n: TypeNum) -> Result<TypeNum, Fault>
         requires some { 0 < n.0 }
         requires not_own { let d = self.now.draft in
@@ -119,7 +119,7 @@ impl Draft {
         }
     }
 
-    /// The type that a type stands for, typedefs and qualifiers followed.
+    /// The type that a type resolves to, through typedefs and qualifiers.
     pub(crate) fn resolve_type(&self, n: TypeNum) -> Result<TypeNum, Fault>
         ensures { result_map_both (λ t. t.0) (λ f. f) result
             ≡ resolved_type (space_of self.now.draft) n.0 }

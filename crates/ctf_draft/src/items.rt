@@ -1,4 +1,4 @@
-//! What is added to a pending type.
+//! Additions to a pending type.
 ghost use Rattle.std.specs.Prelude.{◌≡◌, ◌⊎◌, MatchOption, None, Some, true, false, map, Ok, Err, IfOk, IfErr, OnOk, OnErr};
 ghost use Rattle.ctf_draft.specs.Pending.{StandsPending};
 ghost use Rattle.ctf_draft.specs.Planning.{against_name};
@@ -17,7 +17,7 @@ use crate::types::{Body, DraftType, Enumerator, Member};
 use ctf_model::{Bytes, Fault, Place, TypeNum, placeless};
 
 impl Draft {
-    /// The place of a pending type among all types, if the number names one.
+    /// The index of a pending type among all types, if the number is one's.
     pub(crate) fn pending_index(&self, n: TypeNum) -> Option<usize>
         ensures { MatchOption result (is_settled self.now.draft n.0 ≡ true)
             (λ i. StandsPending self.now.draft n.0 i) }
@@ -39,7 +39,7 @@ impl Draft {
         &self.types[i]
     }
 
-    /// What a pending type is.
+    /// The body of a pending type.
     pub(crate) fn pending_body(&self, n: TypeNum, i: usize) -> &Body
         requires { StandsPending self.now.draft n.0 i }
         ensures body { body_of result.now ≡ body_at self.now.draft n.0 }
@@ -48,7 +48,7 @@ impl Draft {
         &self.pending_type(n, i).body
     }
 
-    /// The place of the enum that an enumerator goes to, or why it doesn't.
+    /// The index of the enum for an enumerator, or the fault.
     fn enum_for(&self, n: TypeNum, name: &[u8]) -> Result<usize, Fault>
         ensures place { IfOk result (λ i. StandsPending self.now.draft n.0 i) }
         ensures ok { OnOk result
@@ -80,8 +80,7 @@ impl Draft {
         Ok(i)
     }
 
-    /// The place of the struct or union that a member goes to, or why it doesn't, as far as no
-    /// size is asked.
+    /// The index of the struct or union for a member, or a fault that does not depend on sizes.
     pub(crate) fn aggregate_for(
         &self,
         n: TypeNum,
@@ -120,7 +119,7 @@ impl Draft {
         Ok(i)
     }
 
-    /// Adds a member behind the others of the struct or union at a place, which then has a size.
+    /// Adds a member to the struct or union at an index, and sets its size.
     pub(crate) fn put_member(
         &mut self,
         n: TypeNum,
@@ -146,9 +145,9 @@ impl Draft {
         push_member(self.alloc, &mut self.types[i], member, size)
     }
 
-    /// Adds a member behind the others of a pending struct or union, and answers its offset in
-    /// bits. Without a stated offset a union's stands at its beginning, and a struct's behind the
-    /// last member, at the next place that its type's alignment allows.
+    /// Adds a member to a pending struct or union, and returns its offset in bits. Without a stated
+    /// offset, a union's member is at 0, and a struct's comes after the last member, at the next
+    /// offset that its type's alignment allows.
     pub fn member(
         &mut self,
         n: TypeNum,
@@ -170,7 +169,7 @@ impl Draft {
         Ok(offset)
     }
 
-    /// Adds an enumerator behind the others of the enum at a place.
+    /// Adds an enumerator to the enum at an index.
     fn put_enumerator(&mut self, n: TypeNum, i: usize, enumerator: Enumerator) -> Result<(), Fault>
         requires pending { StandsPending self.old.draft n.0 i }
         requires fresh { is_taken enumerator.name
@@ -187,7 +186,7 @@ impl Draft {
         push_enumerator(self.alloc, &mut self.types[i], enumerator)
     }
 
-    /// Adds an enumerator behind the others of a pending enum.
+    /// Adds an enumerator to a pending enum.
     #[tactic(auto, unfolding(ctf_model::specs::drafts::Adders::add_enumerator))]
     pub fn enumerator(&mut self, n: TypeNum, name: Bytes, value: i32) -> Result<(), Fault>
         ensures ok { OnOk result (add_enumerator self.old.draft n.0

@@ -7,7 +7,7 @@ use indexmap::IndexMap;
 use std::alloc::{AllocError, Global};
 use std::marker::Model;
 
-/// Names, and the last type that each covers. No name stands there twice.
+/// Labels: each has a name, and the last type that it covers. No name occurs twice.
 #[derive(Drop)]
 pub struct Labels {
     map: IndexMap<Vec<u8>, u32>,
@@ -57,7 +57,7 @@ impl Labels {
         self.map.contains_key(name)
     }
 
-    /// Adds a label behind the others, under a name that none has.
+    /// Adds a label, whose name is not in use.
     pub(crate) fn push(&mut self, name: Vec<u8>, last: u32) -> Result<(), AllocError>
         requires fresh { list_any (bytes_eq name.items) (map (λ l. l.name) self.old) ≡ false }
         ensures ok { OnOk result (self.new
@@ -70,7 +70,7 @@ impl Labels {
         Ok(())
     }
 
-    /// Keeps the first of them.
+    /// Keeps the first `len` labels.
     pub(crate) fn truncate(&mut self, len: usize)
         ensures { self.new ≡ take len self.old }
     {

@@ -1,8 +1,8 @@
-//! What was found of one type.
+//! What a search found of one type.
 
 use crate::reach::Reach;
 
-/// What was found of a type, and in which round.
+/// What a search found of a type, and in which round.
 #[derive(Clone, Copy)]
 pub(crate) struct Mark {
     pub(crate) round: u64,

@@ -1,4 +1,4 @@
-//! What is known of each type from the members that were placed.
+//! The table of what searches found of types.
 ghost use Rattle.std.specs.Prelude.{◌≡◌, ◌<◌, ◌≤◌, ◌⊎◌, ℕ, true, false, None, Some, [], is_some, length, slice_index_or, slice_set, OnOk};
 
 use crate::mark::Mark;
@@ -6,7 +6,7 @@ use crate::reach::Reach;
 use std::alloc::{AllocError, Global};
 use std::marker::Model;
 
-/// A mark that no round says.
+/// A mark that belongs to no round.
 const OLD: Mark = Mark {
     round: 0,
     reach: Reach {
@@ -15,8 +15,8 @@ const OLD: Mark = Mark {
     },
 };
 
-/// For each type what is known of it in this round, if anything is. What was found in earlier
-/// rounds is forgotten, which takes no walk over it.
+/// For each type what a search in this round found of it, if anything. A new round forgets all
+/// results without walking over them.
 #[derive(Drop)]
 pub(crate) struct Marks {
     marks: Vec<Mark>,
@@ -45,7 +45,7 @@ impl Marks {
         }
     }
 
-    /// Has room for so many types.
+    /// Makes room for so many types.
     pub(crate) fn make_room(&mut self, count: usize) -> Result<(), AllocError>
         ensures room { OnOk result (count ≤ length self.new) }
         ensures same { (j : ℕ) → slice_index_or self.new j None ≡ slice_index_or self.old j None }
@@ -57,7 +57,7 @@ impl Marks {
         }
     }
 
-    /// Forgets all.
+    /// Forgets all results.
     pub(crate) fn forget(&mut self)
         ensures { (j : ℕ) → slice_index_or self.new j None ≡ None }
     {
@@ -67,7 +67,7 @@ impl Marks {
         }
     }
 
-    /// Forgets all, if something is known of a type.
+    /// Forgets all results, if there is one for a type.
     pub(crate) fn leave(&mut self, i: usize)
         ensures left { (self.new ≡ self.old)
             ⊎ ((j : ℕ) → slice_index_or self.new j None ≡ None) }
@@ -78,7 +78,7 @@ impl Marks {
         }
     }
 
-    /// The same, unless what is known stays right.
+    /// The same, unless the results stay valid.
     pub(crate) fn leave_unless(&mut self, stays: bool, i: usize)
         ensures same { stays ≡ true → self.new ≡ self.old }
         ensures left { (self.new ≡ self.old)
@@ -90,14 +90,14 @@ impl Marks {
         }
     }
 
-    /// Whether something is known of a type.
+    /// Whether there is a result for a type.
     fn has(&self, i: usize) -> bool
         ensures { result ≡ is_some (slice_index_or self.now i None) }
     {
         self.reach_of(i).is_some()
     }
 
-    /// What is known of a type, of which there may be no mark.
+    /// The result for a type that may have no mark.
     pub(crate) fn reach_of(&self, i: usize) -> Option<Reach>
         ensures { slice_index_or self.now i None ≡ result }
     {
@@ -108,7 +108,7 @@ impl Marks {
         }
     }
 
-    /// What is known of a type.
+    /// The result for a type.
     #[inline(always)]
     pub(crate) fn get(&self, i: usize) -> Option<Reach>
         requires { i < length self.now }
@@ -122,7 +122,7 @@ impl Marks {
         }
     }
 
-    /// Keeps what was found.
+    /// Stores the result for a type.
     #[inline(always)]
     pub(crate) fn set(&mut self, i: usize, reach: Reach)
         requires { i < length self.old }

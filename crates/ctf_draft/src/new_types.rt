@@ -13,8 +13,8 @@ use ctf_records::Tag;
 use ctf_views::{ArrayInfo, Encoding};
 use std::alloc::{AllocError, Global};
 
-/// What a new type is, by its kind. Sizes are in bytes. Arguments are lent: they are copied once
-/// the type is accepted.
+/// The body of a new type, by its kind. Sizes are in bytes. Arguments are borrowed: they are copied
+/// once the type is accepted.
 #[derive(Clone, Copy, Drop)]
 pub enum NewBody<'a> {
     Unknown,
@@ -37,7 +37,7 @@ pub struct NewType<'a> {
     pub body: NewBody<'a>,
 }
 
-/// What a new type is once it is added: its lists of members and enumerators are empty.
+/// The body of a new type after it is added: its lists of members and enumerators are empty.
 fn body_from(alloc: Global, new: NewBody<'_>) -> Result<Body, AllocError>
     ensures made { IfOk result (λ body. body_of body ≡ new_body (new_body_of new.entry)) }
     ensures bare { IfOk result (λ body. names_in body ≡ []) }

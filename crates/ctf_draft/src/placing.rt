@@ -1,4 +1,4 @@
-//! Where a member is placed.
+//! The offset of a member.
 ghost use Rattle.std.specs.Prelude.{◌≡◌, ◌+◌, ◌<◌, ◌^◌, ◌⊎◌, ℕ, IfOk, IfErr, MatchOption, Option, Some, is_some, option_map, true, false, unwrap_or, Ok, Err};
 ghost use Rattle.ctf_draft.specs.Pending.{StandsPending};
 ghost use Rattle.ctf_draft.specs.Reaching.{Knows};
@@ -21,14 +21,14 @@ use ctf_chains::LONGEST_CHAIN;
 use ctf_model::{Fault, TypeNum, placeless};
 use std::alloc::AllocError;
 
-/// As many whole bytes as hold so many bits.
+/// The number of whole bytes for so many bits.
 fn bytes_holding(bits: u128) -> u128
     ensures { result ≡ bytes_holding_in bits }
 {
     bits.div_ceil(8)
 }
 
-/// The first place, in whole bytes, that is not before some bit and that an alignment allows.
+/// The first offset, in whole bytes, at or after a bit, that an alignment allows.
 fn aligned_from(bit: u128, align: u64) -> u128
     requires { bit < 2 ^ 70 }
     ensures place { result ≡ aligned_from_in bit align }
@@ -37,7 +37,7 @@ fn aligned_from(bit: u128, align: u64) -> u128
     8 * bytes_holding(bit).next_multiple_of(u128::from(align.max(1)))
 }
 
-/// A size that is large enough for bits from a place on too.
+/// A size that also has room for so many bits at an offset.
 fn grown_size(size: u64, offset: u128, bits: u128) -> u128
     requires offset { offset < 2 ^ 71 }
     requires bits { bits < 2 ^ 70 }
@@ -46,7 +46,7 @@ fn grown_size(size: u64, offset: u128, bits: u128) -> u128
     u128::from(size).max(bytes_holding(offset + bits))
 }
 
-/// A place and a size, if 64 bits hold them.
+/// An offset and a size, if they fit into 64 bits.
 fn checked_plan(offset: u128, size: u128) -> Result<Plan, Fault>
     ensures { result ≡ planned_with offset size }
 {
@@ -57,7 +57,7 @@ fn checked_plan(offset: u128, size: u128) -> Result<Plan, Fault>
 }
 
 impl Body {
-    /// The member that another one of a struct stands behind.
+    /// The last member of a struct, after which a new one comes.
     fn stands_behind(&self) -> Option<&Member>
         ensures { option_map (λ m. member_of m.now) result ≡ stands_behind (body_of self.now) }
     {
@@ -67,7 +67,7 @@ impl Body {
         }
     }
 
-    /// The size that it says, or 0.
+    /// The size that is stored, or 0.
     pub(crate) fn said_size(&self) -> u64
         ensures { result ≡ unwrap_or (size_of (body_of self.now)) 0 }
     {
@@ -81,8 +81,8 @@ impl Body {
 }
 
 impl Draft {
-    /// The alignment of an own type, if its bound tells that it is not too deep, and no union has
-    /// to be searched for it.
+    /// The alignment of an own type, if its bound shows that it is not too deep, and no union has
+    /// to be searched.
     fn shallow_align(&self, tnum: TypeNum, i: usize) -> Option<Result<u64, Fault>>
         requires own { own_index_of (is_some self.now.draft.parent) (count_of self.now.draft) tnum.0
             ≡ Some i }
@@ -123,7 +123,7 @@ impl Draft {
         }
     }
 
-    /// The place that a member of a pending type has by itself, where its type has an alignment.
+    /// The offset of a member of a pending type that states none, if its type has an alignment.
     fn own_place(&self, n: TypeNum, i: usize, align: Result<u64, Fault>) -> Result<u128, Fault>
         requires { StandsPending self.now.draft n.0 i }
         ensures place { (tnum : ℕ) → align ≡ align_in (space_of self.now.draft) tnum
@@ -138,7 +138,7 @@ impl Draft {
         Ok(aligned_from(u128::from(last.offset) + bits, align))
     }
 
-    /// The place of a member of a pending type: the one that is stated, or its own.
+    /// The offset of a member of a pending type: the stated one, or the computed one.
     fn member_place(
         &self,
         n: TypeNum,
@@ -158,8 +158,8 @@ impl Draft {
         }
     }
 
-    /// The place of a member of a pending type, where that hangs on no alignment: it is stated, or
-    /// no member stands in front.
+    /// The offset of a member of a pending type if it depends on no alignment: it is stated, or
+    /// there is no member before it.
     fn free_place(&self, n: TypeNum, i: usize, offset: Option<u64>) -> Option<u64>
         requires { StandsPending self.now.draft n.0 i }
         ensures { MatchOption result (Unit {0}) (λ place. (tnum : ℕ)
@@ -175,7 +175,7 @@ impl Draft {
         }
     }
 
-    /// Whether the bound of a type tells that no more than 512 steps by value begin at it.
+    /// Whether the bound of a type shows that no more than 512 steps by value begin at it.
     pub(crate) fn is_shallow(&self, tnum: TypeNum) -> bool
         ensures { result ≡ true → is_deep self.now.draft tnum.0 ≡ false }
     {
@@ -185,7 +185,7 @@ impl Draft {
         }
     }
 
-    /// Where a member goes that has a place, and what size that makes.
+    /// The plan for a member with an offset: the offset, and the new size.
     fn plan_shallow(
         &self,
         n: TypeNum,
@@ -205,7 +205,7 @@ impl Draft {
         checked_plan(place, grown_size(said, place, bits))
     }
 
-    /// The same, with what is known of types in a table. Alignments are asked where a place hangs
+    /// The same, with a table of search results. Alignments are computed only if an offset depends
     /// on one.
     fn plan_by(
         &self,
@@ -237,7 +237,8 @@ impl Draft {
         }
     }
 
-    /// Where a member of a pending type goes, and what size that makes. The draft stays as it is.
+    /// The plan for a member of a pending type: its offset, and the new size. The draft stays as it
+    /// is.
     pub(crate) fn plan(
         &mut self,
         n: TypeNum,

@@ -1,6 +1,6 @@
-//! Where a member goes.
+//! The plan for a new member.
 
-/// The place of a member in bits, and the size in bytes that its struct or union gets.
+/// The offset of a member in bits, and the size in bytes that its struct or union gets.
 #[derive(Clone, Copy)]
 pub(crate) struct Plan {
     pub(crate) offset: u64,

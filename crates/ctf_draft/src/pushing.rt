@@ -1,4 +1,4 @@
-//! Types, members and enumerators, behind others.
+//! Adds types, members and enumerators at the end of lists.
 ghost use Rattle.std.specs.Prelude.{◌≡◌, ◌<◌, ◌+◌, ◌++◌, ◌∷◌, [], false, map, unwrap_or, vec_capacity, vec_len, IfErr, OnErr, OnOk};
 ghost use Rattle.ctf_draft.specs.NewView.{new_body_of, new_of};
 ghost use Rattle.ctf_draft.specs.TypeView.{body_of, enumerator_of, member_of, type_of};
@@ -26,7 +26,7 @@ fn make_room<T>(items: &mut Vec<T>) -> Result<(), AllocError>
     items.reserve_exact(items.len() / 16 + 1)
 }
 
-/// Adds a type behind others.
+/// Adds a type.
 pub(crate) fn push_type(
     alloc: Global,
     types: &mut Vec<DraftType>,
@@ -43,7 +43,7 @@ pub(crate) fn push_type(
     Ok(())
 }
 
-/// Adds a member behind the others of a struct or union, which then has a size. None has its name.
+/// Adds a member to a struct or union, and sets its size. No other member has its name.
 pub(crate) fn push_member(
     alloc: Global,
     to: &mut DraftType,
@@ -69,7 +69,7 @@ pub(crate) fn push_member(
     }
 }
 
-/// Adds an enumerator behind the others of an enum. None has its name.
+/// Adds an enumerator to an enum. No other enumerator has its name.
 pub(crate) fn push_enumerator(
     alloc: Global,
     to: &mut DraftType,

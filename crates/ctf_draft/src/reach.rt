@@ -1,4 +1,4 @@
-//! What is known of a type on the way through those that it leads to.
+//! What a search computes of a type.
 
 use ctf_model::Fault;
 

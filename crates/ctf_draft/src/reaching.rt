@@ -1,4 +1,4 @@
-//! How deep a type of a draft is, and how it is aligned.
+//! Searches for the depth and the alignment of a type of a draft.
 ghost use Rattle.std.specs.Prelude.{◌≡◌, ◌<◌, ◌≤◌, ℕ, suc, length, max, None, MatchOption, is_some, if◌then◌else◌};
 ghost use Rattle.ctf_draft.specs.Reaching.{Answers, IsFound, IsKnown, Knows};
 ghost use Rattle.ctf_model.specs.rules.Chains.{longest_chain, own_index as own_index_of};
@@ -11,7 +11,7 @@ use crate::reach::Reach;
 use crate::sizing::{Sizing, greater};
 use ctf_model::{Fault, TypeNum, placeless};
 
-/// What is known, if the budget is enough for it.
+/// A result, if its depth is within the budget.
 #[inline(always)]
 fn within(known: Reach, budget: u16) -> Option<Reach>
     ensures { MatchOption result (budget < known.depth)
@@ -31,7 +31,7 @@ fn longer(a: u16, b: u16) -> u16
     a.max(b)
 }
 
-/// The greater alignment, where another one counts.
+/// The greater alignment, if the other one counts.
 #[inline(always)]
 fn beside(align: Result<u64, Fault>, other: Result<u64, Fault>, counts: bool) -> Result<u64, Fault>
     ensures { result ≡ (if counts then greater_of align other else align) }
@@ -40,7 +40,7 @@ fn beside(align: Result<u64, Fault>, other: Result<u64, Fault>, counts: bool) ->
 }
 
 impl Draft {
-    /// The alignment of a number that names no own type.
+    /// The alignment of a number that is no own type's.
     pub(crate) fn align_elsewhere(&self, n: TypeNum) -> Result<u64, Fault>
         requires not_own { let d = self.now.draft in
             own_index_of (is_some d.parent) (count_of d) n.0 ≡ None }
@@ -56,8 +56,7 @@ impl Draft {
         }
     }
 
-    /// The alignment of a type, where so many numbers may follow on each other, unless it hangs on
-    /// a union.
+    /// The alignment of a type, following at most so many types; `None` if it depends on a union.
     pub(crate) fn align_within(&self, n: TypeNum, most: u16) -> Option<Result<u64, Fault>>
         ensures { let s = space_of self.now.draft in MatchOption result (Unit {0})
             (λ align. align ≡ comes_to (aligning s.model)
@@ -77,8 +76,8 @@ impl Draft {
         None
     }
 
-    /// How deep an own type is and how it is aligned, if the budget is enough for its depth. Each
-    /// type that it leads to is looked at once, and not beyond those of which this is known.
+    /// The depth and the alignment of an own type, if the depth is within the budget. Each type
+    /// that it leads to is visited once, and types with a result are not searched again.
     pub(crate) fn reach(&self, marks: &mut Marks, i: usize, budget: u16) -> Option<Reach>
         requires room { count_of self.now.draft ≤ length marks.old }
         requires own { i < count_of self.now.draft }

@@ -1,4 +1,4 @@
-//! What sizes and alignments hang on.
+//! What sizes and alignments depend on.
 ghost use Rattle.std.specs.Prelude.{◌≡◌, ◌<◌, ℕ, MatchOption, Result, length, map, option_map, slice_index};
 ghost use Rattle.ctf_draft.specs.Sizing.{aligned_by, own_align, alias_target, size_from, width};
 ghost use Rattle.ctf_draft.specs.TypeView.{body_of, member_of};
@@ -10,14 +10,14 @@ ghost use Rattle.ctf_model.specs.declared.faults.Fault.{Fault};
 use crate::types::{AggregateKind, Body, Member, ReferenceKind};
 use ctf_model::{DataModel, Fault, TypeNum, placeless};
 
-/// What the size of a type hangs on.
+/// What the size of a type depends on.
 #[derive(Clone, Copy)]
 pub(crate) enum Sizing {
-    /// On nothing else.
+    /// On no other type.
     Itself(Result<u64, Fault>),
     /// On that of one type.
     One(TypeNum),
-    /// On that of a type that stands there so many times.
+    /// On that of a type that is repeated so many times.
     Row(u32, TypeNum),
 }
 
@@ -30,7 +30,7 @@ fn pointer_size(model: DataModel) -> u64
     }
 }
 
-/// So many of a size.
+/// The size of so many elements.
 pub(crate) fn repeated_size(count: u32, size: Result<u64, Fault>) -> Result<u64, Fault>
     ensures { result ≡ times count size }
 {
@@ -39,7 +39,7 @@ pub(crate) fn repeated_size(count: u32, size: Result<u64, Fault>) -> Result<u64,
         .ok_or(placeless(Fault::TOO_BIG))
 }
 
-/// The greater of two, or the first fault.
+/// The greater of two sizes, or the first fault.
 #[inline(always)]
 pub(crate) fn greater(a: Result<u64, Fault>, b: Result<u64, Fault>) -> Result<u64, Fault>
     ensures { result ≡ greater_of a b }
@@ -51,7 +51,7 @@ pub(crate) fn greater(a: Result<u64, Fault>, b: Result<u64, Fault>) -> Result<u6
     }
 }
 
-/// What the alignment of a struct hangs on: the type of its first member, if it has one.
+/// What the alignment of a struct depends on: the type of its first member, if it has one.
 fn first_of(members: &Vec<Member>) -> Sizing
     ensures { (f : ℕ → Result ℕ Fault) → first_in f (map member_of members.now.items)
         ≡ size_from f result }
@@ -63,7 +63,7 @@ fn first_of(members: &Vec<Member>) -> Sizing
 }
 
 impl Body {
-    /// What its size hangs on.
+    /// What its size depends on.
     pub(crate) fn sizing(&self, model: DataModel) -> Sizing
         ensures { (f : ℕ → Result ℕ Fault) → size_body model f (body_of self.now)
             ≡ size_from f result }
@@ -82,7 +82,7 @@ impl Body {
         }
     }
 
-    /// What its alignment hangs on, unless that is more than one type.
+    /// What its alignment depends on, unless that is more than one type.
     pub(crate) fn aligning(&self, model: DataModel) -> Option<Sizing>
         ensures { MatchOption result (Unit {0}) (λ s. (f : ℕ → Result ℕ Fault)
             → align_body model f (body_of self.now) ≡ size_from f s) }
@@ -99,7 +99,7 @@ impl Body {
         }
     }
 
-    /// The type that a typedef or a qualifier stands for.
+    /// The type that a typedef or a qualifier refers to.
     pub(crate) fn alias_target(&self) -> Option<TypeNum>
         ensures { option_map (λ t. t.0) result ≡ alias_target (body_of self.now) }
     {
@@ -120,7 +120,7 @@ impl Body {
         }
     }
 
-    /// How many types it leads to by value, counted as often as it names them.
+    /// How many types it leads to by value, each counted as often as it names them.
     #[inline(always)]
     pub(crate) fn value_count(&self) -> usize
         ensures { result ≡ length (by_value (body_of self.now)) }
@@ -147,7 +147,7 @@ impl Body {
         }
     }
 
-    /// Its alignment apart from the types that this hangs on.
+    /// Its alignment, apart from the types that this depends on.
     pub(crate) fn own_align(&self, model: DataModel) -> Result<u64, Fault>
         ensures { result ≡ own_align model (body_of self.now) }
     {
@@ -161,7 +161,7 @@ impl Body {
         }
     }
 
-    /// How many of the types that it leads to by value its alignment hangs on.
+    /// How many of the types that it leads to by value its alignment depends on.
     pub(crate) fn aligned_by(&self) -> usize
         ensures { result ≡ aligned_by (body_of self.now) }
     {

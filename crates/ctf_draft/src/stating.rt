@@ -1,4 +1,4 @@
-//! A member at a stated place, and its struct or union of a stated size.
+//! A member at a stated offset, in a struct or union of a stated size.
 ghost use Rattle.std.specs.Prelude.{◌≡◌, ◌⊎◌, ◌*◌, ◌<◌, ◌^◌, [], nat_lt, map, unwrap_or, Ok, Err, IfErr, IfOk, OnErr, OnOk};
 ghost use Rattle.std.specs.List.{list_any};
 ghost use Rattle.ctf_draft.specs.Pending.{StandsPending};
@@ -14,7 +14,7 @@ use crate::types::{Body, Member};
 use ctf_model::{Fault, TypeNum, placeless};
 use std::alloc::AllocError;
 
-/// Whether a place, in bits, is behind the end of a size in bytes.
+/// Whether an offset, in bits, is after the end of a size in bytes.
 fn is_behind(offset: u64, size: u64) -> bool
     ensures behind { result ≡ nat_lt (8 * size) offset }
     ensures place_fits { offset < 2 ^ 64 }
@@ -23,7 +23,7 @@ fn is_behind(offset: u64, size: u64) -> bool
     u128::from(offset) > 8 * u128::from(size)
 }
 
-/// Whether one of some members begins behind a size.
+/// Whether one of some members begins after a size.
 fn any_behind(members: &[Member], size: u64) -> bool
     ensures { result ≡ list_any (begins_behind size) (map member_of members.now) }
 {
@@ -36,7 +36,7 @@ fn any_behind(members: &[Member], size: u64) -> bool
 }
 
 impl Body {
-    /// Whether one of its members begins behind a size.
+    /// Whether one of its members begins after a size.
     fn has_behind(&self, size: u64) -> bool
         ensures { result ≡ list_any (begins_behind size)
             (unwrap_or (members_in (shown (body_of self.now))) []) }
@@ -49,8 +49,8 @@ impl Body {
 }
 
 impl Draft {
-    /// Whether a member of a pending type begins behind a size. None does if the type has no
-    /// greater one now.
+    /// Whether a member of a pending type begins after a size. None does if the type's present size
+    /// is no greater.
     fn leaves_behind(&self, n: TypeNum, i: usize, size: u64) -> bool
         requires { StandsPending self.now.draft n.0 i }
         ensures { result
@@ -77,9 +77,9 @@ impl Draft {
         Ok(found?.is_none())
     }
 
-    /// Adds a member behind the others of a pending struct or union, at the place that it says,
-    /// and gives that a size. Neither is judged by the size of any type: no member may begin
-    /// behind the stated size, that is all.
+    /// Adds a member to a pending struct or union, at the stated offset, and sets the size of the
+    /// struct or union. Neither depends on the size of any type; only, no member may begin after
+    /// the stated size.
     pub fn member_at(&mut self, n: TypeNum, member: Member, size: u64) -> Result<(), Fault>
         ensures ok { OnOk result (add_member_at self.old.draft n.0 (member_of member) size
             ≡ Ok self.new.draft) }

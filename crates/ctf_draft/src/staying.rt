@@ -1,4 +1,4 @@
-//! Whether what is known of a type stays right when the type gets a member.
+//! Whether search results stay valid when a type gets a member.
 ghost use Rattle.std.specs.Prelude.{◌≡◌, ◌<◌, true, MatchOption, is_some};
 ghost use Rattle.ctf_draft.specs.Reaching.{IsBelowAt, Knows, Stays, counts_more};
 ghost use Rattle.ctf_draft.specs.TypeView.{body_of};
@@ -10,7 +10,7 @@ use crate::marks::Marks;
 use crate::types::{AggregateKind, Body};
 use ctf_model::{Fault, TypeNum};
 
-/// Whether an alignment stays what it is beside another one.
+/// Whether an alignment stays the greater one.
 fn is_as_great(align: Result<u64, Fault>, other: Result<u64, Fault>) -> bool
     ensures { result ≡ true → greater_of align other ≡ align }
 {
@@ -34,7 +34,7 @@ impl Body {
 }
 
 impl Draft {
-    /// The alignment of a type, where it is known that fewer steps than so many lead from it.
+    /// The alignment of a type, if the results show that fewer than so many steps lead from it.
     fn align_below(&self, marks: &Marks, n: TypeNum, depth: u16) -> Option<Result<u64, Fault>>
         requires { Knows self.now.draft marks.now }
         ensures { MatchOption result (Unit {0}) (λ align.
@@ -52,7 +52,8 @@ impl Draft {
         }
     }
 
-    /// Whether something is known of an own type, and stays right with one member more of a type.
+    /// Whether there is a result for an own type that stays valid with one more member of this
+    /// type.
     pub(crate) fn stays_known(&self, marks: &Marks, i: usize, n: TypeNum) -> bool
         requires own { i < count_of self.now.draft }
         requires knows { Knows self.now.draft marks.now }

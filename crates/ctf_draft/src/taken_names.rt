@@ -8,7 +8,7 @@ use indexmap::IndexSet;
 use std::alloc::{AllocError, Global};
 use std::marker::Model;
 
-/// Names, each found by its hash. None is empty, and none stands there twice.
+/// Names, each found by its hash. None is empty, and none occurs twice.
 #[derive(Drop)]
 pub(crate) struct Taken {
     names: IndexSet<Vec<u8>>,
@@ -38,7 +38,7 @@ impl Taken {
         self.names.contains(name)
     }
 
-    /// Adds a name that is not there, unless it is empty.
+    /// Adds a name that is not in use, unless it is empty.
     pub(crate) fn add(&mut self, alloc: Global, name: &[u8]) -> Result<(), AllocError>
         requires fresh { list_any (bytes_eq name.now) self.old ≡ false }
         ensures ok { OnOk result (self.new ≡ self.old ++ names_given (name.now ∷ [])) }

@@ -23,14 +23,14 @@ pub struct Enumerator {
     pub value: i32,
 }
 
-/// What a type with an encoding is.
+/// The kinds of types with an encoding.
 #[derive(Clone, Copy, Debug, PartialEq, Eq)]
 pub enum ScalarKind {
     Integer,
     Float,
 }
 
-/// What a type is of the one that it names.
+/// The kinds of types that refer to one other type.
 #[derive(Clone, Copy, Debug, PartialEq, Eq)]
 pub enum ReferenceKind {
     Pointer,
@@ -40,21 +40,21 @@ pub enum ReferenceKind {
     Restrict,
 }
 
-/// What a type with members is.
+/// The kinds of types with members.
 #[derive(Clone, Copy, Debug, PartialEq, Eq)]
 pub enum AggregateKind {
     Struct,
     Union,
 }
 
-/// What a type is, by its kind. Sizes are in bytes.
+/// The body of a type, by its kind. Sizes are in bytes.
 #[derive(Drop)]
 pub enum Body {
     Unknown,
     /// Its size, and how its value is encoded.
     Scalar(ScalarKind, u64, Encoding),
     Reference(ReferenceKind, TypeNum),
-    /// It says no size.
+    /// An array, which stores no size.
     Array(ArrayInfo),
     /// What it returns, and its arguments; a last argument 0 says that more may follow.
     Function(TypeNum, Vec<TypeNum>),

@@ -1,4 +1,4 @@
-//! How many bits a value of a type fills.
+//! How many bits a value of a type takes.
 ghost use Rattle.std.specs.Prelude.{◌≡◌, ◌<◌, ◌^◌, IfOk, Some, option_map, slice_get};
 ghost use Rattle.ctf_check.specs.CheckedView.{dictionary_of};
 ghost use Rattle.ctf_check.specs.TypedView.{term_in};
@@ -23,7 +23,7 @@ fn lent_width(x: &Typed<'_>) -> Option<u16>
     }
 }
 
-/// The same of the type with a number from 0.
+/// The same for the type with a number from 0.
 fn parents_width(parent: Checked<'_>, i: usize) -> Result<Option<u16>, Fault>
     requires { i < 65536 }
     ensures { result ≡ width_found (or_no_type (slice_get (dictionary_of parent.entry).terms i)) }
@@ -34,7 +34,7 @@ fn parents_width(parent: Checked<'_>, i: usize) -> Result<Option<u16>, Fault>
     }
 }
 
-/// How many bits a value of a size fills: the width of an integer or a float, else all bits.
+/// How many bits a value of a size takes: the width of an integer or a float, else all bits.
 fn filled_bits(size: u64, width: Option<u16>) -> u128
     ensures bits { result ≡ filled_of size width }
     ensures small { result < 2 ^ 67 }
@@ -66,7 +66,7 @@ impl Draft {
         }
     }
 
-    /// How many bits a value of a type fills.
+    /// How many bits a value of a type takes.
     pub(crate) fn bits_filled(&self, n: TypeNum) -> Result<u128, Fault>
         ensures bits { result ≡ bits_filled_in (space_of self.now.draft) n.0 }
         ensures small { IfOk result (λ bits. bits < 2 ^ 67) }

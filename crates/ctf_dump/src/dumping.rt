@@ -17,7 +17,7 @@ use ctf_space::Space;
 use std::alloc::Global;
 use std::io::Write;
 
-/// The number of an own type, which is here counted from 0.
+/// The number of an own type that is counted from 0 here.
 fn number_of(child: bool, place: usize) -> TypeNum
     requires { place < 32767 }
     ensures { result.0 ≡ own_number child place }
@@ -53,8 +53,8 @@ fn all_type_lines<W: Write>(
     Ok(())
 }
 
-/// Writes a dictionary as text, line by line. Types are those of its own; what they come to is told
-/// over the parent, where there is one.
+/// Writes a dictionary as text, line by line. The types are its own; their names, sizes and
+/// alignments are those over the parent, if there is one.
 pub fn dump<W: Write>(
     alloc: Global,
     space: &Space<'_>,

@@ -1,4 +1,4 @@
-//! How a dump ends: exit statuses, and what is said of a dump that ended early.
+//! How a dump ends: exit statuses, and the messages of a dump that ended early.
 ghost use Rattle.std.specs.Prelude.{◌≡◌};
 ghost use Rattle.ctf_dump.specs.Refused.{status_after};
 
@@ -20,7 +20,7 @@ pub const FAILED: u8 = 3;
 /// Memory was refused.
 pub const NO_MEMORY: u8 = 4;
 
-/// Why a dump ended early. Files are called by their names.
+/// Why a dump ended early. Files go by their names.
 #[derive(Clone, Copy)]
 pub enum DumpEnd<'a> {
     /// A file could not be read.

@@ -1,4 +1,4 @@
-//! The lines in front: the dictionary itself, its labels, and what it tells of symbols.
+//! The first lines: the dictionary itself, its labels, and what it says of symbols.
 ghost use Rattle.std.specs.Prelude.{◌≡◌, ◌++◌, [], codes, decimal, map, IfErr, OnOk};
 ghost use Rattle.std.specs.List.{flat_map};
 ghost use Rattle.std.specs.Io.KnownBytes.{Appends, Keeps};
@@ -25,7 +25,7 @@ fn child_word(child: bool) -> &'static str
     if child { " child=yes" } else { " child=no" }
 }
 
-/// The parent that a dictionary names, and up to which label.
+/// The parent that a dictionary names, and up to which label it uses the parent.
 fn put_parent(line: &mut Line, dictionary: &Checked<'_>) -> Result<(), AllocError>
     ensures { OnOk result (line.new ≡ line.old ++ parent_text (dictionary_of dictionary.now)) }
 {
@@ -111,7 +111,7 @@ fn put_numbers(line: &mut Line, args: Args<'_>) -> Result<(), AllocError>
     }
 }
 
-/// What a function returns and takes; its arguments as they are stored.
+/// What a function returns and takes; its arguments as stored.
 pub fn put_signature(line: &mut Line, ret: TypeNum, args: Args<'_>) -> Result<(), AllocError>
     ensures { OnOk result (line.new ≡ line.old ++ signature_text ret.0 args.entry) }
 {
@@ -167,7 +167,8 @@ fn function_line<W: Write>(
     line.end(out)
 }
 
-/// A symbol of which nothing is told has no line, and its name is not read.
+/// The line of a symbol. A symbol of which the dictionary says nothing has no line, and its name is
+/// not read.
 fn symbol_line<W: Write>(entry: Entry<'_>, line: &mut Line, out: &mut W) -> Result<(), DumpFault>
     requires { line.old ≡ [] }
     ensures written { OnOk result (Appends (W.contents out.old) (W.contents out.new)

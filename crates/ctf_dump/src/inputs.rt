@@ -1,15 +1,15 @@
-//! What a dump is made of: files that were read.
+//! The input of a dump: files that were read.
 use ctf_model::{Bytes, DataModel};
 
-/// A file that was read: what it was called, and its bytes.
+/// A file that was read: its name and its bytes.
 #[derive(Drop)]
 pub struct InputFile<'a> {
     pub name: &'a str,
     pub bytes: Bytes,
 }
 
-/// A dictionary, and where they are there its parent, the symbols of its program,
-/// and their strings; and the data model of that program, which is the parent's too.
+/// A dictionary and, if there are any, its parent, the symbols of its program, and the strings of
+/// these; and the data model of that program, which is the parent's too.
 #[derive(Drop)]
 pub struct Inputs<'a> {
     pub ctf: InputFile<'a>,

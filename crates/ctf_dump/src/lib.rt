@@ -21,9 +21,9 @@
 //! }
 //! ```
 //!
-//! The answer is an exit status: 0 where all was written, 1 where a file was refused, 3 where a
-//! write failed, 4 where memory was refused. With 1 nothing was written to `out`; with 3 and 4 the
-//! text breaks off. [`dump`] writes a dictionary that was judged already. Sizes in the text are in
+//! The result is an exit status: 0 if all was written, 1 if a file was refused, 3 if a write
+//! failed, 4 if memory was refused. With 1 nothing was written to `out`; with 3 and 4 the text
+//! breaks off. [`dump`] writes a dictionary that was checked already. Sizes in the text are in
 //! bytes, offsets in bits: docs/DUMP.md has its form.
 #![tactic(auto)]
 

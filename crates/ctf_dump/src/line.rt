@@ -32,7 +32,7 @@ impl From<AllocError> for DumpFault {
     }
 }
 
-/// A line, which has room that is used again.
+/// A line, whose memory is used again for the next one.
 #[derive(Drop)]
 pub struct Line {
     bytes: Vec<u8>,
@@ -63,8 +63,8 @@ fn is_plain(byte: u8) -> bool
     0x20 <= byte && byte <= 0x7e && byte != 0x22 && byte != 0x5c
 }
 
-/// Whether all bytes of a name stand as themselves. None ends it early, so that many are looked
-/// at at once.
+/// Whether no byte of a name has to be escaped. The loop never stops early, so that many bytes are
+/// compared at once.
 fn are_plain(name: &[u8]) -> bool
     ensures { IsTrue result → flat_map escape name.now ≡ name.now }
 {
@@ -104,7 +104,7 @@ impl Line {
             .extend_from_slice(Buffer::new().format(value).as_bytes())
     }
 
-    /// A word of a line, and its number.
+    /// A word of a line, and the number after it.
     pub fn word(&mut self, word: &str, number: u64) -> Result<(), AllocError>
         ensures { OnOk result (self.new ≡ self.old ++ (word.now ++ decimal number)) }
     {
@@ -147,8 +147,8 @@ impl Line {
         Ok(())
     }
 
-    /// Writes the line with its newline, and begins another. Where the write fails, the line is
-    /// still there, with its newline; without memory for the newline nothing is written.
+    /// Writes the line with its newline, and begins another. If the write fails, the line is still
+    /// there, with its newline; without memory for the newline nothing is written.
     pub fn end<W: Write>(&mut self, out: &mut W) -> Result<(), DumpFault>
         ensures written { OnOk result (Appends (W.contents out.old) (W.contents out.new)
             (self.old ++ codes "\n")) }

@@ -1,4 +1,4 @@
-//! A dump of files that were read: they are judged, and then dumped.
+//! The dump of files that were read: the files are checked, and then dumped.
 ghost use Rattle.std.specs.Prelude.{◌≡◌, ◌⊎◌, IfOk, IfErr, OnOk, None, Some, option_copied};
 ghost use Rattle.ctf_check.specs.ListsView.{lists_in};
 ghost use Rattle.std.specs.Option.{option_map};
@@ -21,7 +21,7 @@ use ctf_space::Space;
 use std::alloc::Global;
 use std::io::Write;
 
-/// The end that a fault of a file is.
+/// How a dump ends if a file has a fault.
 fn end_of_refusal(file: &str, fault: Fault) -> DumpEnd<'_>
     ensures memory { fault ≡ out_of_memory → result ≡ DumpEnd.Memory }
     ensures other { (result ≡ DumpEnd.Memory) ⊎ (result ≡ DumpEnd.Refused file.entry fault) }
@@ -33,7 +33,7 @@ fn end_of_refusal(file: &str, fault: Fault) -> DumpEnd<'_>
     }
 }
 
-/// The bytes of a file, if it is there.
+/// The bytes of a file, if there is one.
 fn bytes<'l>(file: &'l Option<InputFile<'_>>) -> Option<&'l [u8]>
     ensures { option_copied result ≡ bytes_of file.now }
 {
@@ -43,7 +43,7 @@ fn bytes<'l>(file: &'l Option<InputFile<'_>>) -> Option<&'l [u8]>
     }
 }
 
-/// Judges lists, of which the CTF section is a file's.
+/// Checks lists; the CTF section comes from `file`.
 fn judge_file<'l, 'a>(
     alloc: Global,
     file: &InputFile<'a>,
@@ -62,7 +62,7 @@ fn judge_file<'l, 'a>(
     }
 }
 
-/// Judges the dictionary, with the symbols and strings of its program, where the files have it.
+/// Checks the dictionary, with the symbols and strings of its program if there are files of them.
 fn own_judged<'l, 'a>(alloc: Global, inputs: &'l Inputs<'a>) -> Result<Judged<'l>, DumpEnd<'a>>
     ensures ok { IfOk result (λ j. j.kept ≡ own_kept inputs.now) }
     ensures exact_ok { OnOk result (first_fault (own_lists inputs.now) ≡ None) }
@@ -77,7 +77,7 @@ fn own_judged<'l, 'a>(alloc: Global, inputs: &'l Inputs<'a>) -> Result<Judged<'l
     judge_file(alloc, &inputs.ctf, lists, inputs.model)
 }
 
-/// Judges a parent, which has no symbols, where its file has it.
+/// Checks a parent, which has no symbols, if there is a file of one.
 fn parent_judged<'l, 'a>(
     alloc: Global,
     file: &'l InputFile<'a>,
@@ -97,7 +97,7 @@ fn parent_judged<'l, 'a>(
     judge_file(alloc, file, lists, model)
 }
 
-/// Dumps a space, and passes on what was written.
+/// Dumps a space, and flushes the text.
 fn dump_space<'a, W: Write>(
     alloc: Global,
     space: &Space<'_>,
@@ -168,7 +168,7 @@ fn dump_inputs<'a, W: Write>(
     }
 }
 
-/// Writes the dump of files that were read, or says on the second writer why not, and answers the
+/// Writes the dump of files that were read, or writes to the second writer why not. Returns the
 /// exit status of a program that does so.
 pub fn dump_lists<W: Write, E: Write>(
     alloc: Global,
@@ -179,9 +179,9 @@ pub fn dump_lists<W: Write, E: Write>(
     ensures status { MayAnswer (refusal inputs.entry) result }
     ensures written { result ≡ 0 → Appends (W.contents out.old) (W.contents out.new)
         (text_of (space_in inputs.entry)) }
-    // A file that is refused is not dumped.
+    // If a file is refused, nothing is dumped.
     ensures quiet { result ≡ 1 → Keeps (W.contents out.old) (W.contents out.new) }
-    // Without memory the text breaks off.
+    // If memory is refused, the text breaks off.
     ensures begun { result ≡ 4 → HasBegun (W.contents out.old) (W.contents out.new)
         (text_of (space_in inputs.entry)) }
 {

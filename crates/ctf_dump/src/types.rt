@@ -83,7 +83,7 @@ fn put_encoding(line: &mut Line, info: Encoding) -> Result<(), AllocError>
     line.word(" bits=", u64::from(info.bits))
 }
 
-/// What a type says of itself, apart from its name and its list.
+/// What a type's record says, apart from its name and its list.
 fn put_detail(line: &mut Line, x: Shape<'_>) -> Result<(), AllocError>
     ensures { OnOk result (line.new ≡ line.old ++ shape_text (shape_view x.entry)) }
 {
@@ -109,7 +109,7 @@ fn put_detail(line: &mut Line, x: Shape<'_>) -> Result<(), AllocError>
     }
 }
 
-/// The name of the type with a number, or that of the fault in its place.
+/// The name of the type with a number, or in its place that of the fault.
 fn put_spelled(
     alloc: Global,
     names: &mut KnownNames<'_>,
@@ -143,7 +143,7 @@ fn root_word(root: bool) -> &'static str
     if root { " root" } else { " hidden" }
 }
 
-/// The words of a type up to what it says of itself.
+/// The words of a type, up to those of its record.
 fn put_facts(line: &mut Line, number: TypeNum, x: Facts<'_>) -> Result<(), AllocError>
     ensures { OnOk result (line.new ≡ line.old ++ facts_text number.0 (facts_view x.entry)) }
 {
@@ -156,7 +156,7 @@ fn put_facts(line: &mut Line, number: TypeNum, x: Facts<'_>) -> Result<(), Alloc
     put_detail(line, x.shape)
 }
 
-/// How a type is spelled, and what it comes to.
+/// The spelled name of a type, its size and its alignment.
 fn put_figures(
     alloc: Global,
     names: &mut KnownNames<'_>,
@@ -250,7 +250,7 @@ fn value_lines<W: Write>(
     Ok(())
 }
 
-/// The lines of what stands behind a type's head: its members or enumerators.
+/// The lines of what follows a type's head: its members or enumerators.
 fn list_of_lines<W: Write>(
     behind: Variant<'_>,
     line: &mut Line,

@@ -1,4 +1,4 @@
-//! The symbols of a program that a dictionary tells something of.
+//! The considered symbols of a program: those for which a dictionary can have types.
 ghost use Rattle.std.specs.Prelude.{◌≡◌, ◌≤◌, ◌+◌, ◌^◌, length, drop, [], ◌∷◌, MatchOption, IfSome};
 ghost use Rattle.std.specs.Iterator.{YieldsFirstBy, item_count};
 ghost use Rattle.ctf_model.specs.symbols.Symbols.{with_types, considered_from, symbols_of};
@@ -16,14 +16,14 @@ pub struct Numbered<'a> {
     pub symbol: Symbol<'a>,
 }
 
-/// A considered symbol, and the symbols behind it.
+/// A considered symbol, and the symbols after it.
 #[derive(Drop)]
 pub(crate) struct Found<'a> {
     pub first: Numbered<'a>,
     pub behind: &'a [u8],
 }
 
-/// The symbols behind the first one.
+/// The symbols after the first one.
 fn behind_first(sym: &[u8]) -> &[u8]
     requires { 24 ≤ length sym.now }
     ensures { result.now ≡ drop 24 sym.now }
@@ -32,7 +32,7 @@ fn behind_first(sym: &[u8]) -> &[u8]
     behind
 }
 
-/// The first considered one of symbols that are numbered from `number` on.
+/// The first considered symbol, among symbols that are numbered from `number` on.
 pub(crate) fn first_considered<'a>(
     sym: &'a [u8],
     names: SymbolNames<'a>,
@@ -64,7 +64,7 @@ pub(crate) fn first_considered<'a>(
     None
 }
 
-/// The considered symbols that are left.
+/// The remaining considered symbols.
 #[derive(Drop)]
 pub struct Considered<'a> {
     sym: &'a [u8],
@@ -85,7 +85,7 @@ impl<'a> Model for Considered<'a> {
 }
 
 impl<'a> Considered<'a> {
-    /// The considered ones of all symbols of a table.
+    /// The considered symbols of a table.
     pub fn new(sym: &'a [u8], names: SymbolNames<'a>) -> Considered<'a>
         ensures { result ≡ with_types (symbols_of (strings_of names.entry) sym.now) }
     {

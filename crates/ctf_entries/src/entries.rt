@@ -1,4 +1,4 @@
-//! What a dictionary tells of a program's symbols.
+//! What a dictionary says of a program's symbols.
 ghost use Rattle.std.specs.Prelude.{◌≡◌, ◌≤◌, ◌+◌, ◌^◌, length, [], ◌∷◌, true, false, None, MatchOption, option_copied};
 ghost use Rattle.std.specs.Iterator.{YieldsFirstBy, item_count};
 ghost use Rattle.ctf_model.specs.symbols.Entries.{entries_of};
@@ -18,15 +18,15 @@ use crate::untold::Untold;
 use ctf_model::TypeNum;
 use std::marker::Model;
 
-/// What is told of a symbol: the type of an object, the signature of a function, or nothing of
-/// either.
+/// What a dictionary says of a symbol: the type of an object, the signature of a function, or
+/// nothing.
 #[derive(Drop)]
 pub enum Told<'a> {
     Object(Option<TypeNum>),
     Function(Option<Signature<'a>>),
 }
 
-/// A considered symbol, with its number from 0, and what is told of it.
+/// A considered symbol, with its number from 0, and what the dictionary says of it.
 #[derive(Drop)]
 pub struct Entry<'a> {
     pub number: u32,
@@ -34,7 +34,7 @@ pub struct Entry<'a> {
     pub told: Told<'a>,
 }
 
-/// The first entry, and what is left behind it.
+/// The first entry, and what is left after it.
 #[derive(Drop)]
 struct Taken<'a> {
     first: Entry<'a>,
@@ -103,7 +103,7 @@ fn first_entry<'a>(untold: Untold<'a>) -> Option<Taken<'a>>
     }
 }
 
-/// The entries that are left, in the order of their symbols.
+/// The remaining entries, in the order of their symbols.
 #[derive(Drop)]
 pub struct Entries<'a> {
     untold: Untold<'a>,
@@ -120,7 +120,7 @@ impl<'a> Model for Entries<'a> {
 }
 
 impl<'a> Entries<'a> {
-    /// The entries of all considered symbols, where no function's is bad.
+    /// The entries of all considered symbols. No function's entry may be malformed.
     pub fn new(
         sym: &'a [u8],
         strs: Option<&'a [u8]>,

@@ -9,7 +9,7 @@ use ctf_model::TypeNum;
 use ctf_sections::bytes::u16_at;
 use ctf_views::arguments;
 
-/// The kind that an entry says.
+/// The kind in an entry.
 fn kind_number(entry: &[u8]) -> u16
     requires { 2 ≤ length entry.now }
     ensures { result ≡ kind_number_in entry.now }
@@ -17,7 +17,7 @@ fn kind_number(entry: &[u8]) -> u16
     u16_at(entry, 0) >> 11
 }
 
-/// How many arguments it says.
+/// The number of arguments in an entry.
 fn argument_count(entry: &[u8]) -> usize
     requires { 2 ≤ length entry.now }
     ensures number { result ≡ argument_count_in entry.now }
@@ -26,7 +26,7 @@ fn argument_count(entry: &[u8]) -> usize
     (u16_at(entry, 0) & 1023) as usize
 }
 
-/// Whether it says nothing.
+/// Whether the entry says nothing of the function.
 fn is_silent(entry: &[u8]) -> bool
     requires { 2 ≤ length entry.now }
     ensures { result ≡ silent entry.now }
@@ -45,7 +45,7 @@ fn entry_len(entry: &[u8]) -> usize
     }
 }
 
-/// Whether the entry that begins some bytes has a wrong kind or runs past their end.
+/// Whether the entry at the front of some bytes has a wrong kind or runs past their end.
 #[tactic(auto, using(crate::proofs::Telling::long_entry))]
 pub fn is_bad_entry(functions: &[u8]) -> bool
     ensures { result ≡ bad_entry functions.now }
@@ -62,7 +62,7 @@ pub fn is_bad_entry(functions: &[u8]) -> bool
     !is_silent(functions) && kind_number(functions) != 5
 }
 
-/// The bytes behind the entry that begins them.
+/// The bytes after the entry at their front.
 #[tactic(auto, using(crate::proofs::Telling::good_entry))]
 pub fn behind_function(functions: &[u8]) -> &[u8]
     requires good { bad_entry functions.now ≡ false }
@@ -75,7 +75,7 @@ pub fn behind_function(functions: &[u8]) -> &[u8]
     behind
 }
 
-/// The signature that the entry says which begins some bytes.
+/// The signature in the entry at the front of some bytes.
 #[tactic(auto, using(crate::proofs::Telling::good_entry, crate::proofs::Telling::said_signature, crate::proofs::Telling::no_signature))]
 pub fn signature_of(functions: &[u8]) -> Option<Signature<'_>>
     requires good { bad_entry functions.now ≡ false }

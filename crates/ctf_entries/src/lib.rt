@@ -1,4 +1,4 @@
-//! The symbols of a program that a dictionary tells something of, and what it tells of them.
+//! The symbols of a program for which a dictionary can have types, and what it says of them.
 //!
 //! ```rust
 //! use ctf_entries::{Considered, SymbolNames, type_in};

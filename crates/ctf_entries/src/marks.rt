@@ -7,14 +7,15 @@ ghost use Rattle.ctf_model.specs.symbols.Symbols.{is_mark as mark};
 
 use ctf_sections::up_to_zero;
 
-/// As many bytes as tell a mark from any other name: the longest mark and its zero byte.
+/// The front of a text that is long enough to recognize a mark: as many bytes as the longest mark
+/// and its zero byte have.
 fn front(text: &[u8]) -> &[u8]
     ensures { result.now ≡ take 8 text.now }
 {
     if text.len() < 8 { text } else { &text[..8] }
 }
 
-/// Whether a name of fewer than eight bytes begins some strings.
+/// Whether some strings begin with a name of fewer than eight bytes.
 #[tactic(auto, using(crate::proofs::NameFronts::same_in_front))]
 fn begins(text: &[u8], name: &[u8]) -> bool
     requires short { length name.now < 8 }
@@ -23,8 +24,8 @@ fn begins(text: &[u8], name: &[u8]) -> bool
     up_to_zero(front(text)) == name
 }
 
-/// Whether the name that begins some strings is one of the linker's marks. It reads eight bytes at
-/// most, however long the name is, and of most names one.
+/// Whether the name at the front of some strings is one of the linker's marks. It reads at most
+/// eight bytes, however long the name is, and of most names only one.
 #[tactic(auto, using(crate::proofs::NameFronts::no_mark, crate::proofs::NameFronts::other_front))]
 pub(crate) fn begins_mark(text: &[u8]) -> bool
     ensures { result ≡ mark (before_first is_zero text.now) }

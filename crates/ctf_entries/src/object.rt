@@ -6,7 +6,7 @@ ghost use Rattle.ctf_model.specs.symbols.Entries.{type_told as type_said_in};
 use ctf_model::TypeNum;
 use ctf_sections::bytes::u16_at;
 
-/// The type of the object whose entry begins some bytes.
+/// The type in the object's entry at the front of some bytes.
 pub fn type_in(objects: &[u8]) -> Option<TypeNum>
     ensures { option_map (λ t. t.0) result ≡ type_said_in objects.now }
 {
@@ -21,7 +21,7 @@ pub fn type_in(objects: &[u8]) -> Option<TypeNum>
     }
 }
 
-/// The bytes behind the entry of an object.
+/// The bytes after the entry of an object.
 #[tactic(auto, using(crate::proofs::Telling::drop_short))]
 pub fn behind_object(objects: &[u8]) -> &[u8]
     ensures { result.now ≡ drop 2 objects.now }

@@ -9,11 +9,11 @@ use crate::symbol_strings::SymbolNames;
 use ctf_sections::bytes::{u16_at, u32_at, u64_at};
 use ctf_sections::up_to_zero;
 
-/// A symbol, lent: where its name begins, what it stands for (1 an object, 2 a function), its
-/// section and its value.
+/// A symbol, borrowed: where its name begins, its class (1 an object, 2 a function), its section
+/// and its value.
 #[derive(Clone, Copy)]
 pub struct Symbol<'a> {
-    /// The strings from its name on; none where it has no name.
+    /// The strings from its name on; empty if it has no name.
     text: &'a [u8],
     sort: u8,
     section: u16,
@@ -21,7 +21,7 @@ pub struct Symbol<'a> {
 }
 
 impl<'a> Symbol<'a> {
-    /// The symbol that begins some bytes.
+    /// The symbol at the front of some bytes.
     pub fn read(bytes: &[u8], names: SymbolNames<'a>) -> Symbol<'a>
         requires { 24 ≤ length bytes.now }
         ensures { symbol result ≡ symbol_of (strings_of names.entry) bytes.now }
@@ -34,7 +34,7 @@ impl<'a> Symbol<'a> {
         }
     }
 
-    /// Its name. It reads the name to find its end.
+    /// Its name. This reads the name to find its end.
     pub fn name(self) -> &'a [u8]
         ensures { result.now ≡ (symbol self.entry).name }
     {
@@ -67,15 +67,15 @@ impl<'a> Symbol<'a> {
         !begins_mark(self.text)
     }
 
-    /// Whether it is an absolute object of the value 0.
+    /// Whether it is an absolute object with the value 0.
     fn is_absolute_zero(self) -> bool
         ensures { result ≡ absolute_zero (symbol self.entry) }
     {
         self.is_object() && self.section == 0xfff1 && self.value == 0
     }
 
-    /// Whether a dictionary tells something of it, where it has this number. Of its name a few
-    /// bytes are read.
+    /// Whether a dictionary can have a type for it, if it has this number. Reads a few bytes of its
+    /// name.
     #[tactic(auto, unfolding(ctf_model::specs::symbols::Symbols::is_considered))]
     pub fn is_considered(self, number: u64) -> bool
         ensures test { result ≡ considered (numbered_symbol number self.entry) }

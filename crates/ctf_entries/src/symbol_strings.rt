@@ -1,4 +1,4 @@
-//! The strings that the names of symbols stand in.
+//! The strings that have the names of symbols.
 ghost use Rattle.std.specs.Prelude.{◌≡◌, drop, option_copied};
 ghost use Rattle.std.specs.List.{before_first};
 ghost use Rattle.ctf_model.specs.format.Name.{is_zero};
@@ -7,8 +7,7 @@ ghost use Rattle.ctf_sections.specs.TableEnds.{EndsAt};
 
 use ctf_sections::end_of_names;
 
-/// The strings of a program, with the place behind the last of their names: 0 where they are
-/// absent.
+/// The strings of a program, and the place after the last name in them; 0 if there are no strings.
 #[derive(Clone, Copy)]
 pub struct SymbolNames<'a> {
     strs: Option<&'a [u8]>,
@@ -30,7 +29,7 @@ fn behind(table: &[u8], offset: usize) -> &[u8]
 impl<'a> SymbolNames<'a> {
     ghost use Rattle.ctf_entries.specs.NamesView.{strings_of};
 
-    /// Finds the last name once, so that no name is looked for an end of later.
+    /// Finds the end of the last name once, so that no later call searches for the end of a name.
     pub fn new(strs: Option<&'a [u8]>) -> SymbolNames<'a>
         ensures { strings_of result ≡ option_copied strs.entry }
     {
@@ -41,8 +40,7 @@ impl<'a> SymbolNames<'a> {
         SymbolNames { strs, end }
     }
 
-    /// The strings from the name at an offset on; none where no name is there. It takes constant
-    /// time.
+    /// The strings from the name at an offset on; empty if there is no name. Takes constant time.
     pub(crate) fn from(self, offset: usize) -> &'a [u8]
         ensures { before_first is_zero result.now ≡ symbol_name (strings_of self.entry) offset }
     {

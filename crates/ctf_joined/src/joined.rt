@@ -1,4 +1,4 @@
-//! Texts one behind the other.
+//! A list of texts, stored one after the other.
 ghost use Rattle.std.specs.Prelude.{◌≡◌, ◌<◌, ◌++◌, [], ◌∷◌, OnErr, OnOk, get_or, length, true};
 ghost use Rattle.ctf_joined.specs.Texts.{rise};
 
@@ -31,7 +31,7 @@ impl Joined {
         self.ends.len()
     }
 
-    /// Where the text at a place ends.
+    /// The end of the text at an index.
     fn end(&self, place: usize) -> usize
         requires { place < length self.now.ends.items }
         ensures { result ≡ get_or self.now.ends.items place 0 }
@@ -39,7 +39,7 @@ impl Joined {
         self.ends[place] as usize
     }
 
-    /// Where the text at a place begins: where the one in front of it ends.
+    /// The beginning of the text at an index: the end of the text before it.
     fn start(&self, place: usize) -> usize
         requires { place < length self.now.ends.items }
         ensures { result ≡ get_or (0 ∷ self.now.ends.items) place 0 }
@@ -47,7 +47,7 @@ impl Joined {
         if place == 0 { 0 } else { self.end(place - 1) }
     }
 
-    /// The text at a place.
+    /// The text at an index.
     pub fn text(&self, place: usize) -> &[u8]
         requires { place < length (texts self.now) }
         ensures { result.now ≡ get_or (texts self.now) place [] }
@@ -55,8 +55,8 @@ impl Joined {
         &self.bytes[self.start(place)..self.end(place)]
     }
 
-    /// Adds a text at the end. There is no room for it where memory is refused, or where all bytes
-    /// would be more than 2^32 - 1.
+    /// Adds a text at the end. Fails if memory is refused, or if all texts together would have more
+    /// than 2^32 - 1 bytes.
     pub fn push(&mut self, text: &[u8]) -> Result<(), AllocError>
         ensures ok { OnOk result (texts self.new ≡ texts self.old ++ text.now ∷ []) }
         ensures err { OnErr result (texts self.new ≡ texts self.old) }

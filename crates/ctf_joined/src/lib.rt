@@ -1,4 +1,4 @@
-//! Lists of texts in two pieces of memory, however many texts there are.
+//! Lists of texts in two allocations, however many texts there are.
 //!
 //! ```rust
 //! use ctf_joined::Joined;

@@ -17,3 +17,4 @@ pub mod Numerals
 pub mod Alone
 pub mod Masks
 pub mod MaskedRuns
+pub mod InBlocks

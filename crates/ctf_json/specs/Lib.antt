@@ -8,3 +8,4 @@ pub mod Plain
 pub mod PlainLexer
 pub mod PlainReader
 pub mod Readers
+pub mod Bits

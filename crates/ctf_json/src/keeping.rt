@@ -1,4 +1,4 @@
-//! Keeps values in a line.
+//! Stores values in a line.
 ghost use Rattle.std.specs.Prelude.{◌≡◌, ◌<◌, ℕ, List, Some, None, true, cond, length, set};
 ghost use Rattle.std.specs.Str.{bytes_eq};
 ghost use Rattle.serde_json.specs.Find.{get as found_under};
@@ -23,7 +23,7 @@ impl<'a> Line<'a> {
         }
     }
 
-    /// Keeps a value at a key, in place of one that is there.
+    /// Stores a value at a key, in place of the value that is there.
     #[inline]
     pub(crate) fn keep(&mut self, key: &str, place: usize, value: Read<'a>)
         requires place { place_in key.now keys ≡ Some place }
@@ -39,7 +39,7 @@ impl<'a> Line<'a> {
         }
     }
 
-    /// Keeps what is no list at a key, in place of a value that is there.
+    /// Stores a value that is no list at a key, in place of the value that is there.
     #[inline(always)]
     pub(crate) fn keep_at(&mut self, key: &str, place: usize, field: Field<'a>)
         requires { place_in key.now keys ≡ Some place }
@@ -50,7 +50,7 @@ impl<'a> Line<'a> {
         self.keep_field(place, field, wanted_list(key));
     }
 
-    /// Keeps what is no list.
+    /// Stores a value that is no list.
     #[inline]
     fn keep_field(&mut self, place: usize, field: Field<'a>, wanted: Wanted)
         requires { place < 30 }

@@ -5,17 +5,17 @@ ghost use Rattle.ctf_json.specs.Keys.{place_in, wanted_at};
 
 use crate::wanted::Wanted;
 
-/// Every key that is asked for. Those that most lines have come first.
+/// Every key that requests use. The keys of most lines come first.
 pub const KEYS: &[&str] = &[
     "s", "op", "d", "t", "name", "text", "from", "count", "sym", "bytes", "section", "offset",
     "names", "what", "type", "value", "size", "encoding", "bits", "contents", "index", "args",
     "tag", "root", "last", "model", "parent", "parname", "parlabel", "owner",
 ];
 
-/// How many these are.
+/// The number of these keys.
 pub(crate) const COUNT: usize = 30;
 
-/// Whether a name is that of a key. Both are short, and mostly differ at once.
+/// Whether a name is a key. Both are short, and mostly differ in the first byte.
 #[inline(always)]
 pub(crate) fn is_key(name: &str, key: &str) -> bool
     ensures { result ≡ bytes_eq name.now key.now }
@@ -33,8 +33,8 @@ pub(crate) fn is_key(name: &str, key: &str) -> bool
     true
 }
 
-/// The place of a name among the keys: known at once, and where the name is known, before any line
-/// is read.
+/// The index of a name among the keys. It takes constant time; for a constant name, the compiler
+/// computes it.
 #[inline(always)]
 pub(crate) fn place_of(name: &str) -> Option<usize>
     ensures place { result ≡ place_in name.now (map (λ key. key.now) KEYS.now) }
@@ -61,7 +61,7 @@ pub(crate) fn place_of(name: &str) -> Option<usize>
     }
 }
 
-/// The place of a key, where a name is that key.
+/// The index of a key, if the name is that key.
 #[inline(always)]
 #[tactic(auto, using(crate::proofs::Places::same_place))]
 fn place_at(name: &str, key: &str, place: usize) -> Option<usize>
@@ -74,7 +74,7 @@ fn place_at(name: &str, key: &str, place: usize) -> Option<usize>
     if is_key(name, key) { Some(place) } else { None }
 }
 
-/// The same of the keys of more than four letters.
+/// The same for keys of more than four letters.
 #[inline(always)]
 fn place_of_longer(name: &str) -> Option<usize>
     ensures place { result ≡ place_in name.now (map (λ key. key.now) KEYS.now) }
@@ -125,7 +125,7 @@ fn place_of_longer(name: &str) -> Option<usize>
     place_among(name, KEYS)
 }
 
-/// The place of a name among these.
+/// The index of a name among these keys.
 #[inline(never)]
 fn place_among(name: &str, keys: &[&str]) -> Option<usize>
     ensures place { result ≡ place_in name.now (map (λ key. key.now) keys.now) }
@@ -139,7 +139,7 @@ fn place_among(name: &str, keys: &[&str]) -> Option<usize>
     None
 }
 
-/// Which list is wanted at a key.
+/// Which list a key may have.
 #[inline(always)]
 pub(crate) fn wanted_list(key: &str) -> Wanted
     ensures { result ≡ wanted_at key.now }

@@ -1,4 +1,4 @@
-//! JSON of one line, lent from the line and from memory that is kept from line to line.
+//! The JSON of one line, borrowed from the line and from memory that is kept from line to line.
 //!
 //! ```rust
 //! use ctf_json::{Line, NotRead, Scratch, as_u64, get, read_line};

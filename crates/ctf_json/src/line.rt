@@ -1,4 +1,4 @@
-//! What is kept of a line.
+//! What is stored of a line.
 ghost use Rattle.std.specs.Prelude.{◌≡◌, length};
 
 use crate::keys::COUNT;
@@ -6,14 +6,14 @@ use crate::values::Field;
 use ctf_joined::Joined;
 use ctf_model::TypeNum;
 
-/// What is no list at each of the keys.
+/// The value at each of the keys, if it is no list.
 #[derive(Drop)]
 pub struct Fields<'a> {
     pub(crate) all: [Option<Field<'a>>; COUNT],
     ghost whole: { length all ≡ 30 },
 }
 
-/// What a line has at each of the keys.
+/// The value of a line at each of the keys.
 #[derive(Drop)]
 pub struct Line<'a> {
     pub(crate) fields: Fields<'a>,

@@ -1,4 +1,4 @@
-//! Reads lists into what is wanted of them, so that nothing is built for each item.
+//! Reads lists directly into the wanted form, so that nothing is built for each item.
 ghost use Rattle.std.specs.Prelude.{◌≡◌, ◌<◌, IfOk, None, OnOk, length, option_map, true};
 ghost use Rattle.std.specs.Prelude as std;
 ghost use Rattle.json.specs.Json.{items as read_items, value as read_value};
@@ -22,7 +22,7 @@ use ctf_model::TypeNum;
 use json::{Invalid, Token};
 use std::alloc::Global;
 
-/// What is kept of the items of an array that has begun.
+/// What is stored of the items of an array that has begun.
 pub(crate) fn list_at<'a>(
     alloc: Global,
     reader: &mut Reader<'a>,
@@ -45,7 +45,7 @@ pub(crate) fn list_at<'a>(
     }
 }
 
-/// The texts that the items of an array are, or nothing where one is no text.
+/// The items of an array if all are texts, else nothing.
 fn texts_at<'a>(alloc: Global, reader: &mut Reader<'a>, depth: usize) -> Result<Read<'a>, NotRead>
     ensures ok { IfOk result (λ v. IsListed wants.Texts
         (read_items (read_value depth) (length reader.old) reader.old) (read_said v) reader.new) }
@@ -68,7 +68,7 @@ fn texts_at<'a>(alloc: Global, reader: &mut Reader<'a>, depth: usize) -> Result<
     Ok(Read::Texts(texts))
 }
 
-/// The numbers that the items of an array are, or nothing where one is none of 16 bits.
+/// The items of an array if all are 16-bit numbers, else nothing.
 fn numbers_at<'a>(alloc: Global, reader: &mut Reader<'a>, depth: usize) -> Result<Read<'a>, NotRead>
     ensures ok { IfOk result (λ v. IsListed wants.Numbers
         (read_items (read_value depth) (length reader.old) reader.old) (read_said v) reader.new) }
@@ -91,7 +91,7 @@ fn numbers_at<'a>(alloc: Global, reader: &mut Reader<'a>, depth: usize) -> Resul
     Ok(Read::Numbers(numbers))
 }
 
-/// The number of a type, which is of 16 bits, that a value is which begins with a token.
+/// The 16-bit number of a type, if the value that begins with a token is one.
 #[inline(always)]
 fn small_number(token: Token<'_>) -> Option<TypeNum>
     ensures { result ≡ small (told (begun (token_of token.entry))) }
@@ -103,7 +103,7 @@ fn small_number(token: Token<'_>) -> Option<TypeNum>
     Some(TypeNum(u16::try_from(number).ok()?))
 }
 
-/// The text that a value is which begins with a token.
+/// The text, if the value that begins with a token is one.
 #[inline(always)]
 fn text<'a>(token: Token<'a>) -> Option<&'a str>
     ensures { option_map (λ text. text.now) result ≡ as_str (told (begun (token_of token.entry))) }

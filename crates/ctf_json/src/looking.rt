@@ -1,4 +1,4 @@
-//! Looking into a line, as serde_json does into its values.
+//! Look-ups in a line, as serde_json has them for its values.
 ghost use Rattle.std.specs.Prelude.{◌≡◌, codes, option_map, option_and_then};
 ghost use Rattle.serde_json.specs.Find.{get as found_under, as_array as array_said, as_bool as truth_said, as_i64 as signed_said, as_number as number_said, as_str as text_said, as_u64 as unsigned_said};
 ghost use Rattle.serde_json.specs.View.{number_view};
@@ -33,7 +33,7 @@ pub fn get<'v, 'a>(line: &'v Line<'a>, key: &str) -> Option<Value<'v, 'a>>
     }
 }
 
-/// What is no list at a key.
+/// The value at a key, if it is no list.
 #[inline(always)]
 fn plain_value<'v, 'a>(line: &'v Line<'a>, key: &str) -> Option<Value<'v, 'a>>
     ensures { option_map value_said result
@@ -89,7 +89,7 @@ pub fn as_i64(value: &Value<'_, '_>) -> Option<i64>
     as_number(value)?.as_i64()
 }
 
-/// The names of a line, where they are a list of texts. They are taken out of it.
+/// The names of a line, if they are a list of texts. They are taken out of the line.
 pub fn take_names(line: &mut Line<'_>) -> Option<Joined>
     ensures { option_map (λ names. texts_said (texts names)) result
         ≡ option_and_then array_said (found_under (codes "names") (line_said line.old)) }
@@ -97,8 +97,8 @@ pub fn take_names(line: &mut Line<'_>) -> Option<Joined>
     line.names.take()
 }
 
-/// The types of a line's arguments, where they are a list of numbers of 16 bits. They are taken out
-/// of it.
+/// The types of a line's arguments, if they are a list of 16-bit numbers. They are taken out of the
+/// line.
 pub fn take_args(line: &mut Line<'_>) -> Option<Vec<TypeNum>>
     ensures { option_map (λ args. numbers_said args.items) result
         ≡ option_and_then array_said (found_under (codes "args") (line_said line.old)) }

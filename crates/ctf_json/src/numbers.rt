@@ -1,4 +1,4 @@
-//! The value of a number's text, as serde_json has it.
+//! The value of a number's text, as serde_json reads it.
 ghost use Rattle.std.specs.Prelude.{◌≡◌, ◌==◌, ◌<◌, ◌≤◌, IfSome, IsTrue, Some, is_some, length, option_and_then, option_map, slice_index, true, false};
 ghost use Rattle.std.specs.Char.{digit_value};
 ghost use Rattle.std.specs.Str.Parse.{AllDigits};
@@ -37,7 +37,7 @@ fn digit(byte: u8) -> Option<u64>
     }
 }
 
-/// The value of digits alone, as almost all numbers are. A value that may not fit is left out.
+/// The value of a number that is digits only, as almost all are. `None` if it may not fit.
 #[inline(always)]
 fn digits_alone(bytes: &[u8]) -> Option<u64>
     ensures { IfSome result (λ n. number_from false (scan bytes.now) ≡ Some (unsigned_number n)) }
@@ -97,7 +97,7 @@ pub fn number(text: &str) -> Option<Number>
     }
 }
 
-/// The value of a number's text that is no sign and no fraction, and fits.
+/// The value of a number's text, if it has no sign and no fraction, and fits.
 #[inline(always)]
 pub(crate) fn natural(text: &str) -> Option<u64>
     ensures { result ≡ option_and_then unsigned_of (number_of text.now) }
@@ -112,7 +112,7 @@ pub(crate) fn natural(text: &str) -> Option<u64>
     }
 }
 
-/// Whether a text is digits alone, and so few that the value fits.
+/// Whether a text is digits only, and so few that the value fits.
 fn are_few_digits(bytes: &[u8]) -> bool
     ensures { IsTrue result
         → (0 < length bytes.now) × (length bytes.now ≤ 19) × AllDigits 10 bytes.now }
@@ -131,7 +131,7 @@ fn are_few_digits(bytes: &[u8]) -> bool
     true
 }
 
-/// Whether a number's text has a value. That of few digits isn't looked for.
+/// Whether a number's text has a value. For few digits, the value is not computed.
 pub(crate) fn has_value(text: &str) -> bool
     ensures { result ≡ is_some (number_of text.now) }
 {

@@ -1,4 +1,4 @@
-//! Passes values that no one asks for, and builds nothing.
+//! Skips values that no request uses, and builds nothing.
 ghost use Rattle.std.specs.Prelude.{◌≡◌, ◌<◌, ◌≤◌, ◌∷◌, None, Some, MatchResult, OnOk, length};
 ghost use Rattle.json.specs.Reads.{token_of};
 ghost use Rattle.ctf_json.specs.Memory.{IsLeft};
@@ -8,7 +8,7 @@ use crate::numbers::has_value;
 use crate::readers::Reader;
 use json::{Invalid, Token};
 
-/// Passes a value. Invalid if there is none whose arrays and objects nest no deeper than `depth`,
+/// Skips a value. Invalid if there is no value, if its arrays and objects nest deeper than `depth`,
 /// or if one of its numbers has no value.
 #[cycle(pass)]
 #[inline(always)]
@@ -25,7 +25,7 @@ pub(crate) fn pass(reader: &mut Reader<'_>, depth: usize) -> Result<(), Invalid>
     pass_from(token, reader, depth)
 }
 
-/// The same, where the first token of the value is read.
+/// The same, after the first token of the value was read.
 #[cycle(pass)]
 #[inline(always)]
 pub(crate) fn pass_from(
@@ -60,7 +60,7 @@ pub(crate) fn pass_from(
     }
 }
 
-/// Passes the items of an array that has begun, and its end.
+/// Skips the items of an array that has begun, and its end.
 #[cycle(pass)]
 #[inline(never)]
 pub(crate) fn pass_items(reader: &mut Reader<'_>, depth: usize) -> Result<(), Invalid>
@@ -74,7 +74,7 @@ pub(crate) fn pass_items(reader: &mut Reader<'_>, depth: usize) -> Result<(), In
     Ok(())
 }
 
-/// Passes the members of an object that has begun, and its end.
+/// Skips the members of an object that has begun, and its end.
 #[cycle(pass)]
 #[inline(never)]
 fn pass_members(reader: &mut Reader<'_>, depth: usize) -> Result<(), Invalid>

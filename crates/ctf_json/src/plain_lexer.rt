@@ -1,4 +1,4 @@
-//! Lexemes of a text without escapes, read where they stand.
+//! The tokens of a text without escapes, read in place.
 ghost use Rattle.std.specs.Prelude.{◌≡◌, ◌⊎◌, [], None, Some, IfSome, MatchOption, drop, false, true};
 ghost use Rattle.json.specs.Align.{is_blank};
 ghost use Rattle.json.specs.Lex.{between, class, lex, operator, other};
@@ -12,7 +12,7 @@ use crate::words::word;
 use json::Token;
 use std::marker::Model;
 
-/// A clause sees the text from the next lexeme on.
+/// Contracts see the text from the next token on.
 #[derive(Drop)]
 pub(crate) struct Lexer<'a> {
     text: &'a str,
@@ -41,7 +41,7 @@ impl<'a> Lexer<'a> {
         Lexer { text, at }
     }
 
-    /// The first byte of the next lexeme, or a space at the end.
+    /// The first byte of the next token, or a space at the end.
     #[inline(always)]
     pub(crate) fn peek(&self) -> u8
         ensures value { result ≡ head self.now }
@@ -50,7 +50,7 @@ impl<'a> Lexer<'a> {
         byte_at(self.text.as_bytes(), self.at)
     }
 
-    /// Passes a bracket, a comma or a colon.
+    /// Skips a bracket, a comma or a colon.
     #[inline(always)]
     pub(crate) fn skip(&mut self)
         requires { class (head self.old) ≡ operator }
@@ -91,7 +91,7 @@ impl<'a> Lexer<'a> {
         Some(&text[start..stop])
     }
 
-    /// Passes a string if one of two bytes stands right behind it.
+    /// Takes a string, if one of two bytes directly follows it.
     #[inline(always)]
     pub(crate) fn string_before(&mut self, one: u8, other: u8) -> Option<&'a str>
         requires opening { head self.old ≡ 34 }
@@ -115,7 +115,7 @@ impl<'a> Lexer<'a> {
         Some(&text[start..stop])
     }
 
-    /// Passes a number of few digits, if a comma or a brace stands right behind it.
+    /// Takes a number of few digits, if a comma or a brace directly follows it.
     #[inline(always)]
     pub(crate) fn digits(&mut self) -> Option<&'a str>
         ensures value { MatchOption result (self.new ≡ self.old) (λ s. IsNumber self.old s.now) }

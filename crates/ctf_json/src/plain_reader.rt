@@ -16,7 +16,7 @@ use crate::values::Field;
 use json::{Invalid, Token};
 use std::marker::Model;
 
-/// Where a reader stands.
+/// The state of a reader: what it has read last.
 #[derive(Clone, Copy, Drop)]
 pub(crate) enum Place {
     AfterComma,
@@ -41,7 +41,7 @@ impl Place {
     }
 }
 
-/// A clause sees the tokens that are still to come.
+/// Contracts see the tokens that are still to come.
 #[derive(Drop)]
 pub(crate) struct PlainReader<'a> {
     lexer: Lexer<'a>,
@@ -63,7 +63,7 @@ impl<'a> Model for PlainReader<'a> {
     ghost invariant = { λ a. NotBeforeComma a.place a.lexer };
 }
 
-/// Passes the comma that may follow a value.
+/// Skips the comma that may follow a value.
 #[inline(always)]
 fn after_value(lexer: &mut Lexer<'_>) -> Place
     ensures same { tokens_at result lexer.new ≡ punctuate after_value (lex between lexer.old) }
@@ -101,7 +101,7 @@ fn string<'a>(lexer: &mut Lexer<'a>) -> (Token<'a>, Place)
     }
 }
 
-/// The token that begins with c, where a value or a key may begin.
+/// The token that begins with `c`, where a value or a key may begin.
 #[inline(always)]
 fn begin<'a>(lexer: &mut Lexer<'a>, c: u8) -> (Token<'a>, Place)
     requires first { (head lexer.old ≡ c) × (is_blank (class c) ≡ false) }
@@ -146,7 +146,7 @@ fn close<'a>(lexer: &mut Lexer<'a>, c: u8) -> (Token<'a>, Place)
     }
 }
 
-/// The one bad token, and none after it.
+/// A bad token, and no further one.
 #[cold]
 fn refuse<'a>(place: Place) -> (Option<Token<'a>>, Place)
     ensures { Yields (refused_at place) result.0 [] × (result.1 ≡ Place.Failed) }
@@ -186,7 +186,7 @@ fn read<'a>(lexer: &mut Lexer<'a>, place: Place) -> (Option<Token<'a>>, Place)
     (Some(token), next)
 }
 
-/// The text or the number of few digits that is next, if a comma or a brace stands right behind it.
+/// The next text or number of few digits, if a comma or a brace directly follows it.
 #[inline(always)]
 fn field<'a>(lexer: &mut Lexer<'a>) -> Option<Field<'a>>
     ensures { MatchOption result (lexer.new ≡ lexer.old)
@@ -269,7 +269,7 @@ impl<'a> PlainReader<'a> {
         true
     }
 
-    /// Takes a key, if one is next and its colon stands right behind it.
+    /// Takes a key, if one is next and its colon directly follows.
     #[inline(always)]
     fn take_key(&mut self) -> Option<&'a str>
         ensures { MatchOption result (self.new ≡ self.old)
@@ -300,7 +300,7 @@ impl<'a> PlainReader<'a> {
         }
     }
 
-    /// The same, wherever the key and its colon stand.
+    /// The same, wherever the key and its colon are.
     #[inline(always)]
     fn any_key(&mut self) -> Result<Option<&'a str>, Invalid>
         ensures value { MatchResult result
@@ -315,8 +315,8 @@ impl<'a> PlainReader<'a> {
         }
     }
 
-    /// Takes a text or a number of few digits, if one is next and a comma or a brace stands right
-    /// behind it.
+    /// Takes a text or a number of few digits, if one is next and a comma or a brace directly
+    /// follows it.
     #[inline(always)]
     pub(crate) fn take_field(&mut self) -> Option<Field<'a>>
         ensures { MatchOption result (self.new ≡ self.old) (λ f. IsField self.old f self.new) }

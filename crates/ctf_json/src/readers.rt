@@ -1,4 +1,5 @@
-//! Readers of texts: over memory that is lent to them, or of a text without escapes, over none.
+//! Readers of texts: of any text, with memory that they borrow, or of a text without escapes,
+//! without memory.
 ghost use Rattle.std.specs.Prelude.{◌≡◌, [], ◌∷◌, None, Some, true, IfOk, MatchOption, MatchResult, OnErr, option_map};
 ghost use Rattle.std.specs.Bool.{MatchBool};
 ghost use Rattle.json.specs.Json.{after_end_array, read_key};
@@ -9,17 +10,20 @@ ghost use Rattle.ctf_json.specs.Memory.{has_byte};
 ghost use Rattle.ctf_json.specs.PlainReader.{IsField, token_said};
 
 use crate::plain_reader::PlainReader;
+use crate::runs::backslashes_16;
 use crate::scratch::Scratch;
 use crate::values::Field;
 use json::{Invalid, Token};
 use memchr::memchr;
 use std::alloc::AllocError;
 use std::marker::Model;
+use std::simd::prelude::*;
 
-/// How long a text is that is sooner read byte by byte than by way of an index, whatever its end.
+/// A text of at most this length is faster to read byte by byte than with an index, whatever its
+/// end.
 const SHORT: usize = 512;
 
-/// Whether a byte stands in a short text, which is looked through to its end.
+/// Whether a short text contains a byte. The loop never stops early.
 fn has_in_short(byte: u8, text: &[u8]) -> bool
     ensures { result ≡ has_byte byte text.now }
 {
@@ -42,7 +46,30 @@ fn has(byte: u8, text: &[u8]) -> bool
     }
 }
 
-/// Whether a text ends as an object does, and not in blanks.
+/// Whether a text has a backslash. A short one is looked through 16 bytes at a time, and its last
+/// 16 are looked at whether or not some of them were before.
+fn has_backslash(text: &[u8]) -> bool
+    ensures { result ≡ has_byte 92 text.now }
+{
+    if text.len() < 16 {
+        return has_in_short(b'\\', text);
+    }
+    if text.len() > SHORT {
+        return has(b'\\', text);
+    }
+    let mut i = 0;
+    while text.len() - i >= 16 {
+        let found = backslashes_16(u8x16::from_slice(&text[i..]));
+        if found != 0 {
+            return true;
+        }
+        i += 16;
+    }
+    let found = backslashes_16(u8x16::from_slice(&text[text.len() - 16..]));
+    found != 0
+}
+
+/// Whether a text ends in a brace, as an object does, and not in blanks.
 fn ends_object(text: &[u8]) -> bool {
     match text.last() {
         Some(byte) => *byte == b'}',
@@ -50,22 +77,22 @@ fn ends_object(text: &[u8]) -> bool {
     }
 }
 
-/// Whether a text is sooner read where it stands. By way of an index blanks are passed sooner: a
-/// text that is padded at its end is read so, unless it has a list, whose items may be short.
+/// Whether a text is faster to read in place. With an index, blanks are skipped faster: so a text
+/// that is padded at its end is read that way, unless it has a list, whose items may be short.
 fn is_sooner_plain(text: &[u8]) -> bool {
     text.len() <= SHORT || ends_object(text) || has(b'[', text)
 }
 
 #[derive(Drop)]
-pub(crate) enum Source<'a> {
+pub(crate) enum TextSource<'a> {
     Lent(json::Reader<'a>),
     Plain(PlainReader<'a>),
 }
 
-/// A clause sees the tokens that are still to come.
+/// Contracts see the tokens that are still to come.
 #[derive(Drop)]
 pub(crate) struct Reader<'a> {
-    source: Source<'a>,
+    source: TextSource<'a>,
 }
 
 impl<'a> Model for Reader<'a> {
@@ -96,7 +123,7 @@ fn lent_key<'a>(reader: &mut json::Reader<'a>) -> Result<Option<&'a str>, Invali
     }
 }
 
-/// The token that a field is.
+/// The token of a field.
 #[inline(always)]
 fn token<'a>(field: Field<'a>) -> Token<'a>
     ensures { token_of result ≡ token_said field.entry }
@@ -109,11 +136,11 @@ fn token<'a>(field: Field<'a>) -> Token<'a>
     }
 }
 
-fn lent<'a>(text: &'a str, scratch: &'a mut Scratch) -> Result<Reader<'a>, AllocError>
+fn reader_over<'a>(text: &'a str, scratch: &'a mut Scratch) -> Result<Reader<'a>, AllocError>
     ensures { IfOk result (λ reader. reader ≡ tokens text.now) }
 {
     Ok(Reader {
-        source: Source::Lent(json::Reader::new(text, scratch.lend()?)?),
+        source: TextSource::Lent(json::Reader::new(text, scratch.lend()?)?),
     })
 }
 
@@ -121,17 +148,17 @@ fn without_scratch<'a>(text: &'a str) -> Result<Reader<'a>, AllocError>
     ensures ok { IfOk result (λ reader. reader ≡ tokens text.now) }
     ensures full { OnErr result (has_byte 92 text.now ≡ true) }
 {
-    if has(b'\\', text.as_bytes()) {
+    if has_backslash(text.as_bytes()) {
         return Err(AllocError);
     }
     Ok(Reader {
-        source: Source::Plain(PlainReader::new(text)),
+        source: TextSource::Plain(PlainReader::new(text)),
     })
 }
 
 impl<'a> Reader<'a> {
-    /// A text without escapes is mostly read where it stands. Of others, strings with escapes are
-    /// written to the scratch, which grows to the length of the text; where it can't, a text
+    /// A text without escapes is mostly read in place. For other texts, strings with escapes are
+    /// written to the scratch, which grows to the length of the text. If it cannot grow, a text
     /// without escapes is read all the same.
     pub(crate) fn new(text: &'a str, scratch: &'a mut Scratch) -> Result<Reader<'a>, AllocError>
         ensures ok { IfOk result (λ reader. reader ≡ tokens text.now) }
@@ -142,7 +169,7 @@ impl<'a> Reader<'a> {
                 return Ok(reader);
             }
         }
-        match lent(text, scratch) {
+        match reader_over(text, scratch) {
             Ok(reader) => Ok(reader),
             Err(AllocError) => without_scratch(text),
         }
@@ -154,12 +181,12 @@ impl<'a> Reader<'a> {
             (λ t. self.old ≡ token_of t ∷ self.new) }
     {
         match &mut self.source {
-            Source::Plain(reader) => reader.next(),
-            Source::Lent(reader) => reader.next(),
+            TextSource::Plain(reader) => reader.next(),
+            TextSource::Lent(reader) => reader.next(),
         }
     }
 
-    /// The same, sooner where an item of a list is next that is a text or a number.
+    /// The same, faster if the next item of a list is a text or a number.
     #[inline(always)]
     pub(crate) fn next_item(&mut self) -> Option<Token<'a>>
         ensures { MatchOption result ((self.old ≡ []) × (self.new ≡ []))
@@ -179,43 +206,43 @@ impl<'a> Reader<'a> {
             (λ _. read_key self.old ≡ None) }
     {
         match &mut self.source {
-            Source::Plain(reader) => reader.next_key(),
-            Source::Lent(reader) => Ok(lent_key(reader)?),
+            TextSource::Plain(reader) => reader.next_key(),
+            TextSource::Lent(reader) => Ok(lent_key(reader)?),
         }
     }
 
-    /// Takes the brace that begins an object, if it is next and that is seen at once.
+    /// Takes the brace that begins an object, if it is the next byte.
     #[inline(always)]
     pub(crate) fn take_object(&mut self) -> bool
         ensures { MatchBool result (self.old ≡ spec.begin_object ∷ self.new)
             (self.new ≡ self.old) }
     {
         match &mut self.source {
-            Source::Plain(reader) => reader.take_object(),
-            Source::Lent(_) => false,
+            TextSource::Plain(reader) => reader.take_object(),
+            TextSource::Lent(_) => false,
         }
     }
 
-    /// Takes the bracket that begins an array, if it is next and that is seen at once.
+    /// Takes the bracket that begins an array, if it is the next byte.
     #[inline(always)]
     pub(crate) fn take_array(&mut self) -> bool
         ensures { MatchBool result (self.old ≡ spec.begin_array ∷ self.new)
             (self.new ≡ self.old) }
     {
         match &mut self.source {
-            Source::Plain(reader) => reader.take_array(),
-            Source::Lent(_) => false,
+            TextSource::Plain(reader) => reader.take_array(),
+            TextSource::Lent(_) => false,
         }
     }
 
-    /// Takes a text or a number of few digits, if one is next where that is seen at once.
+    /// Takes a text or a number of few digits, if it is next and can be read in one step.
     #[inline(always)]
     pub(crate) fn take_field(&mut self) -> Option<Field<'a>>
         ensures { MatchOption result (self.new ≡ self.old) (λ f. IsField self.old f self.new) }
     {
         match &mut self.source {
-            Source::Plain(reader) => reader.take_field(),
-            Source::Lent(_) => None,
+            TextSource::Plain(reader) => reader.take_field(),
+            TextSource::Lent(_) => None,
         }
     }
 
@@ -226,8 +253,8 @@ impl<'a> Reader<'a> {
             ((after_end_array self.old ≡ None) × (self.new ≡ self.old)) }
     {
         match &mut self.source {
-            Source::Plain(reader) => reader.take_end_array(),
-            Source::Lent(reader) => reader.take_end_array(),
+            TextSource::Plain(reader) => reader.take_end_array(),
+            TextSource::Lent(reader) => reader.take_end_array(),
         }
     }
 }

@@ -1,4 +1,4 @@
-//! Reads what is asked of a line, with memory that is lent to each read.
+//! Reads what requests use of a line, with memory that each call borrows.
 ghost use Rattle.std.specs.Prelude.{◌≡◌, ◌<◌, IfOk, MatchResult, OnOk, None, Some, Err, length, true};
 ghost use Rattle.json.specs.Json.{members as read_members, object, parse_map, value as read_value};
 ghost use Rattle.json.specs.Reads.{token_of};
@@ -21,10 +21,10 @@ use crate::values::{Field, Read};
 use json::{Invalid, Token};
 use std::alloc::Global;
 
-/// How deep arrays and objects may nest.
+/// The greatest depth to which arrays and objects may nest.
 const MAX_DEPTH: usize = 127;
 
-/// Why a text isn't read.
+/// Why a text is not read.
 #[derive(Clone, Copy, Drop)]
 pub enum NotRead {
     NotJson,
@@ -42,8 +42,8 @@ impl From<Invalid> for NotRead {
     }
 }
 
-/// Reads a text into a line without fields: what it has at the keys, if serde_json reads it.
-/// Nothing else is kept of it.
+/// Reads a text into a line without fields: its values at the keys, if serde_json reads it. Nothing
+/// else of it is stored.
 pub fn read_line<'a>(
     alloc: Global,
     text: &'a str,
@@ -64,7 +64,7 @@ pub fn read_line<'a>(
     Ok(())
 }
 
-/// Keeps what the next value has at the keys.
+/// Stores what the next value has at the keys.
 #[inline]
 fn line_at<'a>(alloc: Global, reader: &mut Reader<'a>, line: &mut Line<'a>) -> Result<(), NotRead>
     ensures ok { OnOk result (AreKept (IsNew line.old) (read_value 127 reader.old)
@@ -84,7 +84,7 @@ fn line_at<'a>(alloc: Global, reader: &mut Reader<'a>, line: &mut Line<'a>) -> R
     Ok(())
 }
 
-/// Keeps the members at the keys of an object that has begun: of those of one key the last.
+/// Stores the members at the keys, of an object that has begun; of a repeated key, the last value.
 #[inline]
 fn members_at<'a>(
     alloc: Global,
@@ -108,7 +108,7 @@ fn members_at<'a>(
     Ok(())
 }
 
-/// Passes a value that no one asks for.
+/// Skips a value that no request uses.
 #[inline(never)]
 fn pass_unknown(reader: &mut Reader<'_>, depth: usize) -> Result<(), Invalid>
     ensures passed { MatchResult result (λ _. passed_value depth reader.old ≡ Some reader.new)
@@ -119,7 +119,7 @@ fn pass_unknown(reader: &mut Reader<'_>, depth: usize) -> Result<(), Invalid>
     pass(reader, depth)
 }
 
-/// Keeps the next value at a key. Most are seen to end at once.
+/// Stores the next value at a key. The end of most values is found in one step.
 #[inline(always)]
 fn keep_next<'a>(
     alloc: Global,
@@ -167,7 +167,7 @@ fn keep_any<'a>(
     Ok(())
 }
 
-/// What is kept of the next value, which stands at a key.
+/// What is stored of the next value, which is at a key.
 #[inline]
 fn next_value<'a>(
     alloc: Global,
@@ -194,7 +194,7 @@ fn next_value<'a>(
     Ok(Read::Field(field_of(token)))
 }
 
-/// What is kept of a value that begins with a token: nothing of an array or an object.
+/// What is stored of a value that begins with a token: nothing of an array or an object.
 #[inline]
 fn field_of<'a>(token: Token<'a>) -> Field<'a>
     ensures { data_of result ≡ told (begun (token_of token.entry)) }

@@ -1,4 +1,4 @@
-//! Runs of bytes of a text.
+//! Searches for bytes that end a run of plain ones.
 ghost use Rattle.std.specs.Prelude.{◌≡◌, ◌+◌, ◌≤◌, ◌||◌, IsTrue, drop, get_or, length, map};
 ghost use Rattle.std.specs.Char.{is_ascii_digit};
 ghost use Rattle.std.specs.List.{prefix_len};
@@ -7,11 +7,12 @@ ghost use Rattle.json.specs.Align.{is_blank};
 ghost use Rattle.json.specs.Lex.{between, class, in_word, lex};
 ghost use Rattle.json.specs.Run.{is_plain, is_stop};
 ghost use Rattle.json.specs.Word.{head, is_operator, is_space};
+ghost use Rattle.ctf_json.specs.Bits.{bits_of};
 ghost use Rattle.ctf_json.specs.Plain.{BeginsOrEnds};
 
 use std::simd::prelude::*;
 
-/// The byte at a place, or a space past the end.
+/// The byte at a place, or a space after the end.
 #[inline(always)]
 pub(crate) fn byte_at(text: &[u8], i: usize) -> u8
     ensures value { result ≡ get_or text.now i 32 }
@@ -52,7 +53,15 @@ fn stops_16(v: u8x16) -> u64
         | v.simd_lt(u8x16::splat(0x20))).to_bitmask()
 }
 
-/// The same of 64 bytes.
+/// Which of 16 bytes are backslashes, a bit for each.
+#[inline(always)]
+pub(crate) fn backslashes_16(v: u8x16) -> u64
+    ensures { result ≡ bits_of 92 v }
+{
+    v.simd_eq(u8x16::splat(b'\\')).to_bitmask()
+}
+
+/// Which of 64 bytes are quotes, backslashes or control bytes, a bit for each.
 #[inline(always)]
 fn stops_64(v: u8x64) -> u64
     ensures { result ≡ mask_l (map is_stop v) }
@@ -62,7 +71,7 @@ fn stops_64(v: u8x64) -> u64
         | v.simd_lt(u8x64::splat(0x20))).to_bitmask()
 }
 
-/// The same of 8 bytes.
+/// The same for 8 bytes.
 #[inline(always)]
 fn stops_8(v: u8x8) -> u64
     ensures { result ≡ mask_l (map is_stop v) }
@@ -84,7 +93,8 @@ fn plain_end_slowly(text: &[u8], from: usize) -> usize
     i
 }
 
-/// The first of them among the last bytes of a text, fewer than 16, or the length.
+/// The first of them among the last bytes of a text, which are fewer than 16; the text's length if
+/// there is none.
 #[inline(always)]
 fn plain_end_8(text: &[u8], from: usize) -> usize
     requires { from ≤ length text.now }
@@ -100,7 +110,8 @@ fn plain_end_8(text: &[u8], from: usize) -> usize
     plain_end_slowly(text, from + 8)
 }
 
-/// The last place, some 64s on, up to which none of them stands. Long texts alone come here.
+/// Skips blocks of 64 bytes that have none of them, and returns the place after these. Only for
+/// long texts.
 #[inline(never)]
 fn passed_blocks(text: &[u8], from: usize) -> usize
     requires { from ≤ length text.now }
@@ -119,8 +130,8 @@ fn passed_blocks(text: &[u8], from: usize) -> usize
     i
 }
 
-/// Where to look on from a place up to which none of them stands: a text that is 64 bytes long by
-/// then is likely to be much longer.
+/// The place from which to continue, if there is none of them before place `i`: a text with 64
+/// plain bytes is likely to be much longer.
 #[inline(always)]
 fn next_place(text: &[u8], from: usize, i: usize) -> usize
     requires { (from ≤ i) × (i ≤ length text.now) }
@@ -135,7 +146,7 @@ fn next_place(text: &[u8], from: usize, i: usize) -> usize
     }
 }
 
-/// The first quote, backslash or control byte from a place on, or the length.
+/// The first quote, backslash or control byte from a place on, or the text's length.
 #[inline(always)]
 pub(crate) fn plain_end(text: &[u8], from: usize) -> usize
     requires { from ≤ length text.now }
@@ -160,8 +171,8 @@ pub(crate) fn is_digit(c: u8) -> bool
     (b'0' <= c) & (c <= b'9')
 }
 
-/// Whether so many digits are a number of few digits: one zero, or at most 19 digits with no zero
-/// in front.
+/// Whether so many digits are a number of few digits: a single zero, or at most 19 digits without a
+/// zero in front.
 #[inline(always)]
 pub(crate) fn are_few(first: u8, count: usize) -> bool
     ensures { IsTrue result → (count ≤ 19) × (first ≡ 48 → count ≤ 1) }
@@ -186,7 +197,7 @@ pub(crate) fn digits_end(text: &[u8], from: usize) -> usize
     i
 }
 
-/// Where the next lexeme begins, or the length.
+/// Where the next token begins, or the text's length.
 #[inline(always)]
 pub(crate) fn blanks_end(text: &[u8], from: usize) -> usize
     requires { from ≤ length text.now }
@@ -201,7 +212,7 @@ pub(crate) fn blanks_end(text: &[u8], from: usize) -> usize
     i
 }
 
-/// Where the word ends that a place is in.
+/// Where the word ends that has the byte at a place.
 #[inline(always)]
 pub(crate) fn word_end(text: &[u8], from: usize) -> usize
     requires { from ≤ length text.now }

@@ -1,9 +1,9 @@
-//! Memory that reading a text takes, if it takes any.
+//! The memory that reading a text takes, if it takes any.
 
 use std::alloc::{AllocError, Global};
 
-/// The memory that reading a text takes. It is made where a text first needs it, so that one which
-/// is read where it stands costs nothing.
+/// The memory that reading a text takes. It is allocated when a text first needs it, so texts that
+/// are read in place cost nothing.
 #[derive(Drop)]
 pub struct Scratch {
     alloc: Global,
@@ -11,12 +11,12 @@ pub struct Scratch {
 }
 
 impl Scratch {
-    /// Nothing is made yet.
+    /// No memory yet.
     pub fn new(alloc: Global) -> Scratch {
         Scratch { alloc, kept: None }
     }
 
-    /// What a reader is lent.
+    /// The memory, for a reader to borrow.
     pub(crate) fn lend(&mut self) -> Result<&mut json::Scratch, AllocError> {
         match &mut self.kept {
             Some(scratch) => Ok(&mut **scratch),

@@ -2,7 +2,7 @@
 use ctf_joined::Joined;
 use ctf_model::TypeNum;
 
-/// What is kept of a value that is no list.
+/// What is stored of a value that is no list.
 #[derive(Clone, Copy, Drop)]
 pub enum Field<'a> {
     Null,
@@ -12,8 +12,8 @@ pub enum Field<'a> {
     String(&'a str),
 }
 
-/// What is kept of a value that was read. Of an array all texts or all numbers of types, which are
-/// of 16 bits, at the key where these are wanted; any other, and an object, is null.
+/// What is stored of a value that was read: an array of texts or of 16-bit type numbers, at the key
+/// that may have one; any other array, and an object, is null.
 #[derive(Drop)]
 pub enum Read<'a> {
     Field(Field<'a>),

@@ -1,6 +1,6 @@
-//! Which lists are kept.
+//! Which lists are stored.
 
-/// What a list at a key is to be; any other is not kept.
+/// What a list at a key has to contain; any other list is not stored.
 #[derive(Clone, Copy, Drop)]
 pub enum Wanted {
     Texts,

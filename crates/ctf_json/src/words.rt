@@ -1,4 +1,4 @@
-//! Numbers and the three literals, as words of a text.
+//! Numbers and the three literals `true`, `false` and `null`.
 ghost use Rattle.std.specs.Prelude.{◌≡◌, ◌<◌, ◌≤◌, drop, length, nat_eq};
 ghost use Rattle.std.specs.List.{starts_with};
 ghost use Rattle.json.specs.Word.{after_digits, after_minus, after_sign, number_before, literal, after_whole, after_fraction, after_exponent, after_number, word};
@@ -99,7 +99,7 @@ fn number<'a>(text: &'a str, from: usize) -> Token<'a>
     }
 }
 
-/// Whether a text begins with a name.
+/// Whether a text begins with these bytes.
 #[inline(always)]
 fn begins_with(text: &[u8], name: &[u8]) -> bool
     ensures { result ≡ starts_with nat_eq text.now name.now }

@@ -1,5 +1,5 @@
-//! Laws of good libraries: whose slots and publications break no rule, whose parents serve, and
-//! whose drafts are sound and were written as they stand.
+//! Laws of good libraries: their slots and publications break no rule, each parent has the types
+//! that its child names, each draft is sound, and its slot has what its last update wrote.
 ghost use Rattle.ctf_laws.specs.GoodLaws.{
   AnswersAreOfWhatIsDenoted,
   BytesDenoteWhatWasAdded,
@@ -20,7 +20,7 @@ ghost use Rattle.ctf_laws.specs.GoodLaws.{
 ghost use Rattle.ctf_laws.specs.Replied.{RunsReplyRightly};
 ghost use Rattle.ctf_laws.specs.Right.{RightIsOne};
 
-/// An empty library is good, and each request leaves a good one good: so all libraries are good
+/// An empty library is good, and each request keeps a good library good. So all libraries are good
 /// after any run, whatever sessions ask, in any order, and wherever memory is refused.
 pub fn libraries_stay_good()
     ensures empty { NothingIsGood }
@@ -32,15 +32,15 @@ pub fn libraries_stay_good()
     ensures lines { LinesFit }
 {}
 
-/// The lists of a good slot denote one dictionary, and those of its parent one; each question is
-/// answered of these two.
+/// The lists of a good slot denote exactly one dictionary, and so do those of its parent; each
+/// question is answered from these two.
 pub fn answers_are_of_what_is_denoted()
     ensures there { SlotsDenote }
     ensures answers { AnswersAreOfWhatIsDenoted }
 {}
 
-/// What is opened or checked is refused by the first rule that it breaks and by nothing else, but
-/// for slots that are all in use; what is accepted breaks none.
+/// What is opened or checked is refused by the first rule that it breaks, and for no other reason
+/// than that all slots are in use; what is accepted breaks no rule.
 pub fn stages_are_judged()
     ensures refused { ChecksRefuseByTheFirstRule }
     ensures accepted { ChecksAcceptWhatKeepsEveryRule }
@@ -54,15 +54,15 @@ pub fn bytes_denote_what_was_added()
     ensures added { BytesDenoteWhatWasAdded }
 {}
 
-/// Each reply of a run is right of the library that its line meets: a question is answered of the
-/// one dictionary that the lists of its slot denote, lists are refused by the first rule that they
-/// break, and what an update wrote denotes what its draft held.
+/// Each reply of a run is right for the library as it was before the line. A question is answered
+/// from the one dictionary that the lists of its slot denote. Lists are refused by the first rule
+/// that they break, and what an update wrote denotes what its draft held.
 pub fn runs_reply_rightly()
     ensures { RunsReplyRightly }
 {}
 
-/// A reply that is right is the only one: what is said to a request and what is left of the library
-/// that it met are settled.
+/// Only one reply is right: the request and the library before it decide the reply and the library
+/// after it.
 pub fn right_is_one()
     ensures { RightIsOne }
 {}

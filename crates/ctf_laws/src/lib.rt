@@ -1,5 +1,5 @@
-//! Laws over whole runs of a service: what each library keeps, whatever is asked, and what follows
-//! from that. Each is the contract of a function that does nothing.
+//! Laws over whole runs of a service: the invariants of each library, whatever is asked, and what
+//! follows from them. Each is the contract of a function that does nothing.
 //!
 //! ```rust
 //! use ctf_laws::numbers_are_given_once;

@@ -1,7 +1,7 @@
 //! Laws that a user of sessions counts on.
 ghost use Rattle.ctf_laws.specs.PlainLaws.{NumbersAreGivenOnce, ParentsStay, PublicationsStay};
 
-/// No number of a slot is given twice before a reset.
+/// No slot number is given twice before a reset.
 pub fn numbers_are_given_once()
     ensures { NumbersAreGivenOnce }
 {}
@@ -11,7 +11,7 @@ pub fn publications_stay()
     ensures { PublicationsStay }
 {}
 
-/// A slot's parent is what it was when it was imported, until another is.
+/// A slot's parent stays as it was at the import, until another parent is imported.
 pub fn parents_stay()
     ensures { ParentsStay }
 {}

@@ -1,4 +1,4 @@
-//! Amounts from other amounts.
+//! Computes sizes and alignments from others.
 ghost use Rattle.std.specs.Prelude.{◌≡◌};
 ghost use Rattle.ctf_layout.specs.Bases.{row_size};
 ghost use Rattle.ctf_layout.specs.Extents.{amount};
@@ -7,7 +7,7 @@ ghost use Rattle.ctf_model.specs.figures.Figures.{greater as greater_of, times};
 use crate::bases::Row;
 use crate::extents::{Amount, Refusal};
 
-/// The greater of two, or the first refusal.
+/// The greater of two amounts, or the first refusal.
 pub fn greater(a: Amount, b: Amount) -> Amount
     ensures { amount result ≡ greater_of (amount a) (amount b) }
 {
@@ -18,7 +18,7 @@ pub fn greater(a: Amount, b: Amount) -> Amount
     }
 }
 
-/// The size of so many elements of a size.
+/// The size of so many elements of this size.
 fn repeated_amount(count: u32, size: Amount) -> Amount
     ensures { amount result ≡ times count (amount size) }
 {
@@ -31,7 +31,7 @@ fn repeated_amount(count: u32, size: Amount) -> Amount
     }
 }
 
-/// The size of a row of elements of a size, or that size itself.
+/// The size of a row of elements, or that of the element if there is no row.
 pub fn row_amount(row: Option<Row>, element: Amount) -> Amount
     ensures { amount result ≡ row_size row (amount element) }
 {

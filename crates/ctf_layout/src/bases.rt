@@ -1,35 +1,32 @@
-//! What the size and the alignment of a type hang on, and which type it stands for.
+//! What the size and the alignment of a type depend on, and which type it resolves to.
 ghost use Rattle.std.specs.Prelude.{◌≡◌, Some, min, option_map, unwrap_or};
-ghost use Rattle.ctf_check.specs.CheckedView.{IsOwn, tables_of};
+ghost use Rattle.ctf_check.specs.TypedView.{term_in};
 ghost use Rattle.ctf_layout.specs.Bases.{basis as basis_word, both as both_of, of_array, of_function, of_nothing, of_other};
 ghost use Rattle.ctf_model.specs.format.Shown.{array_in, shape, size_of};
 ghost use Rattle.ctf_model.specs.spaces.Space.{pointer_size as pointer_size_of};
-ghost use Rattle.ctf_model.specs.format.Spelling.{term_of};
-ghost use Rattle.ctf_records.specs.RecordView.{bytes_of};
 ghost use Rattle.ctf_views.specs.VariantView.{shown_of};
 
 use crate::extents::{Amount, Refusal};
-use ctf_check::Checked;
+use ctf_check::Typed;
 use ctf_model::{DataModel, Kind, TypeNum};
-use ctf_records::Record;
 use ctf_views::Variant;
 
-/// What an array says: its size, or 0, and how many elements it has.
+/// What the record of an array says: its size, or 0, and the number of its elements.
 #[derive(Clone, Copy, Debug, PartialEq, Eq)]
 pub struct Row {
     pub size: u64,
     pub count: u32,
 }
 
-/// What the size and the alignment of a type hang on. A type stands for itself, but for one that is
-/// as one other is.
+/// What the size and the alignment of a type depend on. Typedefs and qualifiers resolve to another
+/// type; all others resolve to themselves.
 #[derive(Clone, Copy, Debug, PartialEq, Eq)]
 pub enum Basis {
-    /// On nothing else: the size, and the alignment.
+    /// On no other type: the size, and the alignment.
     Itself(Amount, Amount),
-    /// On those of one type, as they are or for a row of elements.
+    /// On those of one type: the same, or for a row of elements.
     One(TypeNum, Option<Row>),
-    /// Its size is said; the alignment hangs on so many of its members.
+    /// The record has the size; the alignment depends on so many of its members.
     Members(u64, usize),
 }
 
@@ -85,40 +82,34 @@ fn other(reference: Option<TypeNum>) -> Basis
     }
 }
 
-/// The size that a type says, or 0.
-fn said_size<'a>(dictionary: &Checked<'a>, term: &Record<'a>) -> u64
-    requires own { IsOwn dictionary.now term.now }
-    ensures { option_map (λ x. unwrap_or (size_of x.body) 0)
-        (term_of (tables_of dictionary.now) (bytes_of term.now)) ≡ Some result }
+/// The size in a type's record, or 0.
+fn said_size(term: &Typed<'_>) -> u64
+    ensures { option_map (λ x. unwrap_or (size_of x.body) 0) (term_in term.now) ≡ Some result }
 {
-    dictionary.size(term).unwrap_or(0)
+    term.size().unwrap_or(0)
 }
 
-/// What those of a type of a dictionary hang on.
+/// What the size and the alignment of a type of a dictionary depend on.
 #[inline(always)]
-pub fn basis_of<'a>(dictionary: &Checked<'a>, term: &Record<'a>, model: DataModel) -> Basis
-    requires own { IsOwn dictionary.now term.now }
-    ensures { option_map (λ x. basis_word model (shape x.body))
-        (term_of (tables_of dictionary.now) (bytes_of term.now)) ≡ Some result }
+pub fn basis_of(term: &Typed<'_>, model: DataModel) -> Basis
+    ensures { option_map (λ x. basis_word model (shape x.body)) (term_in term.now) ≡ Some result }
 {
-    match dictionary.kind(term) {
-        Kind::KInteger | Kind::KFloat => both(said_size(dictionary, term)),
+    match term.kind() {
+        Kind::KInteger | Kind::KFloat => both(said_size(term)),
         Kind::KPointer => both(pointer_size(model)),
-        Kind::KArray => array(said_size(dictionary, term), &dictionary.variant(term)),
+        Kind::KArray => array(said_size(term), &term.variant()),
         Kind::KFunction => function(model),
         Kind::KStruct => {
-            let read = dictionary.value_count(term).min(1);
-            Basis::Members(said_size(dictionary, term), read)
+            let read = term.value_count().min(1);
+            Basis::Members(said_size(term), read)
         }
-        Kind::KUnion => {
-            Basis::Members(said_size(dictionary, term), dictionary.value_count(term))
-        }
+        Kind::KUnion => Basis::Members(said_size(term), term.value_count()),
         Kind::KEnum => {
-            let size = said_size(dictionary, term);
+            let size = said_size(term);
             both(if size > 0 { size } else { 4 })
         }
         Kind::KTypedef | Kind::KVolatile | Kind::KConst | Kind::KRestrict => {
-            other(dictionary.reference(term))
+            other(term.reference())
         }
         Kind::KForward | Kind::KUnknown => nothing(),
     }

@@ -1,4 +1,4 @@
-//! Extents as they are kept, each in 24 bytes.
+//! Entries of the table of sizes and alignments, 24 bytes each.
 ghost use Rattle.std.specs.Prelude.{◌≡◌, None, Some};
 ghost use Rattle.ctf_layout.specs.Kept.{amount_kept, extent_kept, extent_said as said_by, target_kept, unless_open};
 ghost use Rattle.ctf_layout.specs.declared.extents.Extent.{Extent as WholeExtent};
@@ -7,7 +7,7 @@ use crate::extents::{Amount, Extent, Refusal, Target};
 use ctf_model::TypeNum;
 use std::mem::size_of;
 
-/// Whether there is a number, or why there is none; or that this is still open.
+/// Whether there is a number, or why there is none; or that the entry is still open.
 #[derive(Clone, Copy, Debug, PartialEq, Eq)]
 pub enum Standing {
     Open,
@@ -18,7 +18,7 @@ pub enum Standing {
     NoParent,
 }
 
-/// The size and the alignment of a type, and the type that it stands for, where they were found.
+/// The size, the alignment and the resolved type of a type, once they were computed.
 #[derive(Clone, Copy, Debug, PartialEq, Eq)]
 pub struct KeptExtent {
     size: u64,
@@ -29,7 +29,7 @@ pub struct KeptExtent {
     resolved: Standing,
 }
 
-/// How many bytes a type takes in a layout.
+/// The bytes of an entry.
 const ENTRY_LEN: usize = size_of::<KeptExtent>();
 
 const _: [(); 24] = [(); ENTRY_LEN];
@@ -88,7 +88,7 @@ impl Standing {
         }
     }
 
-    /// An extent, unless it is open.
+    /// The extent, unless the entry is open.
     #[inline(always)]
     fn extent_unless_open(self, extent: Extent) -> Option<Extent>
         ensures { result ≡ unless_open self extent }
@@ -105,7 +105,7 @@ impl Standing {
 }
 
 impl KeptExtent {
-    /// One that is still to be found.
+    /// An entry that is still to be computed.
     pub fn open() -> KeptExtent
         ensures { extent_kept result ≡ None }
     {
@@ -136,7 +136,7 @@ impl KeptExtent {
         }
     }
 
-    /// What was found.
+    /// The extent, if it was computed.
     #[inline(always)]
     pub fn extent(self) -> Option<Extent>
         ensures { result ≡ extent_kept self }
@@ -144,7 +144,7 @@ impl KeptExtent {
         self.sized.extent_unless_open(self.extent_said())
     }
 
-    /// What it says: of an open one that there is no type.
+    /// The extent; for an open entry, that of a missing type.
     #[inline(always)]
     pub fn extent_said(self) -> Extent
         ensures { result ≡ said_by self }
@@ -156,7 +156,7 @@ impl KeptExtent {
         }
     }
 
-    /// The same, in fewer steps where nothing is refused.
+    /// The same, in fewer steps if nothing is refused.
     #[inline(always)]
     pub fn figures(self) -> Extent
         ensures { result ≡ said_by self }
@@ -171,7 +171,7 @@ impl KeptExtent {
         }
     }
 
-    /// The alignment that was found.
+    /// The alignment that was computed.
     #[inline(always)]
     pub fn alignment(self) -> Amount
         ensures { (e : WholeExtent) → extent_kept self ≡ Some e → result ≡ e.align }

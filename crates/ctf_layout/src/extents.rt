@@ -1,4 +1,4 @@
-//! Sizes and alignments of types, and the types that they stand for, together.
+//! Sizes, alignments and resolved types, together.
 ghost use Rattle.std.specs.Prelude.{◌≡◌};
 ghost use Rattle.std.specs.Result.{result_map_both};
 ghost use Rattle.ctf_layout.specs.Extents.{amount as amount_of, code_of, of_no_type as no_type_extent, refusal_extent as refused_extent, target as target_of};
@@ -14,21 +14,21 @@ pub enum Refusal {
     NoParent,
 }
 
-/// What a type comes to, or why it comes to nothing.
+/// A size or an alignment, or why there is none.
 #[derive(Clone, Copy, Debug, PartialEq, Eq)]
 pub enum Amount {
     Known(u64),
     Refused(Refusal),
 }
 
-/// The type that a type stands for, or why there is none.
+/// The type that a type resolves to, or why there is none.
 #[derive(Clone, Copy, Debug, PartialEq, Eq)]
 pub enum Target {
     Known(TypeNum),
     Refused(Refusal),
 }
 
-/// The size and the alignment of a type, in bytes, and the type that it stands for.
+/// The size and the alignment of a type, in bytes, and the type that it resolves to.
 #[derive(Clone, Copy, Debug, PartialEq, Eq)]
 pub struct Extent {
     pub size: Amount,
@@ -76,7 +76,7 @@ impl Target {
     }
 }
 
-/// Neither a size nor an alignment, nor a type that is stood for.
+/// No size, no alignment and no resolved type, for this reason.
 #[inline(always)]
 pub fn refused(refusal: Refusal) -> Extent
     ensures { result ≡ refused_extent refusal }
@@ -88,7 +88,7 @@ pub fn refused(refusal: Refusal) -> Extent
     }
 }
 
-/// Those of the number 0, which is no type and stands for itself.
+/// The extent of the number 0, which is no type and resolves to itself.
 #[inline(always)]
 pub fn of_no_type() -> Extent
     ensures { result ≡ no_type_extent }

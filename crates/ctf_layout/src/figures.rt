@@ -1,4 +1,4 @@
-//! The type that a type stands for, and the one that it refers to.
+//! The type that a type resolves to, and the one that it refers to.
 ghost use Rattle.std.specs.Prelude.{◌≡◌, Ok, option_map};
 ghost use Rattle.std.specs.Result.{result_map_both};
 ghost use Rattle.ctf_check.specs.FactsView.{shape_view};
@@ -11,12 +11,11 @@ use ctf_model::{Fault, Kind, Place, TypeNum, placeless};
 use ctf_space::Space;
 use ctf_views::Variant;
 
-/// As many numbers as can follow on each other in a dictionary:
-/// the longest chain of steps, one type
-/// more, and what stands behind that.
+/// The greatest number of types in a chain within a dictionary: the steps of the longest chain, one
+/// more type, and the number after it.
 const MOST_NUMBERS: u16 = 514;
 
-/// The type that a typedef or a qualifier stands for.
+/// The type that a typedef or a qualifier refers to.
 fn alias_target(x: &Shape<'_>) -> Option<TypeNum>
     ensures { option_map (λ t. t.0) result ≡ renamed_of (shape_view x.now) }
 {
@@ -26,8 +25,7 @@ fn alias_target(x: &Shape<'_>) -> Option<TypeNum>
     }
 }
 
-/// Follows typedefs and qualifiers as far as own types lead.
-/// A parent's number is left as it stands.
+/// Follows typedefs and qualifiers among own types. A number of the parent's is not followed.
 fn follow(space: &Space<'_>, number: TypeNum) -> Result<TypeNum, Fault>
     ensures { result_map_both (λ t. t.0) (λ f. f) result
         ≡ follow_own (space_of space.now).own number.0 }
@@ -49,7 +47,7 @@ fn follow(space: &Space<'_>, number: TypeNum) -> Result<TypeNum, Fault>
     Err(placeless(Fault::INCOMPLETE))
 }
 
-/// The same in the parent of a space, where a parent's number names nothing further.
+/// The same in the parent of a space, where numbers of a parent lead no further.
 fn follow_parents(parent: &Space<'_>, number: TypeNum) -> Result<TypeNum, Fault>
     ensures { let d = (space_of parent.now).own in result_map_both (λ t. t.0) (λ f. f) result
         ≡ resolved_type (space_alone d (space_of parent.now).model) number.0 }
@@ -61,7 +59,7 @@ fn follow_parents(parent: &Space<'_>, number: TypeNum) -> Result<TypeNum, Fault>
     }
 }
 
-/// What a number that own types lead to stands for in the parent, if it is a parent's.
+/// Follows a number in the parent, if it is one of the parent's.
 fn onward(space: &Space<'_>, at: TypeNum) -> Result<TypeNum, Fault>
     ensures { let s = space_of space.now in result_map_both (λ t. t.0) (λ f. f) result
         ≡ onward_of (parents_figure resolving s.parent) s.own (Ok at.0) }
@@ -75,7 +73,7 @@ fn onward(space: &Space<'_>, at: TypeNum) -> Result<TypeNum, Fault>
     }
 }
 
-/// The type that a type stands for, typedefs and qualifiers followed; 0 where that is no type.
+/// The type that a type resolves to, through typedefs and qualifiers; 0 if that is no type.
 pub fn resolve(space: &Space<'_>, number: TypeNum) -> Result<TypeNum, Fault>
     ensures { result_map_both (λ t. t.0) (λ f. f) result
         ≡ resolved_type (space_of space.now) number.0 }

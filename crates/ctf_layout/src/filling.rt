@@ -1,5 +1,4 @@
-//! The table of sizes, alignments and types that are stood for, filled: the extent of each own type
-//! is found once.
+//! Fills the table of sizes, alignments and resolved types: each own type is computed once.
 ghost use Rattle.std.specs.Prelude.{◌≡◌, ℕ, ◌+◌, ◌<◌, ◌≤◌, Some, None, IsSome, MatchOption, length, slice_set};
 ghost use Rattle.ctf_layout.specs.Extents.{IsExtent, itself};
 ghost use Rattle.ctf_layout.specs.Kept.{IsByKept, IsKept, extent_kept, table_kept};
@@ -18,7 +17,7 @@ use ctf_chains::{LONGEST_CHAIN, Ticks};
 use ctf_model::{Place, TypeNum};
 use std::sync::ledger::Ledger;
 
-/// The own type that a number names, from 0, where there are that many.
+/// The own type with a number, counted from 0, if there are that many.
 fn own_index<L: Ledger, T: Types<L>>(types: &T, number: TypeNum) -> Option<usize>
     ensures { let d = (T.space types.now).own in
         result ≡ own_index_of d.child (length d.terms) number.0 }
@@ -29,7 +28,7 @@ fn own_index<L: Ledger, T: Types<L>>(types: &T, number: TypeNum) -> Option<usize
     }
 }
 
-/// The extent of a number that names no own type.
+/// The extent of a number that is no own type's.
 fn elsewhere<L: Ledger, T: Types<L>>(types: &T, number: TypeNum) -> Extent
     requires not_own { let d = (T.space types.now).own in
         own_index_of d.child (length d.terms) number.0 ≡ None }
@@ -44,7 +43,7 @@ fn elsewhere<L: Ledger, T: Types<L>>(types: &T, number: TypeNum) -> Extent
     }
 }
 
-/// What the table has of a type.
+/// The entry of a type.
 #[inline(always)]
 fn entry_at(table: &[KeptExtent], i: usize) -> KeptExtent
     requires { i < length table.now }
@@ -53,7 +52,7 @@ fn entry_at(table: &[KeptExtent], i: usize) -> KeptExtent
     table[i]
 }
 
-/// What the table has of a type, where it was found.
+/// The entry of a type, if it was computed.
 #[inline(always)]
 fn known_entry(table: &[KeptExtent], i: usize) -> Option<KeptExtent>
     requires { i < length table.now }
@@ -67,7 +66,7 @@ fn known_entry(table: &[KeptExtent], i: usize) -> Option<KeptExtent>
     }
 }
 
-/// Keeps what was found of a type in the table.
+/// Stores the entry of a type in the table.
 #[inline(always)]
 fn keep(table: &mut [KeptExtent], i: usize, found: KeptExtent)
     requires { i < length table.old }
@@ -76,7 +75,7 @@ fn keep(table: &mut [KeptExtent], i: usize, found: KeptExtent)
     table[i] = found;
 }
 
-/// The extent of the type with a number that stands for itself.
+/// The extent of a type that resolves to itself.
 fn of_itself(size: Amount, align: Amount, number: TypeNum) -> Extent
     ensures { result ≡ itself size align number }
 {
@@ -87,7 +86,7 @@ fn of_itself(size: Amount, align: Amount, number: TypeNum) -> Extent
     }
 }
 
-/// What is kept of a type with a number that stands for itself.
+/// The entry of a type that resolves to itself.
 #[inline(always)]
 fn kept_itself(size: Amount, align: Amount, number: TypeNum) -> KeptExtent
     ensures { extent_kept result ≡ Some (itself size align number) }
@@ -95,7 +94,7 @@ fn kept_itself(size: Amount, align: Amount, number: TypeNum) -> KeptExtent
     KeptExtent::new(of_itself(size, align, number))
 }
 
-/// What would be kept of a number that names no own type.
+/// The entry that a number which is no own type's would have.
 fn kept_elsewhere<L: Ledger, T: Types<L>>(types: &T, number: TypeNum) -> KeptExtent
     requires not_own { let d = (T.space types.now).own in
         own_index_of d.child (length d.terms) number.0 ≡ None }
@@ -104,7 +103,7 @@ fn kept_elsewhere<L: Ledger, T: Types<L>>(types: &T, number: TypeNum) -> KeptExt
     KeptExtent::new(elsewhere(types, number))
 }
 
-/// What is kept of the type with a number that is a row of elements.
+/// The entry of a type that is a row of elements.
 fn kept_row(row: Row, element: KeptExtent, number: TypeNum) -> KeptExtent
     ensures { (e : WholeExtent) → extent_kept element ≡ Some e
         → IsByKept number.0 (Some row) e result }
@@ -115,7 +114,7 @@ fn kept_row(row: Row, element: KeptExtent, number: TypeNum) -> KeptExtent
     }
 }
 
-/// What is kept of the type with a number that hangs on one, as it is or for a row of elements.
+/// The entry of a type that depends on one other: the same, or for a row of elements.
 #[inline(always)]
 fn kept_by_one(row: Option<Row>, one: KeptExtent, number: TypeNum) -> KeptExtent
     ensures { (e : WholeExtent) → extent_kept one ≡ Some e → IsByKept number.0 row e result }
@@ -126,8 +125,8 @@ fn kept_by_one(row: Option<Row>, one: KeptExtent, number: TypeNum) -> KeptExtent
     }
 }
 
-/// Fills in an own type, and the types that it hangs on, each of which is begun at most once. No
-/// chain of steps by value from it is longer than the budget. Answers what is kept of it.
+/// Computes an own type, and the types that it depends on; each is begun at most once. No chain of
+/// steps by value from it may be longer than the budget. Returns its entry.
 #[cycle(extents)]
 #[inline(always)]
 fn extent<L: Ledger, T: Types<L>>(
@@ -155,7 +154,7 @@ fn extent<L: Ledger, T: Types<L>>(
     }
 }
 
-/// The same for a type that the table does not have.
+/// The same for a type whose entry is open.
 #[cycle(extents)]
 #[inline(always)]
 fn visit<L: Ledger, T: Types<L>>(
@@ -224,7 +223,7 @@ fn visit_below<L: Ledger, T: Types<L>>(
     visit(types, table, work, i, budget);
 }
 
-/// Fills in an own type if it is not in the table, for the loop over all types: `visit` is inlined.
+/// Computes an own type if its entry is open, for the loop over all types: `visit` is inlined.
 #[inline(always)]
 fn fill_one<L: Ledger, T: Types<L>>(
     types: &T,
@@ -247,7 +246,7 @@ fn fill_one<L: Ledger, T: Types<L>>(
     }
 }
 
-/// Finds the extents of all own types.
+/// Computes the extents of all own types.
 pub fn fill<L: Ledger, T: Types<L>>(types: &T, table: &mut [KeptExtent], work: &mut Ticks<L>)
     requires same { length table.old ≡ length (T.space types.now).own.terms }
     requires empty { (j : ℕ) → entry (table_kept table.old) j ≡ None }

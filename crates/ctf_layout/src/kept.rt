@@ -21,7 +21,7 @@ pub struct Extents {
 }
 
 impl Extents {
-    /// Those of a dictionary, each found once.
+    /// The extents of a dictionary; each is computed once.
     pub fn build<L: Ledger, T: Types<L>>(
         alloc: Global,
         types: &T,
@@ -47,7 +47,7 @@ impl Extents {
             None => refused(Refusal::NoType),
         }
     }
-    /// The same, in fewer steps where nothing is refused.
+    /// The same, in fewer steps if nothing is refused.
     #[inline(always)]
     pub fn figures_at(&self, i: usize) -> Extent
         ensures { result ≡ extent_at self.now.entries.items i }

@@ -1,4 +1,4 @@
-//! The sizes and alignments of all numbers of a space, and the types that they stand for.
+//! The sizes, alignments and resolved types of all types of a space.
 ghost use Rattle.std.specs.Prelude.{◌≡◌, ◌+◌, ◌<◌, ◌≤◌, IfOk, OnOk, None};
 ghost use Rattle.std.specs.Option.{ForSome, option_map};
 ghost use Rattle.std.specs.Result.{result_map_both};
@@ -25,8 +25,8 @@ use std::marker::Brand;
 use std::rc::Rc;
 use std::sync::ledger::{Blank, Ledger};
 
-/// The sizes and alignments of the types of a dictionary, and of its parent's where it has one, and
-/// the types that they stand for, found once: a look-up takes constant time, and no memory.
+/// The sizes, alignments and resolved types of a dictionary's types, and of its parent's if it has
+/// one, computed once: a look-up takes constant time, and no memory.
 ///
 /// It keeps plain numbers, 24 bytes for each own type, and borrows nothing. Those of a parent are
 /// shared with the parent's own layout.
@@ -38,7 +38,7 @@ pub struct Layout {
     steps: u64,
 }
 
-/// What a shared table holds.
+/// The extents in a shared table.
 fn lend_extents(extents: &Option<Rc<Extents>>) -> Option<&Extents>
     ensures { option_map (λ e. e.now) result ≡ option_map (λ rc. rc.value) extents.now }
 {
@@ -48,7 +48,7 @@ fn lend_extents(extents: &Option<Rc<Extents>>) -> Option<&Extents>
     }
 }
 
-/// The layout of a space, beside that of its parent.
+/// The layout of a space, with that of its parent.
 fn beside<L: Ledger>(
     alloc: Global,
     space: &Space<'_>,
@@ -75,7 +75,7 @@ fn beside<L: Ledger>(
     })
 }
 
-/// The layout of a space whose parent's types, if it has a parent, are found first.
+/// The layout of a space. If the space has a parent, the parent's types are computed first.
 fn of_space<L: Ledger>(alloc: Global, space: &Space<'_>, blank: Blank) -> Result<Layout, AllocError>
     requires name { blank.name ≡ L.name }
     requires parts { blank.parts ≡ L.parts }
@@ -111,7 +111,7 @@ fn by_itself<L: Ledger>(
     Ok(Rc::new(alloc, extents)?)
 }
 
-/// The layout of a space in a ledger of its own, beside a shared parent's.
+/// The layout of a space in a ledger of its own, with the shared one of its parent.
 fn beside_shared<L: Ledger>(
     alloc: Global,
     space: &Space<'_>,
@@ -132,7 +132,7 @@ fn beside_shared<L: Ledger>(
 }
 
 impl Layout {
-    /// The layout of a space. In a space with a parent those of the parent's types are found too.
+    /// The layout of a space. If the space has a parent, the parent's types are computed too.
     pub fn build(alloc: Global, space: &Space<'_>) -> Result<Layout, AllocError>
         ensures fits { IfOk result (λ l. Fits (space_of space.now) l) }
         ensures steps { IfOk result (λ l. steps_of l ≡ cap (space_work (space_of space.now))) }
@@ -141,8 +141,8 @@ impl Layout {
         of_space::<Brand>(alloc, space, Blank::new(1))
     }
 
-    /// The layout of a space over the parent whose own layout this is. It shares the parent's
-    /// numbers, and finds those of the own types alone.
+    /// The layout of a space over a parent. It shares the parent's own layout, which is given, and
+    /// computes only the own types.
     pub fn over(alloc: Global, space: &Space<'_>, parent: &Layout) -> Result<Layout, AllocError>
         requires { ForSome (space_of space.now).parent
             (λ p. Fits (parent_alone (space_of space.now) p) parent.now) }
@@ -159,7 +159,7 @@ impl Layout {
         beside_shared::<Brand>(alloc, space, shared, Blank::new(1))
     }
 
-    /// What it cost to build: one for each type that was begun, and one for each member that was
+    /// The cost of building: one for each type that was begun, and one for each member that was
     /// read.
     pub fn steps(&self) -> u64
         ensures { result ≡ steps_of self.now }
@@ -167,7 +167,7 @@ impl Layout {
         self.steps
     }
 
-    /// The size and the alignment of what a number names, and the type that it stands for.
+    /// The extent of the type with a number.
     #[inline(always)]
     fn extent(&self, number: TypeNum) -> Extent
         ensures { (s : WholeSpace) → Fits s self.now → IsExtent s number.0 result }
@@ -185,7 +185,7 @@ impl Layout {
         }
     }
 
-    /// The same, in fewer steps for an own type of which nothing is refused.
+    /// The same, in fewer steps for an own type if nothing is refused.
     #[inline(always)]
     fn quick_extent(&self, number: TypeNum) -> Extent
         ensures { (s : WholeSpace) → Fits s self.now → IsExtent s number.0 result }
@@ -196,8 +196,8 @@ impl Layout {
         }
     }
 
-    /// The size and the alignment of the type that a number names, and the type that it stands
-    /// for, by one look-up. It takes constant time.
+    /// The size, the alignment and the resolved type of a type, by one look-up. Takes constant
+    /// time.
     #[inline(always)]
     pub fn figures(&self, number: TypeNum) -> Extent
         ensures extent { (s : WholeSpace) → Fits s self.now → IsExtent s number.0 result }
@@ -227,8 +227,8 @@ impl Layout {
         self.extent(number).align.get()
     }
 
-    /// The type that a type stands for, typedefs and qualifiers followed; 0 where that is no type.
-    /// It takes constant time.
+    /// The type that a type resolves to, through typedefs and qualifiers; 0 if that is no type.
+    /// Takes constant time.
     #[inline(always)]
     pub fn resolve(&self, number: TypeNum) -> Result<TypeNum, Fault>
         ensures resolved { (s : WholeSpace) → Fits s self.now

@@ -1,4 +1,4 @@
-//! What may stand as the names of a path.
+//! The names of a path, in any form.
 ghost use Rattle.std.specs.Prelude.{◌≡◌, ◌<◌, ℕ, List, [], get_or, length, map};
 ghost use Rattle.ctf_joined.specs.Joined.{texts};
 
@@ -12,7 +12,7 @@ pub trait PathNames {
     fn count(&self) -> usize
         ensures { result ≡ length (names_of self.now) };
 
-    /// The name at a place.
+    /// The name at an index.
     fn name(&self, place: usize) -> &[u8]
         requires { place < length (names_of self.now) }
         ensures { result.now ≡ get_or (names_of self.now) place [] };

@@ -1,4 +1,4 @@
-//! Where a member of a member lies.
+//! The offset of a member of a member.
 ghost use Rattle.std.specs.Prelude.{◌≡◌, option_map};
 ghost use Rattle.std.specs.Result.{result_map_both};
 ghost use Rattle.ctf_layout.specs.Reached.{position_of, spot};
@@ -14,10 +14,10 @@ use ctf_sections::{Differences, Places};
 use ctf_space::Space;
 use ctf_views::{Member, Members, Variant};
 
-/// From how many bytes on the names of a path are long.
+/// From this many bytes on, the names of a path count as long.
 const LONG: usize = 4096;
 
-/// How far a path has come: how many bits lie in front, and the type that is declared there.
+/// A position on a path: its offset in bits, and the type that is declared there.
 #[derive(Clone, Copy)]
 pub(crate) struct Reached {
     offset: u64,
@@ -37,7 +37,7 @@ fn members<'a>(space: &Space<'a>, number: TypeNum) -> Option<Members<'a>>
     }
 }
 
-/// A member behind an offset, if it is there and its place can be said.
+/// The position of a member at an offset, if there is such a member and the sum fits.
 fn behind(step: u64, offset: u64, member: Option<Member<'_>>) -> Result<Reached, Fault>
     ensures { result_map_both spot (λ f. f) result
         ≡ member_position step offset (option_map shown_member member.entry) }
@@ -78,7 +78,7 @@ fn step_to(
     }
 }
 
-/// Whether the names of a path are long, all together.
+/// Whether the names of a path are long in all.
 fn are_long<N: PathNames>(names: &N) -> bool {
     let mut left = LONG;
     for place in 0..names.count() {
@@ -87,7 +87,7 @@ fn are_long<N: PathNames>(names: &N) -> bool {
     left == 0
 }
 
-/// All steps of a path from a type on.
+/// Takes all steps of a path, from a type on.
 fn follow_names<N: PathNames>(
     space: &Space<'_>,
     number: TypeNum,
@@ -107,10 +107,10 @@ fn follow_names<N: PathNames>(
     Ok((at.offset, at.tnum))
 }
 
-/// Where the member lies that names lead to, from a type on: how many bits lie in front of it, and
-/// its type as it is declared. Each step takes the first member with its name, and looks into no
-/// unnamed member; no name leads to the beginning of the type itself. Where names are long, it is
-/// kept for all steps where others differed from them.
+/// The offset in bits of the member that names lead to, from a type on, and its type as declared.
+/// Each step takes the first member with its name, and looks into no unnamed member; no name leads
+/// to the beginning of the type itself. If names are long, the places at which others differed from
+/// them are cached for all steps.
 pub fn path<N: PathNames>(
     space: &Space<'_>,
     number: TypeNum,

@@ -1,9 +1,8 @@
-//! A space as what a table of sizes and alignments is made from.
-ghost use Rattle.std.specs.Prelude.{◌≡◌, IfSome, slice_get, option_and_then, option_map};
-ghost use Rattle.ctf_check.specs.CheckedView.{IsOwn, dictionary_of, tables_of};
+//! A space, as the input of a table of sizes and alignments.
+ghost use Rattle.std.specs.Prelude.{◌≡◌, slice_get, option_and_then, option_map};
+ghost use Rattle.ctf_check.specs.CheckedView.{dictionary_of};
+ghost use Rattle.ctf_check.specs.TypedView.{term_in};
 ghost use Rattle.ctf_layout.specs.Over.{OverParent};
-ghost use Rattle.ctf_model.specs.format.Spelling.{term_of};
-ghost use Rattle.ctf_records.specs.RecordView.{bytes_of};
 ghost use Rattle.ctf_space.specs.SpaceView.{space_of};
 
 use crate::bases::{Basis, basis_of};
@@ -11,13 +10,12 @@ use crate::extents::{Extent, Refusal, refused};
 use crate::kept::Extents;
 use crate::types::Types;
 use ctf_chains::Ticks;
-use ctf_check::Checked;
+use ctf_check::{Checked, Typed};
 use ctf_model::TypeNum;
-use ctf_records::Record;
 use ctf_space::Space;
 use std::sync::ledger::Ledger;
 
-/// A space, and the extents of its parent's types where it has a parent.
+/// A space, and the extents of its parent's types if it has a parent.
 #[derive(Clone, Copy)]
 pub struct LayoutInput<'a> {
     pub(crate) space: Space<'a>,
@@ -28,16 +26,14 @@ pub struct LayoutInput<'a> {
     ghost over: { OverParent (space_of space) (option_map (λ e. e.now.entries.items) parent) },
 }
 
-/// The record of the own type with a number from 0.
+/// The own type with a number from 0.
 #[inline(always)]
-fn own_term<'a>(dictionary: &Checked<'a>, i: usize) -> Option<Record<'a>>
-    ensures own { IfSome result (λ r. IsOwn dictionary.now r) }
-    ensures spells { option_and_then
-        (λ r. term_of (tables_of dictionary.now) (bytes_of r)) result
+fn own_term<'a>(dictionary: &Checked<'a>, i: usize) -> Option<Typed<'a>>
+    ensures { option_and_then term_in result
         ≡ slice_get (dictionary_of dictionary.now).terms i }
 {
     if i < dictionary.count() {
-        dictionary.term(i + 1)
+        dictionary.type_at(i + 1)
     } else {
         None
     }
@@ -67,7 +63,7 @@ impl<'a, L: Ledger> Types<L> for LayoutInput<'a> {
     fn basis(&self, i: usize, work: &mut Ticks<L>) -> Basis {
         work.tick();
         match own_term(&self.dictionary, i) {
-            Some(term) => basis_of(&self.dictionary, &term, self.space.model()),
+            Some(term) => basis_of(&term, self.space.model()),
             None => unreachable!(),
         }
     }
@@ -76,7 +72,7 @@ impl<'a, L: Ledger> Types<L> for LayoutInput<'a> {
     fn member_type(&self, i: usize, k: usize, work: &mut Ticks<L>) -> TypeNum {
         work.tick();
         match own_term(&self.dictionary, i) {
-            Some(term) => self.dictionary.value_type(&term, k),
+            Some(term) => term.value_type(k),
             None => unreachable!(),
         }
     }

@@ -1,4 +1,4 @@
-//! What a table of sizes, alignments and types that are stood for is made from.
+//! What a table of sizes, alignments and resolved types is computed from.
 ghost use Rattle.std.specs.Prelude.{◌≡◌, ℕ, ◌+◌, ◌<◌, length, slice_index};
 ghost use Rattle.ctf_layout.specs.Bases.{basis as basis_word, members_read};
 ghost use Rattle.ctf_layout.specs.Extents.{IsParentsExtent};
@@ -14,7 +14,7 @@ use ctf_chains::Ticks;
 use ctf_model::TypeNum;
 use std::sync::ledger::Ledger;
 
-/// The own types of a dictionary, by numbers from 0. To begin a type is a tick, and so is to read a
+/// The own types of a dictionary, numbered from 0. Beginning a type is a tick, and so is reading a
 /// member.
 pub trait Types<L: Ledger> {
     ghost use Rattle.ctf_model.specs.spaces.Space.{Space};
@@ -34,7 +34,7 @@ pub trait Types<L: Ledger> {
         requires { i < length (space self.now).own.terms }
         ensures { result.0 ≡ own_number (space self.now).own.child i };
 
-    /// Begins a type: what its extent hangs on.
+    /// Begins a type: what its extent depends on.
     fn basis(&self, i: usize, work: &mut Ticks<L>) -> Basis
         requires { i < length (space self.now).own.terms }
         ensures basis { result
@@ -48,7 +48,7 @@ pub trait Types<L: Ledger> {
         ensures named { result.0 ≡ slice_index (by_value (own_body (space self.now).own i)) k }
         ensures tick { work.new ≡ work.old + 1 };
 
-    /// The extent of a type of the parent, from 0.
+    /// The extent of a type of the parent, counted from 0.
     fn outside(&self, i: usize) -> Extent
         ensures { (n : ℕ) → place (space self.now).own.child n ≡ Parents i
             → IsParentsExtent (space self.now) n result };

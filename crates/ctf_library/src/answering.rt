@@ -1,4 +1,4 @@
-//! What questions to a slot are answered, and those on types.
+//! The answers to questions to a slot, and on types.
 ghost use Rattle.std.specs.Prelude.{◌≡◌, ◌≤◌, [], ◌∷◌, codes, length, map, take, true, false, None, Some, Ok, Err, IfOk, IfSome, IfNone, IsNone, option_map, option_and_then};
 ghost use Rattle.ctf_protocol.specs.answers.Answers.{number, says, word};
 ghost use Rattle.ctf_model.specs.names.KindNames.{name_of_kind, name_of_tag};
@@ -8,7 +8,6 @@ ghost use Rattle.ctf_protocol.specs.sessions.SlotQuestions.{slot_answered};
 ghost use Rattle.ctf_protocol.specs.sessions.Quiet.{is_quiet, is_quiet_on, MayAnswer};
 ghost use Rattle.ctf_model.specs.names.TypeNames.{spelled_name};
 ghost use Rattle.ctf_model.specs.values.Values.{value_text};
-ghost use Rattle.ctf_layout.specs.Fitting.{Fits};
 ghost use Rattle.ctf_library.specs.Telling.{IsTold, makes_text, makes_text_on};
 ghost use Rattle.std.specs.Result.{result_map_both};
 ghost use Rattle.ctf_open.specs.Fitting.{Serve};
@@ -30,10 +29,10 @@ ghost use Rattle.ctf_model.specs.spaces.TypeNumbers.{or_no_type};
 
 use crate::dictionary_answers::whole_answer;
 use crate::slots::Slot;
-use ctf_answers::{Answer, Items, Listed, RecordAnswer, Single};
+use ctf_answers::{Answer, ItemWindow, Items, RecordAnswer, Single};
 use ctf_check::{Facts, Typed};
 use ctf_entries::Signature;
-use ctf_layout::{Layout, path, referred};
+use ctf_layout::{path, referred};
 use ctf_names::{pointer_to, spell};
 use ctf_open::{Tables, array_of, encoding_of, signature_of};
 use ctf_print::show;
@@ -45,12 +44,12 @@ use ctf_space::Space;
 use ctf_views::{Args, ArrayInfo, Encoding, Variant, is_variadic};
 use std::alloc::Global;
 
-/// What a list answers that a type may have.
+/// The answer of a list, if the type has one.
 pub(crate) fn list_answer<'a>(key: &'static str, items: Items<'a>, window: Window) -> Answer<'a>
     ensures { result ≡ list_fields key.now window (items_of items.entry) }
 {
     let total = items.len() as u64;
-    Answer::window(key, Listed::new(items, window), total)
+    Answer::window(key, ItemWindow::new(items, window), total)
 }
 
 fn members<'a>(behind: Variant<'a>, window: Window) -> Result<Answer<'a>, Fault>
@@ -90,20 +89,20 @@ fn named_count(args: &Args<'_>) -> usize
     }
 }
 
-/// What a function returns and takes. Its arguments are as they are stored.
+/// The answer of what a function returns and takes. Its arguments are as stored.
 pub(crate) fn call_answer<'a>(args: Args<'a>, ret: TypeNum) -> Answer<'a>
     ensures { result ≡ argument_fields ret.0 args.entry }
 {
     let varargs = is_variadic(&args);
     let count = named_count(&args);
     Answer::signature(
-        Listed::front(Items::Arguments(args), count),
+        ItemWindow::front(Items::Arguments(args), count),
         u64::from(ret.0),
         varargs,
     )
 }
 
-/// What a function is answered as.
+/// The answer of a signature, or its refusal.
 pub(crate) fn signature_answer<'a>(found: Result<Signature<'a>, Fault>) -> Result<Answer<'a>, Fault>
     ensures { result ≡ as_fields signature_fields (result_map_both signature (λ f. f) found.entry) }
 {
@@ -111,7 +110,7 @@ pub(crate) fn signature_answer<'a>(found: Result<Signature<'a>, Fault>) -> Resul
     Ok(call_answer(signature.args, signature.ret))
 }
 
-/// What the number of a type is answered as.
+/// The answer of a type number, or its refusal.
 pub(crate) fn type_answer<'a>(number: Result<TypeNum, Fault>) -> Result<Answer<'a>, Fault>
     ensures { result ≡ as_fields type_fields (result_map_both (λ t. t.0) (λ f. f) number) }
 {
@@ -119,7 +118,7 @@ pub(crate) fn type_answer<'a>(number: Result<TypeNum, Fault>) -> Result<Answer<'
     Ok(Answer::one("t", Single::Number(u64::from(t.0))))
 }
 
-/// What a number is answered as, under a key.
+/// The answer of a number under a key, or its refusal.
 fn number_answer<'a>(key: &'static str, n: Result<u64, Fault>) -> Result<Answer<'a>, Fault>
     ensures { result ≡ as_fields (λ n. says key.now (number n) ∷ []) n }
 {
@@ -139,7 +138,7 @@ fn position_answer<'a>(at: Result<(u64, TypeNum), Fault>) -> Result<Answer<'a>, 
     ))
 }
 
-/// How long the list of a type is.
+/// The length of a type's list.
 fn list_len(behind: &Variant<'_>) -> usize
     ensures { result ≡ list_length (shown_of behind.now) }
 {
@@ -209,86 +208,104 @@ fn name<'a>(alloc: Global, space: &Space<'_>, t: TypeNum) -> Result<Answer<'a>, 
     Ok(Answer::with_text("name", Bytes::from(text)))
 }
 
-/// What a value of a type shows, in memory and from a bit on.
+/// The type that a question is on: its number, the type itself, its kind, and the space and the
+/// tables that give the rest.
+#[derive(Clone, Copy)]
+struct AskedType<'a, 't> {
+    t: TypeNum,
+    found: Typed<'a>,
+    kind: Kind,
+    space: Space<'a>,
+    tables: &'t Tables,
+}
+
+/// The text of the value of a type that begins at a bit of some memory.
 fn value<'a>(
     alloc: Global,
-    space: &Space<'_>,
-    layout: &Layout,
-    t: TypeNum,
+    asked: &AskedType<'_, '_>,
     memory: &[u8],
     offset: u64,
 ) -> Result<Answer<'a>, Fault>
-    requires { Fits (space_of space.now) layout.now }
+    requires { Serve asked.now.space asked.now.tables.now }
     ensures { MayAnswer (as_fields value_fields
-        (value_text (space_of space.now) memory.now t.0 offset)) result }
+        (value_text (space_of asked.now.space) memory.now asked.now.t.0 offset)) result }
 {
+    let layout = &asked.tables.layout;
     let mut text = Vec::new(alloc);
-    show(alloc, space, layout, t, memory, offset, &mut text)?;
+    show(
+        alloc,
+        &asked.space,
+        layout,
+        asked.t,
+        memory,
+        offset,
+        &mut text,
+    )?;
     Ok(Answer::with_text("text", Bytes::from(text)))
 }
 
-/// What is told of a type: an answer that is lent and takes no memory, or what text is to be made.
+/// The answer to a question on a type: one that borrows and takes no memory, or which text has to
+/// be made.
 pub(crate) enum TypeAnswer<'a, 'q> {
     Lent(Result<Answer<'a>, Fault>),
     Name,
     Value { memory: &'q [u8], offset: u64 },
 }
 
-/// What a question that brings no more than the type is answered of one that a number names, and
-/// that is of a kind; none where a text is to be made of its name. It reads no more of the type
-/// than it answers.
+/// The answer to a question without further fields; `None` if a text of the type's name has to be
+/// made. It reads no more of the type than the answer has.
 fn plain_answer<'a>(
-    x: &Typed<'a>,
-    kind: Kind,
-    space: &Space<'a>,
-    tables: &Tables,
-    t: TypeNum,
+    asked: &AskedType<'a, '_>,
     question: PlainQuestion,
 ) -> Option<Result<Answer<'a>, Fault>>
-    requires kind { option_map (λ x. kind_of x.body) (term_in x.now) ≡ Some kind }
-    requires tables { Serve space.now tables.now }
-    ensures some { IfSome result (λ answer. answer
-        ≡ answer_of (about.Plain question) (space_of space.now) t.0 (or_no_type (term_in x.now))) }
+    requires kind { option_map (λ x. kind_of x.body) (term_in asked.now.found)
+        ≡ Some asked.now.kind }
+    requires tables { Serve asked.now.space asked.now.tables.now }
+    ensures some { IfSome result (λ answer. answer ≡ answer_of (about.Plain question)
+        (space_of asked.now.space) asked.now.t.0 (or_no_type (term_in asked.now.found))) }
     ensures none { IfNone result (question ≡ plain.Name) }
 {
     match question {
-        PlainQuestion::Kind => Some(Ok(kind_answer(kind))),
-        PlainQuestion::Record => Some(Ok(record_of(x.facts()))),
-        PlainQuestion::Args => Some(signature_answer(signature_of(x.shape()))),
-        PlainQuestion::Array => Some(array_answer(array_of(x.shape()))),
-        PlainQuestion::Encoding => Some(encoding_answer(encoding_of(x.shape()))),
-        PlainQuestion::Reference => Some(type_answer(referred(x.shape()))),
-        PlainQuestion::Resolve => Some(type_answer(tables.layout.resolve(t))),
-        PlainQuestion::Size => Some(number_answer("size", tables.layout.size(t))),
-        PlainQuestion::Align => Some(number_answer("align", tables.layout.align(t))),
-        PlainQuestion::Pointer => Some(type_answer(pointer_to(space, &tables.index, t))),
+        PlainQuestion::Kind => Some(Ok(kind_answer(asked.kind))),
+        PlainQuestion::Record => Some(Ok(record_of(asked.found.facts()))),
+        PlainQuestion::Args => Some(signature_answer(signature_of(asked.found.shape()))),
+        PlainQuestion::Array => Some(array_answer(array_of(asked.found.shape()))),
+        PlainQuestion::Encoding => Some(encoding_answer(encoding_of(asked.found.shape()))),
+        PlainQuestion::Reference => Some(type_answer(referred(asked.found.shape()))),
+        PlainQuestion::Resolve => Some(type_answer(asked.tables.layout.resolve(asked.t))),
+        PlainQuestion::Size => Some(number_answer("size", asked.tables.layout.size(asked.t))),
+        PlainQuestion::Align => Some(number_answer("align", asked.tables.layout.align(asked.t))),
+        PlainQuestion::Pointer => Some(type_answer(pointer_to(
+            &asked.space,
+            &asked.tables.index,
+            asked.t,
+        ))),
         PlainQuestion::Name => None,
     }
 }
 
-/// What a question tells of a type that a number names, and that is of a kind.
-fn tell<'a, 'q>(
-    x: &Typed<'a>,
-    kind: Kind,
-    space: &Space<'a>,
-    tables: &Tables,
-    t: TypeNum,
-    question: &'q TypeQuestion,
-) -> TypeAnswer<'a, 'q>
-    requires kind { option_map (λ x. kind_of x.body) (term_in x.now) ≡ Some kind }
-    requires tables { Serve space.now tables.now }
-    ensures { IsTold question.now (space_of space.now) t.0 (or_no_type (term_in x.now)) result }
+/// The answer to a question on a type, or which text has to be made.
+fn tell<'a, 'q>(asked: &AskedType<'a, '_>, question: &'q TypeQuestion) -> TypeAnswer<'a, 'q>
+    requires kind { option_map (λ x. kind_of x.body) (term_in asked.now.found)
+        ≡ Some asked.now.kind }
+    requires tables { Serve asked.now.space asked.now.tables.now }
+    ensures { IsTold question.now (space_of asked.now.space) asked.now.t.0
+        (or_no_type (term_in asked.now.found)) result }
 {
     match question {
-        TypeQuestion::Plain(question) => match plain_answer(x, kind, space, tables, t, *question) {
+        TypeQuestion::Plain(question) => match plain_answer(asked, *question) {
             Some(answer) => TypeAnswer::Lent(answer),
             None => TypeAnswer::Name,
         },
-        TypeQuestion::Members(window) => TypeAnswer::Lent(members(x.variant(), *window)),
-        TypeQuestion::Enumerators(window) => TypeAnswer::Lent(enumerators(x.variant(), *window)),
+        TypeQuestion::Members(window) => {
+            TypeAnswer::Lent(members(asked.found.variant(), *window))
+        }
+        TypeQuestion::Enumerators(window) => {
+            TypeAnswer::Lent(enumerators(asked.found.variant(), *window))
+        }
         TypeQuestion::Path(names) => TypeAnswer::Lent(position_answer(path(
-            space,
-            t,
+            &asked.space,
+            asked.t,
             names.as_joined(),
         ))),
         TypeQuestion::Show { memory, offset } => TypeAnswer::Value {
@@ -298,7 +315,7 @@ fn tell<'a, 'q>(
     }
 }
 
-/// What a question on a type of a space is answered.
+/// The answer to a question on a type of a space.
 fn answer_on<'a>(
     alloc: Global,
     space: &Space<'a>,
@@ -315,24 +332,24 @@ fn answer_on<'a>(
         → result ≡ type_answered question.now (space_of space.now) t.0 }
 {
     let found = space.term(t)?;
-    match tell(&found, found.kind(), space, tables, t, question) {
+    let asked = AskedType {
+        t,
+        found,
+        kind: found.kind(),
+        space: *space,
+        tables,
+    };
+    match tell(&asked, question) {
         TypeAnswer::Lent(answer) => answer,
         TypeAnswer::Name => name(alloc, space, t),
-        TypeAnswer::Value { memory, offset } => value(
-            alloc,
-            space,
-            &tables.layout,
-            t,
-            memory,
-            offset,
-        ),
+        TypeAnswer::Value { memory, offset } => value(alloc, &asked, memory, offset),
     }
 }
 
 impl Slot {
     ghost use Rattle.ctf_library.specs.SlotView.{slot_of};
 
-    /// What a question is answered.
+    /// The answer to a question.
     pub(crate) fn answer<'a>(
         &'a self,
         alloc: Global,

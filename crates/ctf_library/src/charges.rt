@@ -1,7 +1,7 @@
-//! What a session's dictionaries come to, in bytes, and how much that may be.
+//! The bytes of a session's dictionaries, and their limit.
 //!
-//! The sums are of `u128`: the lengths of three lists, each of which memory has room for,
-//! may not fit in 64 bits.
+//! The sums are of `u128`: the lengths of three lists, each of which memory has room for, may not
+//! fit in 64 bits.
 ghost use Rattle.std.specs.Prelude.{◌≡◌, ◌+◌, ◌<◌, ◌^◌, nat_lt, not};
 ghost use Rattle.ctf_library.specs.SlotView.{slot_of};
 ghost use Rattle.ctf_protocol.specs.sessions.Charges.{slot_bytes};
@@ -10,10 +10,10 @@ ghost use Rattle.ctf_protocol.specs.sessions.Outcomes.{quota};
 
 use crate::slots::Slot;
 
-/// The greatest charge that a request may leave a library with.
+/// The greatest charge that a library may have after a request.
 pub(crate) const QUOTA: u128 = 268_435_456;
 
-/// Whether a charge may become greater by so much.
+/// Whether a charge may grow by so much.
 pub(crate) fn fits(charge: u128, by: u128) -> bool
     ensures { result ≡ not (nat_lt quota (charge + by)) }
 {
@@ -29,7 +29,7 @@ impl Slot {
         self.dictionary.parent_bytes()
     }
 
-    /// How many bytes its dictionary has, and its parent.
+    /// The bytes of its dictionary and its parent.
     pub(crate) fn bytes(&self) -> u128
         ensures { result ≡ slot_bytes (slot_of self.now) }
     {

@@ -1,4 +1,4 @@
-//! What questions on a slot as a whole are answered.
+//! The answers to questions on the types, symbols and labels of a slot.
 ghost use Rattle.std.specs.Prelude.{◌≡◌, ℕ, List};
 ghost use Rattle.std.specs.Option.{option_map};
 ghost use Rattle.ctf_open.specs.Fitting.{Serve};
@@ -41,7 +41,7 @@ fn last_answer<'a>(last: Result<u32, Fault>) -> Result<Answer<'a>, Fault>
     Ok(Answer::one("last", Single::Number(u64::from(last))))
 }
 
-/// What a question on a slot as a whole is answered, without memory.
+/// The answer to such a question, which takes no memory.
 pub(crate) fn whole_answer<'a>(
     space: &Space<'a>,
     tables: &Tables,

@@ -18,7 +18,7 @@ use ctf_open::{Loaded, MODEL_UNSAID, OpenDictionary, Room};
 use ctf_protocol::{Creation, DataModel, DraftStep, Fault};
 use std::alloc::Global;
 
-/// The data model of what is made over a parent: the parent's, if there is one.
+/// The data model of a dictionary over a parent: the parent's, if there is one.
 fn model_over(parent: Option<&Loaded>) -> DataModel
     ensures { result ≡ parents_model (option_copied parent.entry) }
 {
@@ -28,7 +28,7 @@ fn model_over(parent: Option<&Loaded>) -> DataModel
     }
 }
 
-/// The data model of a new draft: that which is said, or else the parent's.
+/// The data model of a new draft: the stated one, or else the parent's.
 fn model_of(parent: Option<&Loaded>, creation: &Creation) -> DataModel
     ensures { result ≡ model_made (option_copied parent.entry) creation.now }
 {
@@ -39,8 +39,8 @@ fn model_of(parent: Option<&Loaded>, creation: &Creation) -> DataModel
 }
 
 impl Slot {
-    /// Makes a step of its draft, if it has one, where what it makes has room beside what all else
-    /// comes to. Running out of memory changes nothing.
+    /// Makes a step of its draft, if it has one. The result has to fit into the quota, with the
+    /// bytes of all else. Running out of memory changes nothing.
     pub(crate) fn step(
         &mut self,
         alloc: Global,
@@ -88,8 +88,8 @@ impl Slot {
         Ok(Counts::one("types", types))
     }
 
-    /// A slot with a new draft, over a parent if there is one, updated with nothing in it, where it
-    /// has room beside what all else comes to.
+    /// A slot with a new draft, over a parent if there is one, updated with nothing in it. It has
+    /// to fit into the quota, with the bytes of all else.
     pub(crate) fn create(
         alloc: Global,
         number: u32,

@@ -35,8 +35,8 @@ use std::marker::Model;
 /// How many slots may be in use.
 const MOST_SLOTS: usize = 1023;
 
-/// What one session holds: its slots, the number of the next one, the staged lists, and what it
-/// published. How many bytes the slots have is kept beside them.
+/// What one session has: its slots, the number of the next one, the staged lists, and what it
+/// published. The sum of the slots' bytes is stored too.
 #[derive(Drop)]
 pub struct Library {
     slots: Vec<Slot>,
@@ -83,7 +83,7 @@ impl Library {
         }
     }
 
-    /// Whether it is as a new one.
+    /// Whether it equals a new library.
     pub fn is_new(&self) -> bool
         ensures { IsTrue result ↔ (self.now ≡ empty_state) }
     {
@@ -106,8 +106,8 @@ impl Library {
         self.published.find(name)
     }
 
-    /// Makes the step of a change, with what was found for a take, whatever the pool holds. Want of
-    /// memory changes nothing.
+    /// Makes the step of a change, with what was found for a take, whatever the pool holds. Running
+    /// out of memory changes nothing.
     pub fn step(
         &mut self,
         change: &Change,
@@ -119,7 +119,7 @@ impl Library {
         // These take no memory.
         ensures quiet { is_quiet_change change.now ≡ true → Does
             (change_step self.old change.now found) result self.new }
-        // A good library stays good, where the numbers of what is added have their fields' widths.
+        // A good library stays good, if the numbers of what is added fit their fields.
         ensures good { IsGood self.old → FitsChange change.now → ForSome found IsFaultless
             → IsGood self.new }
     {
@@ -128,7 +128,7 @@ impl Library {
         outcome
     }
 
-    /// Keeps no room for slots where none is in use, as after a refused `open`.
+    /// Frees the room for slots if no slot is in use, as after a refused `open`.
     fn give_back_room(&mut self)
         ensures { self.new ≡ self.old }
     {
@@ -165,7 +165,7 @@ impl Library {
         }
     }
 
-    /// What all of it comes to, in bytes.
+    /// The bytes of all that it has.
     #[tactic(auto, unfolding(ctf_protocol::specs::sessions::Charges::charge))]
     fn charge(&self) -> u128
         ensures { result ≡ charge self.now }
@@ -188,7 +188,7 @@ impl Library {
         Ok(Counts::of_success())
     }
 
-    /// Whether there may be a slot more, and a number for it.
+    /// Whether there may be one more slot, and a number for it.
     fn has_room(&self) -> bool
         ensures { result ≡ room_in self.now }
     {
@@ -281,8 +281,8 @@ impl Library {
         self.publish_loaded(name, loaded)
     }
 
-    /// Publishes a dictionary that stands in no slot, under a name that has none yet, whatever it
-    /// comes to; where that can't be counted in 128 bits, memory is refused.
+    /// Publishes a dictionary that is in no slot, under a name that is not in use, whatever its
+    /// bytes. If the bytes can't be counted in 128 bits, memory is refused.
     pub fn publish_loaded(
         &mut self,
         name: &PublicationName,
@@ -331,7 +331,7 @@ impl Library {
         Ok(Counts::two("d", u64::from(number), "types", types))
     }
 
-    /// The dictionary of a slot, if one is named.
+    /// The dictionary of a slot, if a slot is named.
     fn parent_at(&self, d: Option<SlotNumber>) -> Result<Option<&Loaded>, Fault>
         ensures ok { IfOk result (λ parent. option_copied parent
             ≡ option_and_then (λ d. option_map (λ s. s.kept) (slot_at d self.now.slots)) d) }
@@ -360,7 +360,7 @@ impl Library {
         Ok(Counts::one("d", u64::from(number)))
     }
 
-    /// The slot of a new draft, under the next number.
+    /// The slot of a new draft, with the next number.
     fn new_slot(&self, creation: &Creation) -> Result<Slot, Fault>
         ensures ok { IfOk result (λ slot. (creates creation.now self.now
             ≡ adds_draft (slot_of slot) self.now) × (slot.number ≡ self.now.next)) }
@@ -398,7 +398,8 @@ impl Library {
         )
     }
 
-    /// Answers a question to a slot. Names and lists are lent from its dictionary, or its parent.
+    /// Answers a question to a slot. Names and lists are borrowed from its dictionary, or its
+    /// parent.
     pub fn answer<'a>(&'a self, d: SlotNumber, question: &Question) -> Result<Answer<'a>, Fault>
         ensures answer { MayAnswer (answer_to d question.now self.now) result }
         // These take no memory.
@@ -407,18 +408,9 @@ impl Library {
         ensures lent { makes_text question.now ≡ false
             → result ≡ answer_to d question.now self.now }
     {
-        self.answer_now(d, question)
-    }
-
-    fn answer_now<'a>(&'a self, d: SlotNumber, question: &Question) -> Result<Answer<'a>, Fault>
-        ensures answer { MayAnswer (answer_to d question.now self.now) result }
-        ensures quiet { is_quiet question.now ≡ true → result ≡ answer_to d question.now self.now }
-        ensures lent { makes_text question.now ≡ false
-            → result ≡ answer_to d question.now self.now }
-    {
-        match find_slot(&self.slots, d.get()) {
-            Some(slot) => slot.answer(self.alloc, question),
-            None => Err(placeless(Fault::NO_SLOT)),
-        }
+        let Some(slot) = find_slot(&self.slots, d.get()) else {
+            return Err(placeless(Fault::NO_SLOT));
+        };
+        slot.answer(self.alloc, question)
     }
 }

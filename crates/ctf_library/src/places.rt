@@ -1,4 +1,4 @@
-//! Slots by their numbers.
+//! Slots, found by their numbers.
 ghost use Rattle.std.specs.Prelude.{◌≡◌, ◌≢◌, Err, ◌<◌, ◌+◌, ◌^◌, ◌++◌, ◌∷◌, [], ℕ, true, map, option_map, option_copied, IfNone, IfSome, None, Some, vec_len, vec_capacity};
 ghost use Rattle.ctf_library.specs.Charged.{bytes_in};
 ghost use Rattle.ctf_library.specs.Drafting.{HaveStepped};
@@ -20,7 +20,7 @@ use ctf_open::Imported;
 use ctf_protocol::{DraftStep, Fault, placeless};
 use std::alloc::Global;
 
-/// The place of the slot of a number, found by halves.
+/// The index of the slot with a number, by a binary search.
 fn find_place(slots: &[Slot], number: u32) -> Option<usize>
     requires { IsNonDecreasingBy (λ s. s.number) slots.now }
     ensures { result ≡ place_of number (map slot_of slots.now) }
@@ -35,7 +35,7 @@ fn find_place(slots: &[Slot], number: u32) -> Option<usize>
     Some(place)
 }
 
-/// The slot of a number.
+/// The slot with a number.
 pub fn find_slot(slots: &[Slot], number: u32) -> Option<&Slot>
     requires { IsNonDecreasingBy (λ s. s.number) slots.now }
     ensures { option_map slot_of (option_copied result) ≡ slot_at number (map slot_of slots.now) }
@@ -46,7 +46,7 @@ pub fn find_slot(slots: &[Slot], number: u32) -> Option<&Slot>
     }
 }
 
-/// A new slot behind the others, where room was made for it.
+/// Adds a slot at the end, for which room was made.
 pub fn push_slot(slots: &mut Vec<Slot>, slot: Slot)
     requires room { vec_len slots.old < vec_capacity slots.old }
     ensures slots { map slot_of slots.new.items ≡ map slot_of slots.old.items ++ slot_of slot ∷ [] }
@@ -58,7 +58,7 @@ pub fn push_slot(slots: &mut Vec<Slot>, slot: Slot)
     slots.push_reserved(slot);
 }
 
-/// Takes the slot of a number out.
+/// Removes the slot with a number.
 pub fn remove_slot(slots: &mut Vec<Slot>, number: u32) -> Option<Slot>
     requires { IsNonDecreasingBy (λ s. s.number) slots.old.items }
     ensures slot { option_map slot_of result ≡ slot_at number (map slot_of slots.old.items) }
@@ -76,7 +76,7 @@ pub fn remove_slot(slots: &mut Vec<Slot>, number: u32) -> Option<Slot>
     }
 }
 
-/// Gives the slot of a number a parent that serves it, and its tables over that.
+/// Gives the slot with a number a parent that was checked, with its tables over this parent.
 pub fn set_parent(slots: &mut Vec<Slot>, number: u32, imported: Imported)
     requires order { IsNonDecreasingBy (λ s. s.number) slots.old.items }
     requires fits { IfSome (slot_at number (map slot_of slots.old.items))
@@ -99,8 +99,8 @@ pub fn set_parent(slots: &mut Vec<Slot>, number: u32, imported: Imported)
     }
 }
 
-/// Makes a step of the draft in the slot of a number, and counts what slots come to, beside what
-/// all else does. Running out of memory changes nothing.
+/// Makes a step of the draft in the slot with a number, and updates the sum of the slots' bytes;
+/// `others` are the bytes of all else. Running out of memory changes nothing.
 pub fn step_draft(
     alloc: Global,
     slots: &mut Vec<Slot>,

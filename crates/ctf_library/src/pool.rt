@@ -1,4 +1,4 @@
-//! Dictionaries that were opened lately.
+//! Dictionaries that were opened last.
 ghost use Rattle.std.specs.Prelude.{◌≡◌, ◌⊎◌, ◌≤◌, ◌<◌, ◌^◌, [], IfOk, IfErr, IfSome, OnOk, Some, None, sum_by, true};
 ghost use Rattle.ctf_check.specs.Stages.{fault_before_chains};
 ghost use Rattle.ctf_library.specs.Pooling.{Holds, have_room, most_bytes, with_room};
@@ -7,24 +7,24 @@ ghost use Rattle.ctf_model.specs.rules.Faults.{first_fault};
 ghost use Rattle.ctf_model.specs.format.OwnedLists.{lists_owned};
 ghost use Rattle.ctf_model.specs.rules.Refusals.{out_of_memory};
 
-use ctf_check::lent;
+use ctf_check::lent_lists;
 use ctf_open::Loaded;
 use ctf_protocol::{DataModel, Fault, Parts, placeless};
 use std::alloc::Global;
 use std::marker::Model;
 
-/// How many dictionaries a pool holds.
+/// The greatest number of dictionaries in a pool.
 const MOST_HELD: usize = 16;
 
-/// How many bytes of them it holds.
+/// The greatest number of their bytes.
 const MOST_BYTES: u128 = 268_435_456;
 
 /// The last dictionaries that were opened, at most 16 and at most 268,435,456 bytes of them, the
 /// oldest first.
 ///
-/// Lists that are equal to those of one that is held, for the same data model,
-/// are not judged again:
-/// they get that dictionary, whoever opened it. What a pool holds shows in no answer.
+/// Lists that are equal to those of a dictionary in the pool, for the same data model, are not
+/// checked again: they get that dictionary, whoever opened it. No answer depends on what a pool
+/// has.
 #[derive(Drop)]
 pub struct Pool {
     alloc: Global,
@@ -45,7 +45,7 @@ impl Model for Pool {
         × (sum_by kept_bytes p.held.items ≤ most_bytes) };
 }
 
-/// How many bytes dictionaries have, where that is no more than a pool holds.
+/// The bytes of dictionaries, if they are no more than a pool may have.
 fn bytes_held(held: &[Loaded]) -> u128
     requires { sum_by kept_bytes held.now ≤ most_bytes }
     ensures { result ≡ sum_by kept_bytes held.now }
@@ -58,7 +58,7 @@ fn bytes_held(held: &[Loaded]) -> u128
 }
 
 impl Pool {
-    /// A pool that holds nothing.
+    /// An empty pool.
     pub fn new(alloc: Global) -> Pool
         ensures { result ≡ [] }
     {
@@ -68,11 +68,11 @@ impl Pool {
         }
     }
 
-    /// The dictionary of lists, for programs of a data model, or their first fault with the lists,
-    /// whatever is held.
+    /// Opens lists, for a data model, or gives their first fault with the lists, whatever the pool
+    /// has.
     ///
-    /// A new dictionary is held from then on, and the oldest are not where it would be too many.
-    /// One that is too large is not held.
+    /// A new dictionary is put into the pool, and the oldest are dropped to make room. A dictionary
+    /// that is too large is not put into it.
     pub fn open(&mut self, parts: Parts, model: DataModel) -> Result<Loaded, (Fault, Parts)>
         ensures ok { IfOk result (λ l. l ≡ record { lists = lists_owned parts; model = model }) }
         ensures exact_ok { OnOk result (first_fault (lists_owned parts) ≡ None) }
@@ -95,13 +95,13 @@ impl Pool {
         Ok(loaded)
     }
 
-    /// The dictionary that has just these lists and this data model, if it is held.
+    /// The dictionary with exactly these lists and this data model, if the pool has it.
     fn find(&self, parts: &Parts, model: DataModel) -> Option<&Loaded>
         ensures { IfSome result (λ l.
             (l.now ≡ record { lists = lists_owned parts.now; model = model })
             × (first_fault (lists_owned parts.now) ≡ None)) }
     {
-        let lists = lent(parts);
+        let lists = lent_lists(parts);
         for held in &self.held {
             if held.is_of(lists, model) {
                 return Some(held);
@@ -110,7 +110,7 @@ impl Pool {
         None
     }
 
-    /// Whether there is room for one more of so many bytes.
+    /// Whether there is room for one more dictionary of so many bytes.
     fn has_room(&self, bytes: u128) -> bool
         requires { bytes < 2 ^ 66 }
         ensures { result ≡ have_room bytes self.now }
@@ -118,7 +118,7 @@ impl Pool {
         self.held.len() < MOST_HELD && bytes_held(&self.held) + bytes <= MOST_BYTES
     }
 
-    /// Lets the oldest go until there is.
+    /// Drops the oldest until there is room.
     fn make_room(&mut self, bytes: u128)
         requires { bytes ≤ most_bytes }
         ensures { self.new ≡ with_room bytes self.old }
@@ -132,7 +132,7 @@ impl Pool {
         }
     }
 
-    /// Holds a dictionary in place of the oldest; where memory for that is refused, it does not.
+    /// Puts a dictionary in place of the oldest. If memory for that is refused, it does not.
     fn hold(&mut self, loaded: &Loaded)
         ensures { Holds self.old loaded.now self.new }
     {

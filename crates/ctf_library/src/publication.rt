@@ -2,7 +2,8 @@
 
 use ctf_open::Loaded;
 
-/// A published dictionary. Its turn is the number of those that the session had published before.
+/// A published dictionary. `turn` is the number of dictionaries that the session had published
+/// before.
 #[derive(Drop)]
 pub struct Publication {
     pub(crate) turn: u64,

@@ -15,8 +15,8 @@ use std::collections::BTreeMap;
 use std::collections::btree_map::Entry;
 use std::marker::Model;
 
-/// Publications and how many bytes they come to. They are kept in the order of names, and seen in
-/// the order in which they were published.
+/// Publications and the sum of their bytes. They are stored in the order of names, and contracts
+/// see them in the order in which they were published.
 #[derive(Drop)]
 pub struct PublicationMap {
     alloc: Global,
@@ -37,8 +37,8 @@ impl Model for PublicationMap {
     ghost invariant = { λ p. IsKept p.by_name p.turns p.bytes };
 }
 
-/// Puts a value under a key that has none yet, and says whether it had none. The key is looked for
-/// once.
+/// Puts a value under a key that is not in use, and returns whether it was not. The key is looked
+/// for once.
 fn put_new<V: Drop>(
     map: &mut BTreeMap<Vec<u8>, V>,
     key: Vec<u8>,
@@ -60,7 +60,7 @@ fn put_new<V: Drop>(
 }
 
 impl PublicationMap {
-    /// Nothing is published.
+    /// No publications.
     pub fn new(alloc: Global) -> PublicationMap
         ensures { result ≡ [] }
     {
@@ -72,7 +72,7 @@ impl PublicationMap {
         }
     }
 
-    /// Whether nothing is published.
+    /// Whether there are no publications.
     pub fn is_empty(&self) -> bool
         ensures { IsTrue result ↔ (self.now ≡ []) }
     {
@@ -86,8 +86,7 @@ impl PublicationMap {
         self.bytes
     }
 
-    /// What is published under a name, found in a time that grows with the logarithm of their
-    /// number.
+    /// What is published under a name, in time logarithmic in the number of publications.
     pub fn find(&self, name: &[u8]) -> Option<&Loaded>
         ensures { option_map (λ l. l.now) result ≡ published_as name.now self.now }
     {
@@ -97,9 +96,9 @@ impl PublicationMap {
         }
     }
 
-    /// Publishes a dictionary under a name, if that has none yet, and says whether it had none.
-    /// Where it has one, or memory is refused, nothing changes; so it is too where 64 bits can't
-    /// count one publication more.
+    /// Publishes a dictionary under a name that is not in use, and returns whether it was not. If
+    /// the name is in use, or memory is refused, nothing changes; the same if 64 bits can't count
+    /// one publication more.
     pub fn add(&mut self, name: &PublicationName, loaded: Loaded) -> Result<bool, AllocError>
         requires small { sum_by publication_bytes self.old + kept_bytes loaded < 2 ^ 128 }
         ensures free { IfOk result (λ is_free. is_free
@@ -126,7 +125,7 @@ impl PublicationMap {
         Ok(true)
     }
 
-    /// Takes out what is published under a name, if anything is.
+    /// Removes what is published under a name, if anything is.
     pub fn remove(&mut self, name: &[u8]) -> bool
         ensures there { result ≡ is_some (published_as name.now self.old) }
         ensures left { self.new ≡ published_without name.now self.old }

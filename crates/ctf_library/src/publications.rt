@@ -1,4 +1,4 @@
-//! What a session published, which takes memory of its own from the first publication on.
+//! What a session published. It takes memory only from the first publication on.
 ghost use Rattle.std.specs.Prelude.{◌≡◌, ◌+◌, ◌<◌, ◌^◌, ◌++◌, [], ◌∷◌, true, false, Ok, IfOk, OnErr, is_some, not, option_map, sum_by, ◌↔◌, IsTrue};
 ghost use Rattle.ctf_model.specs.opened.Sizes.{kept_bytes};
 ghost use Rattle.ctf_protocol.specs.sessions.Charges.{publication_bytes};
@@ -10,7 +10,7 @@ use ctf_protocol::PublicationName;
 use std::alloc::{AllocError, Global};
 use std::marker::Model;
 
-/// What a session published, if it ever did, in the order in which that was.
+/// What a session published, in the order of publishing.
 #[derive(Drop)]
 pub struct Publications {
     map: Option<Box<PublicationMap>>,
@@ -27,14 +27,14 @@ impl Model for Publications {
 }
 
 impl Publications {
-    /// Nothing is published.
+    /// No publications.
     pub fn new() -> Publications
         ensures { result ≡ [] }
     {
         Publications { map: None }
     }
 
-    /// Whether nothing is published.
+    /// Whether there are no publications.
     pub fn is_empty(&self) -> bool
         ensures { IsTrue result ↔ (self.now ≡ []) }
     {
@@ -54,8 +54,7 @@ impl Publications {
         }
     }
 
-    /// What is published under a name, found in a time that grows with the logarithm of their
-    /// number.
+    /// What is published under a name, in time logarithmic in the number of publications.
     pub fn find(&self, name: &[u8]) -> Option<&Loaded>
         ensures { option_map (λ l. l.now) result ≡ published_as name.now self.now }
     {
@@ -65,9 +64,9 @@ impl Publications {
         }
     }
 
-    /// Publishes a dictionary under a name, if that has none yet, and says whether it had none.
-    /// Where it has one, or memory is refused, nothing changes; so it is too where 64 bits can't
-    /// count one publication more.
+    /// Publishes a dictionary under a name that is not in use, and returns whether it was not. If
+    /// the name is in use, or memory is refused, nothing changes; the same if 64 bits can't count
+    /// one publication more.
     pub fn add(
         &mut self,
         alloc: Global,
@@ -93,7 +92,7 @@ impl Publications {
         }
     }
 
-    /// Takes out what is published under a name, if anything is.
+    /// Removes what is published under a name, if anything is.
     pub fn remove(&mut self, name: &[u8]) -> bool
         ensures there { result ≡ is_some (published_as name.now self.old) }
         ensures left { self.new ≡ published_without name.now self.old }

@@ -1,4 +1,4 @@
-//! What questions on what a slot holds are answered.
+//! The answers to questions on what a slot has.
 ghost use Rattle.std.specs.Prelude.{◌≡◌, take, drop};
 ghost use Rattle.ctf_check.specs.CheckedView.{dictionary_of};
 ghost use Rattle.ctf_library.specs.SlotView.{slot_of};
@@ -10,7 +10,7 @@ use ctf_answers::{Answer, InfoAnswer, Single};
 use ctf_check::Checked;
 use ctf_protocol::{HeldQuestion, model_name};
 
-/// What a dictionary is as a whole, and how much its draft has pending.
+/// What a dictionary has in all, and how many additions to its draft are pending.
 fn info<'a>(dictionary: &Checked<'a>, draft: bool, imported: bool, pending: usize) -> Answer<'a>
     ensures { result ≡ info_fields (dictionary_of dictionary.now) draft imported pending }
 {
@@ -26,7 +26,7 @@ fn info<'a>(dictionary: &Checked<'a>, draft: bool, imported: bool, pending: usiz
     })
 }
 
-/// At most `count` bytes, from one on.
+/// At most `count` bytes, beginning at `from`.
 fn window(bytes: &[u8], from: u32, count: u32) -> &[u8]
     ensures { result.now ≡ take count (drop from bytes.now) }
 {
@@ -47,7 +47,7 @@ fn bytes<'a>(ctf: &'a [u8], from: u32, count: u32) -> Answer<'a>
 }
 
 impl Slot {
-    /// What a question on what it holds is answered, without memory.
+    /// The answer to a question on what the slot has, without memory.
     pub(crate) fn answer_held<'a>(&'a self, question: HeldQuestion) -> Answer<'a>
         ensures { result ≡ held_answered question (open_of (slot_of self.now)) }
     {

@@ -1,4 +1,4 @@
-//! The stage of a session, which takes memory of its own from the first part on.
+//! The stage of a session. It takes memory only from the first part on.
 ghost use Rattle.std.specs.Prelude.{true, ◌↔◌, IsTrue, ◌≡◌, ◌≤◌, ◌⊎◌, ◌++◌, length, Some, None, OnOk, OnErr, IfOk, IfErr, IfSome};
 ghost use Rattle.ctf_check.specs.Stages.{fault_before_chains};
 ghost use Rattle.ctf_model.specs.rules.Faults.{first_fault as fault_of};
@@ -22,8 +22,8 @@ fn box_staged(alloc: Global, staged: Staged) -> Result<Box<Staged>, AllocError>
     Ok(Box::new(alloc, staged)?)
 }
 
-/// The staged lists of a session, if any part was staged since the last `open` or `clear`. A
-/// contract sees the lists alone.
+/// The staged lists of a session, if any part was staged since the last `open` or `clear`.
+/// Contracts see only the lists.
 #[derive(Drop)]
 pub struct Stage {
     staged: Option<Box<Staged>>,
@@ -66,8 +66,8 @@ impl Stage {
         }
     }
 
-    /// Adds a piece to one of the lists, and answers how long that is then. The piece may have to
-    /// fit in elsewhere too: whether it does is said.
+    /// Adds a piece to one of the lists, and returns the list's new length. `fits` says whether the
+    /// piece fits into the quota.
     pub fn add(
         &mut self,
         alloc: Global,
@@ -103,7 +103,7 @@ impl Stage {
         }
     }
 
-    /// Judges the lists, if that was not done before.
+    /// Checks the lists, if they were not checked before.
     pub fn check(&mut self, alloc: Global) -> Result<(), Fault>
         ensures ok { OnOk result (fault_of self.old ≡ None) }
         ensures err { IfErr result (λ f. (f ≡ out_of_memory) ⊎ (fault_of self.old ≡ Some f)) }
@@ -117,7 +117,8 @@ impl Stage {
         }
     }
 
-    /// Opens the lists by way of a pool; nothing is staged then. Where they are refused, they stay.
+    /// Opens the lists through a pool, and empties the stage. If they are refused, they stay
+    /// staged.
     pub fn open(
         &mut self,
         alloc: Global,

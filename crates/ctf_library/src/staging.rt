@@ -10,7 +10,7 @@ ghost use Rattle.ctf_model.specs.rules.Refusals.{placeless, out_of_memory};
 ghost use Rattle.ctf_protocol.specs.sessions.Steps.{longest_list, list_in};
 ghost use Rattle.ctf_model.specs.declared.faults.TheConstants.Fault.{STAGE_FULL};
 
-use ctf_check::{check, lent};
+use ctf_check::{check, lent_lists};
 use ctf_open::owned_bytes;
 use ctf_protocol::{Bytes, Fault, ListName, Parts, no_parts, placeless};
 use std::alloc::Global;
@@ -20,8 +20,8 @@ use std::mem;
 /// The greatest length of a staged list, in bytes.
 const LONGEST_LIST: usize = 67_108_864;
 
-/// Adds a piece to the end of a list, and answers how long it is then. The piece may have to fit in
-/// elsewhere too: whether it does is said.
+/// Adds a piece to the end of a list, and returns the list's new length. `fits` says whether the
+/// piece fits into the quota.
 fn add_piece(list: &mut Bytes, piece: &[u8], fits: bool) -> Result<u64, Fault>
     ensures ok { IfOk result (λ n. (list.new ≡ list.old ++ piece.now) × (n ≡ length list.new)) }
     ensures short { OnOk result (length (list.old ++ piece.now) ≤ longest_list) }
@@ -40,7 +40,7 @@ fn add_piece(list: &mut Bytes, piece: &[u8], fits: bool) -> Result<u64, Fault>
     Ok(list.len() as u64)
 }
 
-/// The same for a list that may not be there yet: it is from then on.
+/// The same for a list that may not exist yet; afterwards it does.
 fn add_first_piece(
     alloc: Global,
     list: &mut Option<Bytes>,
@@ -66,7 +66,7 @@ fn add_first_piece(
     }
 }
 
-/// Adds a piece to one of the staged lists, and answers how long that is then.
+/// Adds a piece to one of the staged lists, and returns the list's new length.
 fn stage_piece(
     alloc: Global,
     stage: &mut Parts,
@@ -90,7 +90,7 @@ fn stage_piece(
     }
 }
 
-/// The first fault of lists, if they have one. It is an error that memory was refused.
+/// The first fault of lists, if they have one. Refused memory is an error.
 fn first_fault(alloc: Global, lists: &Parts) -> Result<Option<Fault>, Fault>
     ensures fault { IfOk result (λ fault. fault ≡ fault_of (lists_owned lists.now)) }
     ensures refused { IfErr result (λ f. (f ≡ out_of_memory)
@@ -98,7 +98,7 @@ fn first_fault(alloc: Global, lists: &Parts) -> Result<Option<Fault>, Fault>
     ensures late { IfErr result (λ f. (fault_before_chains (lists_owned lists.now) ≡ None)
         ⊎ (fault_of (lists_owned lists.now) ≡ Some f)) }
 {
-    let lists = lent(lists);
+    let lists = lent_lists(lists);
     match check(alloc, lists.ctf, lists.sym, lists.strs) {
         Ok(_) => Ok(None),
         Err(fault) if fault.code == Fault::MEMORY => Err(fault),
@@ -106,8 +106,8 @@ fn first_fault(alloc: Global, lists: &Parts) -> Result<Option<Fault>, Fault>
     }
 }
 
-/// Staged lists, with their first fault once they were judged: lists that stay as they are, are
-/// judged once. A contract sees the lists alone.
+/// Staged lists, with their first fault once they were checked: unchanged lists are checked once.
+/// Contracts see only the lists.
 #[derive(Drop)]
 pub struct Staged {
     parts: Parts,
@@ -138,7 +138,7 @@ impl Staged {
         }
     }
 
-    /// Lists that were not opened, for this fault of theirs or because memory ran out.
+    /// Lists that were not opened, because of this fault or because memory ran out.
     pub fn refuse(parts: Parts, fault: Fault) -> Staged
         requires { (fault ≡ out_of_memory) ⊎ (fault_of (lists_owned parts) ≡ Some fault) }
         ensures { result ≡ lists_owned parts }
@@ -179,8 +179,8 @@ impl Staged {
         owned_bytes(&self.parts)
     }
 
-    /// Adds a piece to one of the lists, and answers how long that is then. The piece may have to
-    /// fit in elsewhere too: whether it does is said.
+    /// Adds a piece to one of the lists, and returns the list's new length. `fits` says whether the
+    /// piece fits into the quota.
     pub fn add(
         &mut self,
         alloc: Global,
@@ -209,7 +209,7 @@ impl Staged {
         }
     }
 
-    /// Judges the lists, if that was not done before.
+    /// Checks the lists, if they were not checked before.
     pub fn check(&mut self, alloc: Global) -> Result<(), Fault>
         ensures ok { OnOk result (fault_of self.old ≡ None) }
         ensures err { IfErr result (λ f. (f ≡ out_of_memory) ⊎ (fault_of self.old ≡ Some f)) }

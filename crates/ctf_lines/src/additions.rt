@@ -1,6 +1,5 @@
-//! Reads what is added to a draft.
+//! Reads additions to a draft.
 ghost use Rattle.std.specs.Prelude.{◌≡◌, ◌≢◌, IfOk, Some, codes, option_and_then, option_map};
-ghost use Rattle.serde_json.specs.Find.{as_array, get};
 ghost use Rattle.ctf_json.specs.Values.{line_said as view, number_said, numbers_said};
 ghost use Rattle.ctf_protocol.specs.lines.LineFields.{text_in, type_under as type_asked_under};
 ghost use Rattle.ctf_protocol.specs.lines.AskAdditions.{addition_asked, addition_with as addition_asked_with, declared_named, kind_with, new_array_asked, new_enumerator_asked, new_function_asked, new_label_asked, new_member_asked, new_type_asked, offset_asked, root_asked, scalar_asked, size_or as size_or_asked, type_listed as type_listed_by, types_listed as types_listed_by, value_asked_for};
@@ -9,13 +8,13 @@ ghost use Rattle.ctf_protocol.specs.declared.additions.Addition.TheVariants as a
 
 use crate::drafts::name_or_empty;
 use crate::reading::{number, number_within, text, type_number};
-use ctf_json::{Line, as_bool, as_i64, get};
+use ctf_json::{Line, as_bool, as_i64, get, take_args};
 use ctf_protocol::{
     Addable, Addition, Declared, NewArray, NewKind, NewScalar, Piece, TypeNum, TypeNums,
 };
 use std::alloc::{AllocError, Global};
 
-/// The number of a type under a key.
+/// The type number under a key.
 fn type_under(line: &Line<'_>, key: &str) -> Option<TypeNum>
     ensures { result ≡ type_asked_under key.now (view line.now) }
 {
@@ -23,7 +22,7 @@ fn type_under(line: &Line<'_>, key: &str) -> Option<TypeNum>
     Some(TypeNum(number as u16))
 }
 
-/// A size in bytes, this one where that isn't said.
+/// A size in bytes; this default if it is not stated.
 fn size_or(line: &Line<'_>, size: u64) -> Option<u64>
     ensures { result ≡ size_or_asked size (view line.now) }
 {
@@ -61,13 +60,13 @@ fn array(line: &Line<'_>) -> Option<NewArray>
     })
 }
 
-/// A number of 16 bits is that of a type.
+/// A 16-bit number is that of a type.
 #[inline(always)]
 fn is_listed(number: TypeNum)
     ensures { Some number ≡ type_listed_by (number_said number) }
 {}
 
-/// Numbers of 16 bits are those of types. No code is left of this.
+/// 16-bit numbers are those of types. This compiles to nothing.
 fn are_listed(numbers: &[TypeNum])
     ensures { types_listed_by (numbers_said numbers.now) ≡ Some numbers.now }
 {
@@ -76,21 +75,12 @@ fn are_listed(numbers: &[TypeNum])
     }
 }
 
-/// The types that numbers are.
+/// The types with these numbers.
 fn types_listed(numbers: Vec<TypeNum>) -> TypeNums
     ensures { types_listed_by (numbers_said numbers.items) ≡ Some result }
 {
     are_listed(numbers.as_slice());
     TypeNums::new(numbers)
-}
-
-/// The numbers that are a list of types, which are taken out of the line.
-fn args(line: &mut Line<'_>) -> Option<Vec<TypeNum>>
-    ensures { option_and_then (λ args. types_listed_by (numbers_said args.items)) result
-        ≡ option_and_then types_listed_by
-        (option_and_then as_array (get (codes "args") (view line.old))) }
-{
-    ctf_json::take_args(line)
 }
 
 /// A function that returns a type, with the types of its arguments, which are taken out of the
@@ -99,7 +89,7 @@ fn function(line: &mut Line<'_>) -> Option<NewKind>
     ensures { result ≡ new_function_asked (view line.old) }
 {
     let returned = type_under(line, "type")?;
-    let args = args(line)?;
+    let args = take_args(line)?;
     Some(NewKind::Function(returned, types_listed(args)))
 }
 
@@ -115,7 +105,7 @@ fn declared_sort(line: &Line<'_>) -> Option<Declared>
     }
 }
 
-/// Whether look-ups see a type, which they do where that isn't said.
+/// Whether look-ups find a type; true if it is not stated.
 fn root(line: &Line<'_>) -> Option<bool>
     ensures { result ≡ root_asked (view line.now) }
 {
@@ -125,7 +115,7 @@ fn root(line: &Line<'_>) -> Option<bool>
     }
 }
 
-/// A new type of a kind, with its name and whether look-ups see it, where all three are good.
+/// A new type of a kind, with its name and whether look-ups find it, if all three are valid.
 fn named_type(kind: Option<NewKind>, name: Option<Piece>, root: Option<bool>) -> Option<Addition>
     ensures { result ≡ option_and_then (λ kind. option_and_then (λ name. option_map (λ root.
         added.Type name root kind) root) name) kind }
@@ -136,7 +126,7 @@ fn named_type(kind: Option<NewKind>, name: Option<Piece>, root: Option<bool>) ->
     Some(Addition::Type { name, root, kind })
 }
 
-/// A new type of a kind, where its own fields are good.
+/// A new type of a kind, if its own fields are valid.
 fn new_type(
     alloc: Global,
     line: &Line<'_>,
@@ -251,7 +241,7 @@ fn kind(line: &Line<'_>, what: Addable) -> Option<NewKind>
     }
 }
 
-/// What is added, with its fields.
+/// An addition, with its fields.
 fn addition_with(
     alloc: Global,
     line: &mut Line<'_>,

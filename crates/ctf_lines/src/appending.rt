@@ -1,11 +1,11 @@
-//! Texts behind a list that is held by value, where there is room.
+//! Texts after a list that is passed by value, for which there is room.
 ghost use Rattle.std.specs.Prelude.{◌≡◌, ◌+◌, ◌<◌, ◌≤◌, ◌++◌, length, vec_len, vec_capacity, decimal};
 ghost use Rattle.ctf_lines.specs.Appending.{HasRoom, Appended};
 ghost use Rattle.ctf_lines.specs.Rows.{member_row};
 
 use itoa::Buffer;
 
-/// A list with bytes behind it.
+/// A list with bytes appended.
 #[inline(always)]
 pub fn append_bytes(out: Vec<u8>, bytes: &[u8]) -> Vec<u8>
     requires { HasRoom out bytes.now }
@@ -56,7 +56,7 @@ fn with_three_digits(out: Vec<u8>, number: u64) -> Vec<u8>
     )
 }
 
-/// Not part of its callers, since most numbers are short.
+/// Not inlined into its callers, since most numbers are short.
 #[inline(never)]
 fn with_long_number(out: Vec<u8>, number: u64) -> Vec<u8>
     requires { HasRoom out (decimal number) }
@@ -65,7 +65,7 @@ fn with_long_number(out: Vec<u8>, number: u64) -> Vec<u8>
     append_bytes(out, Buffer::new().format(number).as_bytes())
 }
 
-/// A list with a number behind it.
+/// A list with a number appended.
 #[inline(always)]
 pub fn with_number(out: Vec<u8>, number: u64) -> Vec<u8>
     requires { HasRoom out (decimal number) }
@@ -82,7 +82,7 @@ pub fn with_number(out: Vec<u8>, number: u64) -> Vec<u8>
     }
 }
 
-/// A list with a text behind it that stands between two others.
+/// A list with a text between two others appended.
 #[inline(always)]
 pub fn between(out: Vec<u8>, front: &[u8], text: &[u8], back: &[u8]) -> Vec<u8>
     requires { HasRoom out (front.now ++ (text.now ++ back.now)) }
@@ -91,7 +91,7 @@ pub fn between(out: Vec<u8>, front: &[u8], text: &[u8], back: &[u8]) -> Vec<u8>
     append_bytes(append_bytes(append_bytes(out, front), text), back)
 }
 
-/// A list with a number behind it that stands between two texts.
+/// A list with a number between two texts appended.
 #[inline(always)]
 pub fn append_number(out: Vec<u8>, front: &[u8], number: u64, back: &[u8]) -> Vec<u8>
     requires { HasRoom out (front.now ++ (decimal number ++ back.now)) }
@@ -100,7 +100,7 @@ pub fn append_number(out: Vec<u8>, front: &[u8], number: u64, back: &[u8]) -> Ve
     append_bytes(with_number(append_bytes(out, front), number), back)
 }
 
-/// A list with a member behind it whose name stands as it is.
+/// A list with a member appended, whose name needs no escapes.
 #[inline(always)]
 pub fn with_member(out: Vec<u8>, name: &[u8], offset: u64, number: u64) -> Vec<u8>
     requires { HasRoom out (member_row name.now offset number) }

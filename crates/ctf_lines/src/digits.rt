@@ -8,7 +8,7 @@ ghost use Rattle.ctf_lines.specs.Decoded.{IsDecodedTo, IsNoHex};
 use std::alloc::{AllocError, Global};
 use std::simd::prelude::*;
 
-/// The number of a digit, in either case; something below 16 of any other byte.
+/// The value of a digit, in either case; for any other byte something below 16.
 #[inline(always)]
 fn number(digit: u8) -> u8
     ensures value { IfSome (hex_digit_value digit) (λ n. result ≡ n) }
@@ -78,8 +78,8 @@ fn seconds(digits: &[u8], at: usize) -> u8x64
     )
 }
 
-/// Fills 64 bytes of a list from a place on, and says whether all their digits are such. They are
-/// taken apart at once, since else each would be read by itself.
+/// Fills 64 bytes of a list from a place on, and returns whether all their digits are valid. The
+/// digits are split in blocks, since else each byte would be read by itself.
 #[inline(always)]
 fn fill_block(digits: &[u8], bytes: &mut [u8], at: usize) -> bool
     requires len { length digits.now ≡ 2 * length bytes.old }

@@ -1,4 +1,4 @@
-//! Names in a line: their bytes are escaped where they aren't plain.
+//! Names in a line: bytes that are not plain are escaped.
 ghost use Rattle.std.specs.Prelude.{IsTrue, ◌≡◌, ◌<◌, ◌+◌, ◌≤◌, ◌++◌, length, vec_len, vec_capacity};
 ghost use Rattle.ctf_lines.specs.Appending.{HasRoom, Appended};
 ghost use Rattle.ctf_model.specs.dumps.Texts.{is_plain as is_plain_byte, hex_digit as digit_of, hex_of_byte};
@@ -6,7 +6,7 @@ ghost use Rattle.ctf_protocol.specs.lines.Text.{text_of_byte, text_of, hex_of};
 
 use crate::text_sinks::TextSink;
 
-/// Whether a byte stands as itself.
+/// Whether a byte needs no escape.
 pub fn is_plain(byte: u8) -> bool
     ensures { result ≡ is_plain_byte byte }
 {
@@ -36,8 +36,8 @@ fn put_byte<P: TextSink>(sink: &mut P, byte: u8)
     }
 }
 
-/// Whether all bytes of a text stand as themselves. A text that is longer than most names isn't
-/// looked at.
+/// Whether no byte of a text needs an escape. False for a text that is longer than most names,
+/// which is not read.
 pub fn are_plain(text: &[u8]) -> bool
     ensures { IsTrue result → text_of text.now ≡ text.now }
 {
@@ -52,11 +52,11 @@ pub fn are_plain(text: &[u8]) -> bool
     true
 }
 
-/// How many bytes of a name are looked at before any is put on.
+/// How many bytes of a name are checked before any is written.
 const PIECE: usize = 64;
 
-/// Whether all bytes of a piece stand as themselves. None ends it early, so that many are looked
-/// at at once.
+/// Whether no byte of a piece needs an escape. The loop never stops early, so that many bytes are
+/// compared at once.
 fn is_plain_piece(piece: &[u8]) -> bool
     ensures { IsTrue result → text_of piece.now ≡ piece.now }
 {
@@ -67,7 +67,7 @@ fn is_plain_piece(piece: &[u8]) -> bool
     plain
 }
 
-/// Puts bytes on, one by one.
+/// Writes bytes to the sink, one by one.
 fn put_bytes<P: TextSink>(sink: &mut P, bytes: &[u8])
     ensures { P.Took sink.old (text_of bytes.now) sink.new }
 {
@@ -76,7 +76,7 @@ fn put_bytes<P: TextSink>(sink: &mut P, bytes: &[u8])
     }
 }
 
-/// Puts a part of a name on.
+/// Writes a part of a name to the sink.
 fn put_piece<P: TextSink>(sink: &mut P, piece: &[u8])
     ensures { P.Took sink.old (text_of piece.now) sink.new }
 {
@@ -87,7 +87,7 @@ fn put_piece<P: TextSink>(sink: &mut P, piece: &[u8])
     }
 }
 
-/// Puts a name on. What stands behind a limit isn't looked at.
+/// Writes a name to the sink. Bytes after the sink's limit are not read.
 pub fn put_name<P: TextSink>(sink: &mut P, name: &[u8])
     ensures { P.Took sink.old (text_of name.now) sink.new }
 {
@@ -102,7 +102,7 @@ pub fn put_name<P: TextSink>(sink: &mut P, name: &[u8])
     }
 }
 
-/// Appends the digits of bytes where there is room.
+/// Appends the digits of bytes, for which there is room.
 pub fn append_hex(out: &mut Vec<u8>, bytes: &[u8])
     requires { HasRoom out.old (hex_of bytes.now) }
     ensures { Appended out.old out.new (hex_of bytes.now) }
@@ -112,7 +112,7 @@ pub fn append_hex(out: &mut Vec<u8>, bytes: &[u8])
     }
 }
 
-/// Appends the two digits of a byte where there is room.
+/// Appends the two digits of a byte, for which there is room.
 fn append_digits(out: &mut Vec<u8>, byte: u8)
     requires { HasRoom out.old (hex_of_byte byte) }
     ensures { Appended out.old out.new (hex_of_byte byte) }

@@ -7,9 +7,9 @@ ghost use Rattle.ctf_answers.specs.Items.{item_of};
 use crate::series::Series;
 use crate::singles::{put_entry, put_single};
 use crate::text_sinks::TextSink;
-use ctf_answers::{Item, KeyedValue, Listed};
+use ctf_answers::{Item, ItemWindow, KeyedValue};
 
-/// Puts an object of two parts on.
+/// Writes an object of two values to the sink.
 fn put_two<P: TextSink>(sink: &mut P, a: &KeyedValue<'_>, b: &KeyedValue<'_>)
     ensures { P.Took sink.old (object_text (entry_of a.now ∷ entry_of b.now ∷ [])) sink.new }
 {
@@ -20,7 +20,7 @@ fn put_two<P: TextSink>(sink: &mut P, a: &KeyedValue<'_>, b: &KeyedValue<'_>)
     sink.put_one(b'}');
 }
 
-/// Puts an object of three parts on.
+/// Writes an object of three values to the sink.
 fn put_three<P: TextSink>(sink: &mut P, a: &KeyedValue<'_>, b: &KeyedValue<'_>, c: &KeyedValue<'_>)
     ensures { P.Took sink.old
         (object_text (entry_of a.now ∷ entry_of b.now ∷ entry_of c.now ∷ [])) sink.new }
@@ -34,7 +34,7 @@ fn put_three<P: TextSink>(sink: &mut P, a: &KeyedValue<'_>, b: &KeyedValue<'_>, 
     sink.put_one(b'}');
 }
 
-/// Puts an item on.
+/// Writes an item to the sink.
 fn put_item<P: TextSink>(sink: &mut P, item: &Item<'_>)
     ensures { P.Took sink.old (item_text (item_of item.now)) sink.new }
 {
@@ -45,7 +45,7 @@ fn put_item<P: TextSink>(sink: &mut P, item: &Item<'_>)
     }
 }
 
-impl<'a> Series for Listed<'a> {
+impl<'a> Series for ItemWindow<'a> {
     ghost use Rattle.std.specs.Prelude.{map};
     ghost use Rattle.ctf_protocol.specs.lines.ReplyLines.{item_text};
 

@@ -1,4 +1,4 @@
-//! The fields of a dictionary as a whole, put on with their keys, which are known.
+//! The fields of the answer of `info`, written with their constant keys.
 ghost use Rattle.std.specs.Prelude.{◌∷◌, codes, map};
 ghost use Rattle.ctf_answers.specs.Told.{info_view};
 ghost use Rattle.ctf_model.specs.dumps.Texts.{with_commas};
@@ -9,7 +9,7 @@ use crate::singles::put_quoted;
 use crate::text_sinks::TextSink;
 use ctf_answers::InfoAnswer;
 
-/// Puts on whether the dictionary is a child.
+/// Writes whether the dictionary is a child.
 fn put_child<P: TextSink>(sink: &mut P, child: bool)
     ensures { P.Took sink.old (field_text (says (codes "child") (truth child))) sink.new }
 {
@@ -20,7 +20,7 @@ fn put_child<P: TextSink>(sink: &mut P, child: bool)
     }
 }
 
-/// Puts on whether it is in the making, behind a comma.
+/// Writes a comma, and whether the slot has a draft.
 fn put_draft<P: TextSink>(sink: &mut P, draft: bool)
     ensures { P.Took sink.old (44 ∷ field_text (says (codes "draft") (truth draft))) sink.new }
 {
@@ -31,7 +31,7 @@ fn put_draft<P: TextSink>(sink: &mut P, draft: bool)
     }
 }
 
-/// Puts on whether it has a parent, behind a comma.
+/// Writes a comma, and whether it has a parent.
 fn put_imported<P: TextSink>(sink: &mut P, imported: bool)
     ensures { P.Took sink.old
         (44 ∷ field_text (says (codes "imported") (truth imported))) sink.new }
@@ -43,7 +43,7 @@ fn put_imported<P: TextSink>(sink: &mut P, imported: bool)
     }
 }
 
-/// Puts all fields on.
+/// Writes all fields.
 pub fn put_info<P: TextSink>(sink: &mut P, told: &InfoAnswer<'_>)
     ensures { P.Took sink.old (with_commas (map field_text (info_view told.now))) sink.new }
 {

@@ -1,4 +1,4 @@
-//! Room behind the lines that are there, on which a line is put in one pass.
+//! Room after the lines that are in a list, into which a line is written in one pass.
 ghost use Rattle.std.specs.Prelude.{◌≡◌, ◌+◌, ◌≤◌, ◌++◌, false, length, vec_len, vec_capacity, decimal};
 ghost use Rattle.ctf_lines.specs.Appending.{HasRoom, Appended};
 ghost use Rattle.ctf_lines.specs.Rows.{member_row};
@@ -9,8 +9,8 @@ use crate::text_sinks::TextSink;
 use core::mem::replace_with;
 use std::mem::replace;
 
-/// A list, and how long it may get. Where a text found no room, nothing more is told of what was
-/// put on.
+/// A list, and its greatest length. If a text found no room, nothing is known of what was written
+/// after it.
 #[derive(Drop)]
 pub struct LineBuffer {
     out: Vec<u8>,
@@ -34,14 +34,14 @@ impl LineBuffer {
         }
     }
 
-    /// The list, and whether all found room.
+    /// The list, and whether all texts found room.
     pub fn into_parts(self) -> (Vec<u8>, bool)
         ensures { (result.0 ≡ self.out) × (result.1 ≡ self.is_full) }
     {
         (self.out, self.is_full)
     }
 
-    /// How many bytes may be put on.
+    /// How many bytes may be written.
     #[inline(always)]
     fn room(&self) -> usize
         ensures { result + vec_len self.now.out ≡ self.now.end }
@@ -58,7 +58,7 @@ struct Between<'a> {
     back: &'a [u8],
 }
 
-/// A member whose name stands as it is.
+/// A member whose name needs no escapes.
 #[derive(Clone, Copy)]
 struct MemberRow<'a> {
     name: &'a [u8],

@@ -6,15 +6,14 @@ use ctf_json::Scratch;
 use ctf_protocol::Fault;
 use std::alloc::{AllocError, Global};
 
-/// What a line may ask.
+/// What a line may ask for.
 pub trait FromLine: Sized {
     ghost use Rattle.ctf_model.specs.declared.faults.Fault.{Fault};
     ghost use Rattle.ctf_model.specs.declared.faults.TheConstants.Fault.{MEMORY};
     ghost use Rattle.ctf_model.specs.rules.Refusals.{placeless};
     ghost use Rattle.ctf_protocol.specs.lines.Lines.{longest_line};
 
-    /// The session of a line and what it asks, or its session (0 where it has none) and the
-    /// refusal.
+    /// The session of a line and its request, or the session (0 if there is none) and the refusal.
     ghost asked: { List ℕ → Result (ℕ × Self) (ℕ × Fault) };
 
     /// Whether memory may be taken to read a line.
@@ -26,7 +25,7 @@ pub trait FromLine: Sized {
         ensures session { IfOk result (λ said. said.0 ≢ 0) }
         ensures refused { IfErr result (λ refusal. refusal.1.code ≢ MEMORY
             → asked line.now ≡ Err refusal) }
-        // Where memory was refused, no session is said.
+        // If memory was refused, no session is given.
         ensures memory { IfErr result (λ refusal. refusal.1.code ≡ MEMORY
             → refusal ≡ (0, placeless MEMORY)) }
         ensures needed { IfErr result (λ refusal. refusal.1.code ≡ MEMORY
@@ -35,7 +34,7 @@ pub trait FromLine: Sized {
         ensures long { longest_line < length line.now → asked line.now ≡ result };
 }
 
-/// What has a line.
+/// What can be written as a line.
 pub trait ToLine {
     /// The line, with its newline.
     ghost line: { Self → List ℕ };

@@ -5,7 +5,7 @@ use crate::text_sinks::TextSink;
 use crate::texts::TOO_LONG;
 use itoa::Buffer;
 
-/// How long the texts are that were put on, as far as the line of a reply may go.
+/// The length of the texts that were written so far, up to the greatest length of a reply.
 #[derive(Drop)]
 pub struct Measure {
     len: usize,

@@ -1,15 +1,15 @@
 //! Reads the request of a line.
-ghost use Rattle.std.specs.Prelude.{◌≡◌, ◌≢◌, ◌≤◌, ◌<◌, IfSome, Option, length, None, Some, IfOk, IfErr, Ok, Err, codes, option_map, option_and_then, OnErr, true};
-ghost use Rattle.serde_json.specs.Find.{as_array, as_number, as_u64, get};
+ghost use Rattle.std.specs.Prelude.{◌≡◌, ◌≢◌, ◌≤◌, ◌<◌, IfSome, Option, length, None, Some, IfOk, IfErr, Ok, Err, codes, option_map, option_and_then, OnErr, true, false};
+ghost use Rattle.serde_json.specs.Find.{as_number, as_u64, get};
 ghost use Rattle.serde_json.specs.Read.{read as read_json};
 ghost use Rattle.ctf_joined.specs.Joined.{texts};
-ghost use Rattle.ctf_json.specs.Values.{line_said as view, texts_said, value_said as value_view};
+ghost use Rattle.ctf_json.specs.Values.{line_said as view, value_said as value_view};
 ghost use Rattle.std.specs.Option.{ForSome};
 ghost use Rattle.ctf_lines.specs.Memory.{keeps_text, takes_memory, word_keeps_text};
 ghost use Rattle.ctf_lines.specs.Numbered.{ask_as, ask_or, begins_object as starts_object, given_to as number_given, is_blank as blank, number_or, value_asked_or};
 ghost use Rattle.ctf_protocol.specs.lines.Lines.{longest_line};
 ghost use Rattle.ctf_protocol.specs.lines.Ask.{ask, open_asked, list_named, close_asked, import_asked, publication_asked, publish_asked, take_asked, withdraw_asked, about_type as type_question_asked, about_slot as slot_question_asked, about_held as held_question_asked, bytes_asked, symbol_asked, show_asked, names_asked, part_asked, word_asked, asked_with};
-ghost use Rattle.ctf_protocol.specs.lines.LineFields.{names_spelled, in_range, number_in, text_in, slot_under as slot_named, slot_in, type_asked, name_under as name_asked, from_asked, count_asked, window_asked};
+ghost use Rattle.ctf_protocol.specs.lines.LineFields.{in_range, number_in, text_in, slot_under as slot_named, slot_in, type_asked, name_under as name_asked, from_asked, count_asked, window_asked};
 ghost use Rattle.ctf_protocol.specs.words.Words.{word_named, words};
 ghost use Rattle.ctf_model.specs.rules.Refusals.{placeless, out_of_memory};
 ghost use Rattle.ctf_model.specs.declared.faults.TheConstants.Fault.{MEMORY};
@@ -23,8 +23,7 @@ use crate::drafts::{add, create, discard, update};
 use crate::line_traits::FromLine;
 use crate::models::model;
 use crate::spelling::{name, names, piece};
-use ctf_joined::Joined;
-use ctf_json::{Line, NotRead, Scratch, Value, as_str, as_u64, get};
+use ctf_json::{Line, NotRead, Scratch, Value, as_str, as_u64, get, take_names};
 use ctf_protocol::{
     Change, DataModel, Fault, HeldQuestion, ListName, Names, Piece, PlainQuestion, PublicationName,
     Question, Request, SlotNumber, SlotQuestion, TypeNum, TypeQuestion, Window, Word, placeless,
@@ -59,7 +58,7 @@ fn is_blank(c: u8) -> bool
     (c == b' ') | (c == b'\t') | (c == b'\n') | (c == b'\r')
 }
 
-/// Whether a text begins with a brace, behind blanks.
+/// Whether a text begins with a brace, after blanks.
 fn begins_object(text: &[u8]) -> bool
     ensures { result ≡ starts_object text.now }
 {
@@ -71,7 +70,7 @@ fn begins_object(text: &[u8]) -> bool
     false
 }
 
-/// The number that is given to a line of a session: none where that is no object.
+/// The session number for a line that names none; none if the line is no object.
 fn given_to(session: u32, line: &[u8]) -> Option<u32>
     ensures { result ≡ number_given session line.now }
 {
@@ -82,8 +81,8 @@ fn given_to(session: u32, line: &[u8]) -> Option<u32>
     }
 }
 
-/// Reads a line of a session, given without its newline: an object that names no number has the
-/// session's.
+/// Reads a line of a session, given without its newline. An object that names no session has this
+/// one.
 pub fn read_as(
     alloc: Global,
     scratch: &mut Scratch,
@@ -104,7 +103,7 @@ pub fn read_as(
     read_or(alloc, scratch, line, given_to(session, line))
 }
 
-/// Reads a line, which has the number that is given where it names none.
+/// Reads a line. If it names no session, it has the one that is given.
 fn read_or(
     alloc: Global,
     scratch: &mut Scratch,
@@ -135,7 +134,8 @@ fn read_or(
     }
 }
 
-/// Reads a line with memory of its own. It is no part of its callers, whose frames stay small so.
+/// Reads a line with memory of its own. It is not inlined into its callers, so their frames stay
+/// small.
 #[inline(never)]
 fn read_long(alloc: Global, text: &str, given: Option<u32>) -> Result<(u32, Request), (u32, Fault)>
     requires { ForSome given (λ n. n ≢ 0) }
@@ -205,7 +205,7 @@ fn read_fields(
     }
 }
 
-/// The number of a line, or that which is given where it names none.
+/// The session number of a line, or the given one if it names none.
 #[inline(always)]
 fn session_of(line: &Line<'_>, given: Option<u32>) -> Option<u32>
     requires { ForSome given (λ n. n ≢ 0) }
@@ -218,7 +218,7 @@ fn session_of(line: &Line<'_>, given: Option<u32>) -> Option<u32>
     }
 }
 
-/// The number that a value is, where it is in a range.
+/// The number that a value is, if it is in a range.
 #[inline(always)]
 pub(crate) fn number_within(value: &Value<'_, '_>, low: u64, high: u64) -> Option<u64>
     ensures number { result ≡ option_and_then (in_range low high)
@@ -233,7 +233,7 @@ pub(crate) fn number_within(value: &Value<'_, '_>, low: u64, high: u64) -> Optio
     }
 }
 
-/// The number of a field, where it is there and in its range.
+/// The number of a field, if there is one and it is in its range.
 #[inline(always)]
 pub(crate) fn number(line: &Line<'_>, key: &str, low: u64, high: u64) -> Option<u64>
     ensures number { result ≡ number_in low high key.now (view line.now) }
@@ -257,7 +257,7 @@ fn word(line: &Line<'_>) -> Option<Word>
     word_of(text(line, "op")?)
 }
 
-/// The word that a text is. Those that are asked most are known at once.
+/// The word with this spelling. The most frequent words are compared first.
 #[tactic(auto, unfolding(ctf_protocol::specs::words::Words::words))]
 fn word_of(text: &str) -> Option<Word>
     ensures { result ≡ word_named text.now words }
@@ -270,8 +270,7 @@ fn word_of(text: &str) -> Option<Word>
     }
 }
 
-/// The word that a text is, looked for among those of its length: the table of all words is looked
-/// through from its front.
+/// The word with this spelling, among those of its length.
 fn word_by_length(text: &str) -> Option<Word>
     ensures { result ≡ word_named text.now words }
 {
@@ -284,7 +283,7 @@ fn word_by_length(text: &str) -> Option<Word>
     }
 }
 
-/// The word of four letters that a text is; else any word.
+/// The word of four letters with this spelling; else any word.
 #[tactic(auto, unfolding(ctf_protocol::specs::words::Words::words))]
 fn word_of_four(text: &str) -> Option<Word>
     ensures { result ≡ word_named text.now words }
@@ -302,7 +301,7 @@ fn word_of_four(text: &str) -> Option<Word>
     }
 }
 
-/// The word of five letters that a text is; else any word.
+/// The word of five letters with this spelling; else any word.
 #[tactic(auto, unfolding(ctf_protocol::specs::words::Words::words))]
 fn word_of_five(text: &str) -> Option<Word>
     ensures { result ≡ word_named text.now words }
@@ -321,7 +320,7 @@ fn word_of_five(text: &str) -> Option<Word>
     }
 }
 
-/// The word of six letters that a text is; else any word.
+/// The word of six letters with this spelling; else any word.
 #[tactic(auto, unfolding(ctf_protocol::specs::words::Words::words))]
 fn word_of_six(text: &str) -> Option<Word>
     ensures { result ≡ word_named text.now words }
@@ -338,7 +337,7 @@ fn word_of_six(text: &str) -> Option<Word>
     }
 }
 
-/// The word of seven letters that a text is; else any word.
+/// The word of seven letters with this spelling; else any word.
 #[tactic(auto, unfolding(ctf_protocol::specs::words::Words::words))]
 fn word_of_seven(text: &str) -> Option<Word>
     ensures { result ≡ word_named text.now words }
@@ -353,7 +352,7 @@ fn word_of_seven(text: &str) -> Option<Word>
     }
 }
 
-/// The word of any other length that a text is; else any word.
+/// The word of any other length with this spelling; else any word.
 #[tactic(auto, unfolding(ctf_protocol::specs::words::Words::words))]
 fn word_of_other(text: &str) -> Option<Word>
     ensures { result ≡ word_named text.now words }
@@ -369,7 +368,7 @@ fn word_of_other(text: &str) -> Option<Word>
     }
 }
 
-/// What a word asks, with its fields. Those that are asked most are read by themselves.
+/// The request of a word, with its fields. The most frequent words have functions of their own.
 #[inline(always)]
 fn read_word(alloc: Global, line: &mut Line<'_>, word: Word) -> Result<Option<Request>, AllocError>
     ensures ok { IfOk result (λ request. request ≡ asked_with (view line.old) word) }
@@ -405,36 +404,103 @@ fn read_other(alloc: Global, line: &mut Line<'_>, word: Word) -> Result<Option<R
 {
     match word {
         Word::Part => read_part(alloc, line),
-        Word::Check => Ok(Some(Request::Changes(Change::Check))),
-        Word::Open => Ok(open(line)),
-        Word::Clear => Ok(Some(Request::Changes(Change::Clear))),
-        Word::Reset => Ok(Some(Request::Changes(Change::Reset))),
-        Word::Close => Ok(close(line)),
-        Word::Import => Ok(import(line)),
         Word::Publish => publish(alloc, line),
         Word::Withdraw => withdraw(alloc, line),
         Word::Take => take(alloc, line),
         Word::Create => create(alloc, line),
         Word::Add => add(alloc, line),
-        Word::Update => Ok(update(line)),
-        Word::Discard => Ok(discard(line)),
-        Word::Plain(question) => Ok(about_type(line, Some(TypeQuestion::Plain(question)))),
-        Word::Members => Ok(about_type(line, members(line))),
-        Word::Enumerators => Ok(about_type(line, enumerators(line))),
         Word::Find => read_find(alloc, line),
         Word::Path => path(alloc, line),
-        Word::Show => Ok(about_type(line, show(alloc, line)?)),
+        Word::Show => read_show(alloc, line),
         Word::Symbol => read_symbol(alloc, line),
-        Word::Object => Ok(about_slot(line, object(line))),
-        Word::Function => Ok(about_slot(line, function(line))),
-        Word::Labels => Ok(about_slot(line, labels(line))),
-        Word::Label => Ok(about_slot(line, label(alloc, line)?)),
-        Word::Held(question) => Ok(about_held(line, Some(question))),
-        Word::Bytes => Ok(about_held(line, bytes(line))),
+        Word::Label => read_label(alloc, line),
+        _ => Ok(read_numbers(line, word)),
     }
 }
 
-/// The number of a slot that a value is.
+#[inline(always)]
+fn read_show(alloc: Global, line: &Line<'_>) -> Result<Option<Request>, AllocError>
+    ensures { IfOk result (λ request. request ≡ asked_with (view line.now) word.Show) }
+{
+    Ok(about_type(line, show(alloc, line)?))
+}
+
+#[inline(always)]
+fn read_label(alloc: Global, line: &Line<'_>) -> Result<Option<Request>, AllocError>
+    ensures { IfOk result (λ request. request ≡ asked_with (view line.now) word.Label) }
+{
+    Ok(about_slot(line, label(alloc, line)?))
+}
+
+/// What a word asks of which no text of the line is kept.
+#[inline(always)]
+fn read_numbers(line: &Line<'_>, word: Word) -> Option<Request>
+    ensures { keeps_text word ≡ false → result ≡ asked_with (view line.now) word }
+{
+    match word {
+        Word::Check => Some(Request::Changes(Change::Check)),
+        Word::Open => open(line),
+        Word::Clear => Some(Request::Changes(Change::Clear)),
+        Word::Reset => Some(Request::Changes(Change::Reset)),
+        Word::Close => close(line),
+        Word::Import => import(line),
+        Word::Update => update(line),
+        Word::Discard => discard(line),
+        Word::Plain(question) => about_type(line, Some(TypeQuestion::Plain(question))),
+        Word::Members => about_members(line),
+        Word::Enumerators => about_enumerators(line),
+        Word::Object => about_object(line),
+        Word::Function => about_function(line),
+        Word::Labels => about_labels(line),
+        Word::Held(question) => about_held(line, Some(question)),
+        Word::Bytes => about_bytes(line),
+        _ => None,
+    }
+}
+
+#[inline(always)]
+fn about_members(line: &Line<'_>) -> Option<Request>
+    ensures { result ≡ asked_with (view line.now) word.Members }
+{
+    about_type(line, members(line))
+}
+
+#[inline(always)]
+fn about_enumerators(line: &Line<'_>) -> Option<Request>
+    ensures { result ≡ asked_with (view line.now) word.Enumerators }
+{
+    about_type(line, enumerators(line))
+}
+
+#[inline(always)]
+fn about_object(line: &Line<'_>) -> Option<Request>
+    ensures { result ≡ asked_with (view line.now) word.Object }
+{
+    about_slot(line, object(line))
+}
+
+#[inline(always)]
+fn about_function(line: &Line<'_>) -> Option<Request>
+    ensures { result ≡ asked_with (view line.now) word.Function }
+{
+    about_slot(line, function(line))
+}
+
+#[inline(always)]
+fn about_labels(line: &Line<'_>) -> Option<Request>
+    ensures { result ≡ asked_with (view line.now) word.Labels }
+{
+    about_slot(line, labels(line))
+}
+
+#[inline(always)]
+fn about_bytes(line: &Line<'_>) -> Option<Request>
+    ensures { result ≡ asked_with (view line.now) word.Bytes }
+{
+    about_held(line, bytes(line))
+}
+
+/// The number of a slot, if the value is one.
 #[inline(always)]
 pub(crate) fn as_slot_number(value: &Value<'_, '_>) -> Option<SlotNumber>
     ensures { result ≡ option_and_then (in_range 1 4294967295)
@@ -483,7 +549,7 @@ fn import(line: &Line<'_>) -> Option<Request>
     Some(Request::Changes(Change::Import { d, parent }))
 }
 
-/// The name of a publication, which stands in a field as it is, without escapes.
+/// The name of a publication, which has no escapes.
 fn publication(alloc: Global, line: &Line<'_>) -> Result<Option<PublicationName>, AllocError>
     ensures { IfOk result (λ name. name ≡ publication_asked (view line.now)) }
 {
@@ -537,7 +603,7 @@ pub(crate) fn type_number(line: &Line<'_>) -> Option<TypeNum>
     Some(TypeNum(number as u16))
 }
 
-/// The first item that is wanted, 0 where that isn't said.
+/// The number of the first item; 0 if it is not stated.
 fn from(line: &Line<'_>) -> Option<u32>
     ensures { result ≡ from_asked (view line.now) }
 {
@@ -547,7 +613,7 @@ fn from(line: &Line<'_>) -> Option<u32>
     }
 }
 
-/// How many items are wanted; all where that isn't said.
+/// The number of items; all if it is not stated.
 fn count(line: &Line<'_>) -> Option<Option<u32>>
     ensures { result ≡ count_asked (view line.now) }
 {
@@ -557,6 +623,7 @@ fn count(line: &Line<'_>) -> Option<Option<u32>>
     }
 }
 
+#[inline(always)]
 fn window(line: &Line<'_>) -> Option<Window>
     ensures { result ≡ window_asked (view line.now) }
 {
@@ -578,7 +645,7 @@ fn enumerators(line: &Line<'_>) -> Option<TypeQuestion>
     Some(TypeQuestion::Enumerators(window(line)?))
 }
 
-/// A path asks with its names, which are taken out of the line.
+/// The request of `path`, whose names are taken out of the line.
 fn path(alloc: Global, line: &mut Line<'_>) -> Result<Option<Request>, AllocError>
     ensures { IfOk result (λ request. request ≡ asked_with (view line.old) word.Path) }
 {
@@ -588,7 +655,7 @@ fn path(alloc: Global, line: &mut Line<'_>) -> Result<Option<Request>, AllocErro
     Ok(path_along(d, t, names))
 }
 
-/// A path from a type of a slot along names, where all three are good.
+/// A path from a type of a slot along names, if all three are valid.
 fn path_along(d: Option<SlotNumber>, t: Option<TypeNum>, names: Option<Names>) -> Option<Request>
     ensures { result
         ≡ option_and_then (λ question. option_and_then (λ d. option_map (λ t.
@@ -611,22 +678,13 @@ fn path_along(d: Option<SlotNumber>, t: Option<TypeNum>, names: Option<Names>) -
 fn names_under(alloc: Global, line: &mut Line<'_>) -> Result<Option<Names>, AllocError>
     ensures { IfOk result (λ names. names ≡ names_asked (view line.old)) }
 {
-    match texts_under(line) {
+    match take_names(line) {
         Some(texts) => names(alloc, texts),
         None => Ok(None),
     }
 }
 
-/// The texts under a key that are a list of names, which are taken out of the line.
-fn texts_under(line: &mut Line<'_>) -> Option<Joined>
-    ensures { option_and_then (λ spelled. names_spelled (texts_said (texts spelled))) result
-        ≡ option_and_then names_spelled
-        (option_and_then as_array (get (codes "names") (view line.old))) }
-{
-    ctf_json::take_names(line)
-}
-
-/// The memory that a value stands in, and the bit that it begins at.
+/// The memory of a value, and the bit at which it begins.
 fn show(alloc: Global, line: &Line<'_>) -> Result<Option<TypeQuestion>, AllocError>
     ensures { IfOk result (λ question. question ≡ show_asked (view line.now)) }
 {
@@ -712,7 +770,7 @@ fn labels(line: &Line<'_>) -> Option<SlotQuestion>
     Some(SlotQuestion::Labels(window(line)?))
 }
 
-/// A question on a slot as a whole, where its own fields are good.
+/// A question on the types, symbols or labels of a slot, if its own fields are valid.
 #[inline(always)]
 fn about_slot(line: &Line<'_>, question: Option<SlotQuestion>) -> Option<Request>
     ensures { result ≡ slot_question_asked question (view line.now) }
@@ -725,7 +783,7 @@ fn about_slot(line: &Line<'_>, question: Option<SlotQuestion>) -> Option<Request
     })
 }
 
-/// The bytes that are wanted of a dictionary: the first of them, and at most how many.
+/// The bytes of a dictionary that are asked for: the first, and at most how many.
 fn bytes(line: &Line<'_>) -> Option<HeldQuestion>
     ensures { result ≡ bytes_asked (view line.now) }
 {
@@ -737,7 +795,7 @@ fn bytes(line: &Line<'_>) -> Option<HeldQuestion>
     })
 }
 
-/// A question on what a slot holds, where its own fields are good.
+/// A question on what a slot has, if its own fields are valid.
 fn about_held(line: &Line<'_>, question: Option<HeldQuestion>) -> Option<Request>
     ensures { result ≡ held_question_asked question (view line.now) }
 {
@@ -749,7 +807,7 @@ fn about_held(line: &Line<'_>, question: Option<HeldQuestion>) -> Option<Request
     })
 }
 
-/// A question on a type of a slot, where its own fields are good.
+/// A question on a type of a slot, if its own fields are valid.
 #[inline(always)]
 fn about_type(line: &Line<'_>, question: Option<TypeQuestion>) -> Option<Request>
     ensures { result ≡ type_question_asked question (view line.now) }

@@ -1,4 +1,4 @@
-//! The line of a refusal, written in one go where there is room for the longest.
+//! The line of a refusal, written in one step if there is room for the longest.
 ghost use Rattle.std.specs.Prelude.{◌+◌, ◌≤◌, vec_len, vec_capacity};
 ghost use Rattle.ctf_protocol.specs.lines.ReplyLines.{fault_line};
 ghost use Rattle.ctf_lines.specs.Appending.{Appended, HasRoom};
@@ -8,7 +8,7 @@ use crate::appending::{append_bytes, append_number};
 use ctf_protocol::{Fault, fault_name};
 use std::mem::replace;
 
-/// A list with the line of a refusal behind it.
+/// A list with the line of a refusal appended.
 #[inline(always)]
 fn with_fault(out: Vec<u8>, session: u64, code: u64, name: &[u8], place: u64) -> Vec<u8>
     requires { HasRoom out (fault_row session code name.now place) }
@@ -20,8 +20,7 @@ fn with_fault(out: Vec<u8>, session: u64, code: u64, name: &[u8], place: u64) ->
     append_number(out, b"", session, b"}\n")
 }
 
-/// Puts the line of a refusal, given in its parts, behind lines where there is room for the
-/// longest.
+/// Appends the line of a refusal, given in its parts, if there is room for the longest.
 fn put_parts(out: &mut Vec<u8>, session: u32, code: u16, place: u64)
     requires { vec_len out.old + 96 ≤ vec_capacity out.old }
     ensures { Appended out.old out.new
@@ -38,7 +37,7 @@ fn put_parts(out: &mut Vec<u8>, session: u32, code: u16, place: u64)
     );
 }
 
-/// Puts the line of a refusal behind lines where there is room for the longest.
+/// Appends the line of a refusal, if there is room for the longest.
 pub fn put_fault(out: &mut Vec<u8>, session: u32, fault: Fault)
     requires { vec_len out.old + 96 ≤ vec_capacity out.old }
     ensures { Appended out.old out.new (fault_line session fault) }

@@ -1,5 +1,4 @@
-//! The line of what a granted change is answered, written in one go where there is room for the
-//! longest.
+//! The line of the answer to a change, written in one step if there is room for the longest.
 ghost use Rattle.std.specs.Prelude.{◌+◌, ◌≤◌, vec_len, vec_capacity};
 ghost use Rattle.ctf_answers.specs.Counts.{counts_view};
 ghost use Rattle.ctf_protocol.specs.lines.ReplyLines.{answer_line};
@@ -10,7 +9,7 @@ use crate::appending::{append_bytes, append_number, between, with_number};
 use ctf_answers::{Count, Counts};
 use std::mem::replace;
 
-/// A list with a number behind it, under its key.
+/// A list with a number under its key appended.
 #[inline(always)]
 fn with_count(out: Vec<u8>, key: &[u8], number: u64) -> Vec<u8>
     requires { HasRoom out (count_row key.now number) }
@@ -20,7 +19,7 @@ fn with_count(out: Vec<u8>, key: &[u8], number: u64) -> Vec<u8>
     with_number(out, number)
 }
 
-/// A list with the line behind it that says that a change is done.
+/// A list with the line of an answer without fields appended.
 #[inline(always)]
 fn with_done(out: Vec<u8>, session: u64) -> Vec<u8>
     requires { HasRoom out (done_row session) }
@@ -29,7 +28,7 @@ fn with_done(out: Vec<u8>, session: u64) -> Vec<u8>
     append_number(out, b"{\"ok\":{},\"s\":", session, b"}\n")
 }
 
-/// A list with the line of a number behind it.
+/// A list with the line of a number appended.
 #[inline(always)]
 fn with_one(out: Vec<u8>, session: u64, a: Count) -> Vec<u8>
     requires { HasRoom out (one_row session a.key.now a.number) }
@@ -40,7 +39,7 @@ fn with_one(out: Vec<u8>, session: u64, a: Count) -> Vec<u8>
     append_number(out, b"},\"s\":", session, b"}\n")
 }
 
-/// A list with the line of two numbers behind it.
+/// A list with the line of two numbers appended.
 #[inline(always)]
 fn with_two(out: Vec<u8>, session: u64, a: Count, b: Count) -> Vec<u8>
     requires { HasRoom out (two_row session a.key.now a.number b.key.now b.number) }
@@ -53,7 +52,7 @@ fn with_two(out: Vec<u8>, session: u64, a: Count, b: Count) -> Vec<u8>
     append_number(out, b"},\"s\":", session, b"}\n")
 }
 
-/// A list with the line of numbers behind it.
+/// A list with the line of numbers appended.
 #[inline(always)]
 fn with_counts(out: Vec<u8>, session: u64, counts: Counts) -> Vec<u8>
     requires { HasRoom out (counts_row session counts.first counts.second) }
@@ -67,7 +66,7 @@ fn with_counts(out: Vec<u8>, session: u64, counts: Counts) -> Vec<u8>
     }
 }
 
-/// Puts the line of what a change is answered behind lines where there is room for the longest.
+/// Appends the line of the answer to a change, if there is room for the longest.
 pub fn put_counts(out: &mut Vec<u8>, session: u32, counts: Counts)
     requires { vec_len out.old + 96 ≤ vec_capacity out.old }
     ensures { Appended out.old out.new (answer_line session (counts_view counts)) }

@@ -1,4 +1,4 @@
-//! Rows of lists: an item whose keys are known is put on as a whole.
+//! Rows of lists: an item whose keys are constant is written in one step.
 ghost use Rattle.std.specs.Prelude.{◌≡◌, ◌<◌, ◌++◌, [], get_or, length, map};
 ghost use Rattle.ctf_protocol.specs.answers.Questions.{member_item};
 ghost use Rattle.ctf_model.specs.dumps.Texts.{with_commas};
@@ -12,10 +12,10 @@ use crate::info_fields::put_info;
 use crate::series::{Series, put_series};
 use crate::singles::{put_key, put_quoted, put_single};
 use crate::text_sinks::TextSink;
-use ctf_answers::{Answer, Field, Listed, Value};
+use ctf_answers::{Answer, Field, ItemWindow, Value};
 use ctf_views::Member;
 
-/// Puts on a member whose name stands as it is.
+/// Writes a member whose name needs no escapes.
 fn put_plain_member<P: TextSink>(sink: &mut P, member: Member<'_>)
     requires { text_of member.name.now ≡ member.name.now }
     ensures { P.Took sink.old (item_text (member_item (member_view member.entry))) sink.new }
@@ -23,8 +23,8 @@ fn put_plain_member<P: TextSink>(sink: &mut P, member: Member<'_>)
     sink.put_member(member.name, member.offset, u64::from(member.tnum.0));
 }
 
-/// Puts an item on.
-fn put_row<P: TextSink>(sink: &mut P, items: &Listed<'_>, index: usize)
+/// Writes an item.
+fn put_row<P: TextSink>(sink: &mut P, items: &ItemWindow<'_>, index: usize)
     requires { index < length items.now }
     ensures { P.Took sink.old (get_or (map item_text items.now) index []) sink.new }
 {
@@ -41,7 +41,7 @@ fn put_row<P: TextSink>(sink: &mut P, items: &Listed<'_>, index: usize)
 /// The items of a list.
 #[derive(Clone, Copy)]
 struct AnswerRows<'a, 'b> {
-    items: &'b Listed<'a>,
+    items: &'b ItemWindow<'a>,
 }
 
 impl<'a, 'b> Series for AnswerRows<'a, 'b> {
@@ -59,8 +59,8 @@ impl<'a, 'b> Series for AnswerRows<'a, 'b> {
     }
 }
 
-/// Puts the items of a list on.
-fn put_list<P: TextSink>(sink: &mut P, items: &Listed<'_>)
+/// Writes the items of a list.
+fn put_list<P: TextSink>(sink: &mut P, items: &ItemWindow<'_>)
     ensures { P.Took sink.old (list_text items.now) sink.new }
 {
     sink.put_one(b'[');
@@ -68,7 +68,7 @@ fn put_list<P: TextSink>(sink: &mut P, items: &Listed<'_>)
     sink.put_one(b']');
 }
 
-/// Puts a field's value on.
+/// Writes a field's value.
 fn put_value<P: TextSink>(sink: &mut P, value: Value<'_, '_>)
     ensures { P.Took sink.old (json_text (value_of value.entry)) sink.new }
 {
@@ -79,7 +79,7 @@ fn put_value<P: TextSink>(sink: &mut P, value: Value<'_, '_>)
     }
 }
 
-/// Puts a field on.
+/// Writes a field.
 fn put_field<P: TextSink>(sink: &mut P, field: Field<'_, '_>)
     ensures { P.Took sink.old (field_text (field_of field.entry)) sink.new }
 {
@@ -108,7 +108,7 @@ impl<'a, 'b> Series for Fields<'a, 'b> {
     }
 }
 
-/// Puts the fields of an answer on.
+/// Writes the fields of an answer.
 pub fn put_fields<P: TextSink>(sink: &mut P, answer: &Answer<'_>)
     ensures { P.Took sink.old (with_commas (map field_text answer.now)) sink.new }
 {

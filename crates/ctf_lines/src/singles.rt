@@ -6,7 +6,7 @@ ghost use Rattle.ctf_answers.specs.Singles.{single_of, entry_of};
 
 use crate::escapes::{are_plain, put_name};
 use crate::text_sinks::TextSink;
-use crate::texts::{put_number, put_signed};
+use crate::texts::put_signed;
 use ctf_answers::{KeyedValue, Single};
 
 fn truth(value: bool) -> &'static str
@@ -15,13 +15,13 @@ fn truth(value: bool) -> &'static str
     if value { "true" } else { "false" }
 }
 
-/// Puts a value on.
+/// Writes a value.
 #[inline(always)]
 pub fn put_single<P: TextSink>(sink: &mut P, value: &Single<'_>)
     ensures { P.Took sink.old (single_text (single_of value.now)) sink.new }
 {
     match value {
-        Single::Number(number) => put_number(sink, *number),
+        Single::Number(number) => sink.put_numbered(b"", *number, b""),
         Single::Signed(number) => put_signed(sink, *number),
         Single::Truth(value) => sink.put(truth(*value).as_bytes()),
         Single::Word(word) => put_word(sink, *word),
@@ -36,7 +36,7 @@ fn put_word<P: TextSink>(sink: &mut P, word: &str)
     sink.put_between(b"\"", word.as_bytes(), b"\"");
 }
 
-/// Puts a text on, with its quotes.
+/// Writes a text, with its quotes.
 pub fn put_quoted<P: TextSink>(sink: &mut P, text: &[u8])
     ensures { P.Took sink.old (quote (text_of text.now)) sink.new }
 {
@@ -63,14 +63,14 @@ fn put_quoted_hex<P: TextSink>(sink: &mut P, bytes: &[u8])
     sink.put_one(b'"');
 }
 
-/// Puts a key and its colon on.
+/// Writes a key and its colon.
 pub fn put_key<P: TextSink>(sink: &mut P, key: &str)
     ensures { P.Took sink.old (key_text key.now) sink.new }
 {
     sink.put_between(b"\"", key.as_bytes(), b"\":");
 }
 
-/// Puts a part of an object on.
+/// Writes a key and its value.
 pub fn put_entry<P: TextSink>(sink: &mut P, entry: &KeyedValue<'_>)
     ensures { P.Took sink.old (entry_text (entry_of entry.now)) sink.new }
 {

@@ -23,7 +23,7 @@ pub fn piece(alloc: Global, digits: &str) -> Result<Option<Piece>, AllocError>
     }
 }
 
-/// Bytes that are no more than a request may bring.
+/// Bytes, if they are no more than a request may have.
 fn short_piece(bytes: Vec<u8>) -> Option<Piece>
     ensures { result ≡ not_too_many bytes.items }
 {
@@ -55,7 +55,7 @@ fn byte_value(high: u8, low: u8) -> Option<u8>
     Some(16 * high + low)
 }
 
-/// A byte that is escaped at the front of a text, and the text behind it.
+/// The escaped byte at the front of a text, and the text after it.
 fn escape(text: &[u8]) -> Option<(u8, &[u8])>
     ensures { option_map (λ split. (split.0, split.1.now)) result ≡ escape_of text.now }
 {
@@ -65,7 +65,7 @@ fn escape(text: &[u8]) -> Option<(u8, &[u8])>
     }
 }
 
-/// The byte at the front of a text, and the text behind it.
+/// The byte at the front of a text, and the text after it.
 #[tactic(auto, using(crate::proofs::Fronts::escape_front))]
 fn front(text: &[u8]) -> Option<(u8, &[u8])>
     requires { 0 < length text.now }
@@ -77,7 +77,7 @@ fn front(text: &[u8]) -> Option<(u8, &[u8])>
     }
 }
 
-/// The bytes that a text spells. It takes as many bytes of memory as the text has, at most.
+/// The bytes that a text spells. It takes at most as many bytes of memory as the text has.
 fn bytes_of(alloc: Global, text: &[u8]) -> Result<Option<Vec<u8>>, AllocError>
     ensures { IfOk result (λ bytes. option_map (λ v. v.items) bytes ≡ bytes_spelled_by text.now) }
 {
@@ -98,7 +98,7 @@ fn escaped_bytes_of(alloc: Global, text: &[u8]) -> Result<Option<Vec<u8>>, Alloc
     }
 }
 
-/// Writes the bytes that a text spells in place of others. False where it spells none.
+/// Writes the bytes that a text spells in place of others. False if it spells none.
 fn spell(bytes: &mut Vec<u8>, text: &[u8]) -> Result<bool, AllocError>
     ensures { IfOk result (λ good. cond good (Some bytes.new.items) None
         ≡ bytes_spelled_by text.now) }
@@ -138,7 +138,7 @@ pub fn name(alloc: Global, value: &Value<'_, '_>) -> Result<Option<Piece>, Alloc
     }
 }
 
-/// Adds a name that is no longer than a request may bring. False where it is longer.
+/// Adds a name, if it is no longer than a request may have. False if it is longer.
 fn push_short(names: &mut Joined, name: &[u8]) -> Result<bool, AllocError>
     ensures { IfOk result (λ good. cond good (Some (texts names.new)) None
         ≡ option_map (λ name. texts names.old ++ name ∷ []) (not_too_many name.now)) }
@@ -150,7 +150,7 @@ fn push_short(names: &mut Joined, name: &[u8]) -> Result<bool, AllocError>
     Ok(true)
 }
 
-/// Adds the name that a text spells. False where it spells none.
+/// Adds the name that a text spells. False if it spells none.
 fn push_spelled(names: &mut Joined, bytes: &mut Vec<u8>, text: &[u8]) -> Result<bool, AllocError>
     ensures { IfOk result (λ good. cond good (Some (texts names.new)) None
         ≡ option_map (λ name. texts names.old ++ name ∷ [])
@@ -165,7 +165,7 @@ fn push_spelled(names: &mut Joined, bytes: &mut Vec<u8>, text: &[u8]) -> Result<
     push_short(names, bytes.as_slice())
 }
 
-/// Names that are no more than a request may bring.
+/// Names, if they are no more than a request may have.
 fn short_list(names: Joined) -> Option<Names>
     requires { All (λ name. length name ≤ 1048576) (texts names) }
     ensures { result ≡ not_too_many_names (texts names) }
@@ -202,7 +202,7 @@ fn spell_themselves(names: &Joined) -> bool
     true
 }
 
-/// The names that texts spell, if each spells one and they are no more than a request may bring.
+/// The names that texts spell, if each spells one and they are no more than a request may have.
 pub fn names(alloc: Global, spelled: Joined) -> Result<Option<Names>, AllocError>
     ensures { IfOk result (λ names. names
         ≡ option_and_then not_too_many_names (names_spelled (texts_said (texts spelled)))) }

@@ -12,10 +12,10 @@ use std::mem::replace;
 /// The longest line of a reply, in bytes without its newline.
 pub const LONGEST_REPLY: usize = 4_194_304;
 
-/// The length, newline included, that any line counts as which is longer than a reply's may be.
+/// The length, newline included, that stands for that of any line longer than a reply may be.
 pub const TOO_LONG: usize = 4_194_306;
 
-/// Appends bytes where there is room.
+/// Appends bytes, for which there is room.
 fn append(out: &mut Vec<u8>, bytes: &[u8])
     requires { HasRoom out.old bytes.now }
     ensures { Appended out.old out.new bytes.now }
@@ -24,7 +24,7 @@ fn append(out: &mut Vec<u8>, bytes: &[u8])
     *out = append_bytes(replace(out, empty), bytes);
 }
 
-/// A line, to whose end a text is appended where there is room.
+/// A line, to whose end a text is appended if there is room.
 impl TextSink for Vec<u8> {
     ghost use Rattle.ctf_lines.specs.Appending.{HasRoom, Appended};
     ghost use Rattle.ctf_lines.specs.Putting.{none_appended, both_appended};
@@ -75,13 +75,6 @@ impl TextSink for Vec<u8> {
     ghost nothing = { none_appended };
 
     ghost joined = { both_appended };
-}
-
-/// Puts a number on.
-pub fn put_number<P: TextSink>(sink: &mut P, number: u64)
-    ensures { P.Took sink.old (decimal number) sink.new }
-{
-    sink.put_numbered(b"", number, b"");
 }
 
 pub fn put_signed<P: TextSink>(sink: &mut P, value: i32)

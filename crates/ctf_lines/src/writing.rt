@@ -21,11 +21,11 @@ use std::mem::replace;
 /// The greatest length of the line of a refusal, or of a reply to a change.
 pub const SHORT_LINE: usize = 96;
 
-/// The longest line that is written in one pass, in bytes with its newline. What a value shows, or
-/// a spelled name, fits where few of its bytes are escaped.
+/// The longest line that is written in one pass, in bytes with its newline. The text of `show` or
+/// `name` fits if few of its bytes are escaped.
 pub const SHORT_PASS: usize = 131_072;
 
-/// Puts the line of an object on.
+/// Writes the line of an object.
 fn put_line<P: TextSink>(sink: &mut P, under: &str, session: u32, fields: &Answer<'_>)
     ensures { P.Took sink.old (object_line under.now session fields.now) sink.new }
 {
@@ -34,8 +34,8 @@ fn put_line<P: TextSink>(sink: &mut P, under: &str, session: u32, fields: &Answe
     sink.put_numbered(b"},\"s\":", u64::from(session), b"}\n");
 }
 
-/// The length of the line of an object, newline included; `TOO_LONG` for any that is longer than a
-/// reply's may be.
+/// The length of the line of an object, newline included; `TOO_LONG` for any line longer than a
+/// reply may be.
 fn object_len(under: &str, session: u32, fields: &Answer<'_>) -> usize
     ensures { result ≡ and_text 0 (object_line under.now session fields.now) }
 {
@@ -60,7 +60,7 @@ fn write_object(
     Ok(())
 }
 
-/// Appends the line of an object in one pass, or nothing where it is long or finds no room.
+/// Appends the line of an object in one pass, or nothing if it is long or finds no room.
 fn write_short(out: &mut Vec<u8>, session: u32, fields: &Answer<'_>) -> bool
     ensures { MatchBool result
         (Appended out.old out.new (answer_line session fields.now)
@@ -93,7 +93,7 @@ fn fault_answer<'a>(fault: Fault) -> Answer<'a>
     )
 }
 
-/// Appends a refusal, which is measured only where there may not be room for it.
+/// Appends a refusal. It is measured only if there may be no room for it.
 #[tactic(auto, using(crate::proofs::Short::fault_short))]
 fn write_fault(out: &mut Vec<u8>, session: u32, fault: Fault) -> Result<(), AllocError>
     ensures written { Writes out.old (fault_line session fault) result out.new }
@@ -143,8 +143,7 @@ fn write_counts(out: &mut Vec<u8>, session: u32, counts: Counts) -> Result<(), A
     write_answer(out, session, &counts.answer())
 }
 
-/// Appends the line of a reply to a change; where there is room for a short line, no memory is
-/// taken.
+/// Appends the line of a reply to a change. If there is room for a short line, no memory is taken.
 pub fn write_change(
     out: &mut Vec<u8>,
     session: u32,
@@ -159,7 +158,7 @@ pub fn write_change(
     }
 }
 
-/// Appends the line of a reply, straight from what it lends; where there is room, no memory is
+/// Appends the line of a reply, directly from what it borrows. If there is room, no memory is
 /// taken.
 pub fn write_reply(out: &mut Vec<u8>, reply: &Reply<'_>) -> Result<(), AllocError>
     ensures { Writes out.old (reply_line (reply_of reply.now)) result out.new }

@@ -1,4 +1,4 @@
-//! Lists of bytes that are owned, seen by contracts as lists.
+//! Owned lists of bytes, which contracts see as lists.
 ghost use Rattle.std.specs.Prelude.{◌≡◌, ◌≤◌, ◌++◌, [], ◌↔◌, IsTrue, length, vec_len, IfOk, OnOk, OnErr};
 
 use std::alloc::{AllocError, Global};
@@ -80,7 +80,7 @@ impl From<Vec<u8>> for Bytes {
     }
 }
 
-/// A list of bytes that a request brings: at most `LONGEST_PIECE` of them.
+/// A list of bytes from a request: at most `LONGEST_PIECE` of them.
 #[derive(Drop)]
 pub struct Piece {
     bytes: Vec<u8>,

@@ -4,7 +4,7 @@ ghost use Rattle.ctf_model.specs.rules.FaultNames.{name_of_fault};
 
 use std::alloc::AllocError;
 
-/// A refusal: which one, and at which place (0 where none is said).
+/// A refusal: its code, and its place (0 if it has none).
 ///
 /// What the place counts depends on the code; docs/FAULTS.md has the table.
 #[derive(Clone, Copy, Debug, PartialEq, Eq)]
@@ -141,7 +141,7 @@ impl Fault {
     pub const FIXED_PARENT: u16 = 62;
 }
 
-/// The name of a code, as replies and messages show it; the empty text for a code that has none.
+/// The name of a code, as replies and messages show it; empty for a code without a name.
 #[tactic(auto, unfolding(crate::specs::rules::FaultNames::name_of_fault))]
 pub fn fault_name(code: u16) -> &'static str
     ensures { result.now ≡ name_of_fault code }
@@ -214,7 +214,7 @@ pub fn fault_name(code: u16) -> &'static str
     }
 }
 
-/// A fault that says no place.
+/// A fault without a place (0).
 pub fn placeless(code: u16) -> Fault
     ensures { result ≡ record { code = code; place = 0 } }
 {

@@ -1,4 +1,4 @@
-//! What C puts round a name to declare a type.
+//! What C puts around a name to declare a type.
 
 /// A qualifier of a type.
 #[derive(Clone, Copy, Debug, PartialEq, Eq)]
@@ -8,14 +8,14 @@ pub enum Qualifier {
     Restrict,
 }
 
-/// What a type can be of another type, in its name.
+/// A layer of a declarator: what a type is, in terms of the next type.
 #[derive(Clone, Copy, Debug, PartialEq, Eq)]
 pub enum Layer {
-    /// A pointer to it.
+    /// A pointer to the next type.
     Pointer,
-    /// So many of it.
+    /// An array of so many elements of the next type.
     Array(u32),
-    /// A function that returns it.
+    /// A function that returns the next type.
     Function,
     Qualified(Qualifier),
 }

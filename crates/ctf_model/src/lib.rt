@@ -19,7 +19,7 @@
 //!
 //! A [`Fault`] is a code and a place. docs/FAULTS.md lists the codes and what the place of each
 //! counts; `placeless` makes one whose place is 0. A [`TypeNum`] is a number as dictionaries have
-//! it; a [`Place`] counts types from 0. The functions named by a sentence, as
+//! it; a [`Place`] counts types from 0. The functions named by a sentence, such as
 //! `records_are_a_cut`, do nothing: their contracts are laws of the definitions.
 #![tactic(auto)]
 

@@ -1,4 +1,4 @@
-//! The byte lists that a dictionary is handed in as, owned.
+//! The byte lists of a dictionary, owned.
 ghost use Rattle.std.specs.Prelude.{◌≡◌};
 ghost use Rattle.ctf_model.specs.format.OwnedLists.{lists_owned};
 ghost use Rattle.ctf_model.specs.format.Lists.{no_lists};
@@ -6,7 +6,7 @@ ghost use Rattle.ctf_model.specs.format.Lists.{no_lists};
 use crate::bytes::Bytes;
 use std::alloc::Global;
 
-/// The CTF section, and the program's symbol table and its strings where they are there.
+/// The CTF section, and the program's symbol table and its strings, if there are any.
 #[derive(Drop)]
 pub struct Parts {
     pub ctf: Bytes,
@@ -14,7 +14,7 @@ pub struct Parts {
     pub strs: Option<Bytes>,
 }
 
-/// No part of a dictionary yet.
+/// No list of a dictionary yet.
 pub fn no_parts(alloc: Global) -> Parts
     ensures { lists_owned result ≡ no_lists }
 {

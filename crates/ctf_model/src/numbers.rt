@@ -7,7 +7,7 @@ ghost use Rattle.ctf_model.specs.spaces.TypePlaces.{place as place_of};
 #[derive(Clone, Copy, Debug, PartialEq, Eq)]
 pub struct TypeNum(pub u16);
 
-/// Where the type of a number stands, counted from 0; whether so many are there is not said.
+/// Where the type with a number is, counted from 0. The type need not exist.
 #[derive(Clone, Copy, Debug, PartialEq, Eq)]
 pub enum Place {
     /// No type has the number.
@@ -19,7 +19,7 @@ pub enum Place {
 }
 
 impl TypeNum {
-    /// Where the type stands, for a number that a child or another dictionary says.
+    /// Where the type is, for a number in a child or in another dictionary.
     pub fn place(self, child: bool) -> Place
         ensures { result ≡ place_of child self.0 }
     {

@@ -19,7 +19,7 @@ ghost use Rattle.ctf_model.specs.values.ValueRows.{ValuesShow, ValuesOverParents
 ghost use Rattle.ctf_model.specs.writing.WritingRows.{DictionariesAreWritten, NamesAreWritten, RecordsAreWritten};
 ghost use Rattle.ctf_model.specs.format.Rows.{BytesDenote, BytesHaveFaults, ListsAreLong, NumbersName};
 
-/// Which code of a fault each of its names stands for.
+/// The code of each fault, by its name.
 pub fn faults_have_codes()
     ensures { ConstantsAreCodes }
 {}
@@ -54,7 +54,7 @@ pub fn kinds_have_faults()
     ensures { KindsHaveFaults }
 {}
 
-/// What a dictionary tells of symbols, and what it answers.
+/// What a dictionary says of symbols, and what it answers.
 pub fn symbols_tell()
     ensures { SymbolsTell }
 {}
@@ -64,7 +64,7 @@ pub fn symbols_have_faults()
     ensures { SymbolsHaveFaults }
 {}
 
-/// How long the lists behind heads are.
+/// The lengths of the lists after heads.
 pub fn lists_are_long()
     ensures { ListsAreLong }
 {}
@@ -74,12 +74,12 @@ pub fn numbers_name()
     ensures { NumbersName }
 {}
 
-/// What types come to: what they stand for, their sizes and alignments.
+/// The sizes and alignments of types, and the types that they resolve to.
 pub fn figures_are()
     ensures { FiguresAre }
 {}
 
-/// What types come to over a parent.
+/// The same for types over a parent.
 pub fn figures_over_parents()
     ensures { FiguresOverParents }
 {}
@@ -99,12 +99,12 @@ pub fn names_are_spelled()
     ensures { NamesAreSpelled }
 {}
 
-/// The same over a parent, and where none was imported.
+/// The same over a parent, and without a parent that is needed.
 pub fn names_over_parents()
     ensures { NamesOverParents }
 {}
 
-/// What new drafts hold, and what is left of a draft after discards and updates.
+/// The contents of new drafts, and of drafts after discards and updates.
 pub fn drafts_live()
     ensures { DraftsLive }
 {}
@@ -119,7 +119,7 @@ pub fn members_are_added()
     ensures { MembersAreAdded }
 {}
 
-/// Where members stand that say no offset, and how large their structs are.
+/// The offsets of members that state none, and the sizes of their structs.
 pub fn members_are_placed()
     ensures { MembersArePlaced }
 {}
@@ -144,12 +144,12 @@ pub fn dumps_are()
     ensures { DumpsAre }
 {}
 
-/// The bytes of small dictionaries, and why some are not written.
+/// The bytes of small dictionaries, and why some drafts are not written.
 pub fn dictionaries_are_written()
     ensures { DictionariesAreWritten }
 {}
 
-/// Which strings are written, and where names stand in them.
+/// Which strings are written, and where names begin in them.
 pub fn names_are_written()
     ensures { NamesAreWritten }
 {}

@@ -1,6 +1,6 @@
 //! What a symbol stands for.
 
-/// The sorts of symbols that a dictionary tells something of.
+/// The classes of symbols for which a dictionary can have types.
 #[derive(Clone, Copy, Debug, PartialEq, Eq)]
 pub enum SymbolClass {
     Object,

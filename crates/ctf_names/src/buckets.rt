@@ -1,16 +1,16 @@
-//! Which bucket a name falls into.
+//! The bucket of a name.
 ghost use Rattle.std.specs.Prelude.{◌≡◌, ◌+◌, ◌*◌, ◌/◌, ◌^◌, ◌<◌, ◌≤◌, option_copied, Some};
 ghost use Rattle.ctf_names.specs.Buckets.{bucket, bucket_of_short, longest_hashed};
 ghost use Rattle.ctf_sections.specs.ShortNames.{if_short};
 
 use ctf_order::hash;
 
-/// The longest name that is hashed. To find where names end and to hash them, so much is read of
-/// each at most, however they overlap.
+/// The longest name that is hashed. At most so many bytes of each name are read to find its end and
+/// to hash it, however names overlap.
 pub(crate) const LONGEST_HASHED: usize = 2048;
 
-/// How many buckets there are for so many types: one more for the empty name, and one for all names
-/// that are too long to be hashed.
+/// The number of buckets for so many types: a bucket for each, one for the empty name, and one for
+/// all names that are too long to be hashed.
 pub(crate) fn bucket_count(types: usize) -> usize
     requires { types < 2 ^ 16 }
     ensures { result ≡ types + 2 }
@@ -29,7 +29,7 @@ pub(crate) fn hashable(name: &[u8]) -> Option<&[u8]>
     }
 }
 
-/// So much of a count as a number is of all below 2^32.
+/// The share of `count` that `number` is of 2^32.
 #[tactic(auto, using(crate::proofs::Shares::share_fits, crate::proofs::Shares::share_inside))]
 fn share(count: usize, number: u64) -> usize
     requires few { count < 2 ^ 16 }
@@ -40,8 +40,8 @@ fn share(count: usize, number: u64) -> usize
     ((number * count as u64) >> 32) as usize
 }
 
-/// The bucket of a name, among those for so many types. Without a name, that of those which are too
-/// long.
+/// The bucket of a name, for a dictionary of so many types. `None` is a name that is too long to be
+/// hashed.
 pub(crate) fn bucket_among(types: usize, name: Option<&[u8]>) -> usize
     requires few { types < 2 ^ 16 }
     ensures is { result ≡ bucket_of_short types (option_copied name.entry) }

@@ -1,4 +1,4 @@
-//! The visible types of a dictionary in chains, by the buckets of their names.
+//! The visible types of a dictionary, chained by the buckets of their names.
 ghost use Rattle.std.specs.Prelude.{◌≡◌, ◌+◌, ◌<◌, ◌^◌, true, length, MatchOption, List};
 ghost use Rattle.std.specs.Option.{ForSome};
 ghost use Rattle.ctf_check.specs.CheckedView.{dictionary_of, tables_of};
@@ -16,9 +16,9 @@ use crate::types::{Brief, own_type};
 use ctf_check::{Checked, Typed};
 use ctf_sections::{Differences, Places, Strings};
 
-/// Types by the buckets of their names, as plain numbers from 0: the first one of each bucket, and
-/// the next one of each type's own. So the numbers of a chain rise, and the first type of a name is
-/// the least. 65,535 is none.
+/// Types by the buckets of their names, as plain numbers from 0: the first type of each bucket, and
+/// for each type the next one in its bucket. Numbers rise along a chain, so the first type with a
+/// name is the least. 65,535 stands for none.
 #[derive(Drop)]
 pub(crate) struct Chains {
     pub(crate) heads: Vec<u16>,
@@ -41,7 +41,7 @@ pub(crate) fn enter_name(heads: &mut [u16], next: &mut [u16], of: Brief, place: 
     heads[bucket] = place as u16;
 }
 
-/// Whether a visible type has a word in front of its name and the name.
+/// Whether a visible type has this keyword and this name.
 #[inline(always)]
 fn is_called(
     found: &Typed<'_>,
@@ -61,7 +61,7 @@ fn is_called(
 }
 
 impl Chains {
-    /// The first type of a name, where others may have been compared with it before.
+    /// The first type with a name, after others may have been compared with it.
     #[inline(always)]
     fn search(
         &self,
@@ -90,8 +90,8 @@ impl Chains {
         None
     }
 
-    /// The same for a name that is too long to be hashed, and has to be told from all of these:
-    /// where one differed, the next are compared first.
+    /// The same for a name that is too long to be hashed, and shares its bucket with all such
+    /// names: the next names are compared first where earlier ones differed.
     #[inline(never)]
     fn search_long(&self, dictionary: &Checked<'_>, sort: Sort, name: &[u8]) -> Option<u32>
         requires { Chained (dictionary_of dictionary.now).terms 0
@@ -108,8 +108,8 @@ impl Chains {
         )
     }
 
-    /// The first type of a name. It takes no memory. Names in one bucket are compared at their ends
-    /// first, so that of those which overlap one alone is read.
+    /// The first type with a name, found without memory. Names in one bucket are compared at their
+    /// ends first, so of overlapping names only one is read in full.
     #[inline(always)]
     pub(crate) fn first_called(
         &self,

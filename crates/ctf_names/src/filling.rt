@@ -1,5 +1,5 @@
 //! The tables of an index of names, filled from the last type to the first: each type is read once,
-//! and what is put in last is the least.
+//! and the type that is put in last has the least number.
 ghost use Rattle.std.specs.Prelude.{◌≡◌, OnOk, length};
 ghost use Rattle.ctf_check.specs.CheckedView.{dictionary_of};
 ghost use Rattle.ctf_names.specs.Chained.{Chained};

@@ -1,4 +1,4 @@
-//! What a written name finds, and pointers.
+//! Which type a written name finds, and which pointer points to a type.
 ghost use Rattle.std.specs.Prelude.{◌≡◌, Ok};
 ghost use Rattle.std.specs.Option.{option_map};
 ghost use Rattle.std.specs.Result.{result_map_both};
@@ -25,7 +25,7 @@ fn or_not_found(number: Option<TypeNum>) -> Result<TypeNum, Fault>
     }
 }
 
-/// The least pointer to what a type stands for, unless that is no type.
+/// The least pointer to the type that a type resolves to, unless that is no type.
 fn pointer_behind(space: &Space<'_>, index: &NameIndex, target: TypeNum) -> Result<TypeNum, Fault>
     requires { Fits (own_lists space.now) (parent_lists space.now) index.now }
     ensures { let s = space_of space.now in result_map_both (λ t. t.0) (λ f. f) result
@@ -37,7 +37,7 @@ fn pointer_behind(space: &Space<'_>, index: &NameIndex, target: TypeNum) -> Resu
     }
 }
 
-/// The least pointer to a type, or else to what that type stands for. It takes no memory.
+/// The least pointer to a type; if there is none, to the type that it resolves to. Takes no memory.
 pub fn pointer_to(space: &Space<'_>, index: &NameIndex, target: TypeNum) -> Result<TypeNum, Fault>
     requires { Fits (own_lists space.now) (parent_lists space.now) index.now }
     ensures { result_map_both (λ t. t.0) (λ f. f) result
@@ -49,7 +49,7 @@ pub fn pointer_to(space: &Space<'_>, index: &NameIndex, target: TypeNum) -> Resu
     }
 }
 
-/// The same of a type that is known to stand for another, or for itself.
+/// The same for a type that is known to resolve to `resolved`.
 pub fn pointer_resolved(
     space: &Space<'_>,
     index: &NameIndex,
@@ -73,7 +73,7 @@ pub fn pointer_resolved(
     or_not_found(least(space, index, Sought::PointerTo(resolved)))
 }
 
-/// So many pointers further.
+/// Goes from a type to the pointer to it, so many times.
 fn pointers_on(
     space: &Space<'_>,
     index: &NameIndex,
@@ -91,7 +91,7 @@ fn pointers_on(
     Ok(at)
 }
 
-/// The type that a written name finds, as `struct node **`. It takes no memory.
+/// The type that a written name, such as `struct node **`, finds. Takes no memory.
 pub fn find(space: &Space<'_>, index: &NameIndex, text: &[u8]) -> Result<TypeNum, Fault>
     requires { Fits (own_lists space.now) (parent_lists space.now) index.now }
     ensures { result_map_both (λ t. t.0) (λ f. f) result ≡ lookup (space_of space.now) text.now }

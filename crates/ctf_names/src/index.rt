@@ -9,18 +9,18 @@ use ctf_space::Space;
 use std::alloc::{AllocError, Global};
 use std::rc::Rc;
 
-/// The types of a dictionary, and of its parent where it has one, by their names: a type is found
-/// by a hash of its name.
+/// The types of a dictionary, and of its parent if it has one, by their names: a type is found by a
+/// hash of its name.
 ///
 /// It keeps plain numbers, 6 bytes for each type and 4 for each pointer of a child to a type of its
-/// parent, and borrows nothing. Those of a parent are shared with the parent's own index.
+/// parent, and borrows nothing. The numbers of a parent are shared with the parent's own index.
 #[derive(Drop)]
 pub struct NameIndex {
     pub(crate) own: Rc<Names>,
     pub(crate) parent: Option<Rc<Names>>,
 }
 
-/// The index of a space, beside that of its parent.
+/// The index of a space, with that of its parent.
 fn beside(
     alloc: Global,
     space: &Space<'_>,
@@ -45,7 +45,7 @@ fn by_itself(alloc: Global, space: &Space<'_>) -> Result<Rc<Names>, AllocError>
 }
 
 impl NameIndex {
-    /// The index of a space. In a space with a parent that of the parent is made too.
+    /// The index of a space. If the space has a parent, the index of the parent is built too.
     pub fn build(alloc: Global, space: &Space<'_>) -> Result<NameIndex, AllocError>
         ensures { IfOk result (λ i. Fits (own_lists space.now) (parent_lists space.now) i) }
     {
@@ -56,19 +56,24 @@ impl NameIndex {
         beside(alloc, space, parent)
     }
 
-    /// The index of a space over the parent whose own index this is, which it shares.
+    /// The index of a space over a parent. It shares both indexes that are given: that of the
+    /// dictionary by itself, and the parent's. No name is read.
     pub fn over(
-        alloc: Global,
         space: &Space<'_>,
+        own: &NameIndex,
         parent: &NameIndex,
     ) -> Result<NameIndex, AllocError>
-        requires { ForSome (parent_lists space.now) (λ p. Fits p None parent.now) }
+        requires own { Fits (own_lists space.now) None own.now }
+        requires parent { ForSome (parent_lists space.now) (λ p. Fits p None parent.now) }
         ensures { IfOk result (λ i. Fits (own_lists space.now) (parent_lists space.now) i) }
     {
         let shared = match space.parent() {
             Some(_) => Some(parent.own.clone()?),
             None => None,
         };
-        beside(alloc, space, shared)
+        Ok(NameIndex {
+            own: own.own.clone()?,
+            parent: shared,
+        })
     }
 }

@@ -1,4 +1,4 @@
-//! What is inside of a type's name: the next layer and the type that it is round, or a name.
+//! What is inside of a type's name: the next layer and the type that it goes around, or a name.
 ghost use Rattle.std.specs.Prelude.{◌≡◌, ◌+◌, ◌≤◌, ◌++◌, length, min, option_map, vec_len, vec_capacity};
 ghost use Rattle.ctf_check.specs.FactsView.{shape_view};
 ghost use Rattle.ctf_model.specs.names.KindNames.{name_of_tag};
@@ -16,16 +16,16 @@ use ctf_model::{Kind, Layer, Qualifier, TypeNum};
 use ctf_records::Tag;
 use ctf_views::Variant;
 
-/// What a type is in its own name.
+/// What a type adds to its own name.
 #[derive(Clone, Copy)]
 pub enum Inside {
-    /// A name, behind the word of a tag if it has one.
+    /// A name, after `struct`, `union` or `enum` if it has a tag.
     Name(Option<Tag>),
-    /// A layer round another type.
+    /// A layer around another type.
     Layer(Layer, TypeNum),
 }
 
-/// A layer round a type that a head refers to.
+/// A layer around the type that a head refers to.
 fn round(layer: Layer, reference: Option<TypeNum>) -> Inside
     ensures { inside_view result ≡ layer_round layer (option_map (λ t. t.0) reference) }
 {
@@ -44,7 +44,7 @@ fn array(behind: &Variant<'_>) -> Inside
     }
 }
 
-/// What a type is in its own name, by its shape.
+/// What a type adds to its own name, by its shape.
 pub fn found_inside(x: &Shape<'_>) -> Inside
     ensures { inside_view result ≡ inside_of (shape_view x.now) }
 {
@@ -63,14 +63,14 @@ pub fn found_inside(x: &Shape<'_>) -> Inside
     }
 }
 
-/// The name inside of all layers, behind the word of a tag if it has one.
+/// The name inside of all layers, after `struct`, `union` or `enum` if it has a tag.
 #[derive(Clone, Copy)]
 pub struct Base<'a> {
     pub tag: Option<Tag>,
     pub name: &'a [u8],
 }
 
-/// A name, or what stands for an empty one.
+/// A name, or the text in place of an empty one.
 pub fn or_anon(name: &[u8]) -> &[u8]
     ensures { result.now ≡ named name.now }
 {
@@ -87,7 +87,7 @@ fn tag_word(tag: Tag) -> &'static str
     }
 }
 
-/// A length and the bytes of a base.
+/// A length plus that of a base.
 pub fn plus_base(len: usize, base: Base<'_>) -> usize
     ensures { result ≡ min (len + length (base_text base.entry)) TOO_LONG }
 {
@@ -97,7 +97,7 @@ pub fn plus_base(len: usize, base: Base<'_>) -> usize
     }
 }
 
-/// Appends a base where there is room.
+/// Appends a base, for which there is room.
 pub fn put_base(out: &mut Vec<u8>, base: Base<'_>)
     requires { vec_len out.old + length (base_text base) ≤ vec_capacity out.old }
     ensures items { out.new.items ≡ out.old.items ++ base_text base.entry }

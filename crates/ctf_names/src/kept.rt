@@ -1,4 +1,4 @@
-//! The names and pointers of a dictionary, as they are kept.
+//! The names and pointers of a dictionary, in tables.
 ghost use Rattle.std.specs.Prelude.{◌≡◌, IfOk, replicate};
 ghost use Rattle.ctf_check.specs.CheckedView.{dictionary_of, lists_of};
 ghost use Rattle.ctf_model.specs.names.Found.{first_place};
@@ -61,7 +61,7 @@ impl Names {
         })
     }
 
-    /// The first type that is sought, from 0.
+    /// The first of the types that are looked for, from 0.
     #[inline(always)]
     pub(crate) fn first(&self, dictionary: &Checked<'_>, sought: Sought<'_>) -> Option<u32>
         requires { IsNamesOf (lists_of dictionary.now) self.now }

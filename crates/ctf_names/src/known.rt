@@ -1,4 +1,4 @@
-//! What was found of the names of a space's types, so that none which is too long is spelled again.
+//! A cache of the lengths of type names, so that no name that is too long is spelled again.
 ghost use Rattle.std.specs.Prelude.{◌≡◌, ◌⊎◌, IfErr, IfSome, OnErr, OnOk, Err, Ok};
 ghost use Rattle.ctf_model.specs.names.TypeNames.{spelled_name};
 ghost use Rattle.ctf_model.specs.rules.Refusals.{out_of_memory};
@@ -20,8 +20,8 @@ use std::marker::Model;
 /// As many layers as the longest chains of a dictionary and of its parent have.
 const MOST_LAYERS: u32 = 1026;
 
-/// The names of the types of a space. How long a name is inside of others is found once for each
-/// type, so that a name which is too long is known to be so without being spelled.
+/// The names of the types of a space. The length of a name inside of others is computed once for
+/// each type, so a name that is too long is refused without being spelled.
 #[derive(Drop)]
 pub struct KnownNames<'a> {
     space: Space<'a>,
@@ -53,7 +53,7 @@ impl<'a> KnownNames<'a> {
         }
     }
 
-    /// What a type is in its own name: the end of its layers, or one more.
+    /// What a type adds to its own name: the innermost name, or one more layer.
     fn step(&self, number: TypeNum) -> Step
         ensures { IsStep self.now number.0 result }
     {
@@ -72,7 +72,7 @@ impl<'a> KnownNames<'a> {
         }
     }
 
-    /// Keeps what the name of a type comes to. Without memory for it it is not kept.
+    /// Caches the lengths of a type's name. Without memory for that, nothing is cached.
     fn keep(&mut self, number: TypeNum, measured: Measured)
         requires { IsMeasured self.old number.0 measured }
         ensures { self.new ≡ self.old }
@@ -80,8 +80,7 @@ impl<'a> KnownNames<'a> {
         let _ = self.known.insert(number.0, measured);
     }
 
-    /// What the name of a type comes to, if no more than so many layers are round it. Each type is
-    /// looked at once.
+    /// The lengths of a type's name, if it has at most so many layers. Each type is looked at once.
     #[cycle(find)]
     fn find(&mut self, number: TypeNum, most: u32) -> Option<Measured>
         ensures right { IfSome result (λ m. IsMeasured self.old number.0 m) }
@@ -103,7 +102,7 @@ impl<'a> KnownNames<'a> {
         }
     }
 
-    /// The same of a type that is a layer round the next one.
+    /// The same for a type that is a layer around the next one.
     #[cycle(find)]
     fn find_round(
         &mut self,
@@ -130,7 +129,7 @@ impl<'a> KnownNames<'a> {
         Some(found)
     }
 
-    /// Why a type has no name, as far as that is known of what is inside of it.
+    /// Why a type has no name, as far as the names inside of it are known.
     fn refusal(&mut self, number: TypeNum) -> Option<Fault>
         ensures right { IfSome result (λ f. spelled_name self.old number.0 ≡ Err f) }
         ensures kept { self.new ≡ self.old }
@@ -147,8 +146,7 @@ impl<'a> KnownNames<'a> {
         refused(layer, inside.lengths)
     }
 
-    /// Appends the name of the type with a number, as C spells it. On a refusal nothing is
-    /// appended.
+    /// Appends the name of the type with a number, as C spells it. A refusal appends nothing.
     pub fn spell(&mut self, number: TypeNum, out: &mut Vec<u8>) -> Result<(), Fault>
         ensures exact_ok { OnOk result
             (append_text out.old.items (spelled_name self.old number.0) ≡ Ok out.new.items) }

@@ -1,4 +1,4 @@
-//! Names of types: as C spells them, and looked up.
+//! Names of types: how C spells them, and look-ups by name.
 //!
 //! ```rust
 //! use ctf_model::Fault;

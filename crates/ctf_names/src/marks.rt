@@ -12,16 +12,16 @@ use std::alloc::{AllocError, Global};
 pub enum Mark {
     /// A qualifier in front of the name.
     Front(Qualifier),
-    /// A qualifier of a pointer, with nothing behind it.
+    /// A qualifier of a pointer, with nothing after it.
     Alone(Qualifier),
     /// A qualifier of a pointer, before more of the declarator.
     Before(Qualifier),
     Star,
-    /// A star that is bound before the brackets behind it.
+    /// A star that is put in parentheses with what is inside, before the brackets after it.
     Grouped,
     /// An array's brackets.
     Count(u32),
-    /// A function's brackets.
+    /// A function's parentheses.
     Call,
 }
 
@@ -37,7 +37,8 @@ fn is_behind(below: Option<Layer>) -> bool
     matches!(below, Some(Layer::Array(_) | Layer::Function))
 }
 
-/// The mark of a layer, by whether it is the outermost, and by what its qualifiers stand round.
+/// The mark of a layer. It depends on whether the layer is the outermost, and on what its
+/// qualifiers qualify.
 pub fn mark_of(outermost: bool, layer: Layer, below: Option<Layer>) -> Mark
     ensures { result ≡ mark outermost layer below }
 {
@@ -63,7 +64,7 @@ pub fn mark_of(outermost: bool, layer: Layer, below: Option<Layer>) -> Mark
     }
 }
 
-/// A layer, or what is below it where it is a qualifier.
+/// A layer, or the layer below it if it is a qualifier.
 pub fn first_beyond(layer: Layer, below: Option<Layer>) -> Option<Layer>
     ensures { result ≡ beyond layer below }
 {

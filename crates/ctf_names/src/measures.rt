@@ -1,20 +1,20 @@
-//! What the name of a type comes to.
+//! The lengths of a type's name.
 use crate::name_lengths::NameLengths;
 use ctf_model::{Fault, Layer, TypeNum};
 
-/// What a name comes to: how long its parts are, or why it has none; and how many layers are round
-/// the name inside.
+/// The lengths of a name: of its parts, or why it has none; and the number of layers around the
+/// innermost name.
 #[derive(Clone, Copy)]
 pub struct Measured {
     pub layers: u32,
     pub lengths: Result<NameLengths, Fault>,
 }
 
-/// What a type is in its own name.
+/// What a type adds to its own name.
 #[derive(Clone, Copy)]
 pub enum Step {
-    /// A name, or the fault that it ends by.
+    /// The innermost name, or the fault at the end.
     End(Result<NameLengths, Fault>),
-    /// A layer round another type.
+    /// A layer around another type.
     Round(Layer, TypeNum),
 }

@@ -1,4 +1,4 @@
-//! How long the name of a type is, found from the name inside, layer by layer.
+//! The length of a type's name, computed from the innermost name, layer by layer.
 ghost use Rattle.std.specs.Prelude.{◌≡◌, [], ◌∷◌, IfSome, Result, Err, length, min};
 ghost use Rattle.ctf_model.specs.declared.faults.Fault.{Fault as Refusal};
 ghost use Rattle.ctf_model.specs.names.TypeNames.{Declaration, around as round_of, declared, text_of_declaration};
@@ -11,7 +11,7 @@ use crate::sides::{plus_front, plus_sides};
 use crate::texts::{LONGEST_TEXT, plus};
 use ctf_model::{Fault, Layer, placeless};
 
-/// How long the two parts of a text are that other layers are put round. A length above
+/// The lengths of the two parts of a text that further layers go around. A length above
 /// `LONGEST_TEXT` counts as `TOO_LONG`.
 #[derive(Clone, Copy)]
 pub struct NameLengths {
@@ -34,7 +34,7 @@ pub fn of_base(base: Base<'_>) -> NameLengths
     }
 }
 
-/// The lengths with a layer more.
+/// The lengths with one layer more.
 fn round(layer: Layer, inside: NameLengths) -> NameLengths
     ensures { (d : Declaration) → inside ≡ lengths_of d → result ≡ lengths_of (one_more layer d) }
 {
@@ -46,7 +46,7 @@ fn round(layer: Layer, inside: NameLengths) -> NameLengths
     }
 }
 
-/// What a layer round a type comes to.
+/// The lengths of a layer around a type.
 pub fn around(layer: Layer, inside: Result<NameLengths, Fault>) -> Result<NameLengths, Fault>
     ensures { (x : Result Declaration Refusal) → measure x ≡ inside
         → result ≡ measure (round_of layer x) }
@@ -54,7 +54,7 @@ pub fn around(layer: Layer, inside: Result<NameLengths, Fault>) -> Result<NameLe
     Ok(round(layer, inside?))
 }
 
-/// How long the text of a type is whose outermost layer is this one.
+/// The length of the text of a type whose outermost layer is this one.
 fn whole_len(layer: Layer, inside: NameLengths) -> usize
     ensures { (d : Declaration) → inside ≡ lengths_of d
         → result ≡ min (length (declared (layer ∷ d.layers) d.name [])) 65537 }
@@ -69,7 +69,7 @@ fn whole_len(layer: Layer, inside: NameLengths) -> usize
     }
 }
 
-/// Why a layer round a type has no name, if that is so.
+/// Why a layer around a type has no name, if it has none.
 pub fn refused(layer: Layer, inside: Result<NameLengths, Fault>) -> Option<Fault>
     ensures { (x : Result Declaration Refusal) → measure x ≡ inside
         → IfSome result (λ f. text_of_declaration (round_of layer x) ≡ Err f) }

@@ -1,4 +1,4 @@
-//! The least number of a type that is looked for, in a space.
+//! The least number of the types that are looked for in a space.
 ghost use Rattle.std.specs.Prelude.{◌≡◌};
 ghost use Rattle.std.specs.Option.{option_map};
 ghost use Rattle.ctf_model.specs.names.Found.{least as least_of, least_own, least_parents};
@@ -12,7 +12,7 @@ use crate::sought::Sought;
 use ctf_model::TypeNum;
 use ctf_space::Space;
 
-/// The least number of an own type that is sought.
+/// The least number of the own types that are looked for.
 #[inline(always)]
 fn least_among(space: &Space<'_>, names: &Names, sought: Sought<'_>) -> Option<TypeNum>
     requires { IsNamesOf (own_lists space.now) names.now }
@@ -24,7 +24,7 @@ fn least_among(space: &Space<'_>, names: &Names, sought: Sought<'_>) -> Option<T
     Some(space.own_number(place as usize))
 }
 
-/// The least number of a parent's type that is sought, where there is a parent.
+/// The least number of the parent's types that are looked for, if there is a parent.
 fn least_of_parent(space: &Space<'_>, index: &NameIndex, sought: Sought<'_>) -> Option<TypeNum>
     requires { Fits (own_lists space.now) (parent_lists space.now) index.now }
     ensures { option_map (λ t. t.0) result
@@ -37,7 +37,7 @@ fn least_of_parent(space: &Space<'_>, index: &NameIndex, sought: Sought<'_>) -> 
     }
 }
 
-/// The least number of a type that is sought, own types before the parent's.
+/// The least number of the types that are looked for, own types before the parent's.
 #[inline(always)]
 pub(crate) fn least(space: &Space<'_>, index: &NameIndex, sought: Sought<'_>) -> Option<TypeNum>
     requires { Fits (own_lists space.now) (parent_lists space.now) index.now }

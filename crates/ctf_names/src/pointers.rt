@@ -18,8 +18,8 @@ pub(crate) struct Pointer {
     pub(crate) place: u16,
 }
 
-/// The pointers of a dictionary, as plain numbers from 0: of each type from a number on the first
-/// pointer to it, where 65,535 is none; and all pointers to other types, in order.
+/// The pointers of a dictionary, as plain numbers from 0: for each type from a number on the first
+/// pointer to it, or 65,535 for none; and all pointers to other types, sorted.
 #[derive(Drop)]
 pub(crate) struct Pointers {
     pub(crate) base: u16,
@@ -27,7 +27,7 @@ pub(crate) struct Pointers {
     pub(crate) outside: Vec<Pointer>,
 }
 
-/// Which slot a type has among so many for types from a number on.
+/// The slot of a type, among so many slots for the types from a number on.
 #[inline(always)]
 fn slot_of(base: u16, slots: usize, target: u16) -> Option<usize>
     ensures is { result ≡ slot base slots target }
@@ -81,7 +81,7 @@ fn arrange(pointers: &mut Vec<Pointer>)
     });
 }
 
-/// The pointers to other types, by what they point to.
+/// The pointers to other types, sorted by what they point to.
 pub(crate) fn in_order(mut outside: Vec<Pointer>) -> Vec<Pointer>
     ensures same { (terms : List Term) (base slots : ℕ)
         → HasOutside terms base slots 0 outside.items
@@ -92,7 +92,7 @@ pub(crate) fn in_order(mut outside: Vec<Pointer>) -> Vec<Pointer>
     outside
 }
 
-/// A place that a table gives, if it is one of so many.
+/// An entry of a table, if it is below the number of types.
 #[inline(always)]
 fn place_among(types: usize, place: u16) -> Option<u32>
     ensures { result ≡ (if nat_lt place types then Some place else None) }
@@ -104,7 +104,7 @@ fn place_among(types: usize, place: u16) -> Option<u32>
     }
 }
 
-/// Where the pointers to a type begin, or would.
+/// Where the pointers to a type begin, or would begin.
 fn begin(pointers: &[Pointer], target: u16) -> usize
     ensures low { IsSortedBy pointer_precedes pointers.now
         → LowerBefore pointers.now target result }
@@ -114,7 +114,7 @@ fn begin(pointers: &[Pointer], target: u16) -> usize
     pointers.partition_point(|p| p.target < target)
 }
 
-/// The first pointer to a type that has no slot. It is found by halves.
+/// The first pointer to a type that has no slot, by a binary search.
 fn first_outside(pointers: &[Pointer], target: u16) -> Option<u32>
     ensures { (terms : List Term) (base slots : ℕ)
         → HasOutside terms base slots 0 pointers.now
@@ -132,7 +132,7 @@ fn first_outside(pointers: &[Pointer], target: u16) -> Option<u32>
 }
 
 impl Pointers {
-    /// The first pointer to a type, in a dictionary of so many.
+    /// The first pointer to a type, in a dictionary with so many types.
     #[inline(always)]
     pub(crate) fn first_to(&self, types: usize, target: TypeNum) -> Option<u32>
         ensures { (terms : List Term) → ArePointers terms self.now → types ≡ length terms

@@ -1,4 +1,4 @@
-//! The three parts that marks have in a text, measured and appended.
+//! The three parts that marks add to a text, measured and appended.
 ghost use Rattle.std.specs.Prelude.{◌≡◌, ◌+◌, ◌≤◌, ◌++◌, length, min, reverse, vec_len, vec_capacity};
 ghost use Rattle.std.specs.List.{flat_map};
 ghost use Rattle.ctf_model.specs.names.TypeNames.{word_of_qualifier};
@@ -29,7 +29,7 @@ fn word_and_blank(qualifier: Qualifier) -> &'static str
     }
 }
 
-/// What stands in front of the name.
+/// What a mark puts in front of the name.
 fn front(mark: Mark) -> &'static str
     ensures { result.now ≡ front_text mark }
 {
@@ -39,7 +39,7 @@ fn front(mark: Mark) -> &'static str
     }
 }
 
-/// What stands before the declarator.
+/// What a mark puts before the declarator.
 fn text_before(mark: Mark) -> &'static str
     ensures { result.now ≡ left_text mark }
 {
@@ -81,14 +81,14 @@ fn put_right(out: &mut Vec<u8>, mark: Mark)
     }
 }
 
-/// A length and what a mark puts in front of the name.
+/// A length plus what a mark puts in front of the name.
 pub fn plus_front(len: usize, mark: Mark) -> usize
     ensures { result ≡ min (len + length (front_text mark)) TOO_LONG }
 {
     plus(len, front(mark).len())
 }
 
-/// A length and what a mark puts on both sides of the declarator.
+/// A length plus what a mark puts on both sides of the declarator.
 pub fn plus_sides(len: usize, mark: Mark) -> usize
     ensures { result ≡ min (len + (length (left_text mark) + length (right_text mark))) TOO_LONG }
 {
@@ -139,7 +139,7 @@ pub fn put_fronts(out: &mut Vec<u8>, marks: &[Mark])
     }
 }
 
-/// The innermost stands first.
+/// Appends what marks put before the declarator, the innermost first.
 pub fn put_lefts(out: &mut Vec<u8>, marks: &[Mark])
     requires { vec_len out.old + length (flat_map left_text (reverse marks.now))
         ≤ vec_capacity out.old }

@@ -1,4 +1,4 @@
-//! Which word stands in front of the name of a type.
+//! Which keyword is in front of the name of a type.
 ghost use Rattle.std.specs.Prelude.{◌≡◌};
 ghost use Rattle.ctf_check.specs.FactsView.{shape_view};
 ghost use Rattle.ctf_model.specs.names.Found.{same_tag};
@@ -8,17 +8,17 @@ use ctf_check::Shape;
 use ctf_model::Kind;
 use ctf_records::Tag;
 
-/// The words that may stand in front of a name; each has names of its own.
+/// The keywords that may be in front of a name; each has a name space of its own.
 #[derive(Clone, Copy)]
 pub(crate) enum Sort {
-    /// No word.
+    /// No keyword.
     Plain,
     Struct,
     Union,
     Enum,
 }
 
-/// That of a type. A forward has that of what it declares.
+/// The keyword of a type. A forward has that of what it declares.
 pub(crate) fn sort_of(x: &Shape<'_>) -> Sort
     ensures { tag_in result ≡ tag_shown (shape_view x.now) }
 {

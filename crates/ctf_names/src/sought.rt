@@ -6,7 +6,7 @@ use ctf_model::TypeNum;
 /// A type that is looked for.
 #[derive(Clone, Copy)]
 pub(crate) enum Sought<'a> {
-    /// A visible type of a sort, by its name.
+    /// A visible type with a keyword and a name.
     Named { sort: Sort, name: &'a [u8] },
     /// A pointer to a type, visible or hidden.
     PointerTo(TypeNum),

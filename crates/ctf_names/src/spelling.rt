@@ -16,7 +16,7 @@ use ctf_model::{Fault, TypeNum, placeless};
 use ctf_space::Space;
 use std::alloc::Global;
 
-/// How long a text is, or `TOO_LONG`.
+/// The length of a text, or `TOO_LONG`.
 fn text_len(marks: &[Mark], base: Base<'_>) -> usize
     ensures { result ≡ min (length (marked_text marks.now (base_text base.entry))) TOO_LONG }
 {
@@ -29,7 +29,7 @@ fn text_len(marks: &[Mark], base: Base<'_>) -> usize
     }
 }
 
-/// Appends a text where there is room.
+/// Appends a text, for which there is room.
 fn put_text(out: &mut Vec<u8>, marks: &[Mark], base: Base<'_>)
     requires { vec_len out.old + length (marked_text marks.now (base_text base))
         ≤ vec_capacity out.old }
@@ -44,8 +44,8 @@ fn put_text(out: &mut Vec<u8>, marks: &[Mark], base: Base<'_>)
     }
 }
 
-/// Appends the name of the type with a number, as C spells it. Its length is found first, and then
-/// room for all of it, so that a refusal appends nothing.
+/// Appends the name of the type with a number, as C spells it. First its length is computed, and
+/// room for all of it is allocated, so a refusal appends nothing.
 pub fn spell(
     alloc: Global,
     space: &Space<'_>,

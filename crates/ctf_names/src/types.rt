@@ -12,7 +12,7 @@ use ctf_check::{Checked, Typed};
 use ctf_model::{Kind, TypeNum};
 use ctf_sections::Strings;
 
-/// What an index takes of a type, which is read once for it.
+/// What an index needs of a type. The type is read once for it.
 #[derive(Clone, Copy)]
 pub(crate) struct Brief {
     /// The bucket of its name, if it is visible to look-ups by name.
@@ -48,7 +48,8 @@ fn target_of(kind: Kind, reference: Option<TypeNum>) -> Option<TypeNum>
     }
 }
 
-/// The bucket of a type's name, if it is visible. Of a long name no more is read than is hashed.
+/// The bucket of a type's name, if the type is visible. Of a long name no more is read than is
+/// hashed.
 #[inline(always)]
 fn bucket_of(found: &Typed<'_>, strings: &Strings<'_>, types: usize) -> Option<usize>
     requires few { types < 2 ^ 16 }
@@ -64,7 +65,7 @@ fn bucket_of(found: &Typed<'_>, strings: &Strings<'_>, types: usize) -> Option<u
     Some(bucket_among(types, name))
 }
 
-/// What is taken of a type that was found, in a dictionary of so many.
+/// What an index needs of a type, in a dictionary of so many types.
 #[inline(always)]
 fn brief_of(found: &Typed<'_>, strings: &Strings<'_>, types: usize) -> Brief
     requires few { types < 2 ^ 16 }
@@ -78,7 +79,7 @@ fn brief_of(found: &Typed<'_>, strings: &Strings<'_>, types: usize) -> Brief
     }
 }
 
-/// What is taken of the own type of a dictionary with a number from 0.
+/// What an index needs of the own type with a number, from 0.
 #[inline(always)]
 pub(crate) fn brief_at(dictionary: &Checked<'_>, strings: &Strings<'_>, place: usize) -> Brief
     requires there { place < length (dictionary_of dictionary.now).terms }

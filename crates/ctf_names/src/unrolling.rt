@@ -19,7 +19,7 @@ pub struct Unrolled<'a> {
     pub base: Base<'a>,
 }
 
-/// What stands for no type.
+/// The base `void`, in place of no type.
 pub fn void<'a>() -> Base<'a>
     ensures { base_text result ≡ codes "void" }
 {

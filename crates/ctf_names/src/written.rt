@@ -1,4 +1,4 @@
-//! Names as they are written, with words in front of them and stars behind.
+//! Names as they are written, with keywords in front and stars at the end.
 ghost use Rattle.std.specs.Prelude.{◌≡◌, ◌≤◌, length, drop, option_copied, Some, None, if◌then◌else◌};
 ghost use Rattle.std.specs.List.{count_by};
 ghost use Rattle.ctf_model.specs.names.Found.{base as base_of, begins_with, is_no_name as is_none, is_star as star, is_star_or_blank as star_or_blank, written_name as written_of};
@@ -6,7 +6,7 @@ ghost use Rattle.ctf_names.specs.Writing.{written_in};
 
 use crate::sorts::Sort;
 
-/// A name, and the word in front of it.
+/// A name, and the keyword in front of it.
 #[derive(Clone, Copy)]
 pub(crate) struct NameParts<'a> {
     pub(crate) sort: Sort,
@@ -19,7 +19,7 @@ fn is_star_or_blank(b: u8) -> bool
     b == b'*' || b == b' '
 }
 
-/// What stands in front of the last stars and blanks.
+/// The text before the last stars and blanks.
 pub(crate) fn base(text: &[u8]) -> &[u8]
     ensures base { result.now ≡ base_of text.now }
     ensures inside { length result.now ≤ length text.now }
@@ -33,7 +33,7 @@ pub(crate) fn base(text: &[u8]) -> &[u8]
     &[]
 }
 
-/// How many stars there are.
+/// The number of stars.
 pub(crate) fn stars(text: &[u8]) -> usize
     ensures { result ≡ count_by star text.now }
 {
@@ -56,7 +56,7 @@ pub(crate) fn is_no_name(base: &[u8]) -> bool
     }
 }
 
-/// What stands behind a word, if the text begins with it.
+/// The rest of the text after a word, if the text begins with the word.
 fn behind<'a>(text: &'a [u8], word: &[u8]) -> Option<&'a [u8]>
     ensures { option_copied result ≡ (if begins_with word.now text.now
         then Some (drop (length word.now) text.now) else None) }
@@ -71,7 +71,7 @@ fn behind<'a>(text: &'a [u8], word: &[u8]) -> Option<&'a [u8]>
     }
 }
 
-/// A base as a word and a name.
+/// A base as a keyword and a name.
 pub(crate) fn written(base: &[u8]) -> NameParts<'_>
     ensures { written_in result ≡ written_of base.now }
 {

@@ -1,4 +1,4 @@
-//! What is added to the draft of a session.
+//! Additions to the draft of a session.
 ghost use Rattle.std.specs.Prelude.{◌≡◌, ◌⊎◌, IfErr, IfOk, OnErr, Ok, Err};
 ghost use Rattle.ctf_model.specs.opened.Steps.{enlarge, silent, type_added};
 ghost use Rattle.ctf_open.specs.PartView.{part_in};
@@ -12,17 +12,17 @@ use ctf_draft::{Draft, Member, NewBody, NewType};
 use ctf_model::{Bytes, Fault, TypeNum, placeless};
 use std::alloc::Global;
 
-/// What is added to a type, or beside the types.
+/// An addition to a type or to the dictionary, other than a type.
 #[derive(Clone, Copy)]
 pub enum Part<'a> {
-    /// To which type, its name and type, and its offset in bits if that is stated.
+    /// The struct or union, the member's name and type, and its offset in bits if that is stated.
     Member(TypeNum, &'a [u8], TypeNum, Option<u64>),
-    /// To which type, its name and type, its offset in bits, and the size that the struct or union
-    /// has with it.
+    /// The struct or union, the member's name and type, its offset in bits, and the new size of the
+    /// struct or union.
     MemberAt(TypeNum, &'a [u8], TypeNum, u64, u64),
-    /// To which type, its name and value.
+    /// The enum, the enumerator's name and value.
     Enumerator(TypeNum, &'a [u8], i32),
-    /// Its name, and the last type that it covers.
+    /// The label's name, and the last type that it covers.
     Label(&'a [u8], u32),
 }
 
@@ -100,7 +100,7 @@ fn add_label(alloc: Global, draft: &mut Draft, name: &[u8], last: u32) -> Result
     Ok(0)
 }
 
-/// Adds to a draft, and answers the offset of a member, or else 0.
+/// Adds to a draft, and returns the offset of a member, else 0.
 fn add_to(alloc: Global, draft: &mut Draft, part: Part<'_>) -> Result<u64, Fault>
     ensures ok { IfOk result (λ n. part_in part.entry draft.old.draft
         ≡ Ok (record { draft = draft.new.draft; answer = n })) }
@@ -119,7 +119,7 @@ fn add_to(alloc: Global, draft: &mut Draft, part: Part<'_>) -> Result<u64, Fault
 }
 
 impl OpenDictionary {
-    /// Adds a type to its draft, and answers its number. A refusal changes nothing.
+    /// Adds a type to its draft, and returns the type's number. A refusal changes nothing.
     pub fn add(
         &mut self,
         alloc: Global,
@@ -145,7 +145,7 @@ impl OpenDictionary {
         draft.add(NewType { name, root, body })
     }
 
-    /// Adds a member, an enumerator or a label to its draft, and answers the offset of a member, or
+    /// Adds a member, an enumerator or a label to its draft, and returns the offset of a member,
     /// else 0. A refusal changes nothing.
     pub fn add_part(&mut self, alloc: Global, part: Part<'_>) -> Result<u64, Fault>
         ensures ok { IfOk result (λ n. enlarge (part_in part.entry) self.old

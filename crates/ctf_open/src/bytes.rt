@@ -1,7 +1,7 @@
-//! What dictionaries come to, in bytes.
+//! The bytes of dictionaries.
 //!
-//! The sums are of `u128`: the lengths of three lists, each of which memory has room for,
-//! may not fit in 64 bits.
+//! The sums are of `u128`: the lengths of three lists, each of which memory has room for, may not
+//! fit in 64 bits.
 ghost use Rattle.std.specs.Prelude.{◌≡◌, ◌+◌, ◌<◌, ◌^◌, [], length, option_copied, unwrap_or};
 ghost use Rattle.ctf_check.specs.ListsView.{lists_in};
 ghost use Rattle.ctf_model.specs.format.OwnedLists.{lists_owned};
@@ -9,7 +9,7 @@ ghost use Rattle.ctf_model.specs.opened.Sizes.{kept_bytes, lists_bytes, parent_b
 
 use crate::loading::Loaded;
 use crate::open_dictionary::OpenDictionary;
-use ctf_check::{LentLists, lent};
+use ctf_check::{LentLists, lent_lists};
 use ctf_model::Parts;
 
 /// How many bytes an optional list has.
@@ -35,7 +35,7 @@ fn bytes_of(lists: LentLists<'_>) -> u128
 pub fn owned_bytes(parts: &Parts) -> u128
     ensures { result ≡ lists_bytes (lists_owned parts.now) }
 {
-    bytes_of(lent(parts))
+    bytes_of(lent_lists(parts))
 }
 
 impl Loaded {
@@ -60,7 +60,7 @@ impl OpenDictionary {
         }
     }
 
-    /// How many bytes it has, and its parent.
+    /// The bytes of the dictionary and its parent.
     pub fn bytes(&self) -> u128
         ensures { result ≡ kept_bytes self.now.own + parent_bytes self.now.parent }
     {
@@ -68,7 +68,7 @@ impl OpenDictionary {
     }
 }
 
-/// How many bytes a parent has, if there is one.
+/// The bytes of a parent, if there is one.
 pub(crate) fn bytes_above(parent: Option<&Loaded>) -> u128
     ensures count { result ≡ parent_bytes (option_copied parent.entry) }
     ensures small { result < 2 ^ 66 }

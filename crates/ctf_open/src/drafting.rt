@@ -26,7 +26,7 @@ use ctf_writer::write;
 use std::alloc::{AllocError, Global};
 use std::rc::Rc;
 
-/// A dictionary over its parent, if it has one, with the tables of the one over the other.
+/// A parent for a dictionary, if it has one, with the tables of the dictionary over the parent.
 fn imported_over(
     alloc: Global,
     own: &Loaded,
@@ -45,7 +45,7 @@ fn imported_over(
     Ok(Some(Imported::build(alloc, own, parent, true)?))
 }
 
-/// The bytes of a draft as a dictionary, which is kept for its draft as well.
+/// The bytes of a draft as a dictionary, shared by the slot and the draft.
 #[derive(Drop)]
 struct Updated {
     own: Loaded,
@@ -53,7 +53,7 @@ struct Updated {
     imported: Option<Imported>,
 }
 
-/// The dictionary that a draft's bytes make, where there is room for it over a parent of so many.
+/// The dictionary of a draft's bytes, if there is room for it besides a parent of so many bytes.
 fn load(alloc: Global, draft: &Draft, parent: u128, room: Option<Room>) -> Result<Loaded, Fault>
     requires { parent < 2 ^ 66 }
     ensures written { IfOk result (λ l. IsWritten draft.now.draft l) }
@@ -80,8 +80,8 @@ fn load(alloc: Global, draft: &Draft, parent: u128, room: Option<Room>) -> Resul
     }
 }
 
-/// What a draft's dictionary becomes by an update, over the draft's parent, where there is room for
-/// the two.
+/// The new state of a draft's dictionary after an update, over the draft's parent, if there is room
+/// for both.
 fn updated_over(
     alloc: Global,
     draft: &Draft,
@@ -123,7 +123,7 @@ fn parent_of(imported: &Option<Imported>) -> Option<&Loaded>
     }
 }
 
-/// A dictionary, if there is one, to be the parent of a draft.
+/// The dictionary that is to be the parent of a draft, if there is one.
 fn judged_parent(parent: Option<&Loaded>) -> Result<Option<Rc<Judged<'static>>>, AllocError>
     ensures { IfOk result (λ j. option_map (λ p. p.value.kept) j ≡ option_copied parent.entry) }
 {
@@ -181,7 +181,7 @@ impl OpenDictionary {
         OpenDictionary::create_within(alloc, parent, parname, parlabel, model, None)
     }
 
-    /// The same where there is room for it.
+    /// The same, if there is room for it.
     pub fn create_within(
         alloc: Global,
         parent: Option<&Loaded>,
@@ -209,7 +209,7 @@ impl OpenDictionary {
         })
     }
 
-    /// How many types the dictionary has, where there is room for it as it stands.
+    /// How many types the dictionary has, if there is room for it as it is.
     fn types_within(&self, room: Option<Room>) -> Result<u64, Fault>
         ensures ok { IfOk result (λ n. n ≡ length (own_in self.now).terms) }
         ensures room { OnOk result (fits_in room (open_bytes self.now) ≡ true) }
@@ -222,8 +222,8 @@ impl OpenDictionary {
         Ok(types_of(&self.own))
     }
 
-    /// Makes all that was added to its draft part of the dictionary, and answers how many types
-    /// that has. A refusal changes nothing.
+    /// Makes all additions to its draft part of the dictionary, and returns the number of the
+    /// dictionary's types. A refusal changes nothing.
     pub fn update(&mut self, alloc: Global) -> Result<u64, Fault>
         ensures ok { IfOk result (λ n.
             step_update self.old ≡ Ok (record { served = self.new; answer = n })) }
@@ -234,7 +234,7 @@ impl OpenDictionary {
         self.update_within(alloc, None)
     }
 
-    /// The same where there is room for what it makes. Nothing is built where nothing is pending.
+    /// The same, if there is room for the result. If nothing is pending, nothing is built.
     pub fn update_within(&mut self, alloc: Global, room: Option<Room>) -> Result<u64, Fault>
         ensures ok { IfOk result (λ n.
             step_update self.old ≡ Ok (record { served = self.new; answer = n })) }
@@ -258,8 +258,8 @@ impl OpenDictionary {
         Ok(types_of(&self.own))
     }
 
-    /// Drops what was added to its draft since the last update, and answers how many types the
-    /// dictionary has.
+    /// Drops the additions to its draft since the last update, and returns the number of the
+    /// dictionary's types.
     pub fn discard(&mut self) -> Result<u64, Fault>
         ensures ok { IfOk result (λ n.
             discard_step self.old ≡ Ok (record { served = self.new; answer = n })) }

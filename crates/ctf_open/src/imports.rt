@@ -1,4 +1,4 @@
-//! Parents that are imported.
+//! Imported parents.
 ghost use Rattle.std.specs.Prelude.{◌≡◌, ◌⊎◌, None, Some, IfOk, IfErr, IfSome, OnOk, true};
 ghost use Rattle.ctf_model.specs.opened.Steps.{Refuses, import_refusal};
 ghost use Rattle.ctf_model.specs.rules.Refusals.{out_of_memory};
@@ -13,8 +13,8 @@ use ctf_model::{Fault, placeless};
 use std::alloc::{AllocError, Global};
 use std::rc::Rc;
 
-/// The parent that was imported, and the tables of the dictionary over it, which an import of the
-/// same parent shares.
+/// The parent that was imported, and the tables of the dictionary over it. An import of the same
+/// parent shares both.
 #[derive(Drop)]
 pub struct Imported {
     pub parent: Loaded,
@@ -43,8 +43,8 @@ fn new_tables(alloc: Global, own: &Loaded, parent: &Loaded, fits: bool) -> Resul
 }
 
 impl Imported {
-    /// A parent that serves a dictionary, with the tables of the one over the other. Whether there
-    /// is room for the parent is said.
+    /// A parent for a dictionary, with the dictionary's tables over it. `fits` says whether there
+    /// is room for the parent.
     pub(crate) fn build(
         alloc: Global,
         own: &Loaded,
@@ -65,7 +65,7 @@ impl Imported {
 }
 
 impl OpenDictionary {
-    /// Its tables over a parent, if that is its parent already.
+    /// Its tables over a parent, if it has this parent already.
     fn tables_under(&self, parent: &Loaded) -> Option<&Rc<Tables>>
         ensures { IfSome result (λ t. AreTablesOf self.now.own (Some parent.now) t.now.value
             × (fault_over self.now.own parent.now ≡ None)) }
@@ -79,8 +79,8 @@ impl OpenDictionary {
         Some(&imported.tables)
     }
 
-    /// A parent for it, with its tables over that. Nothing is built where it has that parent
-    /// already. Whether there is room for the parent is said.
+    /// A parent for it, with its tables over this parent. If it has that parent already, nothing is
+    /// built. `fits` says whether there is room for the parent.
     pub fn over(&self, alloc: Global, parent: &Loaded, fits: bool) -> Result<Imported, Fault>
         ensures parent { IfOk result (λ i. i.parent ≡ parent.now) }
         ensures made { IfOk result (λ i. AreTablesOf self.now.own (Some i.parent) i.tables.value) }
@@ -100,8 +100,8 @@ impl OpenDictionary {
         Ok(Imported { parent, tables })
     }
 
-    /// Imports the dictionary of another session as its parent, which they share. The parent of a
-    /// draft is that of its making. A refusal changes nothing.
+    /// Imports the dictionary of another session as its parent, which they share. A draft keeps the
+    /// parent that it was created with. A refusal changes nothing.
     pub fn import(&mut self, alloc: Global, parent: &OpenDictionary) -> Result<(), Fault>
         ensures ok { OnOk result (self.new
             ≡ record { own = self.old.own; parent = Some parent.now.own; draft = None }) }
@@ -118,7 +118,7 @@ impl OpenDictionary {
         Ok(())
     }
 
-    /// Takes a parent that serves it, and its tables over that.
+    /// Takes a parent that was checked, with its tables over this parent.
     pub fn adopt(&mut self, imported: Imported)
         requires undrafted { self.old.draft ≡ None }
         requires fits { fault_over self.old.own imported.parent ≡ None }

@@ -1,4 +1,4 @@
-//! A dictionary with all that is kept of it by itself.
+//! A dictionary with the tables that it has by itself.
 ghost use Rattle.std.specs.Prelude.{◌≡◌, ◌⊎◌, None, Some, IfOk, IfErr, OnOk, true};
 ghost use Rattle.ctf_check.specs.CheckedView.{lists_of};
 ghost use Rattle.ctf_check.specs.ListsView.{lists_in};
@@ -17,21 +17,21 @@ use std::alloc::{AllocError, Global};
 use std::marker::Model;
 use std::rc::Rc;
 
-/// The data model of a dictionary where none is said.
+/// The data model of a dictionary if none is stated.
 pub const MODEL_UNSAID: DataModel = DataModel::Lp64;
 
-/// What is kept of a dictionary beside it: the map of its symbols, and the tables that it has
-/// without a parent.
+/// What is derived from a dictionary: the map of its symbols, and the tables that it has without a
+/// parent.
 #[derive(Drop)]
 pub(crate) struct Derived {
     symbols: SymbolMap,
     tables: Tables,
 }
 
-/// A dictionary that was opened, and what is kept beside it.
+/// An opened dictionary, and what is derived from it.
 ///
 /// None of it ever changes, so slots of any sessions, publications and the slots that imported it
-/// share it. A contract sees its lists and its data model alone.
+/// share it. Contracts see only its lists and its data model.
 #[derive(Drop)]
 pub struct Loaded {
     dictionary: Rc<Judged<'static>>,
@@ -52,7 +52,7 @@ impl Model for Loaded {
         × AreTablesOf l.dictionary.value.kept None l.derived.value.tables };
 }
 
-/// What is kept beside a dictionary.
+/// Derives the tables of a dictionary.
 fn derive(alloc: Global, dictionary: &Judged<'_>) -> Result<Rc<Derived>, AllocError>
     ensures mapped { IfOk result (λ k. Fits dictionary.now.kept.lists k.value.symbols) }
     ensures made { IfOk result (λ k. AreTablesOf dictionary.now.kept None k.value.tables) }
@@ -74,7 +74,7 @@ fn own_parts(dictionary: Judged<'static>) -> Parts
 }
 
 impl Loaded {
-    /// A dictionary that was judged, or the same again where memory was refused.
+    /// The opened form of a checked dictionary; the dictionary again if memory was refused.
     fn of(alloc: Global, dictionary: Judged<'static>) -> Result<Loaded, Judged<'static>>
         ensures ok { IfOk result (λ l. l ≡ dictionary.entry.kept) }
         ensures back { IfErr result (λ d. d ≡ dictionary.entry) }
@@ -91,7 +91,7 @@ impl Loaded {
         }
     }
 
-    /// The dictionary of lists, for programs of a data model, or its first fault with the lists.
+    /// Opens lists, for a data model, or gives their first fault with the lists.
     pub fn build(alloc: Global, parts: Parts, model: DataModel) -> Result<Loaded, (Fault, Parts)>
         ensures ok { IfOk result (λ l. l ≡ record { lists = lists_owned parts; model = model }) }
         ensures exact_ok { OnOk result (first_fault (lists_owned parts) ≡ None) }
@@ -108,9 +108,8 @@ impl Loaded {
         }
     }
 
-    /// The dictionary of lists that are lent, for programs of a data model, or its first fault.
-    /// Nothing of the lists is copied. Where memory is refused, the rules before those of chains
-    /// are kept.
+    /// Opens borrowed lists, for a data model, or gives their first fault. No list is copied. If
+    /// memory is refused, the rules before those of chains are kept.
     pub fn load_lent(
         alloc: Global,
         lists: LentLists<'static>,
@@ -142,21 +141,21 @@ impl Loaded {
         })
     }
 
-    /// The dictionary, shared once more, to be kept by a draft over it or by its own draft.
+    /// The dictionary, shared once more, for a draft over it or for its own draft.
     pub fn share_judged(&self) -> Result<Rc<Judged<'static>>, AllocError>
         ensures { IfOk result (λ j. j.value.kept ≡ self.now) }
     {
         self.dictionary.clone()
     }
 
-    /// The dictionary, lent.
+    /// The dictionary, borrowed.
     pub fn view(&self) -> Checked<'_>
         ensures { lists_of result ≡ self.now.lists }
     {
         self.dictionary.view()
     }
 
-    /// That it breaks no rule, for a proof.
+    /// That it breaks no rule, for proofs.
     pub fn keeps_rules(&self)
         ensures { first_fault self.now.lists ≡ None }
     {

@@ -1,4 +1,4 @@
-//! A dictionary that is open: the parent that it imported, and its draft.
+//! An open dictionary: with the parent that it imported, and its draft.
 ghost use Rattle.std.specs.Prelude.{◌≡◌, ◌⊎◌, None, Some, IfOk, IfErr, OnOk, is_some, option_copied, option_map};
 ghost use Rattle.std.specs.Option.{ForSome};
 ghost use Rattle.ctf_model.specs.opened.Steps.{Refuses};
@@ -26,8 +26,8 @@ use ctf_symbols::SymbolMap;
 use std::alloc::{AllocError, Global};
 use std::marker::Model;
 
-/// A dictionary, and its parent if it imported one. They may be shared with other sessions. Where
-/// there is a draft, the dictionary is what the draft's last update made, and the parent is the
+/// A dictionary, and its parent if it imported one. Both may be shared with other sessions. If
+/// there is a draft, the dictionary is what the draft's last update wrote, and the parent is the
 /// draft's.
 #[derive(Drop)]
 pub struct OpenDictionary {
@@ -59,7 +59,7 @@ impl Model for OpenDictionary {
         × ForSome s.draft (λ d. IsWritten (rollback d.draft) s.own) };
 }
 
-/// A copy of a list, if it is there.
+/// A copy of a list, if there is one.
 fn copy_list(alloc: Global, list: Option<&[u8]>) -> Result<Option<Bytes>, AllocError>
     ensures { IfOk result (λ copy. copy ≡ option_copied list.entry) }
 {
@@ -90,8 +90,7 @@ pub fn parts_of(
     })
 }
 
-/// Why lists are not opened of which no copy could be made: for their first fault, or else for want
-/// of memory.
+/// Why lists are not opened that could not be copied: their first fault, or else out of memory.
 fn fault_uncopied(alloc: Global, lists: LentLists<'_>) -> Fault
     ensures fault { Refuses (first_fault (lists_in lists.entry)) result }
     ensures late { (fault_before_chains (lists_in lists.entry) ≡ None)
@@ -104,8 +103,8 @@ fn fault_uncopied(alloc: Global, lists: LentLists<'_>) -> Fault
 }
 
 impl OpenDictionary {
-    /// Judges copies of the lists, and keeps them, or tells their first fault. Where memory is
-    /// refused, the rules before those of chains are kept; so it is where lists are lent.
+    /// Checks copies of the lists, and keeps them, or gives their first fault. If memory is
+    /// refused, the rules before those of chains are kept; the same for borrowed lists.
     pub fn open(
         alloc: Global,
         ctf: &[u8],
@@ -154,7 +153,7 @@ impl OpenDictionary {
         }
     }
 
-    /// The same over lists that are lent, of which nothing is copied.
+    /// The same over borrowed lists, which are not copied.
     pub fn open_lent(
         alloc: Global,
         ctf: &'static [u8],
@@ -233,7 +232,7 @@ impl OpenDictionary {
         }
     }
 
-    /// What its questions see.
+    /// The dictionary over its parent, for questions.
     #[inline(always)]
     pub fn space(&self) -> Space<'_>
         ensures space { space_of result ≡ space_in self.now }
@@ -248,7 +247,7 @@ impl OpenDictionary {
         }
     }
 
-    /// The tables of what its questions see.
+    /// The tables for questions.
     #[inline(always)]
     pub fn tables(&self) -> &Tables
         ensures { AreTablesOf self.now.own self.now.parent result.now }

@@ -1,4 +1,4 @@
-//! What is answered of what is open as a whole: its parent's name, its symbols and labels.
+//! Answers about an open dictionary in all: its parent's name, its symbols and labels.
 ghost use Rattle.std.specs.Prelude.{◌≡◌, ◌≤◌, length, slice_get, take};
 ghost use Rattle.std.specs.Result.{result_map_both};
 ghost use Rattle.ctf_model.specs.opened.Questions.{label_at, named_answered};
@@ -27,7 +27,7 @@ pub fn named_count(args: &Args<'_>) -> usize
     }
 }
 
-/// An argument that is named, from 0.
+/// A named argument, counted from 0.
 fn argument_type(args: Args<'_>, index: usize) -> Result<TypeNum, Fault>
     ensures { result_map_both (λ t. t.0) (λ f. f) result
         ≡ or_refused NO_MEMBER (slice_get (named_arguments args.entry) index) }
@@ -42,14 +42,14 @@ fn argument_type(args: Args<'_>, index: usize) -> Result<TypeNum, Fault>
 }
 
 impl OpenDictionary {
-    /// The name of its parent, as it says it.
+    /// The name of its parent, in its header.
     pub fn parname(&self) -> &[u8]
         ensures { result.now ≡ (own_in self.now).parname }
     {
         self.dictionary().parname()
     }
 
-    /// The label of its parent, as it says it.
+    /// The label of its parent, in its header.
     pub fn parlabel(&self) -> &[u8]
         ensures { result.now ≡ (own_in self.now).parlabel }
     {
@@ -77,7 +77,7 @@ impl OpenDictionary {
         self.dictionary().labels().len() as u64
     }
 
-    /// A label, from 0. Its name is lent.
+    /// A label, counted from 0. Its name is borrowed.
     pub fn label_numbered(&self, index: usize) -> Result<Label<'_>, Fault>
         ensures { result_map_both label_view (λ f. f) result
             ≡ label_at index (own_in self.now).labels }
@@ -104,7 +104,7 @@ impl OpenDictionary {
         self.symbols().function(&self.dictionary(), number)
     }
 
-    /// An argument that such a function names, from 0.
+    /// A named argument of such a function, counted from 0.
     pub fn function_argument(&self, number: u32, index: usize) -> Result<TypeNum, Fault>
         ensures { result_map_both (λ t. t.0) (λ f. f) result
             ≡ named_answered index (function_of (own_in self.now) number) }

@@ -1,4 +1,4 @@
-//! What is answered of what is open.
+//! Answers about an open dictionary.
 ghost use Rattle.std.specs.Prelude.{◌≡◌, ◌⊎◌, [], ◌∷◌, Ok, Err, IfOk, IfErr, length, map};
 ghost use Rattle.std.specs.Result.{result_map_both};
 ghost use Rattle.ctf_model.specs.opened.Questions.{align_answered, argument_answered, array_answered, encoding_answered, enumerator_answered, kind_answered, length_answered, member_answered, name_answered, parent_types, path_answered, pointer_answered, resolved_answered, return_answered, root_answered, on_shape, signature_answered, shape_of, size_answered, tag_answered, value_answered};
@@ -175,7 +175,7 @@ impl OpenDictionary {
         Ok(found.kind())
     }
 
-    /// Whether look-ups by name see a type.
+    /// Whether look-ups by name find a type.
     pub fn root(&self, t: TypeNum) -> Result<bool, Fault>
         ensures { result ≡ root_answered (space_type (space_in self.now) t.0) }
     {
@@ -206,7 +206,7 @@ impl OpenDictionary {
         encoding_of(self.shape(t)?)
     }
 
-    /// What an array holds.
+    /// The element type, the index type and the number of elements of an array.
     pub fn array(&self, t: TypeNum) -> Result<ArrayInfo, Fault>
         ensures { result_map_both array_info (λ f. f) result
             ≡ on_shape array_answered (shape_of (space_type (space_in self.now) t.0)) }
@@ -222,7 +222,7 @@ impl OpenDictionary {
         return_of(self.shape(t)?)
     }
 
-    /// A member of a struct or union, from 0. Its name is lent.
+    /// A member of a struct or union, counted from 0. Its name is borrowed.
     #[inline(always)]
     pub fn member(&self, t: TypeNum, index: usize) -> Result<Member<'_>, Fault>
         ensures { result_map_both member_view (λ f. f) result
@@ -231,7 +231,7 @@ impl OpenDictionary {
         member_of(self.shape(t)?, index)
     }
 
-    /// An enumerator of an enum, from 0. Its name is lent.
+    /// An enumerator of an enum, counted from 0. Its name is borrowed.
     pub fn enumerator(&self, t: TypeNum, index: usize) -> Result<Enumerator<'_>, Fault>
         ensures { result_map_both enumerator_view (λ f. f) result
             ≡ on_shape (enumerator_answered index) (shape_of (space_type (space_in self.now) t.0)) }
@@ -239,7 +239,7 @@ impl OpenDictionary {
         enumerator_of(self.shape(t)?, index)
     }
 
-    /// An argument of a function type, from 0, as it is stored.
+    /// An argument of a function type, counted from 0, as stored.
     pub fn argument(&self, t: TypeNum, index: usize) -> Result<TypeNum, Fault>
         ensures { result_map_both (λ t. t.0) (λ f. f) result
             ≡ on_shape (argument_answered index) (shape_of (space_type (space_in self.now) t.0)) }
@@ -247,7 +247,7 @@ impl OpenDictionary {
         argument_of(self.shape(t)?, index)
     }
 
-    /// The name that a type's record has.
+    /// The name in a type's record.
     pub fn declared_name(&self, t: TypeNum) -> Result<&[u8], Fault>
         ensures { result_map_both (λ n. n.now) (λ f. f) result
             ≡ name_in (space_type (space_in self.now) t.0) }
@@ -275,7 +275,7 @@ impl OpenDictionary {
         self.tables().layout.align(t)
     }
 
-    /// The type that a type stands for, along typedefs and qualifiers.
+    /// The type that a type resolves to, through typedefs and qualifiers.
     #[inline(always)]
     pub fn resolve(&self, t: TypeNum) -> Result<TypeNum, Fault>
         ensures { result_map_both (λ t. t.0) (λ f. f) result
@@ -296,7 +296,7 @@ impl OpenDictionary {
         reference(&self.space(), t)
     }
 
-    /// The least pointer to a type.
+    /// The least pointer to a type; if there is none, to the type that it resolves to.
     pub fn pointer(&self, t: TypeNum) -> Result<TypeNum, Fault>
         ensures { result_map_both (λ t. t.0) (λ f. f) result
             ≡ pointer_answered (space_in self.now) t.0 }
@@ -307,7 +307,7 @@ impl OpenDictionary {
         }
     }
 
-    /// The same of a number that names no type, or one that stands for none.
+    /// The same for a number that is no type's, or that resolves to no type.
     fn pointer_unresolved(&self, t: TypeNum) -> Result<TypeNum, Fault>
         ensures { result_map_both (λ t. t.0) (λ f. f) result
             ≡ pointer_answered (space_in self.now) t.0 }
@@ -323,7 +323,7 @@ impl OpenDictionary {
         find(&self.space(), &self.tables().index, text)
     }
 
-    /// Where the first member of a name lies, and its type.
+    /// The offset of the first member with a name, and its type.
     pub fn field(&self, t: TypeNum, name: &[u8]) -> Result<(u64, TypeNum), Fault>
         ensures { result_map_both position_of (λ f. f) result
             ≡ path_answered (space_in self.now) (name.now ∷ []) t.0 }
@@ -339,14 +339,14 @@ impl OpenDictionary {
         self.symbols().object(&self.dictionary(), number)
     }
 
-    /// The number of the first symbol of a name.
+    /// The number of the first symbol with a name.
     pub fn symbol(&self, name: &[u8]) -> Result<u32, Fault>
         ensures { result ≡ by_name (own_in self.now) name.now }
     {
         self.symbols().by_name(&self.dictionary(), name)
     }
 
-    /// The last type of the first label of a name.
+    /// The last type of the first label with a name.
     pub fn label(&self, name: &[u8]) -> Result<u32, Fault>
         ensures { result ≡ label_of (own_in self.now) name.now }
     {
@@ -365,7 +365,7 @@ impl OpenDictionary {
         Ok(Bytes::from(text))
     }
 
-    /// What a value of a type shows, in memory and from a bit on.
+    /// The text of the value of a type that begins at a bit of some memory.
     pub fn show(
         &self,
         alloc: Global,
@@ -385,7 +385,8 @@ impl OpenDictionary {
         Ok(Bytes::from(text))
     }
 
-    /// Where the member lies that names lead to, and its type. A name may be lent by who asks.
+    /// The offset of the member that names lead to, and its type. A name may be borrowed from the
+    /// caller.
     pub fn path(&self, t: TypeNum, names: &[&[u8]]) -> Result<(u64, TypeNum), Fault>
         ensures { result_map_both position_of (λ f. f) result
             ≡ path_answered (space_in self.now) (map (λ name. name.now) names.now) t.0 }

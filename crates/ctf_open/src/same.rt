@@ -1,4 +1,4 @@
-//! Whether dictionaries are the same.
+//! Compares dictionaries.
 ghost use Rattle.std.specs.Prelude.{◌≡◌, None, true};
 ghost use Rattle.ctf_check.specs.ListsView.{lists_in};
 ghost use Rattle.ctf_model.specs.rules.Faults.{first_fault};

@@ -1,10 +1,12 @@
-//! What a slot keeps beside its dictionary, so that its questions are answered by looking up.
+//! The tables of a slot's dictionary, by which its questions are answered.
 ghost use Rattle.std.specs.Prelude.{◌≡◌, ◌⊎◌, None, Some, IfOk, IfErr, OnOk, true};
 ghost use Rattle.std.specs.Option.{ForSome};
 ghost use Rattle.ctf_open.specs.Quotas.{IsUnserved};
 ghost use Rattle.ctf_open.specs.Fitting.{AreTablesOf, Serve, ServeParent};
 ghost use Rattle.ctf_model.specs.rules.Refusals.{out_of_memory};
 ghost use Rattle.ctf_model.specs.spaces.Kept.{fault_over};
+ghost use Rattle.ctf_names.specs.Fitting.{Fits as FitsNames};
+ghost use Rattle.ctf_space.specs.SpaceView.{own_lists};
 
 use crate::loading::Loaded;
 use ctf_check::Judged;
@@ -14,7 +16,8 @@ use ctf_names::NameIndex;
 use ctf_space::Space;
 use std::alloc::{AllocError, Global};
 
-/// What the types of a dictionary come to, and its names, with those of its parent if it has one.
+/// The sizes and alignments of a dictionary's types, and its names, with those of its parent if it
+/// has one.
 #[derive(Drop)]
 pub struct Tables {
     pub layout: Layout,
@@ -33,20 +36,27 @@ impl Tables {
         })
     }
 
-    /// The tables of a space over the parent whose own tables these are, which it shares.
-    fn over(alloc: Global, space: &Space<'_>, parent: &Tables) -> Result<Tables, AllocError>
-        requires { ServeParent space.now parent.now }
+    /// The tables of a space over a parent. The names of both are those of their own tables, and
+    /// so are the parent's sizes: these are shared.
+    fn over(
+        alloc: Global,
+        space: &Space<'_>,
+        own: &Tables,
+        parent: &Tables,
+    ) -> Result<Tables, AllocError>
+        requires own { FitsNames (own_lists space.now) None own.now.index }
+        requires parent { ServeParent space.now parent.now }
         ensures { IfOk result (λ t. Serve space.now t) }
     {
         Ok(Tables {
             layout: Layout::over(alloc, space, &parent.layout)?,
-            index: NameIndex::over(alloc, space, &parent.index)?,
+            index: NameIndex::over(space, &own.index, &parent.index)?,
         })
     }
 }
 
-/// The tables of a dictionary over another as its parent, or the fault of such an import. Whether
-/// the session has room for the parent is said; where it has not, none are built.
+/// The tables of a dictionary over another as its parent, or the fault of such an import. `fits`
+/// says whether the session has room for the parent; if not, none are built.
 pub(crate) fn tables_over(
     alloc: Global,
     child: &Loaded,
@@ -63,5 +73,5 @@ pub(crate) fn tables_over(
     if !fits {
         return Err(placeless(Fault::QUOTA_FULL));
     }
-    Ok(Tables::over(alloc, &space, parent.tables())?)
+    Ok(Tables::over(alloc, &space, child.tables(), parent.tables())?)
 }

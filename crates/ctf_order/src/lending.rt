@@ -1,4 +1,4 @@
-//! Names that are lent while items are put in order.
+//! Names that are borrowed while their items are sorted.
 ghost use Rattle.std.specs.Prelude.{◌≡◌, IfOk, option_copied};
 ghost use Rattle.std.specs.Option.{ForSome, option_map};
 ghost use Rattle.std.specs.List.Sorted.{IsSortedBy, IsPermutation};
@@ -12,17 +12,17 @@ use crate::texts::Texts;
 use std::alloc::{AllocError, Global};
 use std::cmp::Ordering;
 
-/// Names of no more bytes than this in the mean are read in the order of their items.
+/// If names have at most this many bytes in the mean, they are read in the order of their items.
 const USUAL_NAME: usize = 64;
 
-/// An item beside its name.
+/// An item with its name.
 #[derive(Clone, Copy)]
 pub(crate) struct Named<'a> {
     pub(crate) name: &'a [u8],
     pub(crate) entry: NamedItem,
 }
 
-/// What a reference names that points into the name of another.
+/// The name of a reference that points into another name.
 #[inline(always)]
 fn rest_of<'a>(before: Named<'a>, reference: u32) -> Option<&'a [u8]>
     ensures { (texts : AnyTexts) → IsLent (naming texts) before.entry
@@ -39,7 +39,7 @@ fn rest_of<'a>(before: Named<'a>, reference: u32) -> Option<&'a [u8]>
     before.name.get(skipped..)
 }
 
-/// What a reference names. Where it points into the name of the one before it, no byte is read.
+/// The name of a reference. If it points into the name before it, no byte is read.
 #[inline(always)]
 fn name_after<'a>(texts: &Texts<'a>, before: Option<Named<'a>>, reference: u32) -> Option<&'a [u8]>
     requires { ForSome before (IsLent (naming texts.now)) }
@@ -53,7 +53,7 @@ fn name_after<'a>(texts: &Texts<'a>, before: Option<Named<'a>>, reference: u32) 
     texts.name(reference)
 }
 
-/// Whether an item has the reference of a smaller one.
+/// Whether an item has the same reference as the item before it, whose number is no greater.
 #[inline(always)]
 fn is_repeated(before: Option<Named<'_>>, item: NamedItem) -> bool
     ensures { result ≡ repeats (option_map (λ n. n.entry) before.entry) item }
@@ -70,7 +70,7 @@ fn is_repeated(before: Option<Named<'_>>, item: NamedItem) -> bool
     }
 }
 
-/// An item beside its name, if it has one, and is not the repetition of a smaller one.
+/// An item with its name, if it has one and does not repeat the item before it.
 #[inline(always)]
 fn next_named<'a>(
     texts: &Texts<'a>,
@@ -87,8 +87,8 @@ fn next_named<'a>(
     Some(Named { name, entry: item })
 }
 
-/// The items that have names, beside the ranks of these; of items with one reference at least the
-/// least. Where their references rise, each table is read once at most to find where names end.
+/// The items that have names, with the ranks of these; of items with the same reference, at least
+/// the least item. If references rise, each table is read at most once to find where names end.
 fn ranked<'a>(
     alloc: Global,
     texts: &Texts<'a>,
@@ -110,8 +110,8 @@ fn ranked<'a>(
     Ok(ranked)
 }
 
-/// The same for items in any order, if their names have at most `most` bytes together. Of those
-/// that have more, no more than that and one name is read.
+/// The same for items in any order, if their names have at most `most` bytes together. If they have
+/// more, it reads at most that many bytes and one name.
 fn ranked_within<'a>(
     alloc: Global,
     texts: &Texts<'a>,
@@ -140,8 +140,8 @@ fn ranked_within<'a>(
     Ok(Some(ranked))
 }
 
-/// The items that have names, beside the ranks of these; of each name at least the least. They are
-/// put in the order of their references only where their names are long.
+/// The items that have names, with the ranks of these; for each name, at least the least item. They
+/// are sorted by reference only if their names are long.
 pub(crate) fn ranked_items(
     alloc: Global,
     texts: &Texts<'_>,

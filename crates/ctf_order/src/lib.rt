@@ -1,4 +1,4 @@
-//! Names of a dictionary or a program in an order, and look-ups of them by halves.
+//! Names of a dictionary or a program, sorted, and look-ups of them by binary search.
 //!
 //! ```rust
 //! use ctf_order::{NamedItem, Order, Texts};

@@ -1,4 +1,4 @@
-//! Items in the order of their names.
+//! Items sorted by their names.
 ghost use Rattle.std.specs.Prelude.{◌≡◌, ◌≤◌, IfOk, IsTrue, List, length};
 ghost use Rattle.ctf_order.specs.Holding.{Fits, IsFound};
 ghost use Rattle.ctf_order.specs.Naming.{naming};
@@ -11,17 +11,17 @@ use crate::lending::{arrange, ranked_items};
 use crate::texts::Texts;
 use std::alloc::{AllocError, Global};
 
-/// How many items round a guess are searched first.
+/// How many items around a guess are searched first.
 const WINDOW: usize = 32;
 
-/// Items in the order of their names: plain numbers, which borrow nothing. It keeps 16 bytes for
-/// each item at most, whatever the names are.
+/// Items sorted by their names: plain numbers, which borrow nothing. It takes at most 16 bytes for
+/// each item, whatever the names are.
 #[derive(Drop)]
 pub struct Order {
     entries: Vec<Ranked>,
 }
 
-/// The first item of a name, in front of those with a greater rank.
+/// The first item with a name, before those with a greater rank.
 fn first_named(texts: &Texts<'_>, entries: &[Ranked], rank: u64, text: &[u8]) -> Option<u32>
     ensures { result ≡ first_of (naming texts.now) rank text.now entries.now }
 {
@@ -36,13 +36,13 @@ fn first_named(texts: &Texts<'_>, entries: &[Ranked], rank: u64, text: &[u8]) ->
     None
 }
 
-/// So much of a count as a rank is of all ranks.
+/// The share of a count that a rank is of all ranks.
 fn part(count: usize, rank: u64) -> usize {
     ((rank >> 32).wrapping_mul(count as u64) >> 32) as usize
 }
 
-/// Where the first item of a rank stands, roughly: ranks are spread evenly. From where it would
-/// stand by itself, the distance is taken from the rank that stands there.
+/// A guess at where the first item of a rank is, since ranks are spread evenly. The rank at the
+/// expected place corrects the guess.
 fn guess(entries: &[Ranked], rank: u64) -> usize {
     let count = entries.len();
     let first = part(count, rank);
@@ -58,7 +58,8 @@ fn guess(entries: &[Ranked], rank: u64) -> usize {
     }
 }
 
-/// Whether the items of a rank begin among `WINDOW` items from a place on, and not with the first.
+/// Whether the items of a rank begin among the `WINDOW` items from a place on, but not with the
+/// first of these.
 fn is_near(entries: &[Ranked], from: usize, rank: u64) -> bool
     ensures { IsTrue result → IsNear entries.now from rank }
 {
@@ -75,7 +76,7 @@ fn is_near(entries: &[Ranked], from: usize, rank: u64) -> bool
     }
 }
 
-/// Where the items of a rank begin, or would.
+/// Where the items of a rank begin, or would begin.
 fn begin(entries: &[Ranked], rank: u64) -> usize
     ensures inside { result ≤ length entries.now }
     ensures low { AreParted entries.now rank → AreLowerBefore entries.now rank result }
@@ -89,9 +90,9 @@ fn begin(entries: &[Ranked], rank: u64) -> usize
 
 impl Order {
     /// The items of a dictionary, by their names. An item without a name is left out. Of items with
-    /// one reference the least is kept, since it is the one that is found.
+    /// the same reference the least is kept, since look-ups find that one.
     ///
-    /// To find where names end it reads each table once at most, or 64 bytes for each item and one
+    /// To find where names end, it reads each table at most once, or 64 bytes for each item and one
     /// name; and then at most 2,056 bytes of each name. No name is read while items are sorted.
     pub fn build(
         alloc: Global,
@@ -105,10 +106,10 @@ impl Order {
         Ok(Order { entries })
     }
 
-    /// The least item of a name. It is found by halves among numbers, of few where ranks are spread
-    /// evenly, and takes no memory. Of each name that has the rank of the text it reads one byte
-    /// more than the text has at most. Names of one rank have one length and do not overlap, so it
-    /// reads each table once at most, however many have that rank.
+    /// The least item with a name. It is found by a binary search over numbers, a short one if
+    /// ranks are spread evenly, and takes no memory. Of each name that has the rank of the text, it
+    /// reads at most one byte more than the text has. Names of one rank have the same length and do
+    /// not overlap, so it reads each table at most once, however many names have that rank.
     pub fn find(&self, texts: &Texts<'_>, text: &[u8]) -> Option<u32>
         ensures { (items : List Item) → Fits (naming texts.now) items self.now
             → IsFound (naming texts.now) items text.now result }

@@ -4,5 +4,5 @@ pub mod ShowCacheView
 pub mod Placing
 pub mod Standing
 pub mod Telling
-pub mod ToldView
+pub mod ShowRuleView
 pub mod Written

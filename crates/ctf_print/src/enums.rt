@@ -14,8 +14,8 @@ use crate::text::Text;
 use ctf_model::{Fault, TypeNum};
 use ctf_views::Enumerators;
 
-/// Puts the name of the first enumerator with a value, which stands at a place, or the value.
-/// Only that name is read.
+/// Appends the name of the first enumerator with a value, whose position is known, or the value
+/// itself. Only that name is read.
 #[inline(never)]
 fn put_name(
     enumerators: &Enumerators<'_>,
@@ -34,7 +34,7 @@ fn put_name(
     }
 }
 
-/// The size in bytes of an enum; one that says none has that of an int.
+/// The size in bytes of an enum; that of an int if the record has none.
 fn enum_size(said: Option<u64>) -> u64
     ensures size { result ≡ said_size said }
     ensures some { 0 < result }
@@ -45,7 +45,7 @@ fn enum_size(said: Option<u64>) -> u64
     }
 }
 
-/// Puts an enum, by its number and the size in bytes that it says.
+/// Appends an enum, by its number and the size in bytes in its record.
 #[inline(always)]
 pub fn show_enum(
     memory: &[u8],

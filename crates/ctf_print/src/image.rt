@@ -6,7 +6,7 @@ use ctf_layout::Layout;
 use ctf_model::{Fault, TypeNum};
 use ctf_space::Space;
 
-/// The memory of a program beside its types and their sizes.
+/// The memory of a program, with its types and their sizes.
 #[derive(Clone, Copy)]
 pub struct Image<'a> {
     pub space: Space<'a>,
@@ -20,7 +20,7 @@ impl<'a> Image<'a> {
     ghost use Rattle.ctf_model.specs.figures.Figures.{size as size_of};
     ghost use Rattle.ctf_print.specs.ImageView.{types_of};
 
-    /// The size in bytes of a value of the type that a number names.
+    /// The size in bytes of a value of the type with a number.
     pub fn size(&self, number: TypeNum) -> Result<u64, Fault>
         ensures { result ≡ size_of (types_of self.now) number.0 }
     {

@@ -13,7 +13,7 @@ use ctf_model::Fault;
 use ctf_views::Encoding;
 use itoa::Buffer;
 
-/// What so many bits say in two's complement: in a negative number all bits above are set.
+/// The value of so many bits in two's complement: for a negative number, all higher bits are set.
 #[inline(always)]
 pub fn twos_complement(width: u16, number: u64) -> i64
     requires some { 0 < width }
@@ -37,7 +37,7 @@ fn put_digits(number: u64, out: &mut Text) -> Result<(), Fault>
     out.put(Buffer::new().format(number).as_bytes())
 }
 
-/// Puts a number below zero.
+/// Appends a negative number.
 #[inline(never)]
 fn put_negative(value: i64, out: &mut Text) -> Result<(), Fault>
     ensures ok { OnOk result (written out.old (piece (signed_decimal value)) ≡ Ok out.new) }
@@ -46,7 +46,7 @@ fn put_negative(value: i64, out: &mut Text) -> Result<(), Fault>
     out.put(Buffer::new().format(value).as_bytes())
 }
 
-/// Puts a number with its sign, in decimal digits.
+/// Appends a number with its sign, in decimal digits.
 #[inline(always)]
 pub fn put_signed(value: i64, out: &mut Text) -> Result<(), Fault>
     ensures ok { OnOk result (written out.old (piece (signed_decimal value)) ≡ Ok out.new) }
@@ -58,7 +58,7 @@ pub fn put_signed(value: i64, out: &mut Text) -> Result<(), Fault>
     put_negative(value, out)
 }
 
-/// Puts a number in decimal digits. Many are small.
+/// Appends a number in decimal digits. Small numbers are the common case.
 #[inline(always)]
 fn put_unsigned(number: u64, out: &mut Text) -> Result<(), Fault>
     ensures ok { OnOk result (written out.old (piece (decimal number)) ≡ Ok out.new) }
@@ -70,7 +70,7 @@ fn put_unsigned(number: u64, out: &mut Text) -> Result<(), Fault>
     put_digits(number, out)
 }
 
-/// Puts a number of so many bits, in decimal digits.
+/// Appends a number of so many bits, in decimal digits.
 #[inline(always)]
 fn put_integer(encoding: Encoding, number: u64, out: &mut Text) -> Result<(), Fault>
     requires some { 0 < encoding.bits }
@@ -89,7 +89,7 @@ fn put_integer(encoding: Encoding, number: u64, out: &mut Text) -> Result<(), Fa
     }
 }
 
-/// Puts an integer whose storage begins at a bit.
+/// Appends the integer whose storage begins at bit `at`.
 #[inline(always)]
 pub fn show_integer(
     memory: &[u8],
@@ -115,7 +115,7 @@ pub fn show_integer(
     }
 }
 
-/// Puts a float whose storage begins at a bit.
+/// Appends the float whose storage begins at bit `at`.
 #[inline(always)]
 pub fn show_float(memory: &[u8], at: u128, encoding: Encoding, out: &mut Text) -> Result<(), Fault>
     ensures ok { OnOk result (written out.old

@@ -16,7 +16,7 @@
 //! }
 //! ```
 //!
-//! The place of a value is in bits, from the front of the memory, which has the low byte first.
+//! The offset of a value is in bits, from the front of the memory, which is little-endian.
 #![tactic(auto)]
 
 mod enums;

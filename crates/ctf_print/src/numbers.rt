@@ -1,4 +1,4 @@
-//! Numbers in memory, and how they are shown as they are.
+//! Numbers in memory, and how they are shown as raw digits.
 ghost use Rattle.std.specs.Prelude.{◌≡◌, ◌+◌, ◌-◌, ◌*◌, ◌≤◌, ◌<◌, ◌^◌, ◌/◌, ◌%◌, length, nat_le, IfErr, OnOk, Ok};
 ghost use Rattle.ctf_model.specs.values.MemoryBits.{bits_at, bit_field as field_of, hexadecimal, started_bytes};
 ghost use Rattle.ctf_model.specs.values.Pieces.{piece};
@@ -10,8 +10,8 @@ use crate::text::Text;
 use byteorder::{ByteOrder, LittleEndian};
 use ctf_model::{Fault, placeless};
 
-/// The number in so many bits from a bit on, where the memory has these. They begin in one byte and
-/// end in one of the eight behind it.
+/// The number in so many bits from a bit on, which are in the memory. They begin in one byte and
+/// end at most eight bytes later.
 #[inline(always)]
 fn bits(memory: &[u8], at: u128, width: u16) -> u64
     requires some { 0 < width }
@@ -58,7 +58,7 @@ fn hex_digit(number: u8) -> u8
     }
 }
 
-/// Puts a byte as two digits.
+/// Appends a byte as two digits.
 fn put_byte(byte: u8, out: &mut Text) -> Result<(), Fault>
     ensures ok { OnOk result (written out.old (piece (hex_of_byte byte)) ≡ Ok out.new) }
     ensures err { IfErr result (Refused out.old (piece (hex_of_byte byte))) }
@@ -77,7 +77,7 @@ fn byte_of(memory: &[u8], at: u128, width: u128, index: u128) -> u8
     bits(memory, at + 8 * index, left as u16) as u8
 }
 
-/// Puts the digits of so many bits, the highest byte first.
+/// Appends the digits of so many bits, the highest byte first.
 fn put_digits(memory: &[u8], at: u128, width: u128, out: &mut Text) -> Result<(), Fault>
     requires inside { at + width ≤ 8 * length memory.now }
     ensures ok { OnOk result (written out.old
@@ -92,7 +92,7 @@ fn put_digits(memory: &[u8], at: u128, width: u128, out: &mut Text) -> Result<()
     out.put_nothing()
 }
 
-/// Puts so many bits as they are.
+/// Appends so many bits as raw digits.
 #[inline(never)]
 pub fn show_raw(memory: &[u8], at: u128, width: u128, out: &mut Text) -> Result<(), Fault>
     ensures ok { OnOk result (written out.old (raw_shown memory.now at width) ≡ Ok out.new) }

@@ -1,4 +1,4 @@
-//! What goes on from value to value while one is shown.
+//! What all values share while one is shown.
 ghost use Rattle.std.specs.Prelude.{◌≡◌, ◌<◌, ℕ, length, slice_get, IfErr, IfOk, OnOk, Ok, Some};
 ghost use Rattle.ctf_model.specs.figures.Figures.{size as size_of};
 ghost use Rattle.ctf_model.specs.format.Term.{Member};
@@ -22,12 +22,12 @@ use crate::value_form::{Found, find_how};
 use ctf_model::{Fault, TypeNum};
 use ctf_views::{Encoding, Enumerators, Members};
 
-/// No more is shown: the pen says why.
+/// The text has ended: the pen has the fault.
 #[derive(Clone, Copy)]
 pub struct Ended;
 
-/// The text, what is known of types, and why the text ended. Values that stand in each other share
-/// one: each takes stack for its own state alone, and none for a fault.
+/// The text, the cache of types, and why the text ended. Nested values share one pen, so each takes
+/// stack only for its own state, and none for a fault.
 #[derive(Drop)]
 pub struct Pen<'a> {
     pub known: ShowCache<'a>,
@@ -36,7 +36,7 @@ pub struct Pen<'a> {
 }
 
 impl<'a> Pen<'a> {
-    /// Ends the text by a fault.
+    /// Ends the text with a fault.
     #[inline(always)]
     pub fn end(&mut self, fault: Fault)
         ensures refused { Refused self.old.out (ends fault) self.new.fault }
@@ -47,7 +47,7 @@ impl<'a> Pen<'a> {
         self.fault = fault;
     }
 
-    /// Puts a piece for which there may be no memory yet.
+    /// Appends a piece for which memory may have to be allocated.
     #[inline(never)]
     fn put_slowly(&mut self, bytes: &[u8]) -> Result<(), Ended>
         ensures ok { OnOk result (written self.old.out (piece bytes.now) ≡ Ok self.new.out) }
@@ -63,7 +63,7 @@ impl<'a> Pen<'a> {
         }
     }
 
-    /// Puts a piece of a few bytes, for which there mostly is memory.
+    /// Appends a piece of a few bytes, for which there mostly is memory.
     #[inline(always)]
     pub fn put_short(&mut self, bytes: &[u8]) -> Result<(), Ended>
         ensures ok { OnOk result (written self.old.out (piece bytes.now) ≡ Ok self.new.out) }
@@ -76,7 +76,7 @@ impl<'a> Pen<'a> {
         self.put_slowly(bytes)
     }
 
-    /// Puts no piece: a text as it stands is not too long.
+    /// Appends nothing: the text so far is not too long.
     #[inline(always)]
     pub fn put_nothing(&mut self) -> Result<(), Ended>
         ensures ok { OnOk result (written self.old.out (no_pieces) ≡ Ok self.new.out) }
@@ -92,7 +92,7 @@ impl<'a> Pen<'a> {
         }
     }
 
-    /// Puts what stands before the item with a number, from 0.
+    /// Appends the comma before the item with a number, from 0, if it has one.
     #[inline(always)]
     pub fn put_comma(&mut self, item: usize) -> Result<(), Ended>
         ensures ok { OnOk result (written self.old.out (comma_before item) ≡ Ok self.new.out) }
@@ -105,7 +105,7 @@ impl<'a> Pen<'a> {
         self.put_short(b", ")
     }
 
-    /// Puts the name of a member and what stands behind it, if it has a name.
+    /// Appends the name of a member and what follows the name, if the member has one.
     #[inline(always)]
     fn write_label(&mut self, name: &[u8]) -> Result<(), Ended>
         ensures ok { OnOk result (written self.old.out (label name.now) ≡ Ok self.new.out) }
@@ -121,7 +121,7 @@ impl<'a> Pen<'a> {
         }
     }
 
-    /// Puts so many bits as they are.
+    /// Appends so many bits as raw digits.
     #[inline(never)]
     pub fn write_raw(&mut self, memory: &[u8], at: u128, width: u128) -> Result<(), Ended>
         ensures ok { OnOk result (written self.old.out (raw_shown memory.now at width)
@@ -139,7 +139,7 @@ impl<'a> Pen<'a> {
         }
     }
 
-    /// Puts an integer whose storage begins at a bit.
+    /// Appends the integer whose storage begins at a bit.
     #[inline(never)]
     pub fn write_integer(
         &mut self,
@@ -162,7 +162,7 @@ impl<'a> Pen<'a> {
         }
     }
 
-    /// Puts a float whose storage begins at a bit.
+    /// Appends the float whose storage begins at a bit.
     #[inline(never)]
     pub fn write_float(&mut self, memory: &[u8], at: u128, encoding: Encoding) -> Result<(), Ended>
         ensures ok { OnOk result (written self.old.out
@@ -180,7 +180,7 @@ impl<'a> Pen<'a> {
         }
     }
 
-    /// Puts an enum, by its number and the size in bytes that it says.
+    /// Appends an enum, by its number and the size in bytes in its record.
     #[inline(never)]
     pub fn write_enum(
         &mut self,
@@ -215,7 +215,7 @@ impl<'a> Pen<'a> {
         }
     }
 
-    /// Finds how the values of a number's type are shown, and puts that into a place.
+    /// Finds how the values of the type with a number are shown, and writes that into `found`.
     #[inline(never)]
     pub fn look_up<'b>(
         &mut self,
@@ -270,7 +270,7 @@ impl<'a> Pen<'a> {
         }
     }
 
-    /// Puts what stands in front of the value of a member, finds how that is shown, and answers its
+    /// Appends what precedes the value of a member, finds how the value is shown, and returns its
     /// offset.
     #[inline(never)]
     pub fn begin_member<'b>(

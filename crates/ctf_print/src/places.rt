@@ -16,7 +16,7 @@ pub struct FirstByValue {
 }
 
 impl FirstByValue {
-    /// Of the enumerators of an enum, each of which is read once; `None` where memory is refused.
+    /// For the enumerators of an enum, each of which is read once; `None` if memory is refused.
     pub fn of(alloc: Global, enumerators: &Enumerators<'_>) -> Option<FirstByValue>
         ensures { IfSome result (λ p. AreFirstByValue enumerators.now p) }
     {
@@ -52,7 +52,7 @@ fn has_value(enumerators: &Enumerators<'_>, i: usize, value: i64) -> bool
     i64::from(enumerators.value(i)) == value
 }
 
-/// The same, by a look at each in turn.
+/// The same, by looking at each in turn.
 pub fn first_of(enumerators: &Enumerators<'_>, value: i64) -> Option<usize>
     ensures { result ≡ first_with value 0 enumerators.now }
 {

@@ -1,4 +1,4 @@
-//! What was found of types while a value is shown, so that nothing is looked for again.
+//! A cache of what was found of types while a value is shown.
 ghost use Rattle.std.specs.Prelude.{◌≡◌, ◌≤◌, ℕ, List, IfSome, Some};
 ghost use Rattle.ctf_model.specs.values.Values.{shown_within};
 ghost use Rattle.ctf_space.specs.SpaceView.{space_of};
@@ -16,22 +16,22 @@ use std::alloc::Global;
 use std::collections::BTreeMap;
 use std::marker::Model;
 
-/// The type behind so many typedefs and qualifiers.
+/// The type after so many typedefs and qualifiers.
 #[derive(Clone, Copy)]
 pub struct Behind {
     pub number: TypeNum,
     pub steps: u32,
 }
 
-/// A value's type behind typedefs and qualifiers, and how many values may still stand in each
-/// other from it on.
+/// The type of a value after typedefs and qualifiers, and how deep values may still be nested in
+/// it.
 #[derive(Clone, Copy)]
 pub struct Reached {
     pub number: TypeNum,
     pub nesting: u32,
 }
 
-/// Where a value of an enum stands, of the number of its type.
+/// The enumerator of a value, for the enum with this number.
 #[derive(Clone, Copy)]
 pub struct Sought {
     pub number: TypeNum,
@@ -39,9 +39,9 @@ pub struct Sought {
     pub place: Option<usize>,
 }
 
-/// What stands behind typedefs and qualifiers of a space, of those that were met, and where the
-/// values of enums stand, of those of which a value was looked for more than once; and the value
-/// that was looked for last.
+/// For the types that were met, the types that typedefs and qualifiers lead to; for the enums that
+/// were used more than once, the first enumerator of each value; and the last value that was looked
+/// for.
 #[derive(Drop)]
 pub struct ShowCache<'a> {
     space: Space<'a>,
@@ -63,7 +63,7 @@ impl<'a> Model for ShowCache<'a> {
     ghost invariant = { λ k. IsRight (space_of k.space) k.behind k.places k.last };
 }
 
-/// A type by itself.
+/// A type itself, after no steps.
 fn itself(number: TypeNum) -> Behind
     ensures { result ≡ record { number = number; steps = 0 } }
 {
@@ -71,7 +71,7 @@ fn itself(number: TypeNum) -> Behind
 }
 
 impl<'a> ShowCache<'a> {
-    /// Nothing is known yet.
+    /// An empty cache.
     pub fn new(alloc: Global, space: Space<'a>) -> ShowCache<'a>
         ensures { result ≡ space_of space.entry }
     {
@@ -100,7 +100,7 @@ impl<'a> ShowCache<'a> {
         }
     }
 
-    /// Keeps what stands behind a type. Without memory for it it is not kept.
+    /// Caches the type that a type leads to. Without memory for that, nothing is cached.
     fn keep(&mut self, number: TypeNum, behind: Behind) -> Behind
         requires { StandsFor self.old number.0 behind.steps behind.number.0 }
         ensures same { result ≡ behind }
@@ -110,7 +110,7 @@ impl<'a> ShowCache<'a> {
         behind
     }
 
-    /// What stands behind a type. The record of each type is read once.
+    /// The type that a type leads to. The record of each type is read once.
     fn find(&mut self, number: TypeNum, most: u32) -> Behind
         ensures stands { StandsFor self.old number.0 result.steps result.number.0 }
         ensures kept { self.new ≡ self.old }
@@ -135,7 +135,7 @@ impl<'a> ShowCache<'a> {
         self.keep(number, behind)
     }
 
-    /// The type behind a value's typedefs and qualifiers.
+    /// The type of a value after typedefs and qualifiers.
     pub fn reach(&mut self, number: TypeNum, nesting: u32) -> Reached
         ensures same { (memory : List ℕ) (p : ℕ) → shown_within self.old memory nesting number.0 p
             ≡ shown_within self.old memory result.nesting result.number.0 p }
@@ -149,8 +149,8 @@ impl<'a> ShowCache<'a> {
         }
     }
 
-    /// Keeps where the values of an enum stand, or that one was looked for. Without memory for it
-    /// nothing is kept.
+    /// Caches the enumerators of an enum by value, or that a value was looked for. Without memory
+    /// for that, nothing is cached.
     fn place(&mut self, number: TypeNum, places: Option<FirstByValue>)
         requires { (p : FirstByValue) → places ≡ Some p → (es : List Enumerator)
             → enumerators_of (shown_how self.old number.0) ≡ Some es → AreFirstByValue es p }
@@ -159,8 +159,8 @@ impl<'a> ShowCache<'a> {
         let _ = self.places.insert(number.0, places);
     }
 
-    /// The number of the first enumerator with a value. Of an enum that is asked for again each
-    /// enumerator is read once.
+    /// The number of the first enumerator with a value. If an enum is asked for again, each of its
+    /// enumerators is read once.
     #[inline(never)]
     fn look_for(
         &mut self,
@@ -186,7 +186,7 @@ impl<'a> ShowCache<'a> {
         found
     }
 
-    /// Where a value stands, if it was looked for last.
+    /// The enumerator of a value, if it was looked for last.
     fn last_place(&self, number: TypeNum, value: i64) -> Option<Option<usize>>
         ensures { IfSome result (IsFirstOf self.now number.0 value) }
     {
@@ -209,7 +209,7 @@ impl<'a> ShowCache<'a> {
         });
     }
 
-    /// The number of the first enumerator with a value. What was looked for last is at hand.
+    /// The number of the first enumerator with a value. The last result is kept.
     #[inline(always)]
     pub fn first_place(
         &mut self,

@@ -16,11 +16,11 @@ use ctf_model::{Fault, TypeNum, placeless};
 use ctf_space::Space;
 use std::alloc::Global;
 
-/// As many numbers of types as can follow on each other from a value on.
+/// The greatest number of types in a chain of values, the first included.
 const MOST_VALUES: u32 = 1027;
 
-/// Appends what a value shows that begins at a bit of the memory, counted from 0, by the number of
-/// its type. On a refusal nothing is appended.
+/// Appends the text of the value of type `number` that begins at bit `at` of the memory, counted
+/// from 0. A refusal appends nothing.
 pub fn show(
     alloc: Global,
     space: &Space<'_>,

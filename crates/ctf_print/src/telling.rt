@@ -3,7 +3,7 @@ ghost use Rattle.std.specs.Prelude.{◌≡◌};
 ghost use Rattle.std.specs.Option.{option_map};
 ghost use Rattle.ctf_check.specs.FactsView.{shape_view};
 ghost use Rattle.ctf_print.specs.Telling.{of_head, of_reference, told_in};
-ghost use Rattle.ctf_print.specs.ToldView.{told_view};
+ghost use Rattle.ctf_print.specs.ShowRuleView.{show_rule};
 
 use ctf_check::Shape;
 use ctf_model::{Kind, TypeNum};
@@ -15,7 +15,7 @@ pub enum ShowRule<'a> {
     Integer(Encoding),
     Float(Encoding),
     Pointer,
-    /// With the size that it says, in bytes.
+    /// With the size in bytes in its record.
     Enum(Option<u64>, Enumerators<'a>),
     /// A struct or a union.
     Members(Members<'a>),
@@ -26,9 +26,9 @@ pub enum ShowRule<'a> {
     Incomplete,
 }
 
-/// A typedef or a qualifier, by the type that it refers to.
+/// A typedef or a qualifier, shown as the type that it refers to.
 fn by_reference<'a>(reference: Option<TypeNum>) -> ShowRule<'a>
-    ensures { told_view result ≡ of_reference (option_map (λ t. t.0) reference) }
+    ensures { show_rule result ≡ of_reference (option_map (λ t. t.0) reference) }
 {
     match reference {
         Some(number) => ShowRule::As(number),
@@ -36,9 +36,9 @@ fn by_reference<'a>(reference: Option<TypeNum>) -> ShowRule<'a>
     }
 }
 
-/// A type with nothing behind its head.
+/// A type with nothing after its head.
 fn by_head<'a>(kind: Kind, reference: Option<TypeNum>) -> ShowRule<'a>
-    ensures { told_view result ≡ of_head kind (option_map (λ t. t.0) reference) }
+    ensures { show_rule result ≡ of_head kind (option_map (λ t. t.0) reference) }
 {
     match kind {
         Kind::KPointer => ShowRule::Pointer,
@@ -49,9 +49,9 @@ fn by_head<'a>(kind: Kind, reference: Option<TypeNum>) -> ShowRule<'a>
     }
 }
 
-/// How the value of a type of a shape is shown.
+/// How the values of a type with this shape are shown.
 pub fn told_by(x: Shape<'_>) -> ShowRule<'_>
-    ensures { told_view result ≡ told_in (shape_view x.entry) }
+    ensures { show_rule result ≡ told_in (shape_view x.entry) }
 {
     let Shape {
         kind,

@@ -1,4 +1,4 @@
-//! A text of bounded length, and how pieces are put behind it.
+//! A text of bounded length, to which pieces are appended.
 ghost use Rattle.std.specs.Prelude.{◌≡◌, ◌+◌, ◌≤◌, ◌++◌, [], length, vec_capacity, vec_len, IfErr, IsFalse, IsOk, IsTrue, OnOk, Err, Ok};
 ghost use Rattle.ctf_model.specs.values.Pieces.{ends, no_pieces, piece};
 ghost use Rattle.ctf_model.specs.values.Values.{label};
@@ -8,10 +8,10 @@ use ctf_model::{Fault, placeless};
 use std::alloc::Global;
 use std::marker::Model;
 
-/// The longest text that is answered, in bytes.
+/// The greatest length of a text that is answered, in bytes.
 const LONGEST_TEXT: usize = 65_536;
 
-/// A text that is no longer than one that is answered.
+/// A text of at most that length.
 #[derive(Drop)]
 pub struct Text {
     bytes: Vec<u8>,
@@ -27,7 +27,7 @@ impl Model for Text {
     ghost invariant = { λ t. length t.bytes.items ≤ 65536 };
 }
 
-/// Whether so many bytes more fit into a text, and into the memory that it has.
+/// Whether so many more bytes fit into a text, and into the memory that it has.
 #[inline(always)]
 fn has_room(bytes: &Vec<u8>, more: usize) -> bool
     ensures { IsTrue result → (vec_len bytes.now + more ≤ vec_capacity bytes.now)
@@ -39,7 +39,7 @@ fn has_room(bytes: &Vec<u8>, more: usize) -> bool
     bytes.len() + more <= LONGEST_TEXT
 }
 
-/// Appends bytes where there is room, one by one.
+/// Appends bytes one by one, for which there is room.
 #[inline(always)]
 fn append(out: &mut Vec<u8>, bytes: &[u8])
     requires { vec_len out.old + length bytes.now ≤ vec_capacity out.old }
@@ -65,7 +65,7 @@ impl Text {
         &self.bytes
     }
 
-    /// Puts a piece behind the text, unless that gets too long.
+    /// Appends a piece, unless the text gets too long.
     #[tactic(auto, unfolding(crate::specs::Written::written))]
     pub fn put(&mut self, bytes: &[u8]) -> Result<(), Fault>
         ensures ok { OnOk result (written self.old (piece bytes.now) ≡ Ok self.new) }
@@ -78,7 +78,7 @@ impl Text {
         Ok(())
     }
 
-    /// Puts a piece of a few bytes if there is room and memory for it, as there mostly is.
+    /// Appends a piece of a few bytes if there is room and memory for it, as there mostly is.
     #[inline(always)]
     #[tactic(auto, unfolding(crate::specs::Written::written))]
     pub fn put_at_once(&mut self, bytes: &[u8]) -> bool
@@ -92,7 +92,7 @@ impl Text {
         true
     }
 
-    /// Puts a piece of a few bytes.
+    /// Appends a piece of a few bytes.
     #[inline(always)]
     pub fn put_short(&mut self, bytes: &[u8]) -> Result<(), Fault>
         ensures ok { OnOk result (written self.old (piece bytes.now) ≡ Ok self.new) }
@@ -104,7 +104,7 @@ impl Text {
         self.put(bytes)
     }
 
-    /// Puts no piece: a text as it stands is not too long.
+    /// Appends nothing: the text so far is not too long.
     #[inline(always)]
     #[tactic(auto, unfolding(crate::specs::Written::written), using(crate::proofs::Writes::nothing_written))]
     pub fn put_nothing(&mut self) -> Result<(), Fault>
@@ -116,7 +116,7 @@ impl Text {
         Ok(())
     }
 
-    /// Ends the text by a fault.
+    /// Ends the text with a fault.
     #[inline(always)]
     #[tactic(auto, unfolding(crate::specs::Written::written))]
     pub fn end(&mut self, fault: Fault) -> Result<(), Fault>
@@ -129,7 +129,7 @@ impl Text {
         Err(fault)
     }
 
-    /// Puts the name of a member and what stands behind it, if it has a name.
+    /// Appends the name of a member and what follows the name, if the member has one.
     #[inline(never)]
     pub fn put_name(&mut self, name: &[u8]) -> Result<(), Fault>
         ensures ok { OnOk result (written self.old (label name.now) ≡ Ok self.new) }

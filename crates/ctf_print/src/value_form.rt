@@ -1,4 +1,5 @@
-//! A type's form with typedefs and qualifiers followed, worked out once for all of its values.
+//! How the values of a type are shown, with typedefs and qualifiers followed: computed once for all
+//! of its values.
 ghost use Rattle.std.specs.Prelude.{◌≡◌, ℕ, IfErr, IfOk};
 ghost use Rattle.ctf_model.specs.values.Pieces.{ends};
 ghost use Rattle.ctf_print.specs.Finding.{IsFound};
@@ -12,14 +13,14 @@ use ctf_model::{Fault, TypeNum, placeless};
 /// How the values of a type are shown.
 #[derive(Drop)]
 pub struct Found<'a> {
-    /// The type whose record says so.
+    /// The type whose record decides this.
     pub number: TypeNum,
-    /// How many values may still stand in each other inside one of them.
+    /// How deep values may still be nested inside one of them.
     pub nesting: u32,
     pub how: ShowRule<'a>,
 }
 
-/// How the values of a number's type are shown, as its record says, or why none is.
+/// How the values of the type with a number are shown by its record, or the fault if they are not.
 #[inline(always)]
 fn by_record<'a>(image: &Image<'a>, number: TypeNum, nesting: u32) -> Result<Found<'a>, Fault>
     ensures found { IfOk result (IsFound image.now nesting number.0) }
@@ -36,7 +37,7 @@ fn by_record<'a>(image: &Image<'a>, number: TypeNum, nesting: u32) -> Result<Fou
     })
 }
 
-/// How the values of a number's type are shown, wherever they stand, or why none is. Typedefs and
+/// How the values of the type with a number are shown, or the fault if they are not. Typedefs and
 /// qualifiers are followed once for each type.
 #[inline(always)]
 fn found_behind<'a>(
@@ -65,8 +66,8 @@ fn found_behind<'a>(
     }
 }
 
-/// The same, put into a place: where values stand in each other, each has one such place on the
-/// stack, and none for a result that is moved.
+/// The same, written into `found`: so nested values take one such result each on the stack, and
+/// none for a result that is moved.
 #[inline(always)]
 pub fn find_how<'a>(
     image: &Image<'a>,
@@ -84,7 +85,7 @@ pub fn find_how<'a>(
     Ok(())
 }
 
-/// A place in which nothing is found yet.
+/// The empty value, before anything is found.
 #[inline(always)]
 pub fn nothing_found<'a>() -> Found<'a> {
     Found {

@@ -2,8 +2,8 @@
 //! nested.
 //!
 //! A struct in a struct takes one frame of the stack, that of `show_members`, and an array in an
-//! array that of `show_array`. A frame holds what is found of one type and where its value stands:
-//! `Pen` has what all of them share, and what is done once for a member or an array is a call.
+//! array takes one of `show_array`. A frame has what was found of one type and the offset of its
+//! value; `Pen` has what all frames share. What is done once for a member or an array is a call.
 ghost use Rattle.std.specs.Prelude.{◌≡◌, ◌*◌, ◌<◌, length, map, slice_get, IfErr, OnOk, Ok, Some};
 ghost use Rattle.ctf_model.specs.format.Term.{Member};
 ghost use Rattle.ctf_model.specs.figures.Figures.{size as size_of};
@@ -13,7 +13,7 @@ ghost use Rattle.ctf_model.specs.values.Values.{array_shown, elements_shown, mem
 ghost use Rattle.ctf_print.specs.ImageView.{memory_of, shows, types_of};
 ghost use Rattle.ctf_print.specs.Placing.{shown_how};
 ghost use Rattle.ctf_print.specs.Telling.{told_shown};
-ghost use Rattle.ctf_print.specs.ToldView.{told_view};
+ghost use Rattle.ctf_print.specs.ShowRuleView.{show_rule};
 ghost use Rattle.ctf_print.specs.Written.{Refused, written};
 
 use crate::image::Image;
@@ -23,7 +23,7 @@ use crate::value_form::{Found, nothing_found};
 use ctf_model::{DataModel, Fault, TypeNum, placeless};
 use ctf_views::{ArrayInfo, Members};
 
-/// How many bits a pointer has.
+/// The number of bits of a pointer.
 fn pointer_bits(model: DataModel) -> u128
     ensures { result ≡ 8 * pointer_size model }
 {
@@ -33,7 +33,7 @@ fn pointer_bits(model: DataModel) -> u128
     }
 }
 
-/// Puts the elements of an array, separated by commas.
+/// Appends the elements of an array, separated by commas.
 #[inline(always)]
 #[cycle(values)]
 fn show_elements(
@@ -89,7 +89,7 @@ fn show_array(
     pen.put_short(b"]")
 }
 
-/// Puts the member with a number, from 0. What is found of its type is put into a place.
+/// Appends the member with a number, from 0. What is found of its type is written into `found`.
 #[inline(always)]
 #[cycle(values)]
 fn show_member<'a>(
@@ -114,7 +114,7 @@ fn show_member<'a>(
     show_told(image, found, place, pen)
 }
 
-/// Puts members, separated by commas.
+/// Appends members, separated by commas.
 #[inline(always)]
 #[cycle(values)]
 fn show_each_member(
@@ -135,7 +135,7 @@ fn show_each_member(
 {
     let mut found = nothing_found();
     let mut i = 0;
-    // Their number is asked for again each time, so that no frame keeps it.
+    // Their number is read again each time, so that no frame keeps it.
     while i < members.len() {
         pen.put_comma(i)?;
         show_member(image, members, i, at, nesting, &mut found, pen)?;
@@ -165,18 +165,19 @@ fn show_members(
     pen.put_short(b"}")
 }
 
-/// Puts the value of a type that is shown so. It goes on to what does that, and has no frame then.
+/// Appends a value that is shown in the way that was found. It ends with a call of the function
+/// that does that, and has no frame then.
 #[inline(never)]
 #[cycle(values)]
 fn show_told(image: &Image<'_>, found: &Found<'_>, at: u128, pen: &mut Pen<'_>) -> Result<(), Ended>
     requires known { pen.old.known ≡ types_of image.now }
-    requires how { shown_how (types_of image.now) found.now.number.0 ≡ told_view found.now.how }
+    requires how { shown_how (types_of image.now) found.now.number.0 ≡ show_rule found.now.how }
     ensures ok { OnOk result (written pen.old.out
         (told_shown (types_of image.now) (memory_of image.now) (shows image.now found.now.nesting)
-        at (told_view found.now.how)) ≡ Ok pen.new.out) }
+        at (show_rule found.now.how)) ≡ Ok pen.new.out) }
     ensures err { IfErr result (λ _. Refused pen.old.out
         (told_shown (types_of image.now) (memory_of image.now) (shows image.now found.now.nesting)
-        at (told_view found.now.how)) pen.new.fault) }
+        at (show_rule found.now.how)) pen.new.fault) }
     ensures kept { pen.new.known ≡ pen.old.known }
 {
     let nesting = found.nesting;
@@ -220,7 +221,7 @@ pub fn show_value(
     show_told(image, &found, at, pen)
 }
 
-/// The same, where one typedef or qualifier more is followed.
+/// The same, with one more typedef or qualifier followed.
 #[inline(never)]
 #[cycle(values)]
 fn show_again(

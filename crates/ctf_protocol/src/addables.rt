@@ -2,7 +2,8 @@
 ghost use Rattle.std.specs.Prelude.{◌≡◌};
 ghost use Rattle.ctf_protocol.specs.words.Addables.{addable_named};
 
-/// What may be added to a draft: a type of one of the kinds, or a part of what is there.
+/// What may be added to a draft: a type of one of the kinds, or a part of a type or of the
+/// dictionary.
 #[derive(Clone, Copy, Debug, PartialEq, Eq)]
 pub enum Addable {
     Unknown,
@@ -25,7 +26,7 @@ pub enum Addable {
 }
 
 impl Addable {
-    /// What a word of a request says.
+    /// What a word of a request adds, if it adds something.
     pub fn of_word(word: &str) -> Option<Addable>
         ensures { result ≡ addable_named word.now }
     {

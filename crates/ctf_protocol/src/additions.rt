@@ -21,7 +21,7 @@ pub struct NewScalar {
     pub bits: u16,
 }
 
-/// A new array: the types of its contents and of its index, and how many elements it has.
+/// A new array: the types of its elements and of its index, and the number of elements.
 #[derive(Clone, Copy, Debug, PartialEq, Eq)]
 pub struct NewArray {
     pub contents: TypeNum,
@@ -29,7 +29,7 @@ pub struct NewArray {
     pub count: u32,
 }
 
-/// Numbers of types that a request brings.
+/// Numbers of types in a request.
 #[derive(Drop)]
 pub struct TypeNums {
     numbers: Vec<TypeNum>,
@@ -84,13 +84,13 @@ pub enum NewKind {
 /// What is added to a draft.
 #[derive(Drop)]
 pub enum Addition {
-    /// A type: its name, whether look-ups by name see it, and what it is.
+    /// A type: its name, whether look-ups by name find it, and what it is.
     Type {
         name: Piece,
         root: bool,
         kind: NewKind,
     },
-    /// A member of a struct or union `t`, at an offset in bits, if that is stated.
+    /// A member of a struct or union `t`, at an offset in bits if one is stated.
     Member {
         t: TypeNum,
         name: Piece,

@@ -5,8 +5,8 @@ use crate::slots::SlotNumber;
 use ctf_model::{DataModel, Piece};
 use std::marker::Model;
 
-/// A draft that is to be made: a parent, just where that has a name, the names of the parent and of
-/// its label, and a data model, if one is said.
+/// A new draft: a parent, exactly if the parent's name is not empty; the names of the parent and of
+/// its label; and a data model, if one is stated.
 #[derive(Drop)]
 pub struct Creation {
     parent: Option<SlotNumber>,
@@ -34,7 +34,7 @@ impl Model for Creation {
 impl Creation {
     ghost use Rattle.ctf_protocol.specs.sessions.Creations.{creation};
 
-    /// The draft of these, if it has a parent just where that has a name.
+    /// A new draft; `None` if it has a parent without a name, or a name without a parent.
     pub fn new(
         parent: Option<SlotNumber>,
         parname: Piece,
@@ -68,7 +68,7 @@ impl Creation {
         self.parname.as_slice()
     }
 
-    /// The data model that is said.
+    /// The data model that is stated.
     pub fn model(&self) -> Option<DataModel>
         ensures { result ≡ self.now.model }
     {

@@ -4,20 +4,21 @@ ghost use Rattle.ctf_protocol.specs.answers.KeyOrder.{KeysRise};
 ghost use Rattle.ctf_protocol.specs.lines.TextLaws.{LinesHaveTheText, TextsAreReadBack};
 ghost use Rattle.ctf_protocol.specs.sessions.OpenLaws.{FiguresAreAsked, StepsAreMade, TypesAreAsked, WholesAreAsked};
 
-/// The keys of each answer, and of each object in it, stand in byte order, whatever was asked of
-/// which library.
+/// The keys of each answer, and of each object in it, are in byte order, for every question and
+/// every library.
 pub fn keys_rise()
     ensures { KeysRise }
 {}
 
-/// A list of bytes is spelled by its own text: by what a line has for it, once JSON is read.
+/// A list of bytes is spelled by its own text: by the text in a line, once the JSON is read.
 pub fn texts_are_read_back()
     ensures line { LinesHaveTheText }
     ensures read { TextsAreReadBack }
 {}
 
-/// A word answers of a slot what is asked of the open dictionary in it, under the word's keys, and
-/// a step of the slot's draft is that of the open dictionary. A call in process answers the same.
+/// A word on a slot gets the answer of the same question to the open dictionary in the slot, under
+/// the word's keys; and a step of the slot's draft is that of the open dictionary. A call in
+/// process answers the same.
 pub fn words_ask_what_is_open()
     ensures types { TypesAreAsked }
     ensures figures { FiguresAreAsked }

@@ -1,4 +1,4 @@
-//! What a session may ask of the service, and what it is answered.
+//! What a session may ask of the service, and the answers.
 //!
 //! ```rust
 //! use ctf_protocol::{PlainQuestion, Question, Request, SlotNumber, TypeNum, TypeQuestion};
@@ -57,7 +57,7 @@ pub use session_laws::{
 pub use slots::SlotNumber;
 pub use words::Word;
 
-// The names of the format that who speaks the protocol needs too.
+// The names of the format that users of the protocol need too.
 pub use ctf_model::{
     Bytes, DataModel, Fault, Kind, LONGEST_PIECE, Parts, Piece, SymbolClass, TypeNum, fault_name,
     kind_name, no_parts, placeless,

@@ -1,4 +1,4 @@
-//! Names that a request brings.
+//! Lists of names in requests.
 use ctf_joined::Joined;
 use std::marker::Model;
 

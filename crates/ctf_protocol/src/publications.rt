@@ -39,7 +39,7 @@ fn are_name_letters(bytes: &[u8]) -> bool
 }
 
 impl PublicationName {
-    /// The name of these bytes, if they are one.
+    /// The name with these bytes, if they are a name.
     pub fn new(bytes: Vec<u8>) -> Option<PublicationName>
         ensures some { IfSome result (λ n. n ≡ bytes.items) }
         ensures exact { is_some result ≡ is_publication_name bytes.items }

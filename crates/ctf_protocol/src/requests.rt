@@ -26,7 +26,7 @@ pub enum DraftStep {
     Discard,
 }
 
-/// A request that may change what the session holds, or wants memory to judge it.
+/// A request that may change the session's library, or whose check needs memory.
 #[derive(Drop)]
 pub enum Change {
     /// Adds bytes to a staged list.
@@ -34,7 +34,7 @@ pub enum Change {
         section: ListName,
         bytes: Piece,
     },
-    /// Judges the staged lists.
+    /// Checks the staged lists.
     Check,
     /// Makes a slot of the staged lists, for programs of a data model.
     Open {
@@ -58,7 +58,7 @@ pub enum Change {
         d: SlotNumber,
         name: PublicationName,
     },
-    /// Takes back what the session has published under a name.
+    /// Withdraws what the session has published under a name.
     Withdraw {
         name: PublicationName,
     },
@@ -76,7 +76,7 @@ pub enum Change {
     },
 }
 
-/// A request of a session. Each value keeps the ranges of its fields in its type.
+/// A request of a session. The types of its fields keep their ranges.
 #[derive(Drop)]
 pub enum Request {
     Changes(Change),

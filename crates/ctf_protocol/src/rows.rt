@@ -13,17 +13,17 @@ pub fn words_are_written()
     ensures { WordsAreWritten }
 {}
 
-/// What questions on types are answered.
+/// The answers to questions on types.
 pub fn questions_are_answered()
     ensures { QuestionsAreAnswered }
 {}
 
-/// How questions stand in lines, and their answers.
+/// The lines of questions and of their answers.
 pub fn questions_are_lines()
     ensures { QuestionsAreLines }
 {}
 
-/// Which names a line with `path` brings.
+/// The names in a line with `path`.
 pub fn paths_are_lines()
     ensures { PathsAreLines }
 {}
@@ -33,7 +33,7 @@ pub fn texts_spell()
     ensures { TextsSpell }
 {}
 
-/// What a session is answered, and what it holds then.
+/// The replies to a session, and its library afterwards.
 pub fn session_runs()
     ensures { SessionRuns }
 {}
@@ -53,7 +53,7 @@ pub fn output_is()
     ensures { OutputIs }
 {}
 
-/// What imports are answered, and which types a child finds then.
+/// The replies to imports, and which types a child finds then.
 pub fn parents_are_imported()
     ensures { ParentsAreImported }
 {}
@@ -63,12 +63,12 @@ pub fn slots_are_closed()
     ensures { SlotsAreClosed }
 {}
 
-/// What sessions are answered that publish and take.
+/// The replies to sessions that publish and take.
 pub fn sessions_meet()
     ensures { SessionsMeet }
 {}
 
-/// How a session asks for that in lines.
+/// The lines of requests that publish and take.
 pub fn meetings_are_asked()
     ensures { MeetingsAreAsked }
 {}
@@ -83,7 +83,7 @@ pub fn refusals_are_in_order()
     ensures { RefusalsAreInOrder }
 {}
 
-/// What dictionaries count.
+/// What dictionaries count towards the quota.
 pub fn dictionaries_count()
     ensures { DictionariesCount }
 {}
@@ -93,12 +93,12 @@ pub fn models_are_those_stated()
     ensures { ModelsAreThoseStated }
 {}
 
-/// What steps of drafts are answered.
+/// The replies to steps of drafts.
 pub fn drafts_are_stepped()
     ensures { DraftsAreStepped }
 {}
 
-/// What other requests are answered of drafts.
+/// The replies to other requests on slots with drafts.
 pub fn drafts_are_among_slots()
     ensures { DraftsAreAmongSlots }
 {}

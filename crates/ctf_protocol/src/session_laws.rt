@@ -7,13 +7,13 @@ ghost use Rattle.ctf_protocol.specs.sessions.RefusalLaws.{
 };
 ghost use Rattle.ctf_protocol.specs.sessions.SessionLaws.{EachRunsAlone, EachStepHappens, SameGiven, UnreachedDoNotMatter};
 
-/// What a session was given decides its replies and its library: its own requests, and what its
-/// takes found.
+/// The replies to a session, and its library, depend only on its own requests and on what its takes
+/// found.
 pub fn same_given_same_replies()
     ensures { SameGiven }
 {}
 
-/// Sessions that no take reaches may be left out: what the others were given stays as it is.
+/// Sessions that no take reaches may be left out: the others get the same.
 pub fn unreached_sessions_do_not_matter()
     ensures { UnreachedDoNotMatter }
 {}
@@ -23,8 +23,8 @@ pub fn steps_happen()
     ensures { EachStepHappens }
 {}
 
-/// Whatever sessions ask, in any order, each one is replied what its own run, alone, replies, and
-/// its library is the one that this run leaves.
+/// Whatever sessions ask, in any order, each session gets the replies of a run of its own, and its
+/// library is the one after that run.
 pub fn each_session_runs_alone()
     ensures { EachRunsAlone }
 {}
@@ -40,7 +40,7 @@ pub fn refusals_change_nothing()
     ensures { RefusalsChangeNothing }
 {}
 
-/// Whatever a request or a line is refused with is a fault of the table.
+/// Every fault of a refused request or line is in the table of faults.
 pub fn refusals_are_in_the_table()
     ensures requests { RefusalsAreInTheTable }
     ensures lines { BadLinesAreInTheTable }

@@ -4,7 +4,7 @@ ghost use Rattle.ctf_protocol.specs.words.Words.{words as all_words, word_named}
 
 use crate::questions::{HeldQuestion, PlainQuestion};
 
-/// What a word asks, before its fields are read.
+/// The meaning of a word, before the other fields are read.
 #[derive(Clone, Copy, Debug, PartialEq, Eq)]
 pub enum Word {
     Part,
@@ -38,7 +38,7 @@ pub enum Word {
     Bytes,
 }
 
-/// Every word, as a line writes it. The definition reads this table too.
+/// Every word, as lines spell it. The definition reads this table too.
 pub const WORDS: [(&str, Word); 38] = [
     ("part", Word::Part),
     ("check", Word::Check),
@@ -80,7 +80,7 @@ pub const WORDS: [(&str, Word); 38] = [
     ("bytes", Word::Bytes),
 ];
 
-/// The word of a table that a text is.
+/// The word with this spelling, in a table.
 fn find(table: &[(&str, Word)], text: &str) -> Option<Word>
     ensures { result ≡ word_named text.now (map (λ row. (row.1, row.0.now)) table.now) }
 {
@@ -93,7 +93,7 @@ fn find(table: &[(&str, Word)], text: &str) -> Option<Word>
 }
 
 impl Word {
-    /// The word that a text is.
+    /// The word with this spelling.
     #[tactic(auto, unfolding(crate::specs::words::Words::words))]
     pub fn of_text(text: &str) -> Option<Word>
         ensures { result ≡ word_named text.now all_words }

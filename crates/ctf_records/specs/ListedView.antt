@@ -1,7 +1,7 @@
 -- What a list of type numbers shows. The word is ours.
 use Rattle.std.specs.Prelude.{ℕ, List}
 use Rattle.ctf_records.specs.ListedTypes.{numbers_in}
-use Rattle.ctf_records.specs.declared.numbers.Listed.{Listed}
+use Rattle.ctf_records.specs.declared.numbers.ReferenceList.{ReferenceList}
 
-abbrev pub numbers_listed : Listed → List ℕ
+abbrev pub numbers_listed : ReferenceList → List ℕ
 numbers_listed l = numbers_in l.len l.at l.count l.bytes.now

@@ -1,4 +1,4 @@
-//! Reading a section record by record.
+//! Reads a section record by record.
 ghost use Rattle.std.specs.Prelude.{◌≡◌};
 ghost use Rattle.std.specs.Option.{option_map};
 ghost use Rattle.std.specs.Iterator.{YieldsFirstBy, item_count};
@@ -12,7 +12,7 @@ use crate::record::Record;
 use ctf_model::Fault;
 use std::marker::Model;
 
-/// The records of a section in order, and then the fault of a rest that begins with none.
+/// The records of a section in order, and then the fault of the rest, if no record begins there.
 #[derive(Drop)]
 pub struct Records<'a> {
     rest: &'a [u8],
@@ -33,7 +33,7 @@ impl<'a> Model for Records<'a> {
         × (it.at + length it.rest.now ≤ 2 ^ 63) };
 }
 
-/// The fault of bytes that no whole record begins.
+/// The fault of bytes at which no whole record begins.
 fn stop_fault(rest: &[u8], index: u64) -> Fault
     ensures { result ≡ record { code = stop_code rest.now; place = index } }
 {

@@ -1,4 +1,4 @@
-//! The head of the record that begins some bytes, and where that record ends.
+//! The head of the record at the front of some bytes, and where that record ends.
 ghost use Rattle.std.specs.Prelude.{◌≡◌, ◌≤◌, length, slice_get};
 ghost use Rattle.ctf_model.specs.format.Record.{kinds, kind, size, vlen, head_len, variant_len};
 ghost use Rattle.ctf_model.specs.format.Section.{front_len as front_of};
@@ -29,7 +29,7 @@ fn kind_numbered(number: u16) -> Option<Kind>
     }
 }
 
-/// The kind of the record that begins some bytes, if it is known.
+/// The kind of the record at the front of some bytes, if it is known.
 pub(crate) fn kind_of(bytes: &[u8]) -> Option<Kind>
     requires { 8 ≤ length bytes.now }
     ensures { result ≡ kind bytes.now }
@@ -49,7 +49,7 @@ pub(crate) fn size_of(bytes: &[u8]) -> u64
     }
 }
 
-/// The number in the list field, whether or not its kind has a list.
+/// The number in the vlen field, whether or not the kind has a list.
 pub(crate) fn vlen_of(bytes: &[u8]) -> usize
     requires { 8 ≤ length bytes.now }
     ensures number { result ≡ vlen bytes.now }
@@ -80,7 +80,7 @@ fn variant_len_of(kind: Kind, size: u64, vlen: usize) -> usize
     }
 }
 
-/// The length of the whole record that begins some bytes, if one does.
+/// The length of the whole record at the front of some bytes, if there is one.
 #[tactic(auto, unfolding(ctf_model::specs::format::Section::front_len))]
 pub(crate) fn front_len(bytes: &[u8]) -> Option<usize>
     ensures { result ≡ front_of bytes.now }

@@ -17,8 +17,8 @@
 //! ```
 //!
 //! Records are numbered from 1, and their sizes and places are in bytes from the front of the
-//! section. The fault of a rest that begins no record is BadKind or Truncated, and its place is the
-//! number that the record would have. Nothing is copied and no memory is taken.
+//! section. If no record begins at the rest of a section, the fault is BadKind or Truncated, and
+//! its place is the number that the record would have. Nothing is copied and no memory is taken.
 #![tactic(auto)]
 
 mod cursor;
@@ -30,7 +30,7 @@ mod reference_list;
 mod tag;
 
 pub use cursor::{Records, record_numbered};
-pub use numbers::Listed;
+pub use numbers::ReferenceList;
 pub use place::{record_at, record_of_len};
 pub use record::Record;
 pub use reference_list::{WIDE_MEMBERS, member_len};

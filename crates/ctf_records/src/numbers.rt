@@ -1,13 +1,13 @@
-//! Lists of type numbers, which are read where they stand.
+//! Lists of type numbers, which are read in place.
 ghost use Rattle.std.specs.Prelude.{◌≡◌, ◌*◌, ◌+◌, ◌<◌, ◌≤◌, length, slice_index};
 ghost use Rattle.ctf_records.specs.ListedTypes.{numbers_in};
 
 use ctf_model::TypeNum;
 use ctf_sections::bytes::u16_at;
 
-/// Type numbers in items of one length, of which each has one at the same place.
+/// Type numbers in items of the same length, one at the same offset of each item.
 #[derive(Clone, Copy)]
-pub struct Listed<'a> {
+pub struct ReferenceList<'a> {
     bytes: &'a [u8],
     len: usize,
     at: usize,
@@ -16,17 +16,17 @@ pub struct Listed<'a> {
     ghost room: { len * count ≤ length bytes.now },
 }
 
-impl<'a> Listed<'a> {
+impl<'a> ReferenceList<'a> {
     ghost use Rattle.ctf_records.specs.ListedView.{numbers_listed};
 
-    /// Those `at` bytes behind the beginning of each of `count` items of a length.
+    /// The numbers that are `at` bytes after the beginning of each of `count` items.
     #[inline(always)]
-    pub fn new(bytes: &'a [u8], len: usize, at: usize, count: usize) -> Listed<'a>
+    pub fn new(bytes: &'a [u8], len: usize, at: usize, count: usize) -> ReferenceList<'a>
         requires inside { at + 2 ≤ len }
         requires room { len * count ≤ length bytes.now }
         ensures { numbers_listed result ≡ numbers_in len at count bytes.now }
     {
-        Listed {
+        ReferenceList {
             bytes,
             len,
             at,
@@ -34,7 +34,7 @@ impl<'a> Listed<'a> {
         }
     }
 
-    /// How many they are.
+    /// How many numbers there are.
     #[inline(always)]
     pub fn count(&self) -> usize
         ensures { result ≡ length (numbers_listed self.now) }
@@ -42,7 +42,7 @@ impl<'a> Listed<'a> {
         self.count
     }
 
-    /// One of them, from 0.
+    /// One of the numbers, counted from 0.
     #[inline(always)]
     pub fn get(&self, item: usize) -> TypeNum
         requires { item < length (numbers_listed self.now) }

@@ -1,4 +1,4 @@
-//! The record that begins at a place of a section.
+//! The record at a place of a section.
 ghost use Rattle.std.specs.Prelude.{◌≡◌, ◌≤◌, ◌+◌, ◌^◌, take, drop, Some};
 ghost use Rattle.std.specs.Option.{option_map};
 ghost use Rattle.ctf_model.specs.format.Section.{front_len as front_of};
@@ -7,7 +7,7 @@ ghost use Rattle.ctf_records.specs.RecordView.{piece, piece_at};
 use crate::front::front_len;
 use crate::record::Record;
 
-/// The record of a length at the front of some bytes that stand at a place of their section.
+/// The record of a known length at the front of `rest`, with its number and its place.
 pub(crate) fn take_record<'a>(rest: &'a [u8], len: usize, index: u64, at: usize) -> Record<'a>
     requires whole { front_of rest.now ≡ Some len }
     requires near { at + len ≤ 2 ^ 63 }
@@ -17,8 +17,8 @@ pub(crate) fn take_record<'a>(rest: &'a [u8], len: usize, index: u64, at: usize)
     Record { index, at, bytes }
 }
 
-/// The whole record of a length that begins at a place of a section; it is given the number.
-/// Nothing of it is read.
+/// The whole record of a known length at a place of a section, with a number. It reads no byte of
+/// the record.
 #[inline(always)]
 pub fn record_of_len<'a>(types: &'a [u8], at: usize, len: usize, index: u64) -> Record<'a>
     requires { front_of (drop at types.now) ≡ Some len }
@@ -28,7 +28,7 @@ pub fn record_of_len<'a>(types: &'a [u8], at: usize, len: usize, index: u64) -> 
     take_record(rest, len, index, at)
 }
 
-/// The whole record that begins at a place of a section, if one does; it is given the number.
+/// The whole record at a place of a section, if one begins there, with a number.
 pub fn record_at<'a>(types: &'a [u8], at: usize, index: u64) -> Option<Record<'a>>
     ensures { option_map piece result ≡ piece_at types.now at index }
 {

@@ -10,7 +10,7 @@ use crate::tag::Tag;
 use ctf_model::{Kind, TypeNum};
 use ctf_sections::bytes::{u16_at, u32_at};
 
-/// A whole type record of a known kind, lent from its section.
+/// A whole type record of a known kind, borrowed from its section.
 #[derive(Clone, Copy)]
 pub struct Record<'a> {
     pub(crate) index: u64,
@@ -74,7 +74,7 @@ impl<'a> Record<'a> {
         u16_at(self.bytes, 6) == 0xffff
     }
 
-    /// The size in bytes of a value, for the kinds that say it.
+    /// The size in bytes of a value, for the kinds that have one.
     pub fn size(&self) -> Option<u64>
         ensures { result ≡ size_in (bytes_of self.now) }
     {
@@ -89,7 +89,7 @@ impl<'a> Record<'a> {
         }
     }
 
-    /// The type that the head names: what is pointed to, returned, renamed or qualified.
+    /// The type that the head names: the type that is pointed to, returned, renamed or qualified.
     pub fn reference(&self) -> Option<TypeNum>
         ensures { option_map (λ n. n.0) result ≡ reference_in (bytes_of self.now) }
     {
@@ -118,7 +118,7 @@ impl<'a> Record<'a> {
         }
     }
 
-    /// How many arguments, members or enumerators the list behind the head has.
+    /// How many arguments, members or enumerators the list after the head has.
     pub fn vlen(&self) -> usize
         ensures number { result ≡ list_length (bytes_of self.now) }
         ensures short { result ≤ 1023 }
@@ -129,7 +129,7 @@ impl<'a> Record<'a> {
         }
     }
 
-    /// The bytes behind the head.
+    /// The bytes after the head.
     #[tactic(auto, using(crate::proofs::Whole::behind_is))]
     pub fn rest(&self) -> &'a [u8]
         ensures bytes { result.now ≡ behind_head (bytes_of self.now) }

@@ -1,4 +1,4 @@
-//! The types that stand behind the head of a record, and how long its members are.
+//! The types that a record names after its head, and the length of its members.
 ghost use Rattle.std.specs.Prelude.{◌≡◌, ◌<◌, length, slice_index};
 ghost use Rattle.ctf_model.specs.format.Record.{member_len as len_of_member, size};
 ghost use Rattle.ctf_records.specs.ListedTypes.{listed_types};
@@ -6,7 +6,7 @@ ghost use Rattle.ctf_records.specs.ListedView.{numbers_listed};
 ghost use Rattle.ctf_records.specs.RecordView.{bytes_of};
 
 use crate::front::size_of;
-use crate::numbers::Listed;
+use crate::numbers::ReferenceList;
 use crate::record::Record;
 use ctf_model::{Kind, TypeNum};
 
@@ -14,7 +14,7 @@ use ctf_model::{Kind, TypeNum};
 /// (`CTF_LSTRUCT_THRESH` of sys/ctf.h).
 pub const WIDE_MEMBERS: u64 = 8192;
 
-/// The length of each member of a struct or union of a size.
+/// The length of each member of a struct or union of this size.
 pub fn member_len(size: u64) -> usize
     ensures { result ≡ len_of_member size }
 {
@@ -22,41 +22,41 @@ pub fn member_len(size: u64) -> usize
 }
 
 impl<'a> Record<'a> {
-    /// The length of each of its members, if it has any.
+    /// The length of each member of this type, if it has members.
     pub fn member_len(&self) -> usize
         ensures { result ≡ len_of_member (size (bytes_of self.now)) }
     {
         member_len(size_of(self.bytes))
     }
 
-    /// The types that stand behind the head: the contents and the index of an array, the arguments
-    /// of a function, or the types of members. No name is read.
+    /// The types that the record names after its head: the element and index types of an array, the
+    /// arguments of a function, or the types of members. No name is read.
     #[inline(always)]
-    pub fn listed(&self) -> Listed<'a>
+    pub fn reference_list(&self) -> ReferenceList<'a>
         ensures { numbers_listed result ≡ listed_types (bytes_of self.now) }
     {
         match self.kind() {
-            Kind::KArray => Listed::new(self.rest(), 2, 0, 2),
-            Kind::KFunction => Listed::new(self.rest(), 2, 0, self.vlen()),
+            Kind::KArray => ReferenceList::new(self.rest(), 2, 0, 2),
+            Kind::KFunction => ReferenceList::new(self.rest(), 2, 0, self.vlen()),
             Kind::KStruct | Kind::KUnion => {
-                Listed::new(self.rest(), self.member_len(), 4, self.vlen())
+                ReferenceList::new(self.rest(), self.member_len(), 4, self.vlen())
             }
-            _ => Listed::new(&[], 2, 0, 0),
+            _ => ReferenceList::new(&[], 2, 0, 0),
         }
     }
 
-    /// How many these are.
+    /// The number of these types.
     pub fn listed_count(&self) -> usize
         ensures { result ≡ length (listed_types (bytes_of self.now)) }
     {
-        self.listed().count()
+        self.reference_list().count()
     }
 
-    /// One of them, from 0, as it stands.
+    /// One of these types, counted from 0, as stored.
     pub fn listed_type(&self, item: usize) -> TypeNum
         requires { item < length (listed_types (bytes_of self.now)) }
         ensures { result.0 ≡ slice_index (listed_types (bytes_of self.now)) item }
     {
-        self.listed().get(item)
+        self.reference_list().get(item)
     }
 }

@@ -1,10 +1,10 @@
-//! Whether two texts of one length are alike at a place, and where they are not.
+//! Compares two texts of the same length at a place, and finds where they differ.
 ghost use Rattle.std.specs.Prelude.{◌≡◌, ◌≤◌, IsTrue, length};
 
 use crate::bytes::u64_at;
 
-/// Whether two texts of one length have the same eight bytes from a place on, or the same last
-/// eight where fewer follow. Of texts of fewer than eight bytes nothing is looked at.
+/// Whether two texts of the same length have the same eight bytes from a place on, or the same last
+/// eight bytes if fewer follow. True for texts of fewer than eight bytes, which are not read.
 #[inline(always)]
 pub(crate) fn are_alike_at(text: &[u8], other: &[u8], place: usize) -> bool
     requires { length text.now ≡ length other.now }
@@ -18,8 +18,8 @@ pub(crate) fn are_alike_at(text: &[u8], other: &[u8], place: usize) -> bool
     u64_at(text, at) == u64_at(other, at)
 }
 
-/// A place within eight bytes of where two texts of one length, which differ, differ last.
-/// It looks at the half behind, and then at the half of that half which differs.
+/// A place at most eight bytes before the last byte in which two different texts of the same length
+/// differ. It halves the range, and looks at the upper half first.
 #[inline(never)]
 pub(crate) fn last_difference(text: &[u8], other: &[u8]) -> usize
     requires { length text.now ≡ length other.now }

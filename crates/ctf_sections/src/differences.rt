@@ -1,16 +1,16 @@
-//! Where names were found to differ from what was looked for.
+//! A cache of the places at which names differed from the names that were looked for.
 ghost use Rattle.std.specs.Prelude.{◌≡◌, ◌<◌, IsTrue, length};
 
 use crate::alike::{are_alike_at, last_difference};
 
-/// How many places are kept by the ends of names.
+/// The number of slots that are chosen by where names end.
 const SLOTS: usize = 4096;
 
-/// How many of the last places are kept beside them.
+/// The number of most recent places that are kept besides.
 const RECENT: usize = 8;
 
-/// A small cache of places where names are known to differ from texts that were looked for. A name
-/// is known by where it ends, so names that are ends of one text have one place. Each has two
+/// A small cache of places at which names differ from texts that were looked for. A name is
+/// identified by where it ends, so names that are ends of one text share a place. Each end has two
 /// slots, by two factors.
 #[derive(Drop)]
 pub struct Places {
@@ -20,22 +20,22 @@ pub struct Places {
     kept: usize,
 }
 
-/// What is known of names that were compared before: where they differed, the next are compared
-/// first. It says only where it is worth looking: whatever it is, the answer is the same.
+/// What is known from earlier comparisons: where earlier names differed, the next names are
+/// compared first. This is only a hint: the answer is the same, whatever is known.
 #[derive(Drop)]
 pub struct Differences<'a> {
     places: Option<&'a mut Places>,
 }
 
-/// Which slot an end has by a factor.
+/// The slot of an end, by a factor.
 fn slot(end: usize, factor: u64) -> usize
     ensures { result < 4096 }
 {
     ((end as u64).wrapping_mul(factor) >> 52) as usize % SLOTS
 }
 
-/// Whether two texts of one length have the same eight bytes at a place that is counted from their
-/// ends.
+/// Whether two texts of the same length have the same eight bytes at a place that is counted from
+/// their ends.
 fn are_alike_from_end(text: &[u8], other: &[u8], from_end: u32) -> bool
     requires { length text.now ≡ length other.now }
     ensures { text.now ≡ other.now → IsTrue result }
@@ -44,7 +44,7 @@ fn are_alike_from_end(text: &[u8], other: &[u8], from_end: u32) -> bool
 }
 
 impl Places {
-    /// None so far.
+    /// No places yet.
     pub fn new() -> Places {
         Places {
             by_end: [0; 4096],
@@ -54,7 +54,7 @@ impl Places {
         }
     }
 
-    /// Whether two texts of one length may be the same, as far as the places say.
+    /// Whether two texts of the same length may be equal, as far as the kept places show.
     #[inline(never)]
     fn may_be_same(&self, end: usize, text: &[u8], other: &[u8]) -> bool
         requires { length text.now ≡ length other.now }
@@ -76,8 +76,8 @@ impl Places {
         true
     }
 
-    /// Keeps a place in one of the two slots of an end. Where as many were kept as there are slots,
-    /// names may have been made for the factors, so others follow.
+    /// Keeps a place in one of the two slots of an end. Once as many places were kept as there are
+    /// slots, other factors are used, since the names may have been made for these.
     #[inline(never)]
     fn keep(&mut self, end: usize, place: u32) {
         let way = self.kept % 2;
@@ -94,19 +94,19 @@ impl Places {
 }
 
 impl<'a> Differences<'a> {
-    /// Nothing is known, and nothing will be.
+    /// Knows nothing, and keeps nothing.
     pub fn none() -> Differences<'a> {
         Differences { places: None }
     }
 
-    /// What some places say, where more will be kept.
+    /// Uses the places that were kept, and keeps more.
     pub fn kept_in(places: &'a mut Places) -> Differences<'a> {
         Differences {
             places: Some(places),
         }
     }
 
-    /// Whether two texts of one length may be the same, as far as is known.
+    /// Whether two texts of the same length may be equal, as far as is known.
     #[inline(always)]
     pub(crate) fn may_be_same(&self, end: usize, text: &[u8], other: &[u8]) -> bool
         requires { length text.now ≡ length other.now }
@@ -118,7 +118,7 @@ impl<'a> Differences<'a> {
         }
     }
 
-    /// Keeps a place where a text differs from the name that ends somewhere.
+    /// Keeps a place at which a text differs from the name that ends at `end`.
     pub(crate) fn keep(&mut self, end: usize, text: &[u8], place: usize) {
         if let Some(places) = &mut self.places {
             let from_end = text.len().saturating_sub(place);
@@ -126,7 +126,7 @@ impl<'a> Differences<'a> {
         }
     }
 
-    /// Keeps where two texts of one length differ last.
+    /// Keeps where two texts of the same length differ last.
     #[inline(always)]
     pub(crate) fn keep_last(&mut self, end: usize, text: &[u8], other: &[u8])
         requires { length text.now ≡ length other.now }

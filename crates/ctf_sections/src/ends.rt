@@ -6,8 +6,8 @@ ghost use Rattle.ctf_sections.specs.TableEnds.{EndsAt};
 
 use memchr::{memchr, memrchr};
 
-/// The place behind the last zero byte of a table: what begins before it is a name, what begins
-/// there or later is none. No name is read for it.
+/// The place after the last zero byte of a table: a reference to a byte before it names something,
+/// a later one does not. No name is read.
 pub fn end_of_names(table: &[u8]) -> usize
     ensures { EndsAt (Some table.now) result }
 {
@@ -17,7 +17,7 @@ pub fn end_of_names(table: &[u8]) -> usize
     }
 }
 
-/// The bytes in front of the first zero byte; all where there is none.
+/// The bytes before the first zero byte; all bytes if there is none.
 pub fn up_to_zero(bytes: &[u8]) -> &[u8]
     ensures { result.now ≡ before_first is_zero bytes.now }
 {

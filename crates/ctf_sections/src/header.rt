@@ -1,4 +1,4 @@
-//! The 36 bytes at the front of a dictionary, and where they say that its sections lie.
+//! The 36 bytes at the front of a dictionary, and the ranges of its sections.
 ghost use Rattle.std.specs.Prelude.{◌≡◌, ◌+◌, ◌≤◌, length, IfOk, IfErr, OnOk, Some, None};
 ghost use Rattle.ctf_model.specs.format.Header.{Fields, fields, range_of};
 ghost use Rattle.ctf_model.specs.rules.Faults.{header_fault, is_out_of_order as out_of_order, is_misaligned as misaligned};
@@ -7,7 +7,7 @@ use crate::bytes::{u16_at, u32_at};
 use ctf_model::{Fault, Section, placeless};
 use std::marker::Model;
 
-/// The fields as they stand, not judged yet.
+/// The fields as stored, not checked yet.
 #[derive(Clone, Copy, Debug, PartialEq, Eq)]
 struct Numbers {
     parlabel: u32,
@@ -74,7 +74,7 @@ impl Model for Header {
     ghost inverse = { λ h. record { numbers = numbers_of h } };
 }
 
-/// Where an offset of the header leads: offsets count from its end.
+/// The place that an offset in the header means: offsets count from the end of the header.
 fn place(offset: u32) -> usize
     ensures { result ≡ 36 + offset }
 {
@@ -82,7 +82,7 @@ fn place(offset: u32) -> usize
 }
 
 impl Header {
-    /// Reads the header at the front of a dictionary and judges it (ctf(5), "The CTF Header").
+    /// Reads and checks the header at the front of a dictionary (ctf(5), "The CTF Header").
     pub fn read(ctf: &[u8]) -> Result<Header, Fault>
         ensures fields { IfOk result (λ h. h ≡ fields ctf.now) }
         ensures inside { IfOk result (λ h. 36 + h.stroff + h.strlen ≤ length ctf.now) }
@@ -144,7 +144,7 @@ impl Header {
         self.numbers.parlabel
     }
 
-    /// The reference to the parent's name; 0 where the dictionary is no child.
+    /// The reference to the parent's name; 0 if the dictionary is no child.
     pub fn parname(&self) -> u32
         ensures { result ≡ self.now.parname }
     {

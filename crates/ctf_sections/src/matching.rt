@@ -1,4 +1,4 @@
-//! Whether some bytes stand at a place of a table as a name.
+//! Compares a text with the name at an offset of a table.
 ghost use Rattle.std.specs.Prelude.{◌≡◌, ◌<◌, ◌↔◌, IsTrue, Some, length, slice_get};
 ghost use Rattle.std.specs.Str.{bytes_eq};
 ghost use Rattle.ctf_model.specs.format.Name.{text as text_in, text_at};
@@ -8,7 +8,7 @@ use crate::alike::are_alike_at;
 use crate::differences::Differences;
 use memchr::memrchr;
 
-/// Whether a zero byte stands at a place.
+/// Whether there is a zero byte at a place.
 #[inline(always)]
 fn is_end(bytes: &[u8], at: usize) -> bool
     ensures inside { IsTrue result → at < length bytes.now }
@@ -20,8 +20,8 @@ fn is_end(bytes: &[u8], at: usize) -> bool
     }
 }
 
-/// Whether a zero byte stands behind as many bytes as a text has, whose first eight and last eight
-/// bytes are the text's.
+/// Whether the first eight and the last eight of as many bytes as a text has are those of the text,
+/// and a zero byte follows.
 #[inline(always)]
 fn has_ends(bytes: &[u8], text: &[u8]) -> bool
     ensures end { IsTrue result → (slice_get bytes.now (length text.now) ≡ Some 0) }
@@ -38,9 +38,9 @@ fn has_ends(bytes: &[u8], text: &[u8]) -> bool
     are_alike_at(text, front, 0)
 }
 
-/// Whether the text in front of the first zero byte is this one. It looks at the byte behind it, at
-/// the bytes at both ends, and then for a zero byte from behind: of texts that overlap it compares
-/// no more than one.
+/// Whether the bytes before the first zero byte are this text. It looks at the byte after them, at
+/// both ends, and then for a zero byte, last byte first: of overlapping names, it searches at most
+/// one.
 fn begins_with(bytes: &[u8], text: &[u8]) -> bool
     ensures { result ≡ is_named text.now (text_in bytes.now) }
 {
@@ -54,8 +54,8 @@ fn begins_with(bytes: &[u8], text: &[u8]) -> bool
     }
 }
 
-/// The same, where others were compared before: it looks also where these differed. `end` is where
-/// the text would end.
+/// The same after other comparisons: it also looks where the others differed. `end` is where the
+/// text would end.
 #[inline(always)]
 fn is_front_after(bytes: &[u8], text: &[u8], end: usize, others: &mut Differences<'_>) -> bool
     ensures { result ≡ is_named text.now (text_in bytes.now) }
@@ -78,7 +78,7 @@ fn is_front_after(bytes: &[u8], text: &[u8], end: usize, others: &mut Difference
     false
 }
 
-/// Whether two texts of one length have the same last byte, if they have any.
+/// Whether two texts of the same length have the same last byte, if they have any.
 #[inline(always)]
 fn have_one_end(text: &[u8], other: &[u8]) -> bool
     requires { length text.now ≡ length other.now }
@@ -91,7 +91,7 @@ fn have_one_end(text: &[u8], other: &[u8]) -> bool
     text[last] == other[last]
 }
 
-/// The same. Of most texts it is seen by two bytes that they are others.
+/// The same. Two bytes are enough to tell most names from the text.
 #[inline(always)]
 fn begins_with_after(rest: &[u8], text: &[u8], end: usize, others: &mut Differences<'_>) -> bool
     ensures { result ≡ is_named text.now (text_in rest.now) }
@@ -105,7 +105,7 @@ fn begins_with_after(rest: &[u8], text: &[u8], end: usize, others: &mut Differen
     is_front_after(rest, text, end, others)
 }
 
-/// Whether the text at an offset of a table is this one.
+/// Whether the name at an offset of a table is this text.
 pub fn is_text(table: &[u8], offset: usize, text: &[u8]) -> bool
     ensures { result ≡ is_named text.now (text_at (Some table.now) offset) }
 {
@@ -115,7 +115,7 @@ pub fn is_text(table: &[u8], offset: usize, text: &[u8]) -> bool
     }
 }
 
-/// Whether the text at an offset of a table is this one, where others were compared with it before.
+/// Whether the name at an offset of a table is this text, after others were compared with it.
 #[inline(always)]
 pub fn is_text_after(table: &[u8], offset: usize, text: &[u8], others: &mut Differences<'_>) -> bool
     ensures { result ≡ is_named text.now (text_at (Some table.now) offset) }

@@ -1,4 +1,4 @@
-//! The two tables that names stand in, and the names that references name there.
+//! The two tables of names, and the names that references refer to.
 ghost use Rattle.std.specs.Prelude.{◌≡◌, ◌+◌, Some, option_copied, take};
 ghost use Rattle.ctf_model.specs.format.Name.{name as named, table as table_of, text_at};
 ghost use Rattle.ctf_sections.specs.ShortNames.{if_short, is_named};
@@ -7,14 +7,14 @@ use crate::differences::Differences;
 use crate::matching::{is_text, is_text_after};
 use memchr::memchr;
 
-/// The tables of names: the string section, and the strings of a symbol table where they are there.
+/// The tables of names: the string section and, if there is one, the string table of the symbols.
 #[derive(Clone, Copy)]
 pub struct Strings<'a> {
     internal: &'a [u8],
     elf: Option<&'a [u8]>,
 }
 
-/// The bytes from an offset on to before the first zero byte, if one follows.
+/// The bytes from an offset to the first zero byte, if one follows.
 pub fn text(table: &[u8], offset: usize) -> Option<&[u8]>
     ensures { option_copied result ≡ text_at (Some table.now) offset }
 {
@@ -23,7 +23,7 @@ pub fn text(table: &[u8], offset: usize) -> Option<&[u8]>
     Some(&rest[..len])
 }
 
-/// The front of some bytes: `most` and one more, or all where they are fewer.
+/// The first `most` + 1 bytes, or all bytes if there are fewer.
 fn front(bytes: &[u8], most: usize) -> &[u8]
     ensures { result.now ≡ take (most + 1) bytes.now }
 {
@@ -34,7 +34,7 @@ fn front(bytes: &[u8], most: usize) -> &[u8]
     }
 }
 
-/// The text at an offset, if it has at most `most` bytes. It reads one byte more at most.
+/// The text at an offset, if it has at most `most` bytes. It reads at most one byte more.
 pub fn short_text(table: &[u8], offset: usize, most: usize) -> Option<&[u8]>
     ensures { option_copied result ≡ if_short most (text_at (Some table.now) offset) }
 {
@@ -65,7 +65,7 @@ impl<'a> Strings<'a> {
         }
     }
 
-    /// The name of a reference, lent from the table that its bit 31 picks.
+    /// The name of a reference, borrowed from the table that its bit 31 picks.
     pub fn name(&self, reference: u32) -> Option<&'a [u8]>
         ensures { option_copied result ≡ named (tables self.now) reference }
     {
@@ -77,7 +77,7 @@ impl<'a> Strings<'a> {
         text(table, offset)
     }
 
-    /// The name of a reference, if it has at most `most` bytes. It reads one byte more at most,
+    /// The name of a reference, if it has at most `most` bytes. It reads at most one byte more,
     /// however long the name is.
     pub fn short_name(&self, reference: u32, most: usize) -> Option<&'a [u8]>
         ensures { option_copied result ≡ if_short most (named (tables self.now) reference) }
@@ -88,8 +88,8 @@ impl<'a> Strings<'a> {
         }
     }
 
-    /// Whether a reference names a text. Of all names that overlap it reads no more than the length
-    /// of one, and a few bytes of each of the others.
+    /// Whether a reference refers to this name. Of overlapping names, it reads at most one in full,
+    /// and a few bytes of each of the others.
     pub fn is_name(&self, reference: u32, text: &[u8]) -> bool
         ensures { result ≡ is_named text.now (named (tables self.now) reference) }
     {
@@ -102,8 +102,8 @@ impl<'a> Strings<'a> {
         }
     }
 
-    /// Whether a reference names a text, where others were compared before. Names that differ from
-    /// it where they differed from those before are not searched again.
+    /// Whether a reference refers to this name, after others were compared. A name that differs
+    /// from it at a place where an earlier name differed is not searched again.
     #[inline(always)]
     pub fn is_name_after(&self, reference: u32, text: &[u8], others: &mut Differences<'_>) -> bool
         ensures { result ≡ is_named text.now (named (tables self.now) reference) }

@@ -1,4 +1,4 @@
-//! Dictionaries over the parents that were imported.
+//! Dictionaries over their imported parents.
 //!
 //! ```rust
 //! use ctf_check::Judged;

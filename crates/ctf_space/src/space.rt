@@ -1,4 +1,4 @@
-//! A dictionary with the parent that it was imported over.
+//! A dictionary with its imported parent.
 ghost use Rattle.std.specs.Prelude.{◌≡◌, ◌<◌, IfOk, IfErr, OnOk, None, Some, false, length, slice_get};
 ghost use Rattle.std.specs.Result.{result_map_both};
 ghost use Rattle.std.specs.Option.{ForSome, option_map};
@@ -13,7 +13,7 @@ use ctf_check::{Checked, Typed};
 use ctf_model::{DataModel, Fault, Place, TypeNum, placeless};
 use ctf_views::Variant;
 
-/// A dictionary, with its parent where one was imported, and the data model of its program.
+/// A dictionary, with its parent if one was imported, and the data model of its program.
 #[derive(Clone, Copy)]
 pub struct Space<'a> {
     own: Checked<'a>,
@@ -35,7 +35,7 @@ fn own_type<'a>(dictionary: Checked<'a>, i: usize) -> Result<Typed<'a>, Fault>
     }
 }
 
-/// The number of an own type, which is here counted from 0.
+/// The number of an own type that is counted from 0 here.
 #[inline(always)]
 fn number_of(child: bool, place: usize) -> TypeNum
     requires { place < 32767 }
@@ -65,9 +65,8 @@ impl<'a> Space<'a> {
         }
     }
 
-    /// A child over its parent, each of a data model, which have to be the same. The fault
-    /// `PARENT_SHORT` has for its place the greatest number of a
-    /// parent's type that the child names.
+    /// A child over its parent. Each has a data model, and these have to be the same. The place of
+    /// the fault `PARENT_SHORT` is the greatest number of a parent's type that the child names.
     pub fn over(
         child: Checked<'a>,
         child_model: DataModel,
@@ -102,7 +101,7 @@ impl<'a> Space<'a> {
         Ok(Space::again(child, parent, child_model))
     }
 
-    /// A child over the parent that it was imported over before, without judging the import again.
+    /// A child over a parent that was imported before, without checking the import again.
     pub fn again(child: Checked<'a>, parent: Checked<'a>, model: DataModel) -> Space<'a>
         requires { fault_of_import child model parent model ≡ None }
         ensures space { space_of result
@@ -117,7 +116,7 @@ impl<'a> Space<'a> {
         }
     }
 
-    /// The type that a number names, beside the dictionary whose tables name it.
+    /// The type of a number, with the dictionary that has it.
     #[inline(always)]
     pub fn term(&self, number: TypeNum) -> Result<Typed<'a>, Fault>
         ensures { type_found result ≡ space_type (space_of self.now) number.0 }
@@ -132,7 +131,7 @@ impl<'a> Space<'a> {
         }
     }
 
-    /// The name of the type that a number names, lent from the dictionary that has it.
+    /// The name of the type of a number, borrowed from the dictionary that has it.
     pub fn name(&self, number: TypeNum) -> Result<&'a [u8], Fault>
         ensures { result_map_both (λ n. n.now) (λ f. f) result
             ≡ name_in (space_type (space_of self.now) number.0) }
@@ -140,7 +139,7 @@ impl<'a> Space<'a> {
         Ok(self.term(number)?.name())
     }
 
-    /// What stands behind the head of the type that a number names.
+    /// What follows the head of the type of a number.
     pub fn variant(&self, number: TypeNum) -> Result<Variant<'a>, Fault>
         ensures { shown_found result ≡ shown_in (space_type (space_of self.now) number.0) }
     {
@@ -155,7 +154,7 @@ impl<'a> Space<'a> {
         self.own
     }
 
-    /// Its parent as a space of its own. It is no child itself.
+    /// Its parent as a space of its own, which is no child.
     pub fn parent(&self) -> Option<Space<'a>>
         ensures parent { option_map space_of result
             ≡ option_map (λ p. space_alone p (space_of self.now).model) (space_of self.now).parent }
@@ -189,7 +188,7 @@ impl<'a> Space<'a> {
         self.own.child()
     }
 
-    /// The number of an own type, which is here counted from 0.
+    /// The number of an own type that is counted from 0 here.
     #[inline(always)]
     pub fn own_number(&self, place: usize) -> TypeNum
         requires { place < length (space_of self.now).own.terms }

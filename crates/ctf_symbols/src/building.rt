@@ -1,4 +1,5 @@
-//! The symbols of a table in one walk: where the entry of each begins, and which ones have names.
+//! The symbols of a table in one walk: where each symbol's entry begins, and which symbols have
+//! names.
 ghost use Rattle.std.specs.Prelude.{◌≡◌, ◌≤◌, ◌<◌, ◌^◌, length, IfOk, None};
 ghost use Rattle.ctf_model.specs.symbols.Symbols.{with_types, symbols_of};
 ghost use Rattle.ctf_entries.specs.NamesView.{strings_of};
@@ -12,17 +13,17 @@ use ctf_entries::{Symbol, SymbolNames, behind_function, behind_object};
 use ctf_order::NamedItem;
 use std::alloc::{AllocError, Global};
 
-/// What is kept of the symbols of a table.
+/// What one walk through the symbols of a table finds.
 #[derive(Drop)]
 pub(crate) struct SymbolItems {
-    /// How much is left of its section where the entry of each symbol begins, and 0 where it has
-    /// none.
+    /// How many bytes of its section are left where each symbol's entry begins; 0 if it has none.
     pub(crate) lefts: Vec<u32>,
     /// The considered symbols.
     pub(crate) items: Vec<NamedItem>,
 }
 
-/// Lists the symbols of a table. Reads each symbol and each entry once, and of a name a few bytes.
+/// Lists the symbols of a table. Reads each symbol and each entry once, and a few bytes of each
+/// name.
 pub(crate) fn list(
     alloc: Global,
     sym: &[u8],

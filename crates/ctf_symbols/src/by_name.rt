@@ -17,7 +17,7 @@ use ctf_check::Checked;
 use ctf_model::{Fault, SymbolClass, placeless};
 use ctf_order::Texts;
 
-/// Where the names of symbols stand.
+/// Where the names of symbols are.
 pub(crate) fn program_texts(strs: Option<&[u8]>) -> Texts<'_>
     ensures { naming result ≡ program_names (option_copied strs.entry) }
 {
@@ -27,7 +27,7 @@ pub(crate) fn program_texts(strs: Option<&[u8]>) -> Texts<'_>
     }
 }
 
-/// What the symbol with a number stands for, where that is an object or a function.
+/// The class of the symbol with a number, which is an object or a function.
 fn class_of(sym: &[u8], number: u32) -> SymbolClass
     ensures { result ≡ class_in (sort_in sym.now number) }
 {
@@ -38,7 +38,7 @@ fn class_of(sym: &[u8], number: u32) -> SymbolClass
 }
 
 impl SymbolMap {
-    /// The first considered symbol of a name. It is found by halves and takes no memory.
+    /// The first considered symbol with a name, by a binary search that takes no memory.
     pub fn symbol_named(&self, dictionary: &Checked<'_>, name: &[u8]) -> Option<NamedSymbol>
         requires fits { Fits (lists_of dictionary.now) self.now }
         ensures { option_map (owner_named name.now) result ≡ option_map owner_of
@@ -50,7 +50,7 @@ impl SymbolMap {
         Some(NamedSymbol { number, class })
     }
 
-    /// The number of the first considered symbol of a name. Refused as NoSymbol (34).
+    /// The number of the first considered symbol with a name. Refused as NoSymbol (34).
     pub fn by_name(&self, dictionary: &Checked<'_>, name: &[u8]) -> Result<u32, Fault>
         requires fits { Fits (lists_of dictionary.now) self.now }
         ensures { result ≡ by_name (dictionary_of dictionary.now) name.now }
@@ -61,7 +61,7 @@ impl SymbolMap {
         }
     }
 
-    /// The last type of the first label of a name, which is found by halves.
+    /// The last type of the first label with a name, by a binary search.
     ///
     /// Refused as NoLabel (38).
     pub fn label(&self, dictionary: &Checked<'_>, name: &[u8]) -> Result<u32, Fault>

@@ -1,4 +1,4 @@
-//! What a dictionary tells of a symbol, by its number.
+//! What a dictionary says of a symbol, by the symbol's number.
 ghost use Rattle.std.specs.Prelude.{◌≡◌, unwrap_or, slice_get};
 ghost use Rattle.std.specs.Result.{result_map_both};
 ghost use Rattle.ctf_model.specs.symbols.SymbolQuestions.{function_of, object_of};
@@ -12,7 +12,7 @@ use ctf_check::Checked;
 use ctf_entries::{Signature, signature_of, type_in};
 use ctf_model::{Fault, TypeNum, placeless};
 
-/// The last bytes of a section; all where it has fewer.
+/// The last `left` bytes of a section; all bytes if it has fewer.
 fn ending(section: &[u8], left: u32) -> &[u8]
     ensures { result.now ≡ last_bytes left section.now }
 {
@@ -20,7 +20,7 @@ fn ending(section: &[u8], left: u32) -> &[u8]
     &section[at..]
 }
 
-/// What the symbol with a number stands for, if it is there: 1 an object, 2 a function.
+/// The class of the symbol with a number, if there is one: 1 an object, 2 a function.
 pub(crate) fn sort_of(sym: &[u8], number: u32) -> Option<u8>
     ensures { result ≡ sort_in sym.now number }
 {
@@ -33,7 +33,7 @@ pub(crate) fn sort_of(sym: &[u8], number: u32) -> Option<u8>
 }
 
 impl SymbolMap {
-    /// How much is left of its section where the entry of a symbol begins.
+    /// How many bytes of its section are left where a symbol's entry begins.
     fn bytes_left(&self, number: u32) -> u32
         ensures { result ≡ unwrap_or (slice_get self.now.lefts.items number) 0 }
     {
@@ -43,7 +43,7 @@ impl SymbolMap {
         }
     }
 
-    /// The type of the object with a number, from 0. It takes constant time.
+    /// The type of the object with a number, from 0. Takes constant time.
     ///
     /// Refused as NoSymbol (34), NotData (35) and NoInfo (37), in this order.
     pub fn object(&self, dictionary: &Checked<'_>, number: u32) -> Result<TypeNum, Fault>
@@ -64,7 +64,7 @@ impl SymbolMap {
         }
     }
 
-    /// The signature of the function with a number, from 0. Its arguments are lent. It takes
+    /// The signature of the function with a number, from 0. Its arguments are borrowed. Takes
     /// constant time.
     ///
     /// Refused as NoSymbol (34), NotFunction (36) and NoInfo (37), in this order.

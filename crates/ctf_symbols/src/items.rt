@@ -1,4 +1,4 @@
-//! Symbols and labels, by where their names stand.
+//! Symbols and labels, by where their names are.
 ghost use Rattle.std.specs.Prelude.{◌≡◌, ◌≤◌, length, IfOk};
 ghost use Rattle.std.specs.List.{enumerate_from};
 ghost use Rattle.ctf_model.specs.format.Bytes.{u32_at as u32_said};
@@ -12,7 +12,7 @@ use ctf_order::NamedItem;
 use ctf_sections::bytes::u32_at;
 use std::alloc::{AllocError, Global};
 
-/// The symbol with a number that begins some bytes, as an item.
+/// The symbol with a number, at the front of some bytes, as an item.
 pub(crate) fn symbol_item(sym: &[u8], number: u64) -> NamedItem
     requires there { 24 ≤ length sym.now }
     requires small { number ≤ 0xffffffff }

@@ -1,4 +1,4 @@
-//! What a dictionary tells of symbols, found by their numbers.
+//! What a dictionary says of symbols, by their numbers and names.
 //!
 //! ```rust
 //! use ctf_check::Judged;

@@ -1,4 +1,4 @@
-//! The symbols and the labels of a dictionary, as they are kept.
+//! The symbols and the labels of a dictionary, in tables.
 ghost use Rattle.std.specs.Prelude.{IfOk};
 ghost use Rattle.ctf_check.specs.CheckedView.{lists_of};
 ghost use Rattle.ctf_symbols.specs.Fitting.{Fits};
@@ -17,7 +17,7 @@ use std::alloc::{AllocError, Global};
 /// each considered one and for each label.
 #[derive(Drop)]
 pub struct SymbolMap {
-    /// How much is left of its section where the entry of each symbol begins.
+    /// How many bytes of its section are left where each symbol's entry begins.
     pub(crate) lefts: Vec<u32>,
     pub(crate) symbols: Order,
     pub(crate) labels: Order,
@@ -25,8 +25,8 @@ pub struct SymbolMap {
 
 impl SymbolMap {
     /// The map of a dictionary. Reads each symbol and each entry once, each table of names once to
-    /// find where names end, and at most 2,056 bytes of each name, and then sorts. While it runs it
-    /// takes at most 8 bytes more for each symbol, and then for each label.
+    /// find where names end, and at most 2,056 bytes of each name, and then sorts. While it runs,
+    /// it takes at most 8 bytes more for each symbol, and then for each label.
     pub fn build(alloc: Global, dictionary: &Checked<'_>) -> Result<SymbolMap, AllocError>
         ensures { IfOk result (λ m. Fits (lists_of dictionary.now) m) }
     {

@@ -2,7 +2,7 @@
 
 use ctf_model::SymbolClass;
 
-/// A considered symbol that was found by its name: its number, from 0, and what it stands for.
+/// A considered symbol that was found by its name: its number, from 0, and its class.
 #[derive(Clone, Copy, Debug, PartialEq, Eq)]
 pub struct NamedSymbol {
     pub number: u32,

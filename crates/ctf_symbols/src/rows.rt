@@ -1,7 +1,7 @@
-//! Symbols and labels one after the other.
+//! Symbols and labels, one after the other.
 ghost use Rattle.std.specs.Prelude.{◌≡◌, ◌≤◌, length, drop};
 
-/// The symbols behind the first one.
+/// The symbols after the first one.
 pub(crate) fn behind_symbol(sym: &[u8]) -> &[u8]
     requires { 24 ≤ length sym.now }
     ensures { result.now ≡ drop 24 sym.now }
@@ -10,7 +10,7 @@ pub(crate) fn behind_symbol(sym: &[u8]) -> &[u8]
     behind
 }
 
-/// The labels behind the first one.
+/// The labels after the first one.
 pub(crate) fn behind_label(labels: &[u8]) -> &[u8]
     requires { 8 ≤ length labels.now }
     ensures { result.now ≡ drop 8 labels.now }

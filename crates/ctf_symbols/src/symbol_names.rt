@@ -21,7 +21,7 @@ fn from_symbol(sym: &[u8], number: usize) -> &[u8]
     behind
 }
 
-/// The symbol with a number, from 0, if it is there.
+/// The symbol with a number, from 0, if there is one.
 fn symbol_at<'a>(sym: &[u8], names: SymbolNames<'a>, number: u32) -> Option<Symbol<'a>>
     ensures { option_map symbol result
         ≡ slice_get (symbols_of (strings_of names.entry) sym.now) number }
@@ -34,7 +34,7 @@ fn symbol_at<'a>(sym: &[u8], names: SymbolNames<'a>, number: u32) -> Option<Symb
     }
 }
 
-/// The name of the symbol with a number, from 0; empty where it has none. Refused as NoSymbol (34).
+/// The name of the symbol with a number, from 0; empty if it has none. Refused as NoSymbol (34).
 pub fn symbol_name<'a>(dictionary: &Checked<'a>, number: u32) -> Result<&'a [u8], Fault>
     ensures { result_map_both (λ n. n.now) (λ f. f) result
         ≡ name_of_symbol (dictionary_of dictionary.now) number }

@@ -8,7 +8,7 @@ use crate::rows::Rows;
 use ctf_model::TypeNum;
 use ctf_sections::bytes::u16_at;
 
-/// An argument has the number of its type alone.
+/// An argument is only the number of its type.
 #[derive(Clone, Copy)]
 pub struct ArgumentRow;
 
@@ -32,10 +32,10 @@ impl Row for ArgumentRow {
     }
 }
 
-/// The types of a function's arguments that are left, as they stand, a last 0 included.
+/// The remaining types of a function's arguments, as stored, with a last 0.
 pub type Args<'a> = Rows<'a, ArgumentRow>;
 
-/// The types that stand in the first bytes, two bytes each.
+/// The first `count` types in some bytes, two bytes each.
 pub fn arguments(bytes: &[u8], count: usize) -> Args<'_>
     requires { 2 * count ≤ length bytes.now }
     ensures { items argument_of 2 count bytes.now ≡ Some result }
@@ -43,8 +43,8 @@ pub fn arguments(bytes: &[u8], count: usize) -> Args<'_>
     Rows::new(bytes, count, ArgumentRow)
 }
 
-/// Whether more arguments may follow those that are named: the last type is 0 then, which is no
-/// argument itself (ctf(5), "Function Types").
+/// Whether more arguments may follow the named ones: then the last type is 0, which is no argument
+/// itself (ctf(5), "Function Types").
 pub fn is_variadic(args: &Args<'_>) -> bool
     ensures { result ≡ ends_open args.now }
 {

@@ -18,7 +18,7 @@ pub struct Enumerator<'a> {
     pub value: i32,
 }
 
-/// Stands in contracts for an enumerator of the definitions. No value of it is made.
+/// In contracts, an enumerator of the definitions. No value of this type is made.
 pub struct SpelledEnumerator(i32);
 
 impl Model for SpelledEnumerator {
@@ -30,14 +30,14 @@ impl Model for SpelledEnumerator {
     ghost view = { λ it. record { name = []; value = it.0 } };
 }
 
-/// An enumerator has the reference to its name, and its value.
+/// How an enumerator is stored: the reference to its name, and its value.
 #[derive(Clone, Copy)]
 pub struct EnumeratorRow<'a> {
     pub(crate) strings: Strings<'a>,
 }
 
 impl<'a> EnumeratorRow<'a> {
-    /// The value of the enumerator that begins some bytes. No name is read for it.
+    /// The value of the enumerator at the front of some bytes. No name is read.
     fn value(&self, bytes: &[u8]) -> i32
         requires inside { 8 ≤ length bytes.now }
         requires good { IsSome (enumerator_of (tables self.now.strings) bytes.now) }
@@ -72,11 +72,11 @@ impl<'a> Row for EnumeratorRow<'a> {
     }
 }
 
-/// The enumerators of an enum that are left.
+/// The remaining enumerators of an enum.
 pub type Enumerators<'a> = Rows<'a, EnumeratorRow<'a>>;
 
 impl<'a> Rows<'a, EnumeratorRow<'a>> {
-    /// The value of the enumerator with a number, from 0. No name is read for it.
+    /// The value of the enumerator with a number, from 0. No name is read.
     pub fn value(&self, index: usize) -> i32
         requires { index < length self.now }
         ensures { Some result ≡ option_map (λ e. e.value) (slice_get self.now index) }

@@ -19,7 +19,7 @@ pub struct Label<'a> {
     pub last: u32,
 }
 
-/// Stands in contracts for a label of the definitions. No value of it is made.
+/// In contracts, a label of the definitions. No value of this type is made.
 pub struct SaidLabel(u32);
 
 impl Model for SaidLabel {
@@ -31,7 +31,7 @@ impl Model for SaidLabel {
     ghost view = { λ it. record { name = []; last = it.0 } };
 }
 
-/// A label has the reference to its name, and its last type.
+/// How a label is stored: the reference to its name, and its last type.
 #[derive(Clone, Copy)]
 pub struct LabelRow<'a> {
     pub(crate) strings: Strings<'a>,
@@ -60,11 +60,11 @@ impl<'a> Row for LabelRow<'a> {
     }
 }
 
-/// The labels of a dictionary that are left.
+/// The remaining labels of a dictionary.
 pub type Labels<'a> = Rows<'a, LabelRow<'a>>;
 
 impl<'a> Rows<'a, LabelRow<'a>> {
-    /// The last type of the label with a number, from 0, if it is there. No name is read.
+    /// The last type of the label with a number, from 0, if there is one. No name is read.
     #[tactic(auto, using(crate::proofs::Labelled::last_is, crate::proofs::Labelled::no_last))]
     pub fn last_at(&self, index: usize) -> Option<u32>
         ensures { result ≡ option_map (λ x. x.last) (slice_get self.now index) }
@@ -78,7 +78,7 @@ impl<'a> Rows<'a, LabelRow<'a>> {
     }
 }
 
-/// The labels that stand in bytes, eight bytes each; a rest of fewer is none.
+/// The labels in some bytes, eight bytes each; fewer than eight bytes at the end are ignored.
 pub fn read_labels<'a>(bytes: &'a [u8], strings: Strings<'a>) -> Labels<'a>
     requires { AreLabels (tables strings) bytes.now
         (labels_in (tables strings) (length bytes.now / 8) bytes.now) }

@@ -1,4 +1,4 @@
-//! The parts of a type, lent from the bytes of its record.
+//! The parts of a type, borrowed from the bytes of its record.
 //!
 //! ```rust
 //! use ctf_model::TypeNum;

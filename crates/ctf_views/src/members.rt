@@ -24,7 +24,7 @@ pub struct Member<'a> {
     pub offset: u64,
 }
 
-/// Stands in contracts for a member of the definitions. No value of it is made.
+/// In contracts, a member of the definitions. No value of this type is made.
 pub struct SpelledMember(());
 
 impl Model for SpelledMember {
@@ -36,8 +36,8 @@ impl Model for SpelledMember {
     ghost view = { λ _. record { name = []; tnum = 0; offset = 0 } };
 }
 
-/// A member has the reference to its name, its type and its offset, which is wide where the size of
-/// its struct or union calls for that.
+/// How a member is stored: the reference to its name, its type, and its offset, which is wide if
+/// the size of its struct or union requires that.
 #[derive(Clone, Copy)]
 pub struct MemberRow<'a> {
     pub(crate) size: u64,
@@ -45,7 +45,7 @@ pub struct MemberRow<'a> {
 }
 
 impl<'a> MemberRow<'a> {
-    /// Whether the member that begins some bytes has a name.
+    /// Whether the member at the front of some bytes has this name.
     fn is_named(&self, bytes: &[u8], name: &[u8], others: &mut Differences<'_>) -> bool
         requires inside { len_of_member self.now.size ≤ length bytes.now }
         requires good { IsSome (member_of self.now.size (tables self.now.strings) bytes.now) }
@@ -84,10 +84,10 @@ impl<'a> Row for MemberRow<'a> {
     }
 }
 
-/// The members of a struct or union that are left.
+/// The remaining members of a struct or union.
 pub type Members<'a> = Rows<'a, MemberRow<'a>>;
 
-/// The number of the first member with a name, of `count` members that stand in bytes.
+/// The number of the first member with a name, among `count` members in some bytes.
 #[tactic(auto, using(crate::proofs::Named::named_here, crate::proofs::Named::named_later, crate::proofs::Named::named_nowhere))]
 fn first_named(
     row: MemberRow<'_>,
@@ -111,9 +111,9 @@ fn first_named(
 }
 
 impl<'a> Rows<'a, MemberRow<'a>> {
-    /// The first member with a name; the empty name is that of each unnamed one. `others` is what
-    /// is known of members that were looked at before: however long their names are and wherever
-    /// they overlap, no more bytes are compared than a few times those of the tables.
+    /// The first member with a name; an unnamed member has the empty name. `others` is what earlier
+    /// comparisons showed: however long names are and wherever they overlap, a search compares at
+    /// most a few times the bytes of the tables.
     pub fn member_named(&self, name: &[u8], others: &mut Differences<'_>) -> Option<Member<'a>>
         ensures { option_map member result ≡ member_named name.now self.now }
     {

@@ -1,11 +1,11 @@
-//! What stands behind the heads of arrays, integers and floats.
+//! What follows the heads of arrays, integers and floats.
 ghost use Rattle.std.specs.Prelude.{◌≡◌, ◌≤◌, length};
 ghost use Rattle.ctf_views.specs.PartsView.{array_info, array_in, encoding_info, encoding_in};
 
 use ctf_model::TypeNum;
 use ctf_sections::bytes::{u16_at, u32_at};
 
-/// An array: the types of its contents and of its index, and how many elements it has.
+/// An array: the types of its elements and of its index, and the number of elements.
 #[derive(Clone, Copy, Debug, PartialEq, Eq)]
 pub struct ArrayInfo {
     pub contents: TypeNum,

@@ -1,4 +1,4 @@
-//! What stands behind the head of a record, by its kind.
+//! What follows the head of a record, by its kind.
 ghost use Rattle.std.specs.Prelude.{◌≡◌, IsSome, Some};
 ghost use Rattle.std.specs.Option.{option_map};
 ghost use Rattle.ctf_model.specs.format.Spelling.{term_of};

@@ -1,11 +1,11 @@
 //! What an item of a list is, and how it is read.
 ghost use Rattle.std.specs.Prelude.{◌≡◌, ℕ, ◌≤◌, length, IsSome, List, Option, Some};
 
-/// How the items of a list are read, each from the bytes that it begins.
+/// How each item of a list is read, from the bytes at which it begins.
 pub trait Row: Copy {
-    /// An item as it is lent.
+    /// An item, borrowed.
     type Item;
-    /// An item as the definitions have it.
+    /// An item of the definitions.
     type Shown;
 
     ghost row_len: { Self → ℕ };
@@ -18,7 +18,7 @@ pub trait Row: Copy {
     fn len(&self) -> usize
         ensures { result ≡ row_len self.now };
 
-    /// The item that begins some bytes.
+    /// The item at the front of some bytes.
     fn first(&self, bytes: &[u8]) -> Self::Item
         requires inside { row_len self.now ≤ length bytes.now }
         requires good { IsSome (item_of self.now bytes.now) }

@@ -1,4 +1,4 @@
-//! Lists of items that stand one after the other in bytes, each in a row of one length.
+//! Lists of items that follow each other in bytes, in rows of the same length.
 ghost use Rattle.std.specs.Prelude.{◌≡◌, ◌*◌, ◌<◌, ◌≤◌, length, drop, IfSome, Some, slice_get};
 ghost use Rattle.std.specs.Option.{option_map};
 ghost use Rattle.std.specs.Iterator.{YieldsFirstBy, YieldsLastBy, item_count, UpTo, at_most};
@@ -10,7 +10,7 @@ use crate::row::Row;
 use std::iter::FusedIterator;
 use std::marker::Model;
 
-/// The items of a list that are left.
+/// The remaining items of a list.
 #[derive(Drop)]
 pub struct Rows<'a, R: Row> {
     bytes: &'a [u8],
@@ -37,7 +37,7 @@ fn from_row(bytes: &[u8], len: usize, row: usize) -> &[u8]
     &bytes[len * row..]
 }
 
-/// The bytes that one of `count` items begins.
+/// The bytes at which one of `count` items begins.
 pub(crate) fn bytes_at<'a, R: Row>(row: R, bytes: &'a [u8], count: usize, index: usize) -> &'a [u8]
     requires good { AreGood (R.item_of row) (R.row_len row) count bytes.now }
     requires inside { index < count }
@@ -48,7 +48,7 @@ pub(crate) fn bytes_at<'a, R: Row>(row: R, bytes: &'a [u8], count: usize, index:
     from_row(bytes, row.len(), index)
 }
 
-/// One of `count` items that stand in bytes.
+/// One of `count` items in some bytes.
 fn item_at<R: Row>(row: R, bytes: &[u8], count: usize, index: usize) -> R::Item
     requires good { AreGood (R.item_of row) (R.row_len row) count bytes.now }
     requires inside { index < count }
@@ -66,7 +66,7 @@ impl<'a, R: Row> Rows<'a, R> {
         Rows { bytes, count, row }
     }
 
-    /// How the items are read, their bytes, and how many they are.
+    /// How the items are read, their bytes, and their number.
     pub(crate) fn parts(&self) -> (R, &'a [u8], usize)
         ensures good { AreGood (R.item_of result.0) (R.row_len result.0) result.2 result.1.now }
         ensures items { items_in (R.item_of result.0) (R.row_len result.0) result.2 result.1.now
@@ -75,7 +75,7 @@ impl<'a, R: Row> Rows<'a, R> {
         (self.row, self.bytes, self.count)
     }
 
-    /// How the item with a number is read, and the bytes that it begins.
+    /// How the item with a number is read, and the bytes at which it begins.
     pub(crate) fn row_at(&self, index: usize) -> (R, &'a [u8])
         requires { index < length self.now }
         ensures inside { R.row_len result.0 ≤ length result.1.now }

@@ -1,4 +1,4 @@
-//! What a record shows apart from its head.
+//! What a record has after its head.
 
 use crate::args::Args;
 use crate::enumerators::Enumerators;
@@ -6,20 +6,20 @@ use crate::members::Members;
 use crate::parts::{ArrayInfo, Encoding};
 use ctf_records::Tag;
 
-/// What of a type stands behind the head of its record.
+/// What follows the head of a type's record.
 #[derive(Drop)]
 pub enum Variant<'a> {
-    /// Of a struct or union.
+    /// The members of a struct or union.
     Members(Members<'a>),
-    /// Of an enum.
+    /// The enumerators of an enum.
     Enumerators(Enumerators<'a>),
-    /// Of a function.
+    /// The arguments of a function.
     Args(Args<'a>),
     Array(ArrayInfo),
-    /// Of an integer or a float.
+    /// The encoding of an integer or a float.
     Encoding(Encoding),
-    /// Of a forward.
+    /// What a forward declares.
     Tag(Tag),
-    /// Of each other kind.
+    /// Nothing, for all other kinds.
     Nothing,
 }

@@ -1,13 +1,13 @@
-//! Replies that wait.
+//! Replies that wait to be sent.
 ghost use Rattle.std.specs.Prelude.{◌≡◌, ◌+◌, ◌≤◌, [], true, false, IfOk, vec_capacity};
 
 use ctf_lines::SHORT_PASS;
 use std::alloc::{AllocError, Global};
 
-/// Where so many bytes wait, they are sent before another line is answered.
+/// Once so many bytes wait, they are sent before another line is answered.
 pub const BATCH: usize = 65_536;
 
-/// The replies that were gathered and not sent yet, one behind the other.
+/// The replies that were gathered and not sent yet, one after the other.
 #[derive(Drop)]
 pub struct Batch {
     pub bytes: Vec<u8>,
@@ -15,7 +15,8 @@ pub struct Batch {
 }
 
 impl Batch {
-    /// Nothing waits, and behind any batch there is room for a reply that is written in one pass.
+    /// An empty batch. After the longest batch there is still room for a reply that is written in
+    /// one pass.
     pub fn new(alloc: Global) -> Result<Self, AllocError>
         ensures empty { IfOk result (λ b. b.bytes.items ≡ []) }
         ensures none { IfOk result (λ b. b.waits ≡ false) }
@@ -27,7 +28,7 @@ impl Batch {
         })
     }
 
-    /// Nothing waits any more.
+    /// Empties the batch.
     pub fn clear(&mut self)
         ensures empty { self.new.bytes.items ≡ [] }
         ensures none { self.new.waits ≡ false }

@@ -6,7 +6,7 @@ ghost use Rattle.std.specs.Io.KnownBytes.{ReadConsumes};
 use std::io;
 use std::io::Read;
 
-/// A reader, and how many reads of it were made. Nothing but `read` reaches the reader.
+/// A reader, and how many reads of it were made. Only `read` reads from it.
 #[derive(Drop)]
 pub struct CountedReader<R> {
     reader: R,

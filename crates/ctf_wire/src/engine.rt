@@ -1,4 +1,4 @@
-//! The loop: turn after turn, to the source's end.
+//! The loop: turn after turn, to the end of the source.
 ghost use Rattle.std.specs.Prelude.{◌≡◌, ◌≢◌, ℕ, [], Some, Err};
 ghost use Rattle.ctf_wire.specs.Endings.{EndsBy, IsReady, PullsAtMost};
 ghost use Rattle.ctf_wire.specs.Served.{BrokenOff, Serves};
@@ -9,8 +9,8 @@ use crate::sinks::Sink;
 use crate::sources::Source;
 use crate::turns::Run;
 
-/// Answers the source's lines, to its end or for `reads` reads, in a run that has read nothing yet.
-/// The run has the memory that it needs: it is not what ends here.
+/// Answers the lines of the source, to its end or for `reads` reads, in a run that has read nothing
+/// yet. The run has allocated all memory that it needs, so no refused allocation ends it.
 pub fn answer_bounded<M: Machine, S: Source, K: Sink>(
     run: &mut Run,
     machine: &mut M,

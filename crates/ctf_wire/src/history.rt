@@ -1,11 +1,11 @@
-//! What a source and a sink did so far, which only proofs read.
+//! What a source and a sink did so far, for proofs only.
 ghost use Rattle.std.specs.Prelude.{◌≡◌, [], ◌∷◌, ◌++◌};
 ghost use Rattle.std.specs.Borrow.{ftrue};
 ghost use Rattle.ctf_wire.specs.Flushes.{Flushes};
 
 use std::marker::{Model, PhantomData};
 
-/// The bytes that were pulled or pushed, in pieces as flushes ended them. It takes no memory, and
+/// The bytes that were pulled or pushed, in pieces that end at the flushes. It takes no memory, and
 /// its methods do nothing at run time.
 #[derive(Drop)]
 pub struct History {
@@ -27,7 +27,7 @@ impl History {
         }
     }
 
-    /// These bytes too.
+    /// Adds these bytes.
     pub fn note(&mut self, _bytes: &[u8])
         ensures { self.new.flushes ≡ record {
           pieces = self.old.flushes.pieces;
@@ -35,7 +35,7 @@ impl History {
         } }
     {}
 
-    /// What came since the last flush was flushed.
+    /// Adds a flush of what came since the last one.
     pub fn note_flush(&mut self)
         ensures { self.new.flushes ≡ record {
           pieces = self.old.flushes.pieces ++ self.old.flushes.waiting ∷ [];

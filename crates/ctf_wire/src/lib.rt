@@ -1,8 +1,8 @@
 //! The sessions that requests belong to, and the run over a reader and a writer.
 //!
-//! Embed the service by this crate. A [`Broker`] holds what all sessions hold. [`serve`] reads
-//! lines of JSON from a [`Source`], and writes one reply for each to a [`Sink`], until the source
-//! ends. [`FromReader`] and [`ToWriter`] make these of any `Read` and `Write`:
+//! Use this crate to embed the service. A [`Broker`] has the libraries of all sessions. [`serve`]
+//! reads lines of JSON from a [`Source`], and writes one reply for each to a [`Sink`], until the
+//! source ends. [`FromReader`] and [`ToWriter`] make these of any `Read` and `Write`:
 //!
 //! ```rust
 //! use ctf_wire::{Broker, FromReader, RunFault, ToWriter, serve};

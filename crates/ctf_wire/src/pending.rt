@@ -1,4 +1,4 @@
-//! The line so far.
+//! The line that has come so far.
 ghost use Rattle.std.specs.Prelude.{◌≡◌, ◌↔◌, ℕ, ◌++◌, [], List, IfOk, IsTrue, IsSome, Some, is_none};
 ghost use Rattle.ctf_protocol.specs.lines.Lines.{stored_line};
 
@@ -6,7 +6,7 @@ use ctf_lines::LONGEST_LINE;
 use std::alloc::{AllocError, Global};
 use std::marker::Model;
 
-/// The piece of a line that has come so far, as far as it can be stored.
+/// The part of a line that has come so far, unless it is too long to be stored.
 #[derive(Drop)]
 pub struct Pending {
     bytes: Vec<u8>,
@@ -26,7 +26,7 @@ impl Model for Pending {
 }
 
 impl Pending {
-    /// Nothing has come, and there is room for the longest line.
+    /// An empty line, with room for the longest one.
     pub fn new(alloc: Global) -> Result<Self, AllocError>
         ensures { IfOk result (λ p. p ≡ Some []) }
     {
@@ -36,7 +36,7 @@ impl Pending {
         })
     }
 
-    /// A new line begins.
+    /// Begins a new line.
     pub fn clear(&mut self)
         ensures { self.new ≡ Some [] }
     {
@@ -44,7 +44,7 @@ impl Pending {
         self.too_long = false;
     }
 
-    /// One more piece of the line came.
+    /// Appends one more piece of the line.
     pub fn append(&mut self, piece: &[u8])
         ensures { (held : List ℕ) → self.old ≡ stored_line held
             → self.new ≡ stored_line (held ++ piece.now) }
@@ -63,7 +63,7 @@ impl Pending {
         self.too_long
     }
 
-    /// The line, where it could be stored.
+    /// The line, if it could be stored.
     pub fn bytes(&self) -> &[u8]
         requires { IsSome self.now }
         ensures { self.now ≡ Some result.now }

@@ -4,7 +4,7 @@ ghost use Rattle.ctf_protocol.specs.lines.Lines.{whole_lines};
 
 use memchr::memchr;
 
-/// What stands before the first newline, and what stands after it.
+/// The bytes before the first newline, and the bytes after it.
 pub fn cut(bytes: &[u8]) -> Option<(&[u8], &[u8])>
     ensures { MatchOption result (whole_lines bytes.now ≡ [])
         (λ p. (whole_lines p.0.now ≡ []) × (bytes.now ≡ p.0.now ++ 10 ∷ p.1.now)) }

@@ -1,7 +1,7 @@
 //! Why a run ended before its input did.
 use thiserror::Error;
 
-/// What went wrong with the bytes, not with a line.
+/// What went wrong with the streams, not with a line.
 #[derive(Clone, Copy, Debug, PartialEq, Eq, Error)]
 pub enum RunFault {
     /// The reader failed.
@@ -10,10 +10,10 @@ pub enum RunFault {
     /// A write or a flush failed, or a write took nothing.
     #[error("Write")]
     Write,
-    /// One more read than the bound would be needed.
+    /// The source did not end within the bound on reads.
     #[error("ReadBound")]
     ReadBound,
-    /// The buffers were refused, and nothing was read or written.
+    /// The memory for buffers was refused, and nothing was read or written.
     #[error("Memory")]
     Memory,
 }

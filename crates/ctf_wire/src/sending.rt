@@ -34,7 +34,7 @@ fn send<K: Sink>(sink: &mut K, bytes: &[u8]) -> bool
     true
 }
 
-/// Sends what waits, and forgets it.
+/// Sends the waiting replies, and empties the batch.
 fn send_batch<K: Sink>(sink: &mut K, batch: &mut Batch) -> bool
     ensures sends { Sends (K.pushed sink.old) batch.old.bytes.items result (K.pushed sink.new) }
     ensures empty { batch.new.bytes.items ≡ [] }
@@ -46,7 +46,7 @@ fn send_batch<K: Sink>(sink: &mut K, batch: &mut Batch) -> bool
     sent
 }
 
-/// Sends what waits where it is much, so that there is room for a short reply.
+/// Sends the waiting replies if they are long, so that there is room for a short reply.
 pub fn make_room<K: Sink>(sink: &mut K, batch: &mut Batch) -> bool
     requires { 65536 + 131072 ≤ vec_capacity batch.old.bytes }
     ensures makes { MakesRoom batch.old (K.pushed sink.old) result batch.new (K.pushed sink.new) }
@@ -61,7 +61,7 @@ pub fn make_room<K: Sink>(sink: &mut K, batch: &mut Batch) -> bool
     send_batch(sink, batch)
 }
 
-/// Sends what waits, if anything does. Afterwards nothing waits.
+/// Sends the waiting replies, if there are any. Afterwards none waits.
 pub fn flush_batch<K: Sink>(sink: &mut K, batch: &mut Batch) -> bool
     ensures flushes { FlushesBatch batch.old (K.pushed sink.old) result (K.pushed sink.new) }
     ensures empty { batch.new.bytes.items ≡ [] }

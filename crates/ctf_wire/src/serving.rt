@@ -39,8 +39,8 @@ fn append_memory(out: &mut Vec<u8>, session: u32)
     let _ = out.extend_from_slice(&line[..len]);
 }
 
-/// Appends the line of the answer to a question; or, where it is longer than the room that is
-/// there, that memory for it was refused.
+/// Appends the line of the answer to a question. If there is no room for the line, appends that
+/// memory was refused.
 fn append_answer(out: &mut Vec<u8>, reply: &Reply<'_>)
     requires { HasReplyRoom out.old }
     ensures { Replies out.old (reply_line (reply_of reply.now)) out.new
@@ -69,8 +69,8 @@ impl Machine for Broker {
     }
 }
 
-/// Answers a line as a session: an object that names no number has the session's. The reply has the
-/// number of the line.
+/// Answers a line of a given session. The reply has the number that the line names, or else that of
+/// the session.
 pub fn step_as(
     broker: &mut Broker,
     scratch: &mut Scratch,
@@ -90,7 +90,7 @@ pub fn step_as(
     }
 }
 
-/// Answers a request of a session. The reply has a number of its own.
+/// Answers a request of a session. The reply has the number `own`.
 fn answer_request(broker: &mut Broker, session: u32, own: u32, request: &Request, out: &mut Vec<u8>)
     requires session { session ≢ 0 }
     requires room { HasReplyRoom out.old }
@@ -115,7 +115,7 @@ fn answer_request(broker: &mut Broker, session: u32, own: u32, request: &Request
     }
 }
 
-/// What a broker answers to lines is what each session's own run answers.
+/// The replies of a broker to lines are those of each session's own run.
 pub fn serves_each_session_alone()
     ensures { ServesAlone }
 {}
@@ -142,7 +142,7 @@ pub fn serve_bounded<S: Source, K: Sink>(
     answer_bounded(&mut run, broker, source, sink, reads)
 }
 
-/// How many reads `serve` makes at most.
+/// The greatest number of reads that `serve` makes.
 pub const MOST_READS: u64 = 1 << 40;
 
 /// Reads lines from the source and writes their replies to the sink, to the source's end or for

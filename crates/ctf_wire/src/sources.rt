@@ -2,12 +2,12 @@
 ghost use Rattle.std.specs.Prelude.{◌≡◌, ◌-◌, ◌^◌, ◌<◌, ◌≤◌, length, IfSome};
 ghost use Rattle.ctf_wire.specs.Streams.{Pulled, Pulls};
 
-/// Bytes to be pulled, and marks of how that went.
+/// Bytes to be pulled, and whether pulls failed or met the end.
 pub trait Source {
-    /// What is known of its bytes, how many pulls were made, and how they went.
+    /// What is known of its bytes, how many pulls were made, and whether they succeeded.
     ghost pulled: { Self → Pulled };
 
-    /// Moves some bytes to the front of the buffer, none only at the end, and says how many.
+    /// Moves some bytes to the front of the buffer, none only at the end, and returns how many.
     fn pull(&mut self, buffer: &mut [u8]) -> Option<usize>
         requires room { 0 < length buffer.old }
         requires count { (pulled self.old).pulls < 2 ^ 64 - 1 }

@@ -3,7 +3,7 @@ ghost use Rattle.std.specs.Prelude.{◌≡◌, ◌+◌, ◌-◌, ◌^◌, ◌<�
 ghost use Rattle.ctf_wire.specs.Turning.{Turns};
 
 use crate::batch::Batch;
-use crate::feeding::{finish, take_in};
+use crate::feeding::Intake;
 use crate::machines::Machine;
 use crate::pending::Pending;
 use crate::run_faults::RunFault;
@@ -16,14 +16,12 @@ use std::marker::Model;
 /// How many bytes one read asks for.
 const CHUNK: usize = 65_536;
 
-/// What a run keeps from one turn to the next: the piece of a line that has come so far, and
-/// memory. No reply is kept: each turn sends all that it makes.
+/// What a run keeps from one turn to the next: the part of a line that has come so far, and memory.
+/// No reply is kept: each turn sends all that it makes.
 #[derive(Drop)]
 pub struct Run {
-    pending: Pending,
-    batch: Batch,
+    intake: Intake,
     chunk: Vec<u8>,
-    scratch: Scratch,
 }
 
 impl Model for Run {
@@ -31,27 +29,30 @@ impl Model for Run {
 
     ghost Value = { Option (List ℕ) };
 
-    ghost view = { λ r. r.pending };
+    ghost view = { λ r. r.intake.pending };
 
-    ghost invariant = { λ r. (65536 + 131072 ≤ vec_capacity r.batch.bytes)
-        × (r.batch.bytes.items ≡ []) × (r.batch.waits ≡ false) × (vec_len r.chunk ≡ 65536) };
+    ghost invariant = { λ r. (65536 + 131072 ≤ vec_capacity r.intake.batch.bytes)
+        × (r.intake.batch.bytes.items ≡ []) × (r.intake.batch.waits ≡ false)
+        × (vec_len r.chunk ≡ 65536) };
 }
 
 impl Run {
-    /// Nothing has come.
+    /// A run that has read nothing yet.
     pub fn new(alloc: Global) -> Result<Self, AllocError>
         ensures { IfOk result (λ r. r ≡ Some []) }
     {
         Ok(Run {
-            pending: Pending::new(alloc)?,
-            batch: Batch::new(alloc)?,
+            intake: Intake {
+                pending: Pending::new(alloc)?,
+                batch: Batch::new(alloc)?,
+                scratch: Scratch::new(alloc),
+            },
             chunk: Vec::from_elem(alloc, 0, CHUNK)?,
-            scratch: Scratch::new(alloc),
         })
     }
 
-    /// Reads once, answers each line that is whole by then, and sends all replies: nothing waits
-    /// when the next turn reads. Says whether the source goes on.
+    /// Reads once, answers each line that is whole by then, and sends all replies, so none waits
+    /// when the next turn reads. Returns whether the source goes on.
     pub fn turn<M: Machine, S: Source, K: Sink>(
         &mut self,
         machine: &mut M,
@@ -67,25 +68,12 @@ impl Run {
             return Err(RunFault::Read);
         };
         if count == 0 {
-            if !finish(
-                machine,
-                &mut self.scratch,
-                &self.pending,
-                sink,
-                &mut self.batch,
-            ) {
+            if !self.intake.finish(machine, sink) {
                 return Err(RunFault::Write);
             }
             return Ok(false);
         }
-        if !take_in(
-            machine,
-            &mut self.scratch,
-            &mut self.pending,
-            sink,
-            &mut self.batch,
-            &self.chunk[..count],
-        ) {
+        if !self.intake.take_in(machine, sink, &self.chunk[..count]) {
             return Err(RunFault::Write);
         }
         Ok(true)

@@ -14,7 +14,7 @@ use Rattle.ctf_draft.specs.declared.types.Member.{Member}
 use Rattle.ctf_model.specs.declared.numbers.TypeNum.{TypeNum}
 use Rattle.ctf_model.specs.format.Dictionary.{Label}
 use Rattle.ctf_model.specs.writing.Written.{label_bytes}
-use Rattle.ctf_writer.specs.HeldView.{no_label, written_argument, written_enumerator, written_member}
+use Rattle.ctf_writer.specs.DraftContentView.{no_label, written_argument, written_enumerator, written_member}
 use Rattle.ctf_model.specs.writing.WrittenRecords.{u16, u32, halves, member_bytes, record_bytes, field_bytes, field_of, variant_bytes, info_of, argument_bytes, enumerator_bytes}
 
 pub joined_four : (o a b c d o1 o2 o3 o4 : List ℕ) → o1 ≡ o ++ a → o2 ≡ o1 ++ b → o3 ≡ o2 ++ c → o4 ≡ o3 ++ d → o4 ≡ o ++ (a ++ b ++ c ++ d)

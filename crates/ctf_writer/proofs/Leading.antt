@@ -17,7 +17,7 @@ use Rattle.ctf_draft.specs.declared.types.AggregateKind.{AggregateKind}
 use Rattle.ctf_draft.specs.declared.types.AggregateKind.TheVariants.{Struct, Union}
 use Rattle.ctf_writer.specs.Leading.{type_places, draft_places}
 use Rattle.ctf_draft.specs.TypeView.{aggregate_body, body_of, member_of, type_of}
-use Rattle.ctf_writer.specs.HeldView.{dictionary_of}
+use Rattle.ctf_writer.specs.DraftContentView.{dictionary_of}
 use Rattle.ctf_writer.specs.declared.draft_view.DraftContent.{DraftContent}
 use Rattle.ctf_model.specs.writing.Written.{deep_by}
 use Rattle.ctf_draft.specs.declared.types.DraftType.{DraftType}

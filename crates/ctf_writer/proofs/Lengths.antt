@@ -8,7 +8,7 @@ use Rattle.ctf_model.specs.format.Record.{member_len}
 use Rattle.ctf_model.specs.format.Term as term
 use Rattle.ctf_draft.specs.TypeView.{aggregate_body, member_of, reference_body, scalar_body}
 use Rattle.ctf_draft.specs.declared.types.Member.{Member}
-use Rattle.ctf_writer.specs.HeldView.{written_member}
+use Rattle.ctf_writer.specs.DraftContentView.{written_member}
 use Rattle.ctf_writer.proofs.Joining.{members_joined}
 use Rattle.ctf_draft.specs.declared.types.AggregateKind.{AggregateKind}
 use Rattle.ctf_draft.specs.declared.types.AggregateKind.TheVariants.{Struct, Union}

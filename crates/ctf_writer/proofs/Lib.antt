@@ -3,8 +3,8 @@ pub mod Distinct
 pub mod Joining
 pub mod Lengths
 pub mod Growing
-pub mod HeldNames
+pub mod ContentNames
 pub mod Header
-pub mod HeldParts
+pub mod ContentParts
 pub mod Leading
 pub mod Made

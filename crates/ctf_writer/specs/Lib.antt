@@ -2,6 +2,6 @@ pub mod Offsets
 pub mod Uses
 pub mod Once
 pub mod Tables
-pub mod HeldView
+pub mod DraftContentView
 pub mod Leading
 pub mod Updating

@@ -7,7 +7,7 @@ ghost use Rattle.ctf_model.specs.rules.Chains.{by_value, declarator, own_index a
 ghost use Rattle.ctf_model.specs.rules.Faults.{or_later};
 ghost use Rattle.ctf_model.specs.rules.Refusals.{out_of_memory};
 ghost use Rattle.ctf_model.specs.writing.Written.{deep_by};
-ghost use Rattle.ctf_writer.specs.HeldView.{dictionary_of};
+ghost use Rattle.ctf_writer.specs.DraftContentView.{dictionary_of};
 ghost use Rattle.ctf_writer.specs.Leading.{draft_places, type_places};
 
 use crate::draft_view::DraftContent;
@@ -46,7 +46,7 @@ fn step(body: &Body, chain: Chain, k: usize) -> TypeNum
     }
 }
 
-/// The own type that a number names, from 0, where there are that many.
+/// The own type with a number, counted from 0, if there are that many.
 fn own_index(child: bool, count: usize, number: TypeNum) -> Option<usize>
     ensures { result ≡ own_index_of child count number.0 }
 {
@@ -91,7 +91,7 @@ impl<'a, L: Ledger> Graph<L> for Leading<'a> {
     }
 }
 
-/// The number that a fault has for a type: counted from 1.
+/// The number of a type in a fault: counted from 1.
 fn number_of(types: &[DraftType], i: usize) -> u64
     requires { i < length types.now }
     ensures { result ≡ i + 1 }
@@ -99,7 +99,7 @@ fn number_of(types: &[DraftType], i: usize) -> u64
     i as u64 + 1
 }
 
-/// The first type that a chain of one sort of more than 512 steps begins at, counted from 1.
+/// The first type from which a chain of one sort has more than 512 steps, counted from 1.
 fn deep_with<L: Ledger>(
     alloc: Global,
     held: DraftContent<'_>,
@@ -123,14 +123,14 @@ fn deep_with<L: Ledger>(
     }
 }
 
-/// The same in a ledger of its own, which nobody reads.
+/// The same, with a ledger of its own that nobody reads.
 fn deep(alloc: Global, held: DraftContent<'_>, chain: Chain) -> Result<Option<u64>, AllocError>
     ensures { IfOk result (λ place. place ≡ deep_by (steps chain) (dictionary_of held.entry)) }
 {
     deep_with::<Brand>(alloc, held, chain, Blank::new(1))
 }
 
-/// Judges the chains of a draft's types: by value first, then those of declarators.
+/// Checks the chains of a draft's types: by value first, then those of declarators.
 pub(crate) fn judge_chains(alloc: Global, held: DraftContent<'_>) -> Result<(), Fault>
     ensures ok { OnOk result ((deep_by by_value (dictionary_of held.entry) ≡ None)
         × (deep_by declarator (dictionary_of held.entry) ≡ None)) }

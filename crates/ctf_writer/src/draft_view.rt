@@ -1,8 +1,8 @@
-//! What a draft lends to be written.
+//! A draft, borrowed to be written.
 ghost use Rattle.std.specs.Prelude.{◌≡◌};
 ghost use Rattle.ctf_model.specs.drafts.DraftLaws.{IsSound};
 ghost use Rattle.ctf_model.specs.drafts.Drafts.{content};
-ghost use Rattle.ctf_writer.specs.HeldView.{dictionary_of};
+ghost use Rattle.ctf_writer.specs.DraftContentView.{dictionary_of};
 
 use ctf_draft::{Draft, DraftType, Labels};
 

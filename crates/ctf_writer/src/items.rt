@@ -1,11 +1,11 @@
-//! The items of a type's list, appended where there is room.
+//! Appends the items of a type's list, for which there is room.
 ghost use Rattle.std.specs.Prelude.{◌≡◌, ◌+◌, ◌≤◌, ◌<◌, ◌++◌, length, map, vec_len, vec_capacity};
 ghost use Rattle.std.specs.List.{flat_map, All};
 ghost use Rattle.ctf_draft.specs.TypeView.{enumerator_of, member_of, number_of};
 ghost use Rattle.ctf_model.specs.drafts.Fitting.{FitsMember};
 ghost use Rattle.ctf_model.specs.writing.WritingLaws.{IsKept};
 ghost use Rattle.ctf_model.specs.writing.WrittenRecords.{argument_bytes, member_bytes};
-ghost use Rattle.ctf_writer.specs.HeldView.{written_argument, written_enumerator, written_member};
+ghost use Rattle.ctf_writer.specs.DraftContentView.{written_argument, written_enumerator, written_member};
 ghost use Rattle.ctf_writer.specs.Tables.{names};
 
 use crate::numbers::{put_halves, put_u16, put_u32};
@@ -111,15 +111,6 @@ pub(crate) fn put_enumerators(out: &mut Vec<u8>, strings: &Strings<'_>, enumerat
     }
 }
 
-fn put_type(out: &mut Vec<u8>, tnum: &TypeNum)
-    requires room { vec_len out.old + 2 ≤ vec_capacity out.old }
-    ensures items { out.new.items ≡ out.old.items ++ written_argument tnum.now }
-    ensures len { vec_len out.new ≡ vec_len out.old + 2 }
-    ensures capacity { vec_capacity out.new ≡ vec_capacity out.old }
-{
-    put_u16(out, tnum.0);
-}
-
 fn put_types(out: &mut Vec<u8>, types: &[TypeNum])
     requires room { vec_len out.old + length (flat_map written_argument types.now)
         ≤ vec_capacity out.old }
@@ -128,11 +119,11 @@ fn put_types(out: &mut Vec<u8>, types: &[TypeNum])
     ensures capacity { vec_capacity out.new ≡ vec_capacity out.old }
 {
     for tnum in types {
-        put_type(out, tnum);
+        put_u16(out, tnum.0);
     }
 }
 
-/// Appends arguments, and a pad where they are odd.
+/// Appends arguments, and a pad if their number is odd.
 pub(crate) fn put_arguments(out: &mut Vec<u8>, arguments: &[TypeNum])
     requires room { vec_len out.old + length (argument_bytes (map number_of arguments.now))
         ≤ vec_capacity out.old }

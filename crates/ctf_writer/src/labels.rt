@@ -4,7 +4,7 @@ ghost use Rattle.std.specs.List.{flat_map, All};
 ghost use Rattle.ctf_model.specs.writing.Written.{label_bytes};
 ghost use Rattle.ctf_model.specs.writing.WritingLaws.{IsKept};
 ghost use Rattle.ctf_writer.specs.Tables.{names};
-ghost use Rattle.ctf_writer.specs.HeldView.{no_label};
+ghost use Rattle.ctf_writer.specs.DraftContentView.{no_label};
 
 use crate::numbers::put_u32;
 use crate::strings::Strings;

@@ -1,8 +1,8 @@
-//! Numbers, appended where there is room.
+//! Appends numbers, for which there is room.
 ghost use Rattle.std.specs.Prelude.{◌≡◌, ◌+◌, ◌≤◌, ◌++◌, length, vec_len, vec_capacity};
 ghost use Rattle.ctf_model.specs.writing.WrittenRecords.{u16 as two_bytes, u32 as four_bytes, halves, field_bytes};
 
-/// Appends bytes where there is room.
+/// Appends bytes, for which there is room.
 pub fn put(out: &mut Vec<u8>, bytes: &[u8])
     requires { vec_len out.old + length bytes.now ≤ vec_capacity out.old }
     ensures items { out.new.items ≡ out.old.items ++ bytes.now }
@@ -51,7 +51,7 @@ pub fn field_len(number: u64) -> usize
     if number < 65_535 { 2 } else { 10 }
 }
 
-/// A number in the field of a record, or behind the mark of the long form.
+/// A number in the field of a record, or after the mark of the long form.
 pub fn put_field(out: &mut Vec<u8>, number: u64)
     requires { vec_len out.old + length (field_bytes number) ≤ vec_capacity out.old }
     ensures items { out.new.items ≡ out.old.items ++ field_bytes number }

@@ -119,7 +119,7 @@ fn put_array(out: &mut Vec<u8>, array: ArrayInfo)
     put_u32(out, array.count);
 }
 
-/// Appends what stands behind the head of a type's record.
+/// Appends what follows the head of a type's record.
 fn put_variant(out: &mut Vec<u8>, strings: &Strings<'_>, body: &Body)
     requires room { vec_len out.old
         + length (variant_bytes (names strings.now) (body_of body.now)) ≤ vec_capacity out.old }

@@ -1,4 +1,4 @@
-//! How long the parts of a written dictionary are.
+//! The lengths of the parts of a written dictionary.
 ghost use Rattle.std.specs.Prelude.{◌≡◌, ℕ, ◌*◌, ◌+◌, ◌<◌, ◌≤◌, List, length, MatchOption};
 ghost use Rattle.std.specs.List.{flat_map, All};
 ghost use Rattle.ctf_draft.specs.TypeView.{body_of, type_of};
@@ -6,7 +6,7 @@ ghost use Rattle.ctf_model.specs.drafts.Fitting.{Fits, FitsBody};
 ghost use Rattle.ctf_model.specs.format.Record.{member_len as member_len_of};
 ghost use Rattle.ctf_model.specs.writing.Written.{most_written};
 ghost use Rattle.ctf_model.specs.writing.WrittenRecords.{variant_bytes};
-ghost use Rattle.ctf_writer.specs.HeldView.{written_type};
+ghost use Rattle.ctf_writer.specs.DraftContentView.{written_type};
 
 use crate::items::FIRST_WIDE;
 use crate::numbers::field_len;
@@ -22,7 +22,7 @@ fn member_len(size: u64) -> usize
     if size < FIRST_WIDE { 8 } else { 16 }
 }
 
-/// The length of what stands behind the head of a type's record, whatever its names.
+/// The length of what follows the head of a type's record; names do not matter.
 fn variant_len(body: &Body) -> usize
     requires { FitsBody (body_of body.now) }
     ensures exact { (names : List (List ℕ))
@@ -39,7 +39,7 @@ fn variant_len(body: &Body) -> usize
     }
 }
 
-/// The length of the record of a type, whatever its names.
+/// The length of the record of a type; names do not matter.
 fn record_len(source: &DraftType) -> usize
     requires { Fits (type_of source.now) }
     ensures exact { (names : List (List ℕ)) → result ≡ length (written_type names source.now) }
@@ -48,7 +48,7 @@ fn record_len(source: &DraftType) -> usize
     6 + field_len(field(&source.body)) + variant_len(&source.body)
 }
 
-/// The length of the records of types, if it isn't more than a dictionary's may be.
+/// The length of the records of types, if it is no more than a dictionary may have.
 pub(crate) fn records_len(types: &[DraftType]) -> Option<usize>
     requires { All (λ t. Fits (type_of t)) types.now }
     ensures { (names : List (List ℕ)) → MatchOption result

@@ -1,4 +1,4 @@
-//! The names of a dictionary, each once, and where each stands in the string section.
+//! The names of a dictionary, each once, and where each is in the string section.
 ghost use Rattle.std.specs.Prelude.{vec_len, vec_capacity, ◌≡◌, ◌<◌, ◌≤◌, ◌+◌, ◌++◌, [], ◌∷◌, false, length, IfErr, OnOk, OnErr, ◌⊎◌};
 ghost use Rattle.std.specs.List.{list_any};
 ghost use Rattle.std.specs.Str.{bytes_eq};
@@ -52,7 +52,7 @@ impl<'a> Strings<'a> {
         self.offsets.contains_key(name)
     }
 
-    /// Adds a name that is not there yet, behind the others.
+    /// Adds a name that was not added yet.
     fn push(&mut self, name: &'a [u8]) -> Result<(), AllocError>
         requires fresh { list_any (bytes_eq name.now) (names self.old) ≡ false }
         requires room { length (string_bytes (names self.old)) + length name.now < 67108864 }
@@ -67,7 +67,7 @@ impl<'a> Strings<'a> {
         Ok(())
     }
 
-    /// Adds a name, if it isn't empty and not there yet.
+    /// Adds a name, unless it is empty or was added before.
     pub fn add(&mut self, name: &'a [u8]) -> Result<(), Fault>
         ensures ok { OnOk result (names self.new ≡ with_name (names self.old) name.now) }
         ensures refused { IfErr result (IsRefused (with_name (names self.old) name.now)) }

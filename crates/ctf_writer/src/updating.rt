@@ -1,4 +1,4 @@
-//! What was added to a draft becomes part of its dictionary.
+//! Makes the additions to a draft part of its dictionary.
 ghost use Rattle.std.specs.Prelude.{◌≡◌, ◌⊎◌, IfErr, IfOk, OnErr, OnOk, MatchOption, None, Err};
 ghost use Rattle.ctf_model.specs.drafts.Drafts.{content as held_by, commit};
 ghost use Rattle.ctf_model.specs.rules.Faults.{first_fault};
@@ -13,7 +13,7 @@ use ctf_model::{Bytes, DataModel, Fault, Parts, placeless};
 use std::alloc::Global;
 use std::rc::Rc;
 
-/// The dictionary that bytes without a fault are.
+/// The dictionary of bytes without a fault.
 fn judge(alloc: Global, bytes: Vec<u8>, model: DataModel) -> Result<Rc<Judged<'static>>, Fault>
     requires faultless { first_fault (lists_of bytes.items) ≡ None }
     ensures ok { IfOk result
@@ -35,10 +35,10 @@ fn judge(alloc: Global, bytes: Vec<u8>, model: DataModel) -> Result<Rc<Judged<'s
     }
 }
 
-/// Makes all that was added part of the draft's dictionary, which is what `write` writes from now
-/// on; or leaves the draft as it was, with the fault for which it isn't written.
+/// Makes all additions part of the draft's dictionary, which then has the bytes that `write` gives;
+/// or leaves the draft as it was, with the fault for which it is not written.
 ///
-/// The bytes can be lent from `draft.dictionary()`.
+/// The bytes can be borrowed from `draft.dictionary()`.
 pub fn update(alloc: Global, draft: &mut Draft) -> Result<(), Fault>
     ensures draft { OnOk result (draft.new.draft ≡ commit draft.old.draft) }
     ensures dictionary { OnOk result

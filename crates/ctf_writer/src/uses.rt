@@ -1,9 +1,9 @@
-//! The names of what a draft holds, added at their uses.
+//! Adds the names in a draft, in the order of their uses.
 ghost use Rattle.std.specs.Prelude.{◌≡◌, map, IfErr, IfOk, OnOk};
 ghost use Rattle.std.specs.List.{flat_map};
 ghost use Rattle.ctf_draft.specs.TypeView.{body_of, type_of};
 ghost use Rattle.ctf_model.specs.writing.WrittenNames.{listed_names, names_of, strings_of as strings_in};
-ghost use Rattle.ctf_writer.specs.HeldView.{dictionary_of, uses};
+ghost use Rattle.ctf_writer.specs.DraftContentView.{dictionary_of, uses};
 ghost use Rattle.ctf_writer.specs.Tables.{names};
 ghost use Rattle.ctf_writer.specs.Uses.{with_names, IsRefused};
 

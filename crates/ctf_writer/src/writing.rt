@@ -1,4 +1,4 @@
-//! What a draft holds as bytes.
+//! Writes a draft as bytes.
 ghost use Rattle.std.specs.Prelude.{◌≡◌, ◌+◌, ◌<◌, ◌≤◌, ◌^◌, ◌⊎◌, ◌++◌, length, IfErr, IfOk, MatchOption, Err, Ok, vec_len, vec_capacity};
 ghost use Rattle.std.specs.List.{All, AllByRecursion, flat_map};
 ghost use Rattle.ctf_draft.specs.TypeView.{type_of};
@@ -8,7 +8,7 @@ ghost use Rattle.ctf_model.specs.rules.Refusals.{out_of_memory};
 ghost use Rattle.ctf_model.specs.writing.WritingLaws.{IsKept};
 ghost use Rattle.ctf_model.specs.writing.Written.{bytes_of, fields_over, header_bytes, labels_written, most_written, records_written, written};
 ghost use Rattle.ctf_model.specs.writing.WrittenNames.{strings_of as strings_in};
-ghost use Rattle.ctf_writer.specs.HeldView.{dictionary_of, uses, written_type};
+ghost use Rattle.ctf_writer.specs.DraftContentView.{dictionary_of, uses, written_type};
 ghost use Rattle.ctf_writer.specs.Tables.{names};
 ghost use Rattle.ctf_writer.specs.Updating.{StandsFor};
 
@@ -27,8 +27,8 @@ use std::alloc::Global;
 /// The length of the header.
 const HEADER: usize = 36;
 
-/// What the header says: the references of the parent's label and name, and the lengths of labels,
-/// records and strings.
+/// The numbers in the header: the references of the parent's label and name, and the lengths of
+/// labels, records and strings.
 #[derive(Clone, Copy)]
 struct Heading {
     parlabel: u32,
@@ -75,7 +75,7 @@ fn put_records(out: &mut Vec<u8>, strings: &Strings<'_>, types: &[DraftType])
     }
 }
 
-/// How long the parts are, and the whole.
+/// The lengths of the parts, and of the whole.
 #[derive(Clone, Copy)]
 struct Lengths {
     labels: usize,
@@ -83,7 +83,7 @@ struct Lengths {
     whole: usize,
 }
 
-/// The lengths of what is written, if it isn't more than a dictionary's may be.
+/// The lengths of the parts, if the whole is no more than a dictionary may have.
 fn lengths_of(held: DraftContent<'_>, strings: &Strings<'_>) -> Option<Lengths>
     requires fits { AllByRecursion Fits (dictionary_of held).terms }
     requires strings { names strings.now ≡ strings_in (dictionary_of held) }
@@ -110,7 +110,7 @@ fn lengths_of(held: DraftContent<'_>, strings: &Strings<'_>) -> Option<Lengths>
     })
 }
 
-/// Appends what is held, whose parts have these lengths.
+/// Appends the content of a draft, whose parts have these lengths.
 fn put_held(out: &mut Vec<u8>, held: DraftContent<'_>, strings: &Strings<'_>, lengths: Lengths)
     requires fits { AllByRecursion Fits (dictionary_of held).terms }
     requires strings { names strings.now ≡ strings_in (dictionary_of held) }
@@ -134,7 +134,7 @@ fn put_held(out: &mut Vec<u8>, held: DraftContent<'_>, strings: &Strings<'_>, le
     strings.put(out);
 }
 
-/// What is held as bytes, or why it isn't written.
+/// The content of a draft as bytes, or the fault for which it is not written.
 fn write_held(alloc: Global, held: DraftContent<'_>) -> Result<Vec<u8>, Fault>
     requires { AllByRecursion Fits (dictionary_of held).terms }
     ensures ok { IfOk result (λ bytes. written (dictionary_of held.entry) ≡ Ok bytes.items) }
@@ -151,10 +151,10 @@ fn write_held(alloc: Global, held: DraftContent<'_>) -> Result<Vec<u8>, Fault>
     Ok(out)
 }
 
-/// All that a draft holds, updated and pending, as the bytes of a dictionary; or why it isn't
-/// written: a chain of types that is too long, or too many bytes.
+/// All that a draft holds, updated and pending, as the bytes of a dictionary; or the fault for
+/// which it is not written: a chain of types that is too long, or too many bytes.
 ///
-/// Takes time in proportion to the bytes, and reserves them at once, in their exact number.
+/// Takes time linear in the bytes, and allocates exactly that many at once.
 pub fn write(alloc: Global, draft: &Draft) -> Result<Vec<u8>, Fault>
     ensures ok { IfOk result (λ bytes. written (held_by draft.now.draft) ≡ Ok bytes.items) }
     ensures stands { IfOk result (λ bytes. StandsFor draft.now.draft bytes.items) }

@@ -8,12 +8,12 @@ use ctf_command::{MISUSED, RunFault, end, usage_status};
 use std::alloc::{AllocError, Global};
 use std::{env, io};
 
-/// What `--version` prints: the version, and on a line of its own which build this is. A build
-/// without the proofs has another second line (scripts/quick.py writes it). docs/PROTOCOL.md says
-/// what a version promises.
+/// What `--version` prints: the version, and on a second line which build this is. A build without
+/// the proofs has another second line (scripts/quick.py writes it). docs/PROTOCOL.md says what a
+/// version promises.
 const VERSION: &str = "0.2.0\nproved build: rattle-kit-13, logic dac8208d650f15bf";
 
-/// What stands below the help of each command.
+/// The text below the help of each command.
 const STATUSES_AND_PAGES: &str = "\
 Exit status:
   0  done
@@ -29,7 +29,7 @@ fn file_option<'a>(alloc: Global, name: &'a str, help: &'a str) -> Arg<'a> {
     Arg::new(alloc, name).long(name).value_name("F").help(help)
 }
 
-/// The option that says how many bytes a pointer of the program has.
+/// The option for the number of bytes of the program's pointers.
 fn model_option<'a>(alloc: Global) -> Arg<'a> {
     let models: &'a [&'a str] = &["lp64", "ilp32"];
     Arg::new(alloc, "model")
@@ -69,7 +69,7 @@ fn serve_command<'a>(alloc: Global) -> Result<Command<'a>, AllocError> {
         .arg(publications)
 }
 
-/// The commands that there are.
+/// The commands.
 fn command<'a>(alloc: Global) -> Result<Command<'a>, AllocError> {
     Command::new(alloc, "ctfd")
         .version(VERSION)
@@ -80,7 +80,7 @@ fn command<'a>(alloc: Global) -> Result<Command<'a>, AllocError> {
         .subcommand(dump_command(alloc)?)
 }
 
-/// Does what a command says, and answers the exit status.
+/// Runs a command, and returns the exit status.
 fn obey(rt: &HostRuntime, matches: &ArgMatches<'_>) -> u8 {
     if let Some(words) = matches.subcommand_matches("dump") {
         return dumping::run(rt, words);
@@ -91,7 +91,7 @@ fn obey(rt: &HostRuntime, matches: &ArgMatches<'_>) -> u8 {
     }
 }
 
-/// Reads the words that the program was called with, and does what they say.
+/// Parses the command line, and runs the command.
 fn parse(rt: &HostRuntime) -> Result<u8, Error> {
     let mut command = command(rt.alloc())?;
     match env::args(rt) {
@@ -107,7 +107,7 @@ fn parse(rt: &HostRuntime) -> Result<u8, Error> {
     }
 }
 
-/// Prints help, the version or what is wrong with the words, and answers the exit status.
+/// Prints help, the version or what is wrong with the words, and returns the exit status.
 fn tell(rt: &HostRuntime, error: &Error) -> u8 {
     if error.kind() == ErrorKind::OutOfMemory {
         return end(rt, Err(RunFault::Memory));
@@ -122,7 +122,7 @@ fn tell(rt: &HostRuntime, error: &Error) -> u8 {
     }
 }
 
-/// Does what the words say, and answers the exit status.
+/// Runs the command line, and returns the exit status.
 pub fn run(rt: &HostRuntime) -> u8 {
     match parse(rt) {
         Ok(status) => status,

@@ -8,7 +8,7 @@ use ctf_command::{
 use std::io;
 use std::io::{BufWriter, ErrorKind, Write};
 
-/// The status of a program that SIGPIPE ended, as a shell tells it.
+/// The status of a program that SIGPIPE ended, as a shell reports it.
 const READER_LEFT: u8 = 141;
 
 /// A writer that notes whether its reader has left.
@@ -40,7 +40,7 @@ fn read<'a>(rt: &HostRuntime, name: &'a str) -> Result<InputFile<'a>, DumpEnd<'a
     Ok(InputFile { name, bytes })
 }
 
-/// The file of an option, if that is there.
+/// The file of an option, if the option is given.
 fn read_option<'a>(
     rt: &HostRuntime,
     words: &ArgMatches<'a>,
@@ -52,8 +52,8 @@ fn read_option<'a>(
     }
 }
 
-/// Reads the files, dumps them, and answers the exit status; an error where not all were read.
-/// Where the reader of the text has left, nothing is said, as by a program that SIGPIPE ends.
+/// Reads the files, dumps them, and returns the exit status; an error if not all were read. If the
+/// reader of the text has left, no message is printed, as with a program that SIGPIPE ends.
 fn dump_files<'a>(
     rt: &HostRuntime,
     words: &ArgMatches<'a>,
@@ -86,9 +86,9 @@ fn dump_files<'a>(
     Ok(status)
 }
 
-/// Dumps the files that the words name, and answers the exit status.
+/// Dumps the files that the words name, and returns the exit status.
 pub fn run(rt: &HostRuntime, words: &ArgMatches<'_>) -> u8 {
-    // There is a word for it, since it has a default, and the parser lets no other through.
+    // The option has a default, and the parser accepts no other word.
     let Some(model) = words.get_str("model").and_then(|word| model_named(word)) else {
         return MISUSED;
     };

@@ -1,18 +1,18 @@
-//! Text for a terminal: control characters in names of files and in words are shown, not obeyed.
+//! Text for a terminal: control characters in names of files and in words are replaced.
 
 use std::fmt::Display;
 use std::io;
 use std::io::Write;
 
-/// Stands in place of a control character.
+/// What replaces a control character.
 const SHOWN: &[u8] = b"?";
 
-/// Whether a terminal takes a byte for an order. A newline ends a line, and a tab is a blank.
+/// Whether a byte may control a terminal. A newline and a tab may not.
 fn is_control(byte: u8) -> bool {
     byte < b' ' && byte != b'\n' && byte != b'\t' || byte == 0x7f
 }
 
-/// A writer before another, which gets a question mark for each control character.
+/// A writer that passes its bytes on to another, with a question mark for each control character.
 #[derive(Drop)]
 pub struct Printable<W> {
     pub writer: W,

@@ -5,7 +5,7 @@ use clap::ArgMatches;
 use ctf_command::{FromReader, ToWriter, end, serve_lines, start};
 use std::io;
 
-/// Publishes the files that the words name, serves standard input, and answers the exit status.
+/// Publishes the files that the words name, serves standard input, and returns the exit status.
 pub fn run(rt: &HostRuntime, words: &ArgMatches<'_>) -> u8 {
     let publications = words.get_strs("publications").unwrap_or(&[]);
     match start(rt.alloc(), rt, publications) {

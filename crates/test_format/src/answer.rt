@@ -1,11 +1,11 @@
-//! What a call answers, in words.
+//! The answer of a call, in words.
 
 use ctf_model::{Fault, fault_name};
 use std::alloc::{AllocError, Global};
 use std::fmt::Debug;
 use std::str::from_utf8;
 
-/// Words, each behind a space.
+/// Words, each after a space.
 #[derive(Drop)]
 pub struct Answer {
     alloc: Global,
@@ -38,12 +38,13 @@ impl Answer {
         !self.failed && self.text() == want
     }
 
-    /// There is no answer: memory was refused, or a row asks for what there is not.
+    /// Adds that there is no answer: memory was refused, or a row asks for something that does not
+    /// exist.
     pub fn fail(&mut self) {
         self.failed = true;
     }
 
-    /// What was written, if memory was there.
+    /// Adds words, if memory was there.
     fn push_words(&mut self, words: Result<String, AllocError>) {
         let pushed = match words {
             Ok(words) => self.text.push_str(&words),
@@ -62,7 +63,7 @@ impl Answer {
         self.push_words(format!(in self.alloc; " {value:?}"));
     }
 
-    /// Digits of bytes, or a dash where there are none.
+    /// Adds the digits of bytes, or a dash if there are none.
     pub fn bytes(&mut self, bytes: &[u8]) {
         match hex::encode(self.alloc, bytes) {
             Ok(digits) if !digits.is_empty() => self.word(&digits),
@@ -71,7 +72,7 @@ impl Answer {
         }
     }
 
-    /// A name between quotes.
+    /// Adds a name between quotes.
     pub fn name(&mut self, name: &[u8]) {
         match from_utf8(name) {
             Ok(name) => self.say(name),
@@ -79,7 +80,7 @@ impl Answer {
         }
     }
 
-    /// The name of a fault, and its place.
+    /// Adds the name of a fault, and its place.
     pub fn fault(&mut self, fault: Fault) {
         self.word(fault_name(fault.code));
         self.say(fault.place);

@@ -1,7 +1,6 @@
-//! Bytes as a row writes them: pieces with commas between them. A piece is two digits for each
-//! byte, or a `'` and a text. `COUNT*` in front of it stands for so many of it, and `+AT` behind it
-//! makes the number of two bytes at that place greater by one in each next one. A dash stands for
-//! no bytes.
+//! How a row writes bytes: pieces with commas between them. A piece is two digits for each byte, or
+//! a `'` and a text. `COUNT*` in front of a piece repeats it; `+AT` after the piece adds one, in
+//! each repetition, to the two-byte number at that place. A dash stands for no bytes.
 
 use ctf_sections::bytes::u16_at;
 use std::alloc::Global;
@@ -14,7 +13,7 @@ fn piece_of(alloc: Global, piece: &str) -> Option<Vec<u8>> {
     }
 }
 
-/// Makes the number at a place greater by one.
+/// Adds one to the number at a place.
 fn raise(bytes: &mut [u8], at: usize) -> Option<()> {
     if at >= bytes.len() || bytes.len() - at < 2 {
         return None;
@@ -24,7 +23,7 @@ fn raise(bytes: &mut [u8], at: usize) -> Option<()> {
     Some(())
 }
 
-/// Appends a piece so many times as it says.
+/// Appends a piece as often as it says.
 fn append(alloc: Global, bytes: &mut Vec<u8>, text: &str) -> Option<()> {
     let (count, text) = text.split_once('*').unwrap_or(("1", text));
     let (text, places) = text.split_once('+').unwrap_or((text, ""));
@@ -38,7 +37,7 @@ fn append(alloc: Global, bytes: &mut Vec<u8>, text: &str) -> Option<()> {
     Some(())
 }
 
-/// The bytes that a word writes, if it is such a word and memory is there.
+/// The bytes that a word stands for, if it is written correctly and memory is there.
 pub fn bytes_of(alloc: Global, word: &str) -> Option<Vec<u8>> {
     let mut bytes = Vec::new(alloc);
     if word != "-" {

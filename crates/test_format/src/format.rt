@@ -12,7 +12,7 @@ mod views;
 use crate::answer::Answer;
 use crate::words::Words;
 
-/// Answers a call: each file of rows has those of one crate.
+/// Answers a call; each file of rows is about one crate.
 pub fn answer_call(file: &str, answer: &mut Answer, words: &mut Words<'_>) {
     match file {
         "model.rows" => model::answer_call(answer, words),

@@ -1,5 +1,5 @@
-//! Rows of calls: what each public call of the crates that read the format answers of bytes typed
-//! by hand, each with ample memory.
+//! Rows of calls: the answers of each public call of the crates that read the format, for bytes
+//! written by hand. Memory is never refused.
 #![tactic(auto)]
 
 mod answer;

@@ -1,12 +1,12 @@
-//! Rows in files: a call and what it is given, `=`, and what it answers. A line that begins with
-//! `#` is the title of the rows below it; one that begins with `/` is a comment.
+//! Rows in files: a call and its arguments, `=`, and the answer. A line that begins with `#` is the
+//! title of the rows below it; one that begins with `/` is a comment.
 
 use crate::answer::Answer;
 use crate::format::answer_call;
 use crate::words::Words;
 use std::{env, fs, io};
 
-/// How many lines and rows of a file there were so far, and how many rows of them hold.
+/// How many lines and rows of a file were read so far, and how many of these rows hold.
 #[derive(Drop)]
 struct Tally<'a> {
     file: &'a str,
@@ -16,7 +16,7 @@ struct Tally<'a> {
 }
 
 impl Tally<'_> {
-    /// Answers the call of a row. Where that is not what the row says, prints both.
+    /// Answers the call of a row. If the answer differs from the row's, prints both.
     fn row(&mut self, rt: &HostRuntime, row: &str) -> io::Result<()> {
         self.rows = self.rows.wrapping_add(1);
         let (call, want) = row.split_once('=').unwrap_or((row, "?"));
@@ -48,7 +48,7 @@ impl Tally<'_> {
     }
 }
 
-/// Prints the titles of a file, and how many of its rows hold. Answers whether all do.
+/// Prints the titles of a file, and how many of its rows hold. Returns whether all do.
 fn file_holds(rt: &HostRuntime, file: &str) -> io::Result<bool> {
     let text = fs::read_to_string(rt, file)?;
     let mut tally = Tally {
@@ -64,7 +64,7 @@ fn file_holds(rt: &HostRuntime, file: &str) -> io::Result<bool> {
     Ok(tally.held == tally.rows)
 }
 
-/// The words behind the program's own name are files of rows.
+/// The words after the program's own name are files of rows.
 pub fn all_hold(rt: &HostRuntime) -> io::Result<bool> {
     let mut files = env::args(rt)?;
     let _ = files.next();

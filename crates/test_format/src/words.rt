@@ -4,7 +4,7 @@ use crate::bytes::bytes_of;
 use std::alloc::Global;
 use std::str::FromStr;
 
-/// What is left of a row, and whether each word so far was one of the sort that was asked for.
+/// The rest of a row, and whether each word so far had the sort that was asked for.
 #[derive(Drop)]
 pub struct Words<'a> {
     alloc: Global,
@@ -59,7 +59,7 @@ impl<'a> Words<'a> {
         }
     }
 
-    /// The bytes that the next word writes.
+    /// The bytes that the next word stands for.
     pub fn bytes(&mut self) -> Vec<u8> {
         match bytes_of(self.alloc, self.word()) {
             Some(bytes) => bytes,

@@ -1,4 +1,4 @@
-//! The calls that rows ask, by their names.
+//! The calls of rows, by their names.
 
 mod each_call;
 mod libraries;
@@ -13,7 +13,7 @@ mod shelves;
 use crate::collected::Said;
 use crate::transcripts::outcomes::Exchange;
 
-/// Answers the calls that are about the lines of a run. Whether it knows the name.
+/// Answers the calls about the lines of a run. Returns whether it knows the name.
 fn answers_run(said: &mut Said, told: &Exchange, name: &str, words: &str) -> bool {
     match name {
         "run" => runs::run(said, told, words),
@@ -29,7 +29,7 @@ fn answers_run(said: &mut Said, told: &Exchange, name: &str, words: &str) -> boo
     true
 }
 
-/// Answers a call: its name and what it is given.
+/// Answers a call: its name and its arguments.
 pub fn answer(said: &mut Said, told: &Exchange, call: &str) {
     let (name, words) = call.split_once(' ').unwrap_or((call, ""));
     if answers_run(said, told, name, words) {

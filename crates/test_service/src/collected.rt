@@ -1,8 +1,8 @@
-//! What a call answers, in words.
+//! The answer of a call, in words.
 
 use std::alloc::{AllocError, Global};
 
-/// Words with a space between them.
+/// Words, separated by spaces.
 #[derive(Drop)]
 pub struct Said {
     alloc: Global,
@@ -27,7 +27,7 @@ impl Said {
         &self.text
     }
 
-    /// Whether these are the words.
+    /// Whether these are all words.
     pub fn is(&self, want: &str) -> bool {
         !self.failed && self.text() == want
     }
@@ -44,14 +44,14 @@ impl Said {
         self.put(word);
     }
 
-    /// Notes whether memory was there.
+    /// Adds whether memory was there.
     pub fn note(&mut self, done: Result<(), AllocError>) {
         if done.is_err() {
             self.failed = true;
         }
     }
 
-    /// What was made, if memory was there.
+    /// Adds a word, or that memory was refused.
     pub fn push_word(&mut self, word: Result<String, AllocError>) {
         match word {
             Ok(word) => self.word(&word),
@@ -63,12 +63,12 @@ impl Said {
         self.push_word(format!(in self.alloc; "{number}"));
     }
 
-    /// Bytes that are a text.
+    /// Adds bytes as text.
     pub fn text_of(&mut self, bytes: &[u8]) {
         self.word(std::str::from_utf8(bytes).unwrap_or("no text"));
     }
 
-    /// The digits of bytes, or a dash where there are none.
+    /// Adds the digits of bytes, or a dash if there are none.
     pub fn digits(&mut self, bytes: &[u8]) {
         if bytes.is_empty() {
             self.word("-");
@@ -77,7 +77,8 @@ impl Said {
         }
     }
 
-    /// How much of what is wanted was written: all, so many bytes of its front, or something else.
+    /// Adds how much of the wanted bytes was written: all, so many from their front, or something
+    /// else.
     pub fn front(&mut self, want: &[u8], written: &[u8]) {
         if written == want {
             self.word("all");

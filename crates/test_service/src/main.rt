@@ -13,7 +13,7 @@ use crate::transcripts::transcript_holds;
 use std::process::ExitCode;
 use std::{env, fs, io};
 
-/// The words name a file of what others say, and then transcripts and files of rows. Answers
+/// The words name a file of other sessions' lines, and then transcripts and files of rows. Returns
 /// whether all of them hold.
 fn all_hold(rt: &HostRuntime) -> io::Result<bool> {
     let mut names = env::args(rt)?.skip(1);

@@ -1,17 +1,22 @@
-//! Rows in files. A title and the lines of a run are as in a transcript; below them a line that
-//! begins with `? ` is a row: a call and what it is given, ` = `, and what it answers.
+//! Rows in files. A title and the lines of a run are as in a transcript; below them, a line that
+//! begins with `? ` is a row: a call and its arguments, ` = `, and the answer.
 
 use crate::calls::answer;
 use crate::collected::Said;
 use crate::transcripts::outcomes::Exchange;
-use crate::transcripts::runs::{Others, told};
+use crate::transcripts::runs::{Others, exchange_of};
 use std::{fs, io};
 
 /// Whether a row's call answers what the row says; if not, prints what it answers.
-fn holds(rt: &HostRuntime, told: &Exchange, row: &str, place: (&str, usize)) -> io::Result<bool> {
+fn holds(
+    rt: &HostRuntime,
+    exchange: &Exchange,
+    row: &str,
+    place: (&str, usize),
+) -> io::Result<bool> {
     let (call, want) = row.split_once(" = ").unwrap_or((row, "?"));
     let mut said = Said::new(rt.alloc());
-    answer(&mut said, told, call);
+    answer(&mut said, exchange, call);
     let same = said.is(want);
     if !same {
         let (name, line) = place;
@@ -23,15 +28,15 @@ fn holds(rt: &HostRuntime, told: &Exchange, row: &str, place: (&str, usize)) -> 
     Ok(same)
 }
 
-/// Prints how many rows below a title hold. Answers whether all do.
+/// Prints how many rows below a title hold. Returns whether all do.
 fn section_holds(rt: &HostRuntime, name: &str, first: usize, section: &str) -> io::Result<bool> {
-    let told = told(rt.alloc(), section, &Others::none(rt.alloc()))?;
+    let exchange = exchange_of(rt.alloc(), section, &Others::none(rt.alloc()))?;
     let mut rows: usize = 0;
     let mut held: usize = 0;
     for (below, line) in section.lines().enumerate() {
         if let Some(row) = line.strip_prefix("? ") {
             rows = rows.wrapping_add(1);
-            if holds(rt, &told, row, (name, first.wrapping_add(below)))? {
+            if holds(rt, &exchange, row, (name, first.wrapping_add(below)))? {
                 held = held.wrapping_add(1);
             }
         }
@@ -41,7 +46,7 @@ fn section_holds(rt: &HostRuntime, name: &str, first: usize, section: &str) -> i
     Ok(held == rows)
 }
 
-/// Whether all rows of a file hold. What stands above its first title is a comment.
+/// Whether all rows of a file hold. Lines above its first title are comments.
 pub fn rows_hold(rt: &HostRuntime, name: &str) -> io::Result<bool> {
     let text = fs::read_to_string(rt, name)?;
     let mut sections = text.split("\n# ");

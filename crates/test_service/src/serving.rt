@@ -11,7 +11,7 @@ use std::alloc::Global;
 /// How a run ends, and what it writes.
 pub type Ran = (Result<(), RunFault>, Vec<u8>);
 
-/// A run over all lines, where no call fails.
+/// A run over all lines in which no call fails.
 pub fn serve_all(alloc: Global, input: &[u8]) -> Ran {
     let case = Case::of(4096);
     let mut source = FromReader::new(Pieces::new(input, case));

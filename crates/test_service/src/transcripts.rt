@@ -1,6 +1,6 @@
-//! Replays transcripts of sessions: the lines of each run go to a service of their own, and what it
-//! writes is compared with the replies that stand beside them; then once more between the lines of
-//! other sessions, where the replies have to be the same.
+//! Replays transcripts of sessions. The lines of each run go to a service of their own, whose
+//! output is compared with the replies in the transcript. Then they are sent again, between the
+//! lines of other sessions, and the replies have to be the same.
 
 mod marks;
 pub mod outcomes;
@@ -9,8 +9,8 @@ pub mod runs;
 use crate::transcripts::runs::{Others, are_answered, runs_of};
 use std::{fs, io};
 
-/// Prints the title of a run and, where the replies are others, that they are. Answers whether they
-/// are those of the run.
+/// Prints the title of a run and, if its replies differ, says so. Returns whether they are those of
+/// the run.
 fn replay(rt: &HostRuntime, run: &str, others: &Others) -> io::Result<bool> {
     let title = run.lines().next().unwrap_or("");
     let alone = are_answered(rt.alloc(), run, &Others::none(rt.alloc()))?;
@@ -24,7 +24,7 @@ fn replay(rt: &HostRuntime, run: &str, others: &Others) -> io::Result<bool> {
     Ok(alone && between)
 }
 
-/// Whether all runs of a file are answered as it says.
+/// Whether all runs of a file get the replies in the file.
 pub fn transcript_holds(rt: &HostRuntime, name: &str, others: &Others) -> io::Result<bool> {
     let text = fs::read_to_string(rt, name)?;
     let mut same = true;

@@ -1,1 +1,1 @@
-"""The library for C, and libctf's calls over it."""
+"""Tests of the library for C, and of libctf's calls."""

@@ -1,4 +1,4 @@
-/* Prints what the calls of ctfd.h answer of each type, for tests/doors/c_library/answers.py to compare.
+/* Prints the answers of ctfd.h's calls about each type, for tests/doors/c_library/answers.py.
  *
  * usage: answers CTF SYM STR [lent]
  */
@@ -6,14 +6,14 @@
 
 static struct ctfd types = CTFD_NONE;
 
-/* The lists that names stand in, by their numbers. */
+/* The lists that rows refer to for names. */
 static struct bytes section, strings;
 
-/* Room for a text of any length that is answered. */
+/* A buffer for the longest text. */
 static char room[1 << 17];
 static char escaped[4 * sizeof room];
 
-/* A name without quotes, as replies have it. */
+/* A name without quotes, escaped as in replies. */
 static const char *shown(const char *text, uint64_t len)
 {
     char *at = escaped;
@@ -85,8 +85,8 @@ static void figures(uint16_t t)
         printf("array %u: %s\n", t, ctfd_status_name(status));
 }
 
-/* A member's place by its name, by a path of this one name, and by one with a name that isn't
- * there. */
+/* Looks up a member's offset by its name, by a path of that one name, and by a path that continues
+ * with a name that does not exist. */
 static void places(uint16_t t, const char *name, uint64_t name_len)
 {
     uint64_t offset = 0, place = 0;
@@ -109,7 +109,7 @@ static void places(uint16_t t, const char *name, uint64_t name_len)
     free(step);
 }
 
-/* The first enumerator that has the name in the room, and the first that has a value. */
+/* The first enumerator with the name in `room`, and the first one with the value. */
 static void firsts(uint16_t t, uint64_t name_len, int32_t value)
 {
     int32_t found = 0;
@@ -148,7 +148,7 @@ static void lists(uint16_t t)
     printf("arguments %u: %zu %s\n", t, i, ctfd_status_name(status));
 }
 
-/* Whether a name stands where a row says, with a zero byte behind it. */
+/* Whether a row's list has this name at `at`, followed by a zero byte. */
 static bool stands(uint32_t list, uint64_t at, const char *name, uint64_t len)
 {
     const struct bytes *bytes = list == CTFD_IN_SECTION ? &section : &strings;
@@ -158,7 +158,7 @@ static bool stands(uint32_t list, uint64_t at, const char *name, uint64_t len)
         bytes->at[at + len] == 0;
 }
 
-/* Rows say what is answered of each, and rows behind the last stay; else it is printed. */
+/* Prints each row that differs from the single call's answer, and each row written past the end. */
 static void members_by_rows(uint16_t t)
 {
     struct ctfd_member_row rows[3];
@@ -206,8 +206,8 @@ static void enumerators_by_rows(uint16_t t)
     }
 }
 
-/* A visit's rows, as the single calls have them: each type, and then its members in turn. `next` is
- * the number of the row that is compared, behind the last of them where there are no more. */
+/* Compares the rows of a visit with single calls: each type, and then its members in turn. `next`
+ * is the number of the next row to compare. */
 static void visit_by_calls(
     const struct ctfd_visit_row *rows, size_t count, size_t *next, struct ctfd_visit_row at)
 {
@@ -232,7 +232,7 @@ static void visit_by_calls(
     }
 }
 
-/* The rows of a visit, in as much room as they need and in less. */
+/* Checks the rows of a visit, in an array that is large enough, and in shorter ones. */
 static void visit_by_rows(uint16_t t)
 {
     static struct ctfd_visit_row rows[4096], fewer[4];
@@ -279,7 +279,7 @@ static void texts(uint16_t t)
     tell_text("show", t, status, len);
 }
 
-/* The symbol of the name in the room. */
+/* Finds the symbol with the name in `room`. */
 static void symbol_of(uint64_t len)
 {
     uint32_t number = 0;
@@ -325,7 +325,7 @@ int main(int argc, char **argv)
     strs = read_file(argv[3]);
     section = ctf;
     strings = strs;
-    /* With a word more the lists are lent. */
+    /* With a fourth argument, the lists are lent. */
     if ((argc == 5 ? ctfd_open_lent : ctfd_open)(&types, ctf.at, ctf.len, sym.at, sym.len, strs.at,
             strs.len, true, true, false, &place) != CTFD_OK)
         return 1;

@@ -1,5 +1,5 @@
 #!/usr/bin/env python3
-"""Prints what the service answers of each type, in the lines of tests/doors/c_library/answers.c.
+"""Prints the service's answers about each type, in the format of tests/doors/c_library/answers.c.
 
 usage: tests/doors/c_library/answers.py PROGRAM CTF SYM STR
 """
@@ -18,7 +18,7 @@ Reply = dict[str, Any]
 
 
 class Service:
-    """A session that has one dictionary open in slot 1."""
+    """A session with one dictionary open, in slot 1."""
 
     def __init__(self, program: str, *lists: str) -> None:
         self.program = program
@@ -31,7 +31,7 @@ class Service:
         self.front.append({"op": "open"})
 
     def ask(self, questions: list[dict[str, Any]]) -> list[Reply]:
-        """The replies: what `ok` has, or the name of a fault as `fault`, and its place."""
+        """The replies: the content of `ok`, or the name of a fault as `fault`, and its place."""
         asked = self.front + [{"d": 1, **question} for question in questions]
         lines = "".join(json.dumps({"s": 1, **one}) + "\n" for one in asked)
         said = subprocess.run([self.program, "serve"], input=lines, text=True, check=True,
@@ -43,16 +43,16 @@ class Service:
                 for one in replies]
 
 
-def said(reply: Reply, *fields: str) -> str:
+def reply_text(reply: Reply, *fields: str) -> str:
     """Fields of a reply, or its fault."""
     return reply.get("fault") or " ".join(str(reply[one]) for one in fields)
 
 
 def of_record(t: int, record: Reply) -> list[str]:
     fault = record.get("fault", "")
-    return [f"kind {t}: {said(record, 'kind')}", f"length {t}: {said(record, 'vlen')}",
+    return [f"kind {t}: {reply_text(record, 'kind')}", f"length {t}: {reply_text(record, 'vlen')}",
             f"root {t}: {fault or int(record['root'])}",
-            f"declared {t}: {said(record, 'name')}",
+            f"declared {t}: {reply_text(record, 'name')}",
             f"tag {t}: {fault or TAGS.get(record.get('tag', ''), 'WrongKind')}"]
 
 
@@ -86,7 +86,7 @@ def of_lists(t: int, members: Reply, enumerators: Reply) -> list[str]:
 
 
 def of_types(service: Service, types: list[int]) -> list[str]:
-    """What is said of each type, and then of the names that were said."""
+    """Lines with the answers about each type, and then about the names in them."""
     words = ["record", "size", "align", "resolve", "reference", "pointer", "encoding", "array",
              "args", "members", "enumerators", "name", "show"]
     asked = []
@@ -99,11 +99,11 @@ def of_types(service: Service, types: list[int]) -> list[str]:
     for i, t in enumerate(types):
         of = dict(zip(words, replies[i * len(words):]))
         lines += of_record(t, of["record"])
-        lines += [f"{word} {t}: {said(of[word], field)}" for word, field in
+        lines += [f"{word} {t}: {reply_text(of[word], field)}" for word, field in
                   [("size", "size"), ("align", "align"), ("resolve", "t"), ("reference", "t"),
                    ("pointer", "t"), ("name", "name"), ("show", "text")]]
-        lines.append(f"encoding {t}: {said(of['encoding'], 'encoding', 'offset', 'bits')}")
-        lines.append(f"array {t}: {said(of['array'], 'contents', 'index', 'count')}")
+        lines.append(f"encoding {t}: {reply_text(of['encoding'], 'encoding', 'offset', 'bits')}")
+        lines.append(f"array {t}: {reply_text(of['array'], 'contents', 'index', 'count')}")
         lines += of_args(t, of["args"]) + of_lists(t, of["members"], of["enumerators"])
         places += [(t, one["name"]) for one in of["members"].get("members", [])]
         names += [(t, of["name"]["name"])] if "name" in of["name"] else []
@@ -121,7 +121,7 @@ def of_names(service: Service, places: list[tuple[int, str]],
         where = f"{reply.get('offset', 0)} {reply.get('t', 0)}"
         lines += [f"{word} {t} {name}: {status} {where}" for word in ("field", "path")]
         lines.append(f"further {t} {name}: {further['fault']} {further['place']}")
-    lines += [f"find {t}: {said(reply, 't')}"
+    lines += [f"find {t}: {reply_text(reply, 't')}"
               for (t, _), reply in zip(names, replies[2 * len(places):])]
     return lines
 
@@ -135,7 +135,7 @@ def of_function(i: int, reply: Reply) -> list[str]:
 
 
 def of_symbols(service: Service, sym: bytes, strings: bytes) -> list[str]:
-    """What is said of each symbol; its name is read from the program's own strings."""
+    """Lines with the answers about each symbol; the names are read from the program's strings."""
     count = len(sym) // 24
     numbers = range(count + 1)
     objects = service.ask([{"op": "object", "sym": i} for i in numbers])
@@ -147,7 +147,7 @@ def of_symbols(service: Service, sym: bytes, strings: bytes) -> list[str]:
         names.append("".join(chr(b) if 32 <= b < 127 and b not in b'"\\' else f"\\x{b:02x}"
                              for b in text))
     found = service.ask([{"op": "symbol", "name": name} for name in names])
-    lines = [f"object {i}: {said(reply, 't')}" for i, reply in enumerate(objects)]
+    lines = [f"object {i}: {reply_text(reply, 't')}" for i, reply in enumerate(objects)]
     for i, reply in enumerate(functions):
         lines += of_function(i, reply)
     for name, reply in zip(names, found):

@@ -1,20 +1,19 @@
 #!/usr/bin/env python3
-"""Makes crates/ctf_c/out/libctfd.a, the library for C, and prints where it is.
+"""Makes crates/ctf_c/out/libctfd.a, the library for C, and prints its path.
 
 usage: tests/doors/c_library/archive.py [--kept]
 
-With --kept nothing is made: the archive that is there is taken, or it is told that there is none.
-Where CTFD_ARCHIVE in the environment names one, it is that.
+With --kept nothing is made: the existing archive is used, and a line says if there is none. If
+CTFD_ARCHIVE in the environment names an archive, that one is used.
 
-`rt ci` proves the crate that C calls and makes no archive. It leaves the crates below as it built
-them, but without the stamps by which `rt lib` knows that they are still good. So a crate that was
-built after each of its files was written is given its stamp, and `rt lib` then makes the one alone.
-Where that can't be done it makes all crates anew, which takes as long as `make prove`.
+`rt ci` proves the crate that C calls, but makes no archive. It leaves the crates below built, but
+without the stamps by which `rt lib` knows that they are up to date. So this script stamps each
+crate that was built after the last change to its files, and `rt lib` then makes only the one crate.
+If that fails, it makes all crates again, which takes as long as `make prove`.
 
-The archive has what the crate exports, and the three functions by which the library takes memory,
-from the kit: over malloc, realloc and free. A program that defines these itself is linked with its
-own. Then scripts/libctf.py adds libctf's calls, and makes libctfd.so beside it. Needs ar, nm and a
-C compiler.
+The archive has the crate's exports, and the kit's three functions that allocate memory, which use
+malloc, realloc and free. A program may define these itself. Then scripts/libctf.py adds libctf's
+calls, and makes libctfd.so beside it. Needs ar, nm and a C compiler.
 """
 from __future__ import annotations
 
@@ -44,13 +43,13 @@ def skip(why: str) -> None:
 
 
 def newest(folder: Path) -> float:
-    """When the last of a crate's own files was written."""
+    """The time of the last change to a crate's own files."""
     return max(path.stat().st_mtime for path in folder.rglob("*")
                if path.is_file() and "out" not in path.relative_to(folder).parts)
 
 
 def stamp_what_was_built(kit: Path) -> None:
-    """Gives each crate that is built, and not changed since, the stamp that `rt lib` looks for."""
+    """Stamps each crate that was built and not changed since, as `rt lib` expects it."""
     loader = importlib.machinery.SourceFileLoader("rtlib", str(kit / "bin" / "rtlib.py"))
     made = importlib.util.spec_from_loader("rtlib", loader)
     assert made
@@ -70,19 +69,19 @@ def stamp_what_was_built(kit: Path) -> None:
 
 
 def stamped_once(kind: type) -> type:
-    """A kit's crate that keeps its stamp: as it is, one computes it anew for each way that leads
-    down to it. The kit's own `rt ci` puts a kind of crate of its own in this place too."""
+    """A subclass of the kit's crate that caches its stamp: the original computes it again for each
+    path that leads to the crate. The kit's own `rt ci` also substitutes a class here."""
 
-    class Stamped(kind):  # type: ignore[misc]
+    class StampedArchive(kind):  # type: ignore[misc]
         @functools.lru_cache(maxsize=None)
         def stamp(self) -> str:
             return str(super().stamp())
 
-    return Stamped
+    return StampedArchive
 
 
-def extracted(archive: Path, into: Path, *names: str) -> list[Path]:
-    """The objects of an archive, or some of them, in a folder of their own."""
+def extract(archive: Path, into: Path, *names: str) -> list[Path]:
+    """Extracts the objects of an archive, or some of them, into an empty folder."""
     shutil.rmtree(into, ignore_errors=True)
     into.mkdir(parents=True)
     subprocess.run(["ar", "x", archive, *names], cwd=into, check=True)
@@ -95,11 +94,11 @@ def make(kit: Path) -> None:
     os.chdir(TOP)
     try:
         stamp_what_was_built(kit)
-    except (Exception, SystemExit) as why:  # the kit's own parts may be others tomorrow
+    except (Exception, SystemExit) as why:  # the kit's internals may change
         print(f"all crates are made anew: {why!r}", file=sys.stderr)
     subprocess.run(["rt", "lib"], cwd=CRATE, stdout=sys.stderr, check=True)
-    objects = extracted(CRATE / "out" / f"lib{CRATE.name}.a", CRATE / "out" / "objects")
-    objects += extracted(kit / "c" / "liblibc_c.a", CRATE / "out" / "heap", "heap.pic.o")
+    objects = extract(CRATE / "out" / f"lib{CRATE.name}.a", CRATE / "out" / "objects")
+    objects += extract(kit / "c" / "liblibc_c.a", CRATE / "out" / "heap", "heap.pic.o")
     subprocess.run(["ar", "rcsD", ARCHIVE, *objects], check=True)
     libctf.make(ARCHIVE, says=built.SAYS[built.How.PROVED])
 

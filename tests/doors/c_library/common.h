@@ -1,4 +1,4 @@
-/* What the C tests share: files, names as a dump has them, and checks that are counted. */
+/* Shared by the C tests: reading files, printing names as a dump does, and counting checks. */
 #ifndef CTFD_TEST_COMMON_H
 #define CTFD_TEST_COMMON_H
 
@@ -27,14 +27,14 @@ static unsigned checks, failures;
         } \
     } while (0)
 
-/* Prints what was counted, and gives the exit status. */
+/* Prints the number of checks and failures, and returns the exit status. */
 static inline int counted(const char *what)
 {
     printf("%s: %u checks, %u failed\n", what, checks, failures);
     return failures != 0;
 }
 
-/* A whole file; ends the program where it can't be read. */
+/* Reads a whole file; exits if it cannot be read. */
 static inline struct bytes read_file(const char *name)
 {
     FILE *file = fopen(name, "rb");
@@ -58,7 +58,7 @@ static inline struct bytes read_file(const char *name)
     return all;
 }
 
-/* A file of a folder. */
+/* Reads a file in a folder. */
 static inline struct bytes read_in(const char *folder, const char *name)
 {
     char path[4096];
@@ -73,7 +73,7 @@ static inline void free_bytes(struct bytes *all)
     all->len = 0;
 }
 
-/* Prints a name between quotes, other bytes than plain ones as \x and two digits. */
+/* Prints a name in quotes, with \x and two digits for each byte that is not plain ASCII. */
 static inline void print_name(const char *text, size_t len)
 {
     size_t i;

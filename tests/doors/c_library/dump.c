@@ -1,4 +1,4 @@
-/* Prints a dictionary by the calls of ctfd.h as `ctfd dump` does, but for the sizes of arrays.
+/* Prints a dictionary as `ctfd dump` does, through the calls of ctfd.h, except the sizes of arrays.
  *
  * usage: dump CTF [--ilp32] [--parent CTF] [--sym FILE --str FILE]
  */
@@ -6,7 +6,7 @@
 
 static struct ctfd types = CTFD_NONE, parent = CTFD_NONE;
 
-/* Room for a text of any length that is answered. */
+/* A buffer for the longest text. */
 static char room[1 << 17];
 
 static void print_text(enum ctfd_status status, uint64_t len)
@@ -100,7 +100,7 @@ static void print_function(uint16_t t)
     }
 }
 
-/* What the record says, behind the kind and the name. */
+/* Prints the record's own fields, which follow the kind and the name. */
 static void print_detail(uint16_t t, uint32_t kind)
 {
     struct ctfd_encoding encoding = { 0, 0, 0 };

@@ -1,4 +1,4 @@
-/* Opens an ELF file, and prints its model, a type, and each function and object that it tells of.
+/* Opens an ELF file, and prints its data model, the size of a type, and its objects and functions.
  *
  * usage: elf FILE NAME
  */

@@ -1,14 +1,15 @@
 #!/usr/bin/env bash
-# Checks what ctf_open answers of ELF files, by programs that were compiled of elf.c.
+# Checks what ctf_open returns for ELF files, with programs compiled from elf.c.
 # usage: tests/doors/c_library/elf.sh ELF..
-# Each ELF is a build of elf.c with the part for ELF files: one that links it, one that links
-# libctfd.so. Runs in a folder of its own. Needs gcc, objcopy, strip and Python; files of
-# 32 bits are made where gcc -m32 makes them. Prints what was wrong; the status is 1 then.
+# Each ELF is a build of elf.c that can read ELF files: one links libctfd_elf.a, one libctfd.so.
+# Writes to the current folder. Needs gcc, objcopy, strip, Python and the compiled ctfd-convert;
+# 32-bit files are tested if gcc -m32 works. Prints errors; the status is then 1.
 set -eu
 top=$(realpath "$(dirname "$0")/../../..")
 failed=0
 
-# wanted FILE NAME: each program prints what stands in the file `wanted`, and ends.
+# wanted FILE NAME: checks that each program prints the contents of the file `wanted`, with status 0
+# or 1.
 wanted() {
     local file=$1 name=$2 elf
     for elf in "${programs[@]}"; do
@@ -32,12 +33,12 @@ for elf in "${programs[@]}"; do
     "$elf" own.with "struct point" | sed 's/long int/long/' | sort > seen
     cmp -s told seen || { echo "$elf own.with:"; diff told seen; failed=1; }
 done
-# What strip leaves is never taken for the symbols that the types were written for.
+# The symbols that strip leaves are never mistaken for those that the types were written for.
 strip -o own.bare own.with
 echo 'model 2, 16 bytes' > wanted
 wanted own.bare 'struct point'
 
-# Nor is a table that has other symbols, in number or in name, and one that is there in part.
+# Nor is a symbol table with more symbols, with fewer, or with a symbol renamed.
 cp own.with own.more
 objcopy --add-symbol more=.data:0,global,object own.more
 strip -K main -K added -K first -o own.less own.with
@@ -45,8 +46,8 @@ objcopy --redefine-sym added=other own.with own.other
 for file in own.more own.less own.other; do
     wanted $file 'struct point'
 done
-# A dictionary that was made of BTF has the names of its symbols itself, and no numbers of theirs in
-# the file: nothing is told of them by their numbers, whatever stands in a section of that name.
+# A dictionary converted from BTF has its own names of symbols, and the file has no numbers for
+# them. So no symbol is listed by number, even if the file has a section called `names`.
 gcc -gbtf -fno-inline -c own.c -o own.o
 objcopy --dump-section .BTF=own.btf own.o
 "${CARGO_TARGET_DIR:-$top/clients/rust/target}/release/ctfd-convert" own.btf own.names
@@ -57,7 +58,7 @@ for file in own.named own.both; do
     wanted $file 'struct point'
 done
 
-# Sections by both names, plain and with a body that is compressed.
+# Sections under both names, uncompressed and with a compressed body.
 python3 - "$top/examples/lua.ctf" << 'END'
 import sys, zlib
 plain = open(sys.argv[1], "rb").read()
@@ -96,7 +97,7 @@ objcopy --add-section .ctf=own.c none.o with.o
 echo 'BadMagic: the first two bytes are no CTF' > wanted
 wanted with.o int
 
-# Programs of 32 bits: their pointers have 4 bytes, and their symbols are told.
+# 32-bit programs: the model is ILP32, with pointers of 4 bytes.
 if gcc -m32 -g -fno-inline -o own own.c 2> said; then
     "${CARGO_TARGET_DIR:-$top/clients/rust/target}/release/ctfd-convert" --section own own.with32 > said 2>&1 ||
         cat said
@@ -104,7 +105,7 @@ if gcc -m32 -g -fno-inline -o own own.c 2> said; then
     echo 'model 1, 12 bytes' | cmp -s - seen || { cat seen; failed=1; }
 fi
 
-# Damaged files end in one line, whatever is damaged.
+# For a damaged file the program prints something and exits with status 0 or 1, whatever is damaged.
 python3 - own.with "${programs[0]}" << 'END' || failed=1
 import random, subprocess, sys
 whole, chance, wrong = open(sys.argv[1], "rb").read(), random.Random(1), 0

@@ -1,8 +1,8 @@
 #!/usr/bin/env bash
-# Checks in a second that a built libctfd.a answers: the examples by ctfd_line, and a size by
-# libctf's calls. The service of meeting.jsonl has a dictionary of its own, so that one is left out.
+# Checks within a second that a built libctfd.a works: the examples through ctfd_line, and the size
+# of a struct. meeting.jsonl is left out, since its service is started with a dictionary.
 # usage: tests/doors/c_library/examples.sh ARCHIVE
-# Needs a C compiler. Prints what was wrong; the status is 1 then.
+# Needs a C compiler. Prints errors; the status is then 1.
 set -eu
 archive=$(realpath "$1")
 top=$(realpath "$(dirname "$0")/../../..")

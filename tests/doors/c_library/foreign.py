@@ -1,9 +1,9 @@
 #!/usr/bin/env python3
-"""Calls libctfd.so by ctypes, as a foreign-function interface does, with a callback.
+"""Calls libctfd.so through ctypes, as a foreign-function interface does, with a callback.
 
 usage: tests/doors/c_library/foreign.py LIBRARY CTF
 
-Prints what tests/doors/c_library/unchanged.c prints of the same file.
+Prints the same as tests/doors/c_library/unchanged.c for the same file.
 """
 from __future__ import annotations
 

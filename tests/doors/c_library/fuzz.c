@@ -1,9 +1,9 @@
-/* Hands in damaged dictionaries, damaged lines and random calls, as many as are asked for.
+/* Passes damaged dictionaries and damaged lines to the library, and makes random calls.
  *
  * usage: fuzz EXAMPLES ROUNDS [SEED]
  *
  * Meant for AddressSanitizer and UndefinedBehaviorSanitizer: the library is not instrumented, but
- * what it takes from malloc is, and each buffer here has a block of its own, of just its length.
+ * its memory from malloc is, and each buffer here is a block of exactly its length.
  */
 #include "ctfd_libctf.h"
 
@@ -28,7 +28,7 @@ static uint32_t below(uint32_t n)
     return n == 0 ? 0 : next() % n;
 }
 
-/* A copy that is damaged in a few places, or in none. */
+/* A copy, damaged in up to three places and sometimes cut short. */
 static struct bytes damaged(const struct bytes *from)
 {
     struct bytes made = { NULL, from->len };
@@ -50,7 +50,7 @@ static struct bytes damaged(const struct bytes *from)
     return made;
 }
 
-/* Numbers of types that are there, that are not, and that are far off. */
+/* A type number: usually in a dictionary's range, sometimes in a child's range, or any number. */
 static uint16_t some_type(void)
 {
     switch (below(8)) {
@@ -65,7 +65,7 @@ static size_t some_index(void)
     return below(16) == 0 ? SIZE_MAX - below(2) : below(20);
 }
 
-/* A text of a few bytes, in a block of its own. */
+/* A short text, in a block of its own. */
 static char *some_text(size_t *len)
 {
     static const char *const words[] = { "int", "struct lua_State", "struct lua_State **", "next",
@@ -82,7 +82,7 @@ static char *some_text(size_t *len)
     return made;
 }
 
-/* Where a text is written: a block of just that room. */
+/* A buffer for text: a block of exactly `room` bytes. */
 static char *some_room(size_t *room)
 {
     char *made;
@@ -100,7 +100,7 @@ static void count(enum ctfd_status status)
     CHECK(status <= CTFD_FIXED_PARENT);
 }
 
-/* A question that is answered a number. A refusal leaves what was there. */
+/* Asks a question whose answer is a number. A refusal must leave the result unchanged. */
 static void ask_number(struct ctfd *d)
 {
     uint64_t wide = 77;
@@ -148,7 +148,7 @@ static void ask_parts(struct ctfd *d)
     CHECK(status == CTFD_OK || function.arguments == 77);
 }
 
-/* A question by a name. */
+/* Asks a question by name. */
 static void ask_name(struct ctfd *d)
 {
     size_t len;
@@ -171,7 +171,7 @@ static void ask_name(struct ctfd *d)
     free(text);
 }
 
-/* A question that is answered a text. */
+/* Asks a question whose answer is a text. */
 static void ask_text(struct ctfd *d)
 {
     struct ctfd_member member = { 77, 77, 77 };
@@ -206,7 +206,7 @@ static void ask_text(struct ctfd *d)
     free(memory.at);
 }
 
-/* A visit into a block of just that length. */
+/* Visits a type, with a block of exactly `len` rows. */
 static void ask_visit(struct ctfd *d, uint16_t t, size_t len)
 {
     struct ctfd_visit_row *rows = (struct ctfd_visit_row *)calloc(len != 0 ? len : 1, sizeof *rows);
@@ -220,7 +220,7 @@ static void ask_visit(struct ctfd *d, uint16_t t, size_t len)
     free(rows);
 }
 
-/* Rows of arguments, of a function type and of a program's function. */
+/* Reads rows of arguments, of a function type and of a program's function. */
 static void ask_arguments(struct ctfd *d, uint16_t t, size_t len)
 {
     uint16_t *rows = (uint16_t *)calloc(len != 0 ? len : 1, sizeof *rows);
@@ -239,7 +239,7 @@ static void ask_arguments(struct ctfd *d, uint16_t t, size_t len)
     free(rows);
 }
 
-/* Rows of types, symbols and labels, in blocks of just their length. */
+/* Reads rows of types, symbols and labels, into blocks of exactly their length. */
 static void ask_dictionary(struct ctfd *d, size_t len)
 {
     size_t room = len != 0 ? len : 1;
@@ -266,7 +266,7 @@ static void ask_dictionary(struct ctfd *d, size_t len)
     free(labels);
 }
 
-/* Rows in a block of just their length. */
+/* Reads rows, into blocks of exactly their length. */
 static void ask_rows(struct ctfd *d)
 {
     size_t len = below(5), room = len != 0 ? len : 1;
@@ -292,7 +292,7 @@ static void ask_rows(struct ctfd *d)
     ask_dictionary(d, len);
 }
 
-/* Something is added to what may be a draft. */
+/* Adds something to a handle that may be a draft. */
 static void add(struct ctfd *d)
 {
     size_t len;
@@ -344,7 +344,7 @@ static void call(void)
     }
 }
 
-/* Opens, imports, makes a draft or closes, behind some handle. */
+/* Opens, imports, creates a draft or closes, with a random handle. */
 static void change(const struct bytes *dictionaries, size_t len, const struct bytes *lists)
 {
     uint32_t at = below(HANDLES), other = (at + 1 + below(HANDLES - 1)) % HANDLES;
@@ -376,7 +376,7 @@ static void change(const struct bytes *dictionaries, size_t len, const struct by
     free_bytes(&strs);
 }
 
-/* A callback that stops now and then. */
+/* A callback that stops after a number of calls. */
 static int visited(const char *name, ctf_id_t type, ulong_t offset, int depth, void *left)
 {
     (void)strlen(name);
@@ -386,7 +386,7 @@ static int visited(const char *name, ctf_id_t type, ulong_t offset, int depth, v
     return --*(int *)left == 0;
 }
 
-/* The calls of libctf over a damaged dictionary. */
+/* Makes the calls of libctf over a damaged dictionary. */
 static void by_libctf(const struct bytes *dictionary)
 {
     struct bytes copy = damaged(dictionary);
@@ -416,7 +416,7 @@ static void by_libctf(const struct bytes *dictionary)
     free_bytes(&copy);
 }
 
-/* Lines of the protocol, whole and damaged. */
+/* Sends lines of the protocol, whole and damaged. */
 static void send_lines(const struct bytes *lines, unsigned rounds)
 {
     struct ctfd_service service = CTFD_NONE;

@@ -3,17 +3,18 @@
 
 usage: tests/doors/c_library/header.py [--crates FOLDER] [ARCHIVE]
 
-Nothing proves that a header says what a crate exports. So each declaration is compared with the
-export of its name: its parameters, in order, by their names and widths; its result; the fields of
-each struct behind a pointer; the names and numbers of statuses, against those of faults; the
-numbers of kinds. With an archive, the names that it defines are compared too: those of the
-crates, and those of clients/c/ctfd_libctf.h and gnu/ctf-api.h. Of libctfd.so beside it nothing else is seen.
+Nothing proves that a header declares what a crate exports. So each declaration is compared with the
+export of its name: the names and widths of its parameters, in order; its result; the fields of each
+struct behind a pointer; the names and numbers of statuses, with those of faults; the numbers of
+kinds. With an archive, the names that it defines are compared too: those of the crates, and those
+of clients/c/ctfd_libctf.h and gnu/ctf-api.h. libctfd.so beside it must export nothing else.
 
-clients/rust/ctfd/src/raw.rs, which declares the same for Rust, is compared in the same way. Each call of
-illumos' libctf and of GNU's (illumos_calls.txt, gnu_calls.txt) has a row in docs/C.md.
+clients/rust/ctfd/src/raw.rs, which has the same declarations for Rust, is compared in the same way.
+docs/C.md must have a row for each call of illumos' libctf and of GNU's (illumos_calls.txt,
+gnu_calls.txt).
 
-Then the header is broken on purpose, in a dozen ways, and each has to be found. Prints what
-differs, and counts; the status is 1 where something does.
+Then the header is broken on purpose, in a dozen ways, and each must be found. Prints what differs,
+and counts; the status is 1 if something does.
 """
 from __future__ import annotations
 
@@ -25,18 +26,18 @@ from dataclasses import dataclass, field
 from pathlib import Path
 
 TOP = Path(__file__).resolve().parents[3]
-# The struct of C that each handle is, and the files below crates/ctf_c/src that take it.
+# The C struct of each handle, and the files below crates/ctf_c/src that take it.
 HANDLES = {"struct ctfd": ["*.rt"], "struct ctfd_service": ["service.rt", "service/*.rt"]}
 NUMBERS = {"uint8_t": "u8", "uint16_t": "u16", "uint32_t": "u32", "uint64_t": "u64",
            "int32_t": "i32", "size_t": "usize", "bool": "bool", "char": "u8", "void": "u8"}
 RESULTS = {"enum ctfd_status": "u32", "void": "nothing"}
-# What C users know by another name than the crates have.
+# Names in C that differ from those in the crates.
 RENAMED = {"tnum": "type"}
 
 
 @dataclass
 class Api:
-    """What C can call, in the words of the crates."""
+    """The calls, structs and constants for C, in the crates' terms."""
 
     calls: dict[str, tuple[str, list[tuple[str, str]]]] = field(default_factory=dict)
     structs: dict[str, list[tuple[str, str]]] = field(default_factory=dict)
@@ -45,28 +46,28 @@ class Api:
     kinds: dict[str, int] = field(default_factory=dict)
 
 
-def given(name: str, handle: str) -> str:
-    """The C name of a struct of a crate."""
+def struct_name(name: str, handle: str) -> str:
+    """The C name of a crate's struct."""
     if name == "Handle":
         return handle
     words = re.findall(r"[A-Z][a-z]*", name.removeprefix("Given"))
     return "struct ctfd_" + "_".join(words).lower()
 
 
-def crossed(name: str, kind: str, handle: str) -> list[tuple[str, str]]:
-    """A parameter of an export, as it crosses: nothing, one word or two."""
+def c_parameters(name: str, kind: str, handle: str) -> list[tuple[str, str]]:
+    """A parameter of an export as in C: none, one or two parameters."""
     if kind == "Global":
         return []
     found = re.fullmatch(r"&(?:'static )?(mut )?(\[)?(\w+)\]?", kind)
     if not found:
         return [(name, kind)]
-    to = found[3] if found[3] in NUMBERS.values() else given(found[3], handle)
+    to = found[3] if found[3] in NUMBERS.values() else struct_name(found[3], handle)
     length = [(f"{name}_len", "usize")] if found[2] else []
     return [(name, f"*{'mut' if found[1] else 'const'} {to}"), *length]
 
 
 def fields(name: str, source: str) -> list[tuple[str, str]]:
-    """The fields of a struct, those of the structs in it in their place."""
+    """The fields of a struct, with those of nested structs in their place."""
     body = re.search(rf"pub struct {name} \{{(.*?)\n\}}", source, re.DOTALL)
     assert body, name
     found = []
@@ -82,7 +83,7 @@ def fields(name: str, source: str) -> list[tuple[str, str]]:
 
 
 def of_crates(crates: Path) -> Api:
-    """What the crates export."""
+    """The exports of the crates."""
     api = Api()
     sources = crates / "ctf_c" / "src"
     taken: set[Path] = set()
@@ -99,11 +100,11 @@ def of_crates(crates: Path) -> Api:
             parameters: list[tuple[str, str]] = []
             for one in filter(None, map(str.strip, re.sub(r"\s+", " ", text).split(","))):
                 parameter, kind = one.split(": ")
-                parameters += crossed(RENAMED.get(parameter, parameter), kind, handle)
+                parameters += c_parameters(RENAMED.get(parameter, parameter), kind, handle)
                 structs |= set(re.findall(r"Given\w+", kind))
             api.calls[name] = (result or "nothing", parameters)
         for struct in structs:
-            api.structs[given(struct, handle)] = fields(struct, source)
+            api.structs[struct_name(struct, handle)] = fields(struct, source)
     faults = (crates / "ctf_model" / "src" / "faults.rt").read_text(encoding="utf-8")
     numbers = re.findall(r"pub const (\w+): u16 = (\d+);", faults)
     api.statuses = {"CTFD_OK": 0, **{f"CTFD_{name}": 1 + int(n) for name, n in numbers}}
@@ -115,8 +116,8 @@ def of_crates(crates: Path) -> Api:
     return api
 
 
-def declared(text: str) -> tuple[str, str]:
-    """A parameter or field of C: its name, and its type in the words of the crates."""
+def declaration(text: str) -> tuple[str, str]:
+    """A parameter or field in C: its name, and its type in the crates' terms."""
     found = re.fullmatch(r"(const )?(struct \w+|enum \w+|\w+) (\*?)(\w+)", text.strip())
     assert found, text
     is_const, base, star, name = found.groups()
@@ -124,31 +125,31 @@ def declared(text: str) -> tuple[str, str]:
     return name, f"*{'const' if is_const else 'mut'} {kind}" if star else kind
 
 
-def enumerated(text: str, name: str) -> dict[str, int]:
+def constants_of(text: str, name: str) -> dict[str, int]:
     body = re.search(rf"enum {name} \{{(.*?)\}}", text, re.DOTALL)
     assert body, name
     return {word: int(n) for word, n in re.findall(r"(\w+) = (\d+)", body[1])}
 
 
 def of_header(text: str) -> Api:
-    """What the header declares."""
+    """The declarations of the header."""
     api = Api()
     text = re.sub(r"/\*.*?\*/", "", text, flags=re.DOTALL)
     calls = re.findall(r"^(enum ctfd_status|void|\w+) (ctfd_\w+)\(([^)]*)\);", text, re.MULTILINE)
     for result, name, parameters in calls:
         kind = RESULTS.get(result) or NUMBERS.get(result, result)
-        api.calls[name] = (kind, [declared(one) for one in parameters.split(",")])
+        api.calls[name] = (kind, [declaration(one) for one in parameters.split(",")])
     for name, body in re.findall(r"^(struct \w+) \{(.*?)\n\};", text, re.DOTALL | re.MULTILINE):
-        api.structs[name] = [declared(one) for one in filter(str.strip, body.split(";"))]
-    api.statuses = enumerated(text, "ctfd_status")
+        api.structs[name] = [declaration(one) for one in filter(str.strip, body.split(";"))]
+    api.statuses = constants_of(text, "ctfd_status")
     table = re.search(r"names\[\] = \{(.*?)\};", text, re.DOTALL)
     api.names = re.findall(r'"(\w*)"', table[1]) if table else []
-    api.kinds = enumerated(text, "ctfd_kind")
+    api.kinds = constants_of(text, "ctfd_kind")
     return api
 
 
 def of_rust(source: str) -> Api:
-    """What the crate for Rust declares: calls and structs alone."""
+    """The declarations of the Rust crate: only calls and structs."""
     api = Api()
     source = re.sub(r"//.*", "", source)
     for name, text, result in re.findall(r"pub fn (ctfd_\w+)\((.*?)\)\s*(?:-> (\w+))?;", source,
@@ -156,15 +157,15 @@ def of_rust(source: str) -> Api:
         parameters = [one.split(": ") for one in filter(None, map(str.strip, text.split(",")))]
         api.calls[name] = (result or "nothing", [
             (RENAMED.get(parameter, parameter),
-             re.sub(r"(?<= )[A-Z]\w+", lambda it: given(it[0], ""), kind))
+             re.sub(r"(?<= )[A-Z]\w+", lambda it: struct_name(it[0], ""), kind))
             for parameter, kind in parameters])
     for name in re.findall(r"pub struct (\w+)", source):
-        api.structs[given(name, "")] = fields(name, source)
+        api.structs[struct_name(name, "")] = fields(name, source)
     return api
 
 
 def for_rust(api: Api) -> Api:
-    """The same with one struct for both handles, which Rust has."""
+    """The declarations with one struct for both handles, as in Rust."""
     both = {*HANDLES}
 
     def alike(kind: str) -> str:
@@ -191,7 +192,7 @@ def differences(wanted: Api, seen: Api) -> list[str]:
     return found
 
 
-def named(*words: str) -> set[str]:
+def exported_names(*words: str) -> set[str]:
     """The names that nm prints."""
     said = subprocess.run(["nm", "-g", "--defined-only", *words], check=True, text=True,
                           capture_output=True).stdout
@@ -205,13 +206,14 @@ def of_libctf() -> set[str]:
 
 
 def of_gnu() -> set[str]:
-    """The names that gnu/ctf-api.h leads GNU's calls to, where these are not illumos' own."""
+    """The names to which gnu/ctf-api.h redirects those of GNU's calls that illumos does not
+    have."""
     text = (TOP / "clients" / "c" / "gnu" / "ctf-api.h").read_text(encoding="utf-8")
     return {f"ctfd_gnu_{name}" for name in re.findall(r'CTFD_GNU\("(\w+)"\)', text)}
 
 
 def without_a_row(page: str) -> list[str]:
-    """The calls of both libctfs that docs/C.md does not tell of, in the part for each."""
+    """The calls of both libctfs that docs/C.md has no row for, in the part for each."""
     illumos, gnu = page.split("### Each call of GNU's libctf")
     lists = Path(__file__).parent
     return [f"docs/C.md has no row for {name}, which {of} has"
@@ -221,11 +223,11 @@ def without_a_row(page: str) -> list[str]:
 
 
 def not_as_declared(archive: Path, calls: set[str]) -> list[str]:
-    """What an archive and the shared library beside it define otherwise than the headers say, but
-    for the names by which the archive takes memory, and what its own objects share. Those of the
-    shared library have its version."""
+    """Differences between the headers and the names that an archive and the shared library beside
+    it define. The archive's names for memory allocation, and those that only its objects use, do
+    not count. Names in the shared library must have its version."""
     wanted, found = calls | of_libctf() | of_gnu(), []
-    inside = {name for name in named(str(archive)) if not re.match("rattle_|ctfd__", name)}
+    inside = {name for name in exported_names(str(archive)) if not re.match("rattle_|ctfd__", name)}
     if inside != wanted:
         found.append(f"declared, or defined by the archive: {sorted(inside ^ wanted)}")
     shared = archive.with_name("libctfd.so")
@@ -233,7 +235,7 @@ def not_as_declared(archive: Path, calls: set[str]) -> list[str]:
         return [*found, f"there is no {shared}: scripts/libctf.py makes it"]
     version = f"CTFD_{(TOP / 'VERSION').read_text(encoding='utf-8').split('.')[0]}"
     wanted = {version, *(f"{name}@@{version}" for name in wanted)}
-    if (seen := named("-D", str(shared))) != wanted:
+    if (seen := exported_names("-D", str(shared))) != wanted:
         found.append(f"declared, or seen of libctfd.so: {sorted(seen ^ wanted)}")
     return found
 
@@ -254,8 +256,8 @@ BROKEN = [
      "enum ctfd_status ctfd_begin(struct ctfd *handle);"),
     ("    uint64_t name_len;\n    uint16_t type;\n",
      "    uint32_t name_len;\n    uint16_t type;\n"),
-    ("    uint16_t type; /* The number of its type. */\n};\n\n/* An enumerator by",
-     "    uint32_t type; /* The number of its type. */\n};\n\n/* An enumerator by"),
+    ("    uint16_t type; /* The number of its type. */\n};\n\n/* A row for an enumerator.",
+     "    uint32_t type; /* The number of its type. */\n};\n\n/* A row for an enumerator."),
     ("struct ctfd_enumerator_row *rows, size_t rows_len",
      "struct ctfd_member_row *rows, size_t rows_len"),
     ("    uint16_t contents;\n    uint16_t index;\n",
@@ -269,7 +271,7 @@ BROKEN = [
 
 
 def not_found(wanted: Api, header: str) -> list[str]:
-    """The broken headers in which nothing was found."""
+    """The broken headers in which no difference was found."""
     found = []
     as_it_is = differences(wanted, of_header(header))
     for old, new in BROKEN:

@@ -1,20 +1,20 @@
-/* Dictionaries that pass every rule and were made to cost much: what is asked of them costs a time
- * that is linear in their bytes.
+/* Valid dictionaries that were made to be expensive: questions about them take time linear in their
+ * bytes.
  *
- * usage: hostile               checks what ctf_type_compat answers of arrays in circles
- *        hostile circle TYPES  compares two arrays of a circle of so many types less one
- *        hostile names NAMES   lists so many enumerators, whose names have one hash
- *        hostile visit ROWS    fills so many rows of a visit that has more than anybody could
+ * usage: hostile               checks these cases with fixed numbers, and a few more cases
+ *        hostile circle TYPES  compares two arrays in a cycle of TYPES - 1 arrays
+ *        hostile names NAMES   lists NAMES enumerators, whose names have the same hash
+ *        hostile visit ROWS    fills ROWS rows of a visit that has more than anybody could store
  *
- * With two words nothing is checked but that the answer is right: what it costs is counted from
- * outside, of so many and of twice as many.
+ * With arguments only the answer is checked; the cost is measured from outside, for a number and
+ * for twice that number.
  */
 #include "ctfd_libctf.h"
 
 #include "common.h"
 #include "made.h"
 
-/* Where the header has the reference to the parent's name. */
+/* The offset in the header of the reference to the parent's name. */
 #define PARNAME 8
 #define ROOT 0x400
 #define INTEGER (CTF_K_INTEGER << 11 | ROOT)
@@ -46,7 +46,7 @@ static ctf_file_t *opened(const struct made *made)
     exit(2);
 }
 
-/* Two arrays, each of which is its own index: 100 bytes. */
+/* Compares two arrays, each of which is its own index type: 100 bytes. */
 static void compare_with_themselves(void)
 {
     static const char strings[] = "\0long long unsigned";
@@ -69,7 +69,7 @@ static void compare_with_themselves(void)
     ctf_close(right);
 }
 
-/* Each array has the one before as its contents and its index: 2 to the power of 500 ways. */
+/* The contents and index of each array are the previous array: there are 2^500 paths. */
 static void compare_doubled(void)
 {
     static const char strings[] = "\0int";
@@ -91,7 +91,7 @@ static void compare_doubled(void)
     ctf_close(right);
 }
 
-/* A circle: the index of each array is the one behind it, and of the last the first. */
+/* A cycle: the index of each array is the next array, and that of the last one is the first. */
 static int compare_circle(unsigned types)
 {
     static const char strings[] = "\0int";
@@ -115,7 +115,7 @@ static int compare_circle(unsigned types)
     return !same;
 }
 
-/* ---- names that have one hash, where it is hash * 33 ^ byte and begins at 5381 */
+/* ---- names with the same hash, for hash = hash * 33 ^ byte, beginning at 5381 */
 
 #define STEPS 16
 #define LETTERS 96
@@ -126,14 +126,14 @@ static uint64_t stepped(uint64_t hash, const char *two)
     return hash * 33 ^ (unsigned char)two[1];
 }
 
-/* Two bytes, by a number below LETTERS squared. */
+/* The two bytes with this number, which is below LETTERS squared. */
 static void two_of(unsigned number, char *two)
 {
     two[0] = (char)(' ' + number / LETTERS);
     two[1] = (char)(' ' + number % LETTERS);
 }
 
-/* Finds two pairs of bytes that lead from a hash to one other. */
+/* Finds two pairs of bytes that give the same hash after `hash`, and returns it. */
 static uint64_t find_pairs(uint64_t hash, char pairs[2][2])
 {
     unsigned l, r;
@@ -148,7 +148,7 @@ static uint64_t find_pairs(uint64_t hash, char pairs[2][2])
     exit(2);
 }
 
-/* Writes so many of them, each with its zero byte. */
+/* Writes as many of these names, each with a zero byte. */
 static void put_names(char *strings, unsigned names)
 {
     char pairs[STEPS][2][2];
@@ -197,7 +197,7 @@ static int list_names(unsigned names)
     return listed != names;
 }
 
-/* A struct with two members of the type in front of it, which is half as long. */
+/* Adds a struct with two members, both of the previous type. */
 static void put_pair(struct made *made)
 {
     unsigned i;
@@ -210,7 +210,7 @@ static void put_pair(struct made *made)
     made->types++;
 }
 
-/* 512 structs in each other, each twice in the next: 2^513 rows, of which some are filled. */
+/* 512 nested structs, each twice in the next: 2^513 - 1 rows, of which the first are filled. */
 static int visit_doubled(unsigned rows_len)
 {
     enum {
@@ -243,7 +243,7 @@ static int visit_doubled(unsigned rows_len)
     return wrong != 0;
 }
 
-/* A struct with one member, of a type that is `bytes` long. */
+/* Adds a struct of `bytes` bytes with one member, of type `t`. */
 static void put_around(struct made *made, unsigned t, unsigned bytes)
 {
     put_head(made, 0, STRUCT | 1, bytes);
@@ -252,7 +252,7 @@ static void put_around(struct made *made, unsigned t, unsigned bytes)
     put16(made, 0);
 }
 
-/* How deep a visit went, and whether each type lay in the one before. */
+/* Checks that each visited type is nested in the previous one, and counts the depth. */
 static int on_depth(const char *name, ctf_id_t type, ulong_t offset, int depth, void *arg)
 {
     int *deepest = (int *)arg;
@@ -262,7 +262,7 @@ static int on_depth(const char *name, ctf_id_t type, ulong_t offset, int depth, 
     return 0;
 }
 
-/* 512 structs of a child in each other, around 512 of its parent, around an integer. */
+/* 512 nested structs of a child, around 512 of its parent, around an integer. */
 static void visit_deep_pair(void)
 {
     enum {

@@ -1,11 +1,11 @@
 #!/usr/bin/env bash
-# Checks that what a dictionary lends cannot outlive it, nor a dictionary the lists that it was lent:
-# three programs that must not compile, and two that are right and do, so that nothing else was wrong
-# with the three.
+# Checks that what is borrowed from a dictionary cannot outlive it, and that a dictionary cannot
+# outlive the lists lent to it. Three programs must not compile; two correct ones must, which shows
+# that nothing else is wrong with the three.
 # usage: tests/doors/c_library/lending.sh
-# Works on a copy, in a crate of its own there; proves nothing (`rt try`), about half a minute for
-# each program. Prints a row for each, which ends in "yes" or in what was seen; the status is 1
-# where one was wrong.
+# Works in a new crate in a copy of the crates, without checking proofs (`rt try`); each program
+# takes about half a minute. Prints a row for each, which ends in "yes" or in the error; the status
+# is 1 if one is wrong.
 set -eu
 top=$(cd "$(dirname "$0")/../../.." && pwd)
 copy=$(mktemp -d)
@@ -16,7 +16,7 @@ echo 'lending: ctf_model ctf_check ctf_views ctf_space' >> "$copy/crates.txt"
 cd "$copy/crates/lending"
 failed=0
 
-# What the programs share: a dictionary with a struct that has the one member x, and what it lends.
+# The shared part of the programs: a dictionary of a struct with one member, x, and borrows from it.
 cat > "$copy/shared" <<'RATTLE'
 //! Lends from a dictionary.
 #![tactic(auto)]
@@ -81,17 +81,17 @@ fn end_lists(_parts: Parts) {}
 
 RATTLE
 
-# program: the shared part, and a test from standard input.
+# program: writes the crate's source: the shared part, then the test on standard input.
 program() {
     cat "$copy/shared" - > src/lib.rt
 }
 
-# compiles NAME: the program passes its test.
+# compiles NAME: checks that the program compiles and passes its test.
 compiles() {
     if rt try --test > said 2>&1; then row "$1" yes; else row "$1" "$(head -n 1 said)"; fi
 }
 
-# refused NAME ERROR: the borrow checker refuses the program, and says nothing else.
+# refused NAME ERROR: checks that the program's only error is borrow-ERROR, of the borrow checker.
 refused() {
     if rt try --test > said 2>&1; then
         row "$1" "it compiles"

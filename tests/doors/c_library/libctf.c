@@ -1,4 +1,4 @@
-/* Checks the calls of libctf: what they return, when ctf_errno changes, what callbacks are given.
+/* Tests the calls of libctf: their results, when ctf_errno changes, and arguments of callbacks.
  *
  * usage: libctf EXAMPLES FOLDER
  */
@@ -14,7 +14,7 @@
 
 static ctf_file_t *lua;
 
-/* What callbacks were given. */
+/* The arguments that callbacks got. */
 static struct seen {
     int calls, stop_at;
     ulong_t last_offset;
@@ -206,7 +206,7 @@ static void symbols(void)
     CHECK(ctf_function_iter(lua, on_function, &seen) == 0 && is(seen.first_name, "closepaux"));
 }
 
-/* A function type: what a pointer to a function leads to. */
+/* The function type to which a pointer to a function leads. */
 static void functions(void)
 {
     ctf_funcinfo_t info = { 0, 0, 0 };
@@ -243,7 +243,7 @@ static void models(const char *file)
     ctf_close(NULL);
 }
 
-/* Names as programs write them, and what they become. */
+/* Look-ups by names as programs write them, and the names that calls return. */
 static void names(void)
 {
     ctf_id_t state = ctf_lookup_by_name(lua, "struct lua_State");
@@ -270,7 +270,7 @@ static void names(void)
     }
 }
 
-/* The declarations of a chain of declarators, by the types of a draft. */
+/* Declarations with nested declarators, for types of a draft. */
 static void declarations(void)
 {
     static const ctf_encoding_t signed_int = { CTF_INT_SIGNED, 0, 32 };
@@ -308,7 +308,7 @@ static int on_string(const char *text, void *arg)
     return told("", 0);
 }
 
-/* Labels of a draft, its bytes and its strings. */
+/* The labels, bytes and strings of a draft. */
 static void bytes(void)
 {
     static const ctf_encoding_t signed_int = { CTF_INT_SIGNED, 0, 32 };
@@ -361,7 +361,7 @@ static void refused_files(const char *folder)
     CHECK(ctf_version(0) == 2 && ctf_version(3) == -1);
 }
 
-/* Adds what a small program would, and reads it back from the file that was written. */
+/* Adds the types of a small program, and reads them back from the written file. */
 static void drafts(const char *folder)
 {
     static const ctf_encoding_t signed_int = { CTF_INT_SIGNED, 0, 32 };
@@ -427,13 +427,13 @@ static void drafts(const char *folder)
     ctf_close(read);
 }
 
-/* Whether a name stands in a block. */
+/* Whether a name lies in a block. */
 static bool stands_in(const char *name, const char *block, size_t size)
 {
     return name >= block && name < block + size;
 }
 
-/* Opens a copy of what a draft has: int, struct node with a member, and enum color with red = -1. */
+/* Opens the bytes of a draft: int, struct node with a member, and enum color with red = -1. */
 static ctf_file_t *open_copy(char **copy, size_t *size)
 {
     static const ctf_encoding_t signed_int = { CTF_INT_SIGNED, 0, 32 };
@@ -457,7 +457,7 @@ static ctf_file_t *open_copy(char **copy, size_t *size)
     return made;
 }
 
-/* Names stand in a file's own sections; who keeps only a child of it has copies. */
+/* Names lie in the sections of an open file; if only a child of it is left, they are copies. */
 static void lent_names(void)
 {
     char *copy;
@@ -487,10 +487,10 @@ static void lent_names(void)
     ctf_close(child);
 }
 
-/* One open file for both headers; and which fault stands behind an error that several share. */
+/* One open file for both headers; and the fault behind an error code that several faults share. */
 static void both_headers(void)
 {
-    /* A header, and a string section of one byte, which is not 0. */
+    /* A header, and a string section of one byte, which should be 0. */
     static const char damaged[37] = { '\xf1', '\xcf', 2, [32] = 1, [36] = 'x' };
     ctf_sect_t section;
     struct ctfd *types = ctfd_of(lua);

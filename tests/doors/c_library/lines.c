@@ -1,5 +1,5 @@
-/* Answers the lines of standard input by ctfd_line, and prints the replies, as `ctfd serve` does.
- * Each reply is asked for with no room first, and then again.
+/* Answers the lines on standard input with ctfd_line, and prints the replies, as `ctfd serve` does.
+ * Asks for each reply first without a buffer, and then again with ctfd_reply.
  */
 #include "common.h"
 

@@ -1,4 +1,4 @@
-/* made.h - dictionaries that a test writes by their bytes. */
+/* made.h - writes dictionaries byte by byte. */
 #ifndef CTFD_TEST_MADE_H
 #define CTFD_TEST_MADE_H
 
@@ -9,7 +9,7 @@
 
 #define MADE_HEADER 36
 
-/* A dictionary in a place that holds it all. */
+/* A dictionary in a buffer that is large enough. */
 struct made {
     uint8_t *at;
     size_t len;
@@ -28,7 +28,7 @@ static inline void put32(struct made *made, uint32_t value)
     put16(made, value >> 16);
 }
 
-/* The head of a record, whose name begins at a place of the strings. */
+/* The first fields of a record, whose name is at an offset in the strings. */
 static inline void put_head(struct made *made, uint32_t name, unsigned info, unsigned size)
 {
     put32(made, name);
@@ -36,7 +36,7 @@ static inline void put_head(struct made *made, uint32_t name, unsigned info, uns
     put16(made, size);
 }
 
-/* Begins with a header that names no sections. */
+/* Begins with a header without sections. */
 static inline void begin_made(struct made *made)
 {
     unsigned i;
@@ -46,7 +46,7 @@ static inline void begin_made(struct made *made)
         put32(made, 0);
 }
 
-/* Ends the types, puts the strings behind them, and names both in the header. */
+/* Ends the types, appends the strings, and stores the position of the strings and their length. */
 static inline void end_made(struct made *made, const char *strings, size_t len)
 {
     size_t end = made->len;

@@ -1,20 +1,21 @@
 #!/usr/bin/env bash
-# Checks dictionaries in the making, by both libctf's headers, over a built library.
+# Tests dictionaries in the making, through both libctf headers, with a built library.
 # usage: tests/doors/c_library/making.sh [--rounds N]
-# The archive is the one that CTFD_ARCHIVE names, else crates/ctf_c/out/libctfd.a. Needs a C compiler
-# with sanitizers; GNU libctf (Debian's binutils-dev) for what is compared with it, and the compiled
-# ctfd-convert and Debian's sources for binutils' own tests.
+# Uses the archive that CTFD_ARCHIVE names, by default crates/ctf_c/out/libctfd.a. Needs a C
+# compiler with sanitizers; for comparisons GNU libctf (Debian's binutils-dev); for binutils' own
+# tests the compiled ctfd-convert and Debian's sources.
 #
-# - Random additions by libctf's calls and, the same, by ctfd.h: numbers, refusals, answers, bytes.
-# - Random additions, updates, discards, deletions and promotions in a parent and its child: what is
-#   written answers the same once it is opened.
-# - Random calls of GNU's header print the same over libctfd and over GNU's own library.
-# - All types of a dictionary, copied. Opened children of a parent in the making. Each allocation
+# - Random additions through libctf's calls, and the same through ctfd.h: the numbers, refusals,
+#   answers and bytes are equal.
+# - Random additions, updates, discards, deletions and promotions in a parent and its child: the
+#   written bytes, when opened, give the same answers.
+# - Random calls of GNU's header print the same with libctfd as with GNU's own library.
+# - Copies of all types of a dictionary. Opened children of a parent in the making. Each allocation
 #   refused in turn. Eight threads.
 # - What libdtrace, mdb and gdb do with dictionaries: tests/doors/c_library/making/idioms.
 # - binutils' own tests of libctf, unchanged.
-# All but the threads and the last under AddressSanitizer and UndefinedBehaviorSanitizer. N is 300.
-# Prints what was wrong, and counts; the status is 1 where something was wrong.
+# All but the threads and binutils' tests run under AddressSanitizer and UndefinedBehaviorSanitizer.
+# The default of N is 300. Prints errors and counts; the status is 1 if there was an error.
 set -eu
 rounds=300
 [ "${1:-}" = --rounds ] && rounds=$2
@@ -28,7 +29,7 @@ trap 'rm -r "$work"' EXIT
 cd "$work"
 failed=0
 
-# run WHAT COMMAND..: runs it, and shows what it said; notes where it failed.
+# run WHAT COMMAND..: runs a command, shows the end of its output, and notes a failure in $failed.
 run() {
     local what=$1 status=0
     shift
@@ -37,7 +38,7 @@ run() {
     [ $status = 0 ] || { failed=1; echo "$what: status $status"; }
 }
 
-# The proved crates alone: the layer is compiled here, with the sanitizers.
+# Only the proved crates; the C layer is compiled below, with sanitizers.
 cp "$archive" crates.a
 mapfile -t old < <(ar t crates.a | grep '^libctf_')
 ar d crates.a "${old[@]}"
@@ -48,7 +49,7 @@ done
 warned=(-std=gnu11 -g -O1 -Wall -Wextra -Wpedantic -Werror '-DCTFD_BUILD="a test"')
 sanitized=(-fsanitize=address,undefined -fno-sanitize-recover=all)
 
-# layer FLAGS..: the layer's objects, in layer.a.
+# compile_layer FLAGS..: compiles the C layer into layer.a.
 compile_layer() {
     rm -rf objects layer.a
     mkdir objects
@@ -58,7 +59,7 @@ compile_layer() {
     ar rcs layer.a objects/*.o
 }
 
-# program NAME FLAGS..: a test over illumos' header.
+# program NAME FLAGS..: compiles a test that includes illumos' header.
 program() {
     local name=$1
     shift
@@ -82,7 +83,8 @@ run refused ./refused "$top/examples/lua.ctf"
 run mdb sh -c "./mdb '$top/examples/lua.ctf' | cmp - '$making/idioms/mdb.txt'"
 run dtrace sh -c "./dtrace | cmp - '$making/idioms/dtrace.txt'"
 
-# gnu NAME: a test by GNU's header, over libctfd; what it prints over GNU's own is said_by_gnu.
+# gnu NAME: compiles a test that includes GNU's header: gnu_ours with libctfd, gnu_theirs with GNU's
+# own library.
 gnu() {
     cc "${warned[@]}" "${sanitized[@]}" -I"$top/clients/c/gnu" -c "$making/$1.c" -o gnu.o
     cc "${sanitized[@]}" gnu.o layer.a crates.a -o gnu_ours
@@ -101,7 +103,7 @@ if echo '#include <ctf-api.h>' | cc -E - > /dev/null 2>&1; then
     ./gnu_theirs > theirs
     run symbols sh -c './gnu_ours | diff theirs -'
     gnu idioms/dump
-    ./gnu_theirs | sed 's/int (\*) ()/int ()/' > theirs # as C has it
+    ./gnu_theirs | sed 's/int (\*) ()/int ()/' > theirs # C's spelling
     run dump sh -c './gnu_ours | diff theirs -'
     cc -w -DGNU "$making/idioms/dtrace.c" -lctf-nobfd -o gnu_theirs
     ./gnu_theirs > theirs

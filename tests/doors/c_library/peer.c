@@ -1,10 +1,10 @@
-/* Prints what a visit of each type of a dictionary gives: by ctfd_visit with ROWS defined, else by
- * ctf_type_visit, which with GNU defined is GNU libctf's.
+/* Prints the rows of a visit of each type of a dictionary: by ctfd_visit with -DROWS, otherwise by
+ * ctf_type_visit, which is GNU libctf's with -DGNU.
  *
  * usage: peer CTF < NUMBERS
  *
  * Prints a line for each type whose number it reads, and a line for each row: its depth, its offset
- * in bits, the kind and the size of its type, and its name. A size that is refused is -1.
+ * in bits, the kind and size of its type, and its name. The size is -1 if it is refused.
  */
 #ifdef GNU
 #include <ctf-api.h>

@@ -1,11 +1,11 @@
 #!/usr/bin/env python3
-"""Writes the types of a dictionary as GNU libctf has them, for tests/doors/c_library/run.sh.
+"""Writes the types of a dictionary with GNU libctf, for tests/doors/c_library/run.sh.
 
 usage: peer.py PROGRAM CTF FOLDER
 
-FOLDER gets gnu.ctf, which GNU libctf writes itself (bench/gnu_dictionary.py), and the numbers of
-the types that it took: `ours` has those of CTF, and `theirs` those of the same types in gnu.ctf, a
-line each. Says how many types there are and how many were refused. Needs libctf-nobfd.so.0 of the
+FOLDER gets gnu.ctf, which GNU libctf itself writes (bench/gnu_dictionary.py), and the numbers of
+the types that it accepted: `ours` has their numbers in CTF, and `theirs` those in gnu.ctf, one per
+line. Prints the number of types, and of those that were refused. Needs libctf-nobfd.so.0 of the
 Debian package binutils-dev.
 """
 import sys

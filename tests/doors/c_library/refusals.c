@@ -1,10 +1,11 @@
-/* Checks what is refused, by which status, and that a refusal writes no result and closes nothing.
+/* Checks which calls are refused, and with which status; a refusal writes no result and closes
+ * nothing.
  *
  * usage: refusals EXAMPLES
  */
 #include "common.h"
 
-/* Results, filled with a pattern that a refusal has to leave. */
+/* Results, filled with a pattern that a refusal must leave unchanged. */
 static struct results {
     uint64_t wide, len;
     uint32_t number;
@@ -45,7 +46,7 @@ static bool is_untouched(void)
 
 #define TEXT got.text, sizeof got.text
 
-/* Every question about a type, each of which has to be refused alike. */
+/* Asks every question about a type; all must be refused with the same status. */
 static void refuse_type(struct ctfd *d, uint16_t t, enum ctfd_status status)
 {
     static const uint8_t memory[16];
@@ -78,7 +79,7 @@ static void refuse_type(struct ctfd *d, uint16_t t, enum ctfd_status status)
     REFUSED(ctfd_show(d, t, memory, sizeof memory, 0, TEXT, &got.len), status);
 }
 
-/* 0 is no type: whatever is asked of it is refused, as the words of the protocol refuse it. */
+/* 0 is not a type: all questions about it are refused, as in the protocol. */
 static void ask_of_none(struct ctfd *d)
 {
     static const uint8_t memory[16];
@@ -97,7 +98,7 @@ static void ask_of_none(struct ctfd *d)
     REFUSED(ctfd_name(d, 0, TEXT, &got.len), CTFD_NO_TYPE);
 }
 
-/* Nothing is open behind the handle. */
+/* Makes all calls with a handle that has nothing open. */
 static void refuse_all(struct ctfd *d)
 {
     struct ctfd other = CTFD_NONE;
@@ -133,7 +134,7 @@ static void refuse_all(struct ctfd *d)
     CHECK(!d->full);
 }
 
-/* Kinds that a question is not for, and places behind the ends of lists. */
+/* Questions about types of the wrong kind, and indexes past the ends of lists. */
 static void refuse_kinds(struct ctfd *d)
 {
     uint16_t s, i, e, f;
@@ -198,7 +199,7 @@ static void refuse_names(struct ctfd *d)
     REFUSED(ctfd_add_label(d, "l", 1, 0), CTFD_READ_ONLY);
 }
 
-/* A text goes as far as there is room, and no farther; its length is the whole one. */
+/* Text is truncated to the buffer; the full length is returned. */
 static void cut_texts(struct ctfd *d)
 {
     static const char wanted[] = "struct lua_State";
@@ -219,7 +220,7 @@ static void cut_texts(struct ctfd *d)
     }
 }
 
-/* A refused open says why and where, and leaves what was open. */
+/* A refused open returns the reason and the place, and leaves the open dictionary unchanged. */
 static void refuse_opens(struct ctfd *d, const struct bytes *ctf)
 {
     struct bytes bad = { (uint8_t *)malloc(ctf->len), ctf->len };
@@ -250,7 +251,7 @@ static void refuse_opens(struct ctfd *d, const struct bytes *ctf)
     free(bad.at);
 }
 
-/* Imports that are refused, and what was imported stays. */
+/* Imports that are refused; the parent that was imported before stays. */
 static void refuse_imports(struct ctfd *lua)
 {
     struct ctfd base = CTFD_NONE, child = CTFD_NONE, wide = CTFD_NONE, none = CTFD_NONE;
@@ -274,7 +275,7 @@ static void refuse_imports(struct ctfd *lua)
     CHECK(open_alone(&child, &made, false, &place) == CTFD_OK);
     refuse_type(&child, 1, CTFD_NO_PARENT);
     REFUSED(ctfd_import(&child, &none, &place), CTFD_NO_SLOT);
-    /* Its own pointer to a type of the parent is not told of while the parent is not there. */
+    /* Without its parent, a child does not return even its own pointer to a type of the parent. */
     REFUSED(ctfd_pointer(&child, 1, &p), CTFD_NO_PARENT);
     CHECK(ctfd_create(&wide, true, &place) == CTFD_OK);
     CHECK(ctfd_import(&child, &wide, &place) == CTFD_MODEL_DIFFERS);
@@ -296,8 +297,8 @@ static void refuse_imports(struct ctfd *lua)
     free_bytes(&made);
 }
 
-/* Lists that are lent are read where they are: they are judged as others are, and a child keeps
- * those of its parent. */
+/* Lent lists are read at their own address: they are checked like others, and a child keeps those
+ * of its parent open. */
 static void lend(const struct bytes *ctf)
 {
     struct ctfd types = CTFD_NONE, child = CTFD_NONE;
@@ -327,7 +328,7 @@ static void lend(const struct bytes *ctf)
     free(lent.at);
 }
 
-/* A draft of one type whose name has that many letters is written, or is too big to be. */
+/* Updates a draft of one type with a name of `letters` letters; the result must be `status`. */
 static void write_long_name(size_t letters, enum ctfd_status status)
 {
     struct ctfd draft = CTFD_NONE;
@@ -345,7 +346,7 @@ static void write_long_name(size_t letters, enum ctfd_status status)
     free(name);
 }
 
-/* A header, a head, and a name between two zero bytes have 67,108,864 bytes, or one more. */
+/* A header, a record, and a name between two zero bytes: 67,108,864 bytes in all, and one more. */
 static void write_the_longest(void)
 {
     write_long_name(67108818, CTFD_OK);

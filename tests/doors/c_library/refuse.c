@@ -1,11 +1,11 @@
-/* Refuses each allocation of a call in turn. The call has to say so, to give back what it took, and
- * to leave what was open as it was.
+/* Refuses each allocation of a call in turn. The call must report it, free what it allocated, and
+ * leave open dictionaries unchanged.
  *
  * usage: refuse EXAMPLES
  */
 #include "common.h"
 
-/* What the library takes memory by, in place of the archive's own: as it calls them. */
+/* The library's allocation functions, which replace those in the archive. */
 struct tried {
     bool ok;
     void *at;
@@ -143,7 +143,7 @@ static enum ctfd_status update(void)
     return status;
 }
 
-/* What is asked of what was open, which has to be answered alike whatever was refused. */
+/* A hash of answers about an open dictionary, which refused calls must not change. */
 static uint64_t fingerprint(struct ctfd *d)
 {
     uint64_t sum = 0, count = 0, bytes = 0, t;
@@ -157,7 +157,7 @@ static uint64_t fingerprint(struct ctfd *d)
     return 31 * sum + ctfd_parent_count(d, &bytes);
 }
 
-/* Calls until nothing is refused, and tells how many allocations there were. */
+/* Repeats a call until no allocation is refused, and prints the number of its allocations. */
 static void refuse(const char *what, enum ctfd_status (*call)(void))
 {
     uint64_t was = fingerprint(&fresh), others = fingerprint(&types) ^ fingerprint(&base);
@@ -170,9 +170,9 @@ static void refuse(const char *what, enum ctfd_status (*call)(void))
             CHECK(status == CTFD_OK);
             break;
         }
-        /* A text that is refused room to grow is tried with less, and then is as it should be. */
+        /* ctfd_show, if it is refused memory to grow its text, tries less, and may succeed. */
         CHECK(status == CTFD_MEMORY || (status == CTFD_OK && call == show));
-        /* A draft may keep room that it made for more; it is given back when the draft is. */
+        /* A draft may keep memory reserved for additions; it is freed with the draft. */
         CHECK(live == held ||
             (live > held && (call == add || call == add_member || call == add_member_at)));
         CHECK(fingerprint(&fresh) == was);
@@ -182,7 +182,7 @@ static void refuse(const char *what, enum ctfd_status (*call)(void))
     refused_at = 0;
 }
 
-/* What takes no memory, by what the header says. */
+/* Makes the calls that allocate no memory, according to the header. */
 static void take_none(void)
 {
     struct ctfd_member member;
@@ -233,7 +233,7 @@ static void take_none(void)
     CHECK(calls == 0);
 }
 
-/* A child on its parent, as bytes. */
+/* Writes a child and its parent as bytes. */
 static void make_child(void)
 {
     uint64_t count = 0;

@@ -1,10 +1,11 @@
-/* Compares rows of types, arguments, symbols and labels with what the single calls answer.
+/* Compares rows of types, arguments, symbols and labels with the answers of single calls.
  *
  * usage: rows CTF SYM STR [PARENT]
  *
- * SYM and STR may be empty files, and are not there then. With PARENT the dictionary is a child,
- * which is asked with its parent and without. Each list is asked for by windows of three rows, each
- * from two behind the last on, and past its end; what no row is told of has to stay.
+ * If SYM and STR are empty files, the dictionary has no such lists. With PARENT it is a child,
+ * which is tested without its parent and with it. Each list is read in windows of three rows, each
+ * of which begins two rows after the start of the one before, and past its end; unused rows must
+ * stay unchanged.
  */
 #include "common.h"
 
@@ -12,13 +13,13 @@
 
 static struct ctfd types = CTFD_NONE, parent = CTFD_NONE;
 
-/* The lists that names stand in, by their numbers. */
+/* The lists that rows refer to for names. */
 static struct bytes section, strings;
 
-/* Room for a text of any length that is answered. */
+/* A buffer for the longest text. */
 static char room[1 << 17];
 
-/* Whether a name stands where a row says, with a zero byte behind it. */
+/* Whether a row's list has this name at `at`, followed by a zero byte. */
 static bool stands(uint32_t list, uint64_t at, const char *name, uint64_t len)
 {
     const struct bytes *bytes = list == CTFD_IN_SECTION ? &section : &strings;
@@ -28,7 +29,7 @@ static bool stands(uint32_t list, uint64_t at, const char *name, uint64_t len)
         bytes->at[at + len] == 0;
 }
 
-/* Whether so many bytes were not written. */
+/* Whether `len` bytes were not written. */
 static bool is_left(const void *at, size_t len)
 {
     const unsigned char *bytes = (const unsigned char *)at;
@@ -40,7 +41,7 @@ static bool is_left(const void *at, size_t len)
     return true;
 }
 
-/* How many rows of a window are told of, where there are so many items in all. */
+/* The number of rows in the window at `from` that are filled, if there are `all` items. */
 static size_t told(uint64_t all, uint64_t from)
 {
     return from >= all ? 0 : all - from < WINDOW ? (size_t)(all - from) : WINDOW;
@@ -80,7 +81,7 @@ static void compare_types(void)
     }
 }
 
-/* The arguments of a type, or the refusal that its rows have then. */
+/* Compares the arguments of a type, or checks that rows and single call are refused alike. */
 static void compare_arguments(uint16_t t)
 {
     uint16_t rows[WINDOW], one = 0;
@@ -103,7 +104,7 @@ static void compare_arguments(uint16_t t)
     }
 }
 
-/* What a function type says, as the single calls have it, or its refusal. */
+/* Compares a function type's signature with single calls, or checks that it is refused alike. */
 static void compare_signature(uint16_t t)
 {
     struct ctfd_function function = { 77, 77, 77 };
@@ -121,7 +122,7 @@ static void compare_signature(uint16_t t)
     CHECK(function.varargs == (last == 0) && function.arguments == all - (last == 0));
 }
 
-/* The same of a function of the program. */
+/* Compares the arguments of a program's function, in the same way. */
 static void compare_function(uint32_t number)
 {
     struct ctfd_function function;

@@ -1,31 +1,31 @@
 #!/usr/bin/env bash
-# Checks the library for C, its headers and libctf's calls over it, beside a built ctfd.
+# Tests the library for C, its headers and libctf's calls on top of it, against a built ctfd.
 # usage: tests/doors/c_library/run.sh PROGRAM [--rounds N]
-# The archive is the one that CTFD_ARCHIVE names, else crates/ctf_c/out/libctfd.a, which
-# tests/doors/c_library/archive.py makes. Needs C and C++ compilers, nm, sanitizers and Python; clang is used where
-# it is.
+# Uses the archive that CTFD_ARCHIVE names, by default crates/ctf_c/out/libctfd.a, which
+# tests/doors/c_library/archive.py makes. Needs C and C++ compilers, nm, sanitizers and Python; uses
+# clang if it is installed.
 #
-# - The header says what the crates export, and broken headers are found (c_library/header.py).
-#   libctfd.so beside the archive exports what both headers declare, and nothing else.
-# - Both headers are C11 and C++11 without a warning.
-# - An object file that has seen no header of ours, and ctypes, use libctfd.so.
-# - Dumps by the calls of ctfd.h and by those of libctf are those of `ctfd dump`: of programs, of a
-#   child with its parent, and with pointers of 4 bytes.
-# - What is asked of each type, member, enumerator, name and symbol is answered as by the service,
-#   and rows as by the single calls; a visit goes from a child into its parent.
-# - A visit of each type has the same rows by both headers and by GNU libctf of the same types
-#   (c_library/peer.py).
-# - Lines are answered as by the service, also as a session's, under any number and under none; a
-#   million sessions that come and go leave no memory.
-# - What is refused writes no result and closes nothing; so does each allocation that is refused.
-# - Dictionaries that were made to cost much cost a time that is linear in their bytes, and a visit
-#   one that is linear in its rows: twice as many types, names or rows take at most 2.2 times the
+# - The header declares what the crates export, and broken headers are detected
+#   (c_library/header.py). libctfd.so beside the archive exports exactly what both headers declare.
+# - Both headers compile without warnings as C11 and as C++11.
+# - libctfd.so works with an object file that was compiled without our headers, and with ctypes.
+# - Dumps through the calls of ctfd.h and through those of libctf equal those of `ctfd dump`: of
+#   programs, of a child with its parent, and with pointers of 4 bytes.
+# - Questions about each type, member, enumerator, name and symbol get the service's answers, and
+#   rows equal the answers of single calls; a visit continues from a child into its parent.
+# - A visit of each type gives the same rows through both headers as through GNU libctf with the
+#   same types (c_library/peer.py).
+# - Lines get the service's replies, also as lines of a session, with any number or none; a million
+#   sessions that come and go leak no memory.
+# - A refused call writes no result and closes nothing, also if an allocation is refused.
+# - Questions about dictionaries that were made to be expensive take time linear in their bytes, and
+#   a visit time linear in its rows: twice as many types, names or rows take at most 2.2 times the
 #   instructions, as valgrind counts them.
-# - ELF files are opened, by libelf and zlib where these are here (c_library/elf.sh).
-# - Damaged dictionaries, lines and random calls, and walks of libctf's calls over random
-#   dictionaries, under AddressSanitizer and UndefinedBehaviorSanitizer: N rounds of them (10000;
-#   walks have a tenth).
-# Prints what was wrong, and counts; the status is 1 where something was wrong.
+# - ELF files are opened, if libelf and zlib are installed (c_library/elf.sh).
+# - Damaged dictionaries, damaged lines and random calls, and walks of libctf's calls over random
+#   dictionaries, run under AddressSanitizer and UndefinedBehaviorSanitizer: N rounds (10000), and
+#   N/10 of the walks.
+# Prints errors and counts; the status is 1 if there was an error.
 set -eu
 program=$(realpath "$1")
 shift
@@ -43,12 +43,12 @@ trap 'rm -r "$work"' EXIT
 cd "$work"
 . "$top/tests/doors/counting.sh"
 libraries=$(dirname "$archive")
-# The part for ELF files, for programs that link the archive.
+# Linker flags of the part for ELF files, for programs that link the archive.
 elf=()
 [ ! -f "$libraries/libctfd_elf.a" ] ||
     elf=(-Wl,-u,ctfd_elf_read "$libraries/libctfd_elf.a" -lelf -lz)
 
-# compile SOURCE OUT FLAGS..: as the users of the headers may, so no warning is let through.
+# compile SOURCE OUT FLAGS..: compiles a program as users of the headers may; warnings are errors.
 compile() {
     local source=$1 out=$2
     shift 2
@@ -56,12 +56,13 @@ compile() {
         "$archive" "${elf[@]}" -o "$out"
 }
 
-# same WANTED SEEN: two files are the same, or the first lines in which they differ.
+# same WANTED SEEN: compares two files, and prints the first lines that differ.
 same() {
     cmp -s "$1" "$2" || { diff "$1" "$2" | head -n 20; return 1; }
 }
 
-# twice WHAT N: the instructions of hostile's WHAT, of N and of twice as many.
+# twice WHAT N: counts the instructions of `hostile WHAT` for N and for twice as many; fails if the
+# second takes more than 2.2 times the first.
 twice() {
     local n counted=()
     for n in "$2" $((2 * $2)); do
@@ -103,7 +104,7 @@ for name in ctfdump first; do
     prepare "compile $name.c" compile "$top/examples/c/$name.c" $name
 done
 
-# What links libctfd.so.
+# Programs that link libctfd.so.
 shared=(-L"$libraries" -lctfd "-Wl,-rpath,$libraries")
 prepare "compile unchanged.c" cc -std=c11 -D_DEFAULT_SOURCE -O2 -Wall -Wextra -Werror \
     -c "$tests/unchanged.c" -o unchanged.o
@@ -134,7 +135,7 @@ else
     count "without the part for ELF files" grep -q 'link libctfd_elf' seen
 fi
 
-# A child and its parent, as the service writes them.
+# A child and its parent, written by the service.
 "$program" serve > made << 'END'
 {"s":1,"op":"create"}
 {"s":1,"op":"add","d":1,"what":"integer","name":"int","encoding":1,"offset":0,"bits":32,"size":4}
@@ -162,19 +163,19 @@ import json, sys
 for name, line in zip(("parent", "child"), sys.stdin):
     open(name + ".ctf", "wb").write(bytes.fromhex(json.loads(line)["ok"]["bytes"]))'
 
-# No call tells the size in an array's record.
+# Removes the size in an array's record, which no call returns.
 without_sizes() {
     sed -E 's/^(type [0-9]+ array .*) size=[0-9]+ :/\1 :/'
 }
 
-# What a dump calls an array of pointers that is qualified as a whole, spelled as C has it, which
-# libctf's calls do: by the protocol the array's `const` stands in front of all.
+# Spells an array of pointers that is qualified as a whole as C does, and libctf's calls do: in a
+# dump the array's `const` comes first.
 as_c() {
     sed -E 's/"const const (\w+ \*const \[)/"const \1/; t
         s/^(type [0-9]+ const .*)"const char (\*const \[10\])/\1"char \2/'
 }
 
-# dumped NAME CTF WORDS..: the same by both, the words being those of `ctfd dump`.
+# dumped NAME CTF WORDS..: compares the C program's dump with that of `ctfd dump CTF WORDS..`.
 dumped() {
     local name=$1 ctf=$2
     shift 2
@@ -254,7 +255,7 @@ grep -v ' checks, ' said || true
 
 sanitize=(-g -O1 -fsanitize=address,undefined -fno-sanitize-recover=all)
 
-# looked_into PREFIX FLAGS..: compiles libctf's calls with sanitizers, but for the part for ELF
+# looked_into PREFIX FLAGS..: compiles libctf's calls with sanitizers, without the part for ELF
 # files.
 looked_into() {
     local prefix=$1 source
@@ -268,7 +269,7 @@ looked_into() {
 
 echo 'int main(void) { return 0; }' > none.c
 if cc "${sanitize[@]}" none.c -o none 2> said && ./none 2>> said; then
-    # The calls of libctf are compiled anew, so that these are looked into too.
+    # libctf's calls are compiled again, so that sanitizers check them too.
     looked_into checked
     for name in fuzz refusals libctf; do
         prepare "compile $name.c with sanitizers" compile "$tests/$name.c" $name "${sanitize[@]}" \
@@ -278,7 +279,7 @@ if cc "${sanitize[@]}" none.c -o none 2> said && ./none 2>> said; then
     cat said
     count "refusals under sanitizers" ./refusals "$top/examples"
     count "libctf's calls under sanitizers" ./libctf "$top/examples" "$work"
-    # Here they keep little of what they have read, so that it is dropped now and then.
+    # Here the calls cache only 2000 bytes, so caches are often emptied.
     looked_into forgetful -DMOST_BYTES=2000
     prepare "compile walks.c" cc -std=gnu11 -Wall -Wextra -Wpedantic -Werror "${sanitize[@]}" \
         -I"$top/clients/c" "$tests/walks.c" forgetful_*.o "$archive" -o walks \

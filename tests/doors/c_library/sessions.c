@@ -1,9 +1,9 @@
-/* Checks lines that are answered as a session's, what the operator publishes, and sessions that end.
+/* Tests lines of sessions, the dictionaries that the operator publishes, and the end of sessions.
  *
  * usage: sessions EXAMPLES COUNT LINES..
  *
- * EXAMPLES is the folder of lua.ctf, each of LINES a file of lines that name their sessions first.
- * COUNT sessions come and go at the end, and resident memory may not grow.
+ * EXAMPLES is the folder of lua.ctf. Each of LINES is a file whose lines begin with a session's
+ * number. At the end COUNT sessions come and go, and resident memory must not grow.
  */
 #include "common.h"
 
@@ -14,7 +14,7 @@
 static char reply[ROOM];
 static unsigned compared;
 
-/* The reply to a line of a session, without its newline. */
+/* Sends a line as a session, and returns the reply without its newline. */
 static const char *as(struct ctfd_service *service, uint32_t session, const char *line)
 {
     uint64_t len = 0;
@@ -38,7 +38,7 @@ static enum ctfd_status load(
     return ctfd_load(service, name, strlen(name), ctf->at, ctf->len);
 }
 
-/* A line of one byte more than a line may have, and one of just as many. */
+/* A line that is one byte longer than allowed, and one of the greatest length. */
 static void check_length(struct ctfd_service *service)
 {
     size_t most = 1048576;
@@ -54,7 +54,7 @@ static void check_length(struct ctfd_service *service)
     free(line);
 }
 
-/* What stands in docs/SERVING.md of a line's number. */
+/* The rules of docs/SERVING.md for the session number in a line. */
 static void check_numbers(void)
 {
     struct ctfd_service service = CTFD_NONE;
@@ -84,7 +84,7 @@ static void check_numbers(void)
     ctfd_end(&service);
 }
 
-/* Where nothing is open, and as session 0, nothing is written. */
+/* If the service is not open, or the session is 0, nothing is written. */
 static void check_refusals(const struct bytes *ctf)
 {
     struct ctfd_service service = CTFD_NONE;
@@ -103,7 +103,7 @@ static void check_refusals(const struct bytes *ctf)
     ctfd_end(&service);
 }
 
-/* The operator's dictionaries, as of `ctfd serve NAME=FILE`. */
+/* The operator's dictionaries, which `ctfd serve NAME=FILE` publishes. */
 static void check_operator(const struct bytes *ctf)
 {
     struct ctfd_service service = CTFD_NONE;
@@ -129,7 +129,7 @@ static void check_operator(const struct bytes *ctf)
     ctfd_end(&service);
 }
 
-/* A session that leaves takes away what it published, and nothing from others. */
+/* A session that leaves withdraws what it published, but nothing of other sessions. */
 static void check_leaving(const struct bytes *ctf)
 {
     struct ctfd_service service = CTFD_NONE;
@@ -151,7 +151,7 @@ static void check_leaving(const struct bytes *ctf)
     ctfd_end(&service);
 }
 
-/* The number that a line begins with, and what stands behind it; or 0. */
+/* The session number at the start of a line, and the text behind it; 0 if there is none. */
 static uint32_t numbered(const char *line, const char **behind)
 {
     char *end = NULL;
@@ -162,7 +162,7 @@ static uint32_t numbered(const char *line, const char **behind)
     return *end == ',' && number <= 4294967295u ? (uint32_t)number : 0;
 }
 
-/* A reply is that of the plain service, but for its number. */
+/* Checks that a reply equals the plain service's, except for the session number. */
 static void compare(const char *wanted, const char *seen, uint32_t number)
 {
     const char *end = strstr(wanted, "},\"s\":");
@@ -174,7 +174,7 @@ static void compare(const char *wanted, const char *seen, uint32_t number)
         is(seen + (end - wanted), number_text));
 }
 
-/* Each line of a file by its own session: as it stands, with another number, and without one. */
+/* Sends each line of a file as its session: unchanged, with another number, and without one. */
 static void check_lines(const char *name)
 {
     struct ctfd_service plain = CTFD_NONE, given[3] = { CTFD_NONE, CTFD_NONE, CTFD_NONE };
@@ -222,7 +222,7 @@ static size_t resident(void)
     return pages * (size_t)sysconf(_SC_PAGESIZE);
 }
 
-/* Sessions that took, staged or drafted and then reset or left. */
+/* Sessions that take, stage or draft something and then reset or leave. */
 static void come_and_go(struct ctfd_service *service, uint32_t from, uint32_t count)
 {
     static const char *const does[] = { "{\"op\":\"take\",\"owner\":0,\"name\":\"lua\"}",

@@ -1,6 +1,6 @@
-"""What the library's rows say of types, beside its calls for one type and the service's words.
+"""Compares the library's rows of types with its calls for single types, and with the service.
 
-All types of the examples, of dictionaries made at random (parents and children), and of damaged ones
+For all types of the examples, of random dictionaries (parents and children), and of damaged ones
 that are still accepted: kinds, names, flags, sizes, alignments, references, lists, and the refusals
 of these.
 """
@@ -33,7 +33,7 @@ NUMBERS = {"kind": "kind", "size": "size", "align": "align", "resolve": "resolve
 
 
 class Lists(NamedTuple):
-    """A dictionary to be opened, and its parent."""
+    """A dictionary to open, and its parent."""
 
     name: str
     ctf: bytes
@@ -43,15 +43,15 @@ class Lists(NamedTuple):
 
 
 def outcome(ask: Callable[[], Any]) -> Any:
-    """What is answered, or the fault's name."""
+    """The answer, or the fault's name and place."""
     try:
         return ask()
     except ctfd.Refused as fault:
         return fault.name, fault.place
 
 
-def opened(session: ctfd.Session, lists: Lists) -> Optional[ctfd.Dictionary]:
-    """The dictionary, over its parent; None where it is refused."""
+def open_lists(session: ctfd.Session, lists: Lists) -> Optional[ctfd.Dictionary]:
+    """The dictionary, with its parent, or None if it is refused."""
     try:
         types = ctfd.open_source(session, ctfd.Source(lists.ctf, lists.sym, lists.strings,
                                                       how="given"))
@@ -63,7 +63,7 @@ def opened(session: ctfd.Session, lists: Lists) -> Optional[ctfd.Dictionary]:
 
 
 def differences(ours: ctfd.Dictionary, theirs: ctfd.Dictionary, slot: Slot) -> Iterator[str]:
-    """Where rows, calls and words differ on the types of a dictionary."""
+    """Differences between rows, calls and words for the types of a dictionary."""
     parents = list(theirs.parent.numbers) if theirs.parent else [1]
     numbers = [*ours.numbers, *parents, 0x7FFF, ours.first + ours.own]
     theirs.fetch((word, t) for word in WORDS for t in numbers)
@@ -89,13 +89,13 @@ KINDS = ("unknown", "integer", "float", "pointer", "array", "function", "struct"
 
 
 class Maker:
-    """Makes dictionaries at random, as drafts of the library."""
+    """Makes random dictionaries, as drafts of the library."""
 
     def __init__(self, session: InsideSession, chance: random.Random) -> None:
         self._session, self._chance = session, chance
 
     def pair(self, number: int) -> Lists:
-        """A dictionary; every second one over a parent."""
+        """A dictionary; every second one has a parent."""
         over = self._draft(None) if number % 2 else None
         made = self._draft(over)
         parent = None if over is None else self._bytes(over)
@@ -112,7 +112,7 @@ class Maker:
         return slot
 
     def _number(self) -> int:
-        """A type, of the parent's or of its own or of nobody's."""
+        """A type number: the parent's, an own one, or one without a type."""
         return self._chance.choice((0, 0x8000)) + self._chance.randrange(TYPES)
 
     def _addition(self) -> Dict[str, Any]:
@@ -133,8 +133,8 @@ class Maker:
         return bytes.fromhex(self._session.ask("bytes", d=slot, **{"from": 0})["bytes"])
 
 
-def damaged(chance: random.Random, found: List[Lists]) -> Iterator[Lists]:
-    """Copies with some bytes changed behind the header."""
+def damage(chance: random.Random, found: List[Lists]) -> Iterator[Lists]:
+    """Copies with some bytes changed after the header."""
     number = 0
     while True:
         lists = chance.choice(found)
@@ -148,9 +148,9 @@ def damaged(chance: random.Random, found: List[Lists]) -> Iterator[Lists]:
 Sessions = Tuple[InsideSession, ctfd.Session]
 
 
-def compared(sessions: Sessions, lists: Lists) -> Optional[int]:
-    """How many types were compared; None where a dictionary is refused by both."""
-    ours, theirs = (opened(session, lists) for session in sessions)
+def compare(sessions: Sessions, lists: Lists) -> Optional[int]:
+    """The number of compared types; None if both refuse the dictionary."""
+    ours, theirs = (open_lists(session, lists) for session in sessions)
     assert (ours is None) == (theirs is None), lists.name
     if ours is None or theirs is None:
         return None
@@ -171,29 +171,29 @@ def inside() -> Iterator[Inside]:
 
 @pytest.fixture(scope="module")
 def sessions(inside: Inside, program: str) -> Iterator[Sessions]:
-    """One over the library in process, and one over the service."""
+    """A session of the library in process, and one of the service."""
     with ctfd.Client(program) as client:
         yield inside.session(), client.session()
 
 
 @pytest.fixture(scope="module")
 def pairs(inside: Inside) -> List[Lists]:
-    """Dictionaries made at random."""
+    """Random dictionaries."""
     return list(map(Maker(inside.session(), random.Random(SEED)).pair, range(RANDOM)))
 
 
 @pytest.mark.parametrize("name", ("lua", "zlib"))
 def test_example(sessions: Sessions, name: str) -> None:
     found = ctfd.read(str(TOP / "examples" / f"{name}.ctf"))
-    assert compared(sessions, Lists(name, found.ctf, found.sym, found.strings))
+    assert compare(sessions, Lists(name, found.ctf, found.sym, found.strings))
 
 
 def test_random(sessions: Sessions, pairs: List[Lists]) -> None:
-    assert all(compared(sessions, lists) is not None for lists in pairs)
+    assert all(compare(sessions, lists) is not None for lists in pairs)
 
 
 def test_damaged(sessions: Sessions, pairs: List[Lists]) -> None:
-    hostile = damaged(random.Random(SEED), [one for one in pairs if len(one.ctf) < 65_536])
+    hostile = damage(random.Random(SEED), [one for one in pairs if len(one.ctf) < 65_536])
     accepted = 0
     while accepted < DAMAGED:
-        accepted += compared(sessions, next(hostile)) is not None
+        accepted += compare(sessions, next(hostile)) is not None

@@ -1,5 +1,5 @@
-/* Stands for an object file that was compiled for libctf: it declares what it calls by itself, and
- * has seen no header of ctfd.
+/* Represents an object file that was compiled for libctf: it declares the functions that it calls,
+ * and includes no header of ctfd.
  *
  * usage: unchanged CTF
  */

@@ -1,10 +1,10 @@
-/* Checks the rows of a visit in a child, with its parent and without.
+/* Checks the rows of a visit in a child, without its parent and with it.
  *
  * usage: visits
  */
 #include "common.h"
 
-/* The lists of a dictionary that a draft made. */
+/* The CTF section of a dictionary made as a draft. */
 static struct section {
     uint8_t at[1024];
     uint64_t len;
@@ -12,7 +12,7 @@ static struct section {
 
 static struct ctfd types = CTFD_NONE, parent = CTFD_NONE;
 
-/* struct base { int x, y; }, and in the child struct pair { struct base first, second; }. */
+/* Makes struct base { int x, y; } and in the child struct pair { struct base first, second; }. */
 static void make(void)
 {
     struct ctfd low = CTFD_NONE, high = CTFD_NONE;
@@ -41,7 +41,7 @@ static void open_section(struct ctfd *handle, const struct section *of)
     CHECK(ctfd_open(handle, of->at, of->len, "", 0, "", 0, false, false, false, &place) == CTFD_OK);
 }
 
-/* The rows of a type, each as its depth, its offset and its name. */
+/* Whether the rows of a visit are as wanted, each printed as its depth, its offset and its name. */
 static bool is_visited(uint16_t t, const char *wanted)
 {
     struct ctfd_visit_row rows[8];

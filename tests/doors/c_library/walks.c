@@ -1,12 +1,12 @@
-/* Walks of libctf's calls over random dictionaries that pass every rule, as many as are asked for:
- * indexes of arrays lead in circles, callbacks make calls themselves, and each allocation of the
- * calls is refused in turn. What both headers tell is the same.
+/* Walks of libctf's calls over random valid dictionaries: index types of arrays form cycles,
+ * callbacks make calls themselves, and each allocation of the calls is refused in turn. The answers
+ * through both headers are equal.
  *
  * usage: walks ROUNDS [SEED]
  *
- * Whether two types are compatible is compared with a definition that is computed otherwise: all
- * pairs are the same at first, and those that differ are taken out until none is left to take.
- * Linked with --wrap for malloc, calloc and realloc.
+ * Whether two types are compatible is also computed by a different method: at first all pairs that
+ * look alike count as compatible; then pairs that refer to incompatible ones are removed until none
+ * is left to remove. Linked with --wrap for malloc, calloc and realloc.
  */
 #include "ctfd_libctf.h"
 
@@ -59,9 +59,9 @@ static uint32_t below(uint32_t n)
     return n == 0 ? 0 : next() % n;
 }
 
-/* ---- dictionaries, by their bytes */
+/* ---- dictionaries, written byte by byte */
 
-/* The strings of each: "", "a", "b" and "c", by where they begin. */
+/* The strings of each dictionary: "", "a", "b" and "c", at offsets 0, 1, 3 and 5. */
 static const char strings[] = "\0a\0b\0c";
 
 static unsigned some_name(void)
@@ -76,7 +76,7 @@ static void put_record(struct made *made, unsigned kind, unsigned vlen, unsigned
     put_head(made, name, kind << 11 | (below(4) != 0) << 10 | vlen, size);
 }
 
-/* A type of a number: what it holds or leads to comes before it; an index may be any type. */
+/* Adds a type: most types that it refers to precede it; the index of an array may be any type. */
 static void put_type(struct made *made, unsigned number)
 {
     unsigned i, members, earlier = number - 1;
@@ -127,7 +127,7 @@ static void make_dictionary(struct made *made)
     end_made(made, strings, sizeof strings);
 }
 
-/* ---- whether types are compatible, by taking out those that are not */
+/* ---- compatible types, by removing pairs that are not */
 
 struct shape {
     int kind;
@@ -138,7 +138,7 @@ struct shape {
     ssize_t size;
 };
 
-/* What stands behind typedefs and qualifiers: 0 for void. */
+/* The type behind typedefs and qualifiers; all zero for void. */
 static struct shape shape_of(ctf_file_t *fp, ctf_id_t type)
 {
     struct shape shape;
@@ -175,7 +175,7 @@ static bool alike(const struct shape *l, const struct shape *r, bool is_one_file
 static struct shape lefts[MOST + 1], rights[MOST + 1];
 static bool same[MOST + 1][MOST + 1];
 
-/* What a pair leads to: `same` of both. Two that are one type need no more. */
+/* Whether all pairs to which a pair refers are in `same`. True if both are the same type. */
 static bool holds(int l, int r, bool is_one_file)
 {
     const struct shape *left = &lefts[l], *right = &rights[r];
@@ -211,7 +211,7 @@ static void compare_all(ctf_file_t *lfp, int lcount, ctf_file_t *rfp, int rcount
             CHECK(ctf_type_compat(lfp, l, rfp, r) == same[l][r]);
 }
 
-/* ---- the same answers by both headers, where both have a call */
+/* ---- equal answers through both headers, if both have a call */
 
 struct list {
     struct ctfd *types;
@@ -243,7 +243,7 @@ static int same_enumerator(const char *name, int value, void *arg)
     return 0;
 }
 
-/* The status by which a call has ended; those of libctf leave it in the file. */
+/* The status of a call of libctf, which leaves it in the file. */
 static enum ctfd_status ended(ctf_file_t *fp, long said)
 {
     return said < 0 ? ctf_fault(fp) : CTFD_OK;
@@ -270,7 +270,7 @@ static void compare_lists(ctf_file_t *fp, struct ctfd *types, ctf_id_t t)
         CHECK(ctfd_enumerator(types, to, enumerators.len, text, 0, &value, &len) == CTFD_NO_MEMBER);
 }
 
-/* The first enumerator of a value and of a name, by looking at each. */
+/* Compares the first enumerator with a value, or with a name, with a search through all of them. */
 static void compare_enumerators(ctf_file_t *fp, struct ctfd *types, ctf_id_t t)
 {
     static const char *const names[] = { "", "a", "b", "c", "d" };
@@ -302,7 +302,7 @@ static void compare_enumerators(ctf_file_t *fp, struct ctfd *types, ctf_id_t t)
     CHECK(status != CTFD_OK || wanted == value);
 }
 
-/* Sizes and alignments, which other data models change. */
+/* Compares sizes and alignments, which depend on the data model. */
 static void compare_sizes(ctf_file_t *fp, struct ctfd *types, ctf_id_t t)
 {
     uint64_t bytes = 0;
@@ -344,7 +344,7 @@ static void compare_details(ctf_file_t *fp, struct ctfd *types, ctf_id_t t)
     CHECK(ctfd_argument(types, (uint16_t)t, 0, &to) == CTFD_OK && args[0] == to);
 }
 
-/* By names that look-ups know, and by one with blanks; what is found may have come to be known. */
+/* Compares look-ups of names, each twice since found names are cached, and one with blanks. */
 static void compare_found(ctf_file_t *fp, struct ctfd *types)
 {
     static const char *const names[] = { "a", "b", "c", "struct a", "union b", "enum c", "a *",
@@ -360,7 +360,7 @@ static void compare_found(ctf_file_t *fp, struct ctfd *types)
     CHECK(ctf_lookup_by_name(fp, " struct   a ") == ctf_lookup_by_name(fp, "struct a"));
 }
 
-/* Each is asked again, since a first answer is kept. */
+/* Asks each question twice, since first answers are cached. */
 static void compare_headers(ctf_file_t *fp, const struct made *made, bool is_ilp32)
 {
     struct ctfd types = CTFD_NONE;
@@ -444,7 +444,7 @@ static int on_string(const char *text, void *arg)
     return again(text, (struct inside *)arg);
 }
 
-/* Some walk of some type. */
+/* Makes a random walk from a random type. */
 static void walk(struct inside *in)
 {
     ctf_id_t type = (ctf_id_t)below((uint32_t)in->types + 2);
@@ -462,9 +462,9 @@ static void walk(struct inside *in)
     }
 }
 
-/* ---- allocations that are refused */
+/* ---- refused allocations */
 
-/* The same calls each time; whatever is refused, what is answered is right or an error. */
+/* Makes the same calls each time; with an allocation refused, each answer is right or an error. */
 static void some_calls(struct made *made)
 {
     char text[64];

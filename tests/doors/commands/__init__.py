@@ -1,1 +1,1 @@
-"""The compiled commands as black boxes: a file in, the text and the status out."""
+"""Black-box tests of the compiled commands: a file in, the text and the status out."""

@@ -1,4 +1,5 @@
-"""What `ctfd-convert` makes of what compilers write: nothing else, or a line that says what."""
+"""Tests of `ctfd-convert` on the output of compilers: it converts everything, or reports what it
+does not."""
 from __future__ import annotations
 
 import json
@@ -18,7 +19,7 @@ double sum(int n, double *restrict values)
 	return total;
 }
 """
-# An entry of the tag 0x44 (DW_TAG_coarray_type, of Fortran) where a type of C is wanted.
+# An entry of the tag 0x44 (DW_TAG_coarray_type, of Fortran) in place of a C type.
 FOREIGN_TAG = """
 	.section .debug_info,"",@progbits
 	.long 3f-0f
@@ -47,7 +48,7 @@ abbreviations:
 	.uleb128 0, 0
 	.byte 0
 """
-# A class of C++ with a member and an entry of the tag 0x4321, which no compiler writes.
+# A C++ class with a member, and an entry of the tag 0x4321, which no compiler writes.
 FOREIGN_PART = """
 	.section .debug_info,"",@progbits
 	.long 3f-0f
@@ -91,7 +92,7 @@ abbreviations:
 	.uleb128 0x03, 0x08, 0, 0
 	.byte 0
 """
-# Two files of which each has a struct of one name, and symbols that others see or not.
+# Two files with different structs of the same name, and with exported and hidden symbols.
 ONE = """
 struct pair { int a; char *b; };
 struct pair both; static int hidden = 3; int (*hook)(struct pair *, int);
@@ -116,14 +117,14 @@ OWN = {"hidden": "int hidden;", "quiet": "void quiet(void);"}
 
 
 class Conversion(Case):
-    def converted(self, program: Path, *words: str) -> Outcome:
-        """What becomes of a program; the dictionary is `out.ctf`."""
+    def convert(self, program: Path, *words: str) -> Outcome:
+        """Converts a program to `out.ctf`."""
         done = run(tool("convert"), *words, program, self.folder / "out.ctf")
         self.assert_tame(done, program.name)
         return done
 
-    def dumped(self, *words: str) -> str:
-        """The dictionary as the service prints it."""
+    def dump(self, *words: str) -> str:
+        """The dictionary, as dumped by the service."""
         done = run(SERVICE, "dump", self.folder / "out.ctf", *words)
         self.assertEqual(done.status, 0, done.text)
         return done.output
@@ -132,19 +133,19 @@ class Conversion(Case):
 class Tags(Conversion):
     def test_a_reference_is_a_pointer(self) -> None:
         self.needs("llvm-dwarfdump")
-        made = self.compiled(OPENMP, "-g", "-O1", "-fopenmp")
+        made = self.compile(OPENMP, "-g", "-O1", "-fopenmp")
         peer = subprocess.run(["llvm-dwarfdump", made], capture_output=True, text=True).stdout
         self.assertIn("DW_TAG_reference_type", peer)
-        done = self.converted(made)
+        done = self.convert(made)
         self.assertEqual((done.status, done.errors), (0, ""))
-        self.assertNotIn("unknown", self.dumped())
-        # The peer says of it `structure  &` behind `restrict`, whose one member is `double *`.
+        self.assertNotIn("unknown", self.dump())
+        # llvm-dwarfdump shows `structure  &` behind `restrict`, with the one member `double *`.
         self.assertRegex(peer, r'DW_TAG_restrict_type\n.*"structure  &"')
         shown = run(tool("types"), "--plain", made, "sum._omp_fn.0")
         self.assertEqual(shown.output, "void sum._omp_fn.0(struct {...} *restrict);\n")
-        self.assertRegex(self.dumped(), r'restrict "" root to=(\d+) .*bytes=8')
+        self.assertRegex(self.dump(), r'restrict "" root to=(\d+) .*bytes=8')
 
-    def assembled(self, text: str) -> Path:
+    def assemble(self, text: str) -> Path:
         self.needs("gcc")
         source, made = self.folder / "made.s", self.folder / "made.o"
         source.write_text(text)
@@ -153,39 +154,39 @@ class Tags(Conversion):
 
     def test_a_tag_that_is_not_known_is_a_loss_in_a_class(self) -> None:
         self.needs("llvm-dwarfdump")
-        made = self.assembled(FOREIGN_PART)
+        made = self.assemble(FOREIGN_PART)
         peer = subprocess.run(["llvm-dwarfdump", made], capture_output=True, text=True).stdout
         self.assertIn("DW_TAG_unknown_4321", peer)
-        done = self.converted(made)
+        done = self.convert(made)
         self.assertEqual(done.status, 1, done.text)
         self.assertIn("an entry of tag 0x4321 in strange, ", done.errors)
         shown = run(tool("types"), "--plain", self.folder / "out.ctf", "strange")
         self.assertEqual(shown.output, "struct strange {\n\tint number;\n};\n")
 
     def test_a_tag_that_is_not_known_is_a_loss(self) -> None:
-        made = self.assembled(FOREIGN_TAG)
-        done = self.converted(made)
+        made = self.assemble(FOREIGN_TAG)
+        done = self.convert(made)
         self.assertEqual(done.status, 1, done.text)
         self.assertRegex(done.errors, "tag 0x44.*unknown")
-        self.assertIn("unknown", self.dumped())
+        self.assertIn("unknown", self.dump())
 
 
 class ForPrograms(Conversion):
     def bundle(self, *words: str) -> "tuple[dict[str, Any], bytes]":
-        """The head of a bundle, and what stands behind it."""
+        """The head of a bundle, and the bytes after it."""
         done = subprocess.run([tool("convert"), "--bundle", *words, "-"], capture_output=True)
         self.assertEqual(done.returncode, 0, done.stderr)
         head, _, lists = done.stdout.partition(b"\n")
         return json.loads(head), lists
 
     def test_a_bundle_has_what_goes_with_the_types(self) -> None:
-        made = self.compiled("struct s { int a; } shown; int f(struct s *s) { return s->a; }", "-g")
+        made = self.compile("struct s { int a; } shown; int f(struct s *s) { return s->a; }", "-g")
         head, lists = self.bundle("--addresses", str(made))
         (one,) = head["dictionaries"]
         self.assertEqual((head["made"], head["alone"], head["losses"]), (True, True, []))
         self.assertEqual((one["how"], one["model"], sum(head["lists"])),
                          ("named", "lp64", len(lists)))
-        self.assertEqual(self.converted(made, "--lossy").status, 0)
+        self.assertEqual(self.convert(made, "--lossy").status, 0)
         self.assertEqual(lists[:head["lists"][one["ctf"]]], (self.folder / "out.ctf").read_bytes())
         listed = json.loads(lists[len(lists) - head["lists"][one["addresses"]]:])
         self.assertEqual({(name, is_function) for name, _, _, is_function in listed},
@@ -195,11 +196,11 @@ class ForPrograms(Conversion):
                          (False, one["label"], b"\xf1\xcf\2\0"))
 
     def test_what_a_file_is(self) -> None:
-        made = self.compiled("int shown;", "-g")
+        made = self.compile("int shown;", "-g")
         told = json.loads(run(tool("convert"), "--describe", made, "-").output)
         self.assertEqual((told["kind"], told["model"], told["has_ctf"], told["has_debug"]),
                          ("object", "lp64", False, True))
-        self.assertEqual(self.converted(made, "--section").status, 0)
+        self.assertEqual(self.convert(made, "--section").status, 0)
         told = json.loads(run(tool("convert"), "--describe", self.folder / "out.ctf", "-").output)
         self.assertTrue(told["has_ctf"])
         (self.folder / "text").write_text("no ELF file")
@@ -210,11 +211,11 @@ class ForPrograms(Conversion):
 
 
 class SymbolsOfGnu(Conversion):
-    """What `gcc -gctf` tells of symbols, in an object file by their names, in what ld links by
-    their order. The peer is objdump."""
+    """Symbols from `gcc -gctf`: by name in an object file, by order in what ld links. They are
+    compared with objdump's."""
 
-    def linked(self, *options: str) -> Path:
-        objects = [self.compiled(code, "-gctf", "-fPIC", name=f"{name}.o")
+    def link(self, *options: str) -> Path:
+        objects = [self.compile(code, "-gctf", "-fPIC", name=f"{name}.o")
                    for name, code in (("one", ONE), ("two", TWO))]
         made = self.folder / "linked"
         subprocess.run(["gcc", *options, "-o", made, *objects], check=True)
@@ -225,7 +226,7 @@ class SymbolsOfGnu(Conversion):
             self.assertEqual(run(tool("types"), file, name).output, text + "\n", name)
 
     def assert_report(self, file: Path, told: str, *words: str) -> Outcome:
-        done = self.converted(file, "--report", "-", *words)
+        done = self.convert(file, "--report", "-", *words)
         self.assertIn(f"symbols: {told}", done.output)
         return done
 
@@ -235,7 +236,7 @@ class SymbolsOfGnu(Conversion):
         return done.stdout
 
     def test_an_object_file(self) -> None:
-        made = self.compiled(ONE, "-gctf", name="one.o")
+        made = self.compile(ONE, "-gctf", name="one.o")
         self.assertRegex(self.peer(made),
                          r"(?s)Data objects:.*hidden ->.*Function objects:.*add ->")
         done = self.assert_report(made, "3 of 3 objects, 4 of 4 functions, by .symtab")
@@ -244,7 +245,7 @@ class SymbolsOfGnu(Conversion):
         self.assert_told(made, {**{name: EXPORTED[name] for name in names}, **OWN})
 
     def test_a_library(self) -> None:
-        made = self.linked("-shared")
+        made = self.link("-shared")
         self.assertRegex(self.peer(made), r"(?s)hook ->.*where ->.*many ->.*add ->.*both ->")
         done = self.assert_report(made, "3 of 13 objects, 4 of 11 functions, by .symtab")
         self.assertEqual((done.status, done.errors), (0, ""))
@@ -257,12 +258,12 @@ class SymbolsOfGnu(Conversion):
         self.assert_told(made, EXPORTED)
 
     def test_a_program_of_which_nothing_is_told(self) -> None:
-        made = self.linked()
+        made = self.link()
         self.assertNotIn("add ->", self.peer(made))
-        done = self.converted(made)
+        done = self.convert(made)
         self.assertRegex(done.errors, "its GNU CTF has no types for the .* functions and objects")
 
-    def bare(self, file: Path) -> Path:
+    def section_of(self, file: Path) -> Path:
         """The section by itself."""
         made = self.folder / "bare"
         subprocess.run(["objcopy", "-O", "binary", "--only-section=.ctf", "--set-section-flags",
@@ -270,17 +271,17 @@ class SymbolsOfGnu(Conversion):
         return made
 
     def test_a_section_alone(self) -> None:
-        done = self.assert_report(self.bare(self.compiled(ONE, "-gctf", name="one.o")),
+        done = self.assert_report(self.section_of(self.compile(ONE, "-gctf", name="one.o")),
                                   "3 of 3 objects, 4 of 4 functions, by names")
         self.assertEqual((done.status, done.errors), (0, ""))
         self.assert_told(self.folder / "bare", OWN)
 
     def test_a_section_whose_symbols_are_elsewhere(self) -> None:
-        made = self.compiled(ONE, "-gctf", "-fPIC", "-shared", name="one.so")
-        done = self.converted(self.bare(made))
+        made = self.compile(ONE, "-gctf", "-fPIC", "-shared", name="one.so")
+        done = self.convert(self.section_of(made))
         self.assertEqual(done.status, 1)
         self.assertRegex(done.errors, "5 functions and objects of its GNU CTF are in the order of")
-        done = self.converted(self.bare(self.linked("-shared")))  # names of types are there too
+        done = self.convert(self.section_of(self.link("-shared")))  # which also has names of types
         self.assertEqual(done.status, 2)
         self.assertRegex(done.errors, "names stand in the strings of the ELF file")
 
@@ -288,14 +289,14 @@ class SymbolsOfGnu(Conversion):
 class SymbolsOfStripped(Conversion):
     def test_those_of_the_debug_file(self) -> None:
         self.needs("objcopy", "strip")
-        made = self.compiled(ONE, "-g", name="made.exe")
+        made = self.compile(ONE, "-g", name="made.exe")
         debug = self.folder / "made.debug"
         subprocess.run(["objcopy", "--only-keep-debug", made, debug], check=True)
         subprocess.run(["strip", made], check=True)
         subprocess.run(["objcopy", f"--add-gnu-debuglink={debug}", made], check=True)
         self.assertNotRegex(subprocess.run(["readelf", "-SW", made], capture_output=True,
                                            text=True).stdout, r"\.symtab")
-        done = self.converted(made, "--report", "-")
+        done = self.convert(made, "--report", "-")
         self.assertEqual(done.status, 0)
         self.assertIn("symbols: 3 of 3 objects, 4 of 4 functions, by names", done.output)
         self.assertRegex(done.errors, f"stripped of .symtab: the 7 functions and objects are those"

@@ -1,8 +1,8 @@
-"""Damaged files through every command: no crash, no hang, no bug, no wrong answer with status 0.
+"""Runs every command on damaged files: no crash, no hang, no bug, no wrong answer with status 0.
 
-A share of the files is tried, and 2,000 with --whole. What is answered with status 0 is judged
-by others: llvm-dwarfdump, readelf and objdump tell the structs of the same file, and the service
-reads what was converted.
+Tries a sample of the files, and 2,000 with --whole. Answers with status 0 are checked with other
+tools: llvm-dwarfdump, readelf and objdump list the structs of the same file, and the service opens
+the converted dictionaries.
 """
 from __future__ import annotations
 
@@ -23,8 +23,8 @@ from ..support import MEGABYTES, SECONDS, SERVICE, TRACE, Outcome, has, run, too
 SHARE, ALL, SEED = 60, 2000, 1
 LANES = int(os.environ.get("LANES", min(4, os.cpu_count() or 1)))
 ADDRESS_SPACE = 4000  # megabytes
-# The name of a command, a word that tells its forms apart, and the words: {} is the file, {s} the
-# sound one, {o} a place for what is written.
+# The name of a command, a word for this form of it, and its arguments: {} is the file, {s} the
+# sound one, {o} an output path.
 COMMANDS: List[Tuple[str, str, List[str]]] = [
     ("convert", "", ["{}", "{o}.ctf"]), ("types", "", ["{}"]),
     ("types", "sizes", ["--sizes", "{}"]),
@@ -45,7 +45,7 @@ _GNU = re.compile(r"\(kind [67]\) (struct|union) (\w+) \(size (0x[0-9a-f]+)\)")
 
 
 class Problem(NamedTuple):
-    """What is wrong, of which file and command."""
+    """A problem, with its file and command."""
 
     file: str
     what: str
@@ -53,49 +53,51 @@ class Problem(NamedTuple):
     why: str
 
 
-def plain(found: Named) -> Named:
+def without_places(found: Named) -> Named:
     return {one for one in found if PLAIN.match(one[1])}
 
 
 def of_dump(path: Path) -> Optional[Named]:
-    """The structs and unions of a dictionary, as the service prints it."""
+    """The structs and unions of a dictionary, from the service's dump."""
     done = run(SERVICE, "dump", path)
     if done.status:
         return None
-    return plain({(word, name, int(size)) for word, name, size in _TYPE.findall(done.output)})
+    found = {(word, name, int(size)) for word, name, size in _TYPE.findall(done.output)}
+    return without_places(found)
 
 
 def of_peer(path: Path, base: str) -> Optional[Named]:
-    """What another reader says of a file; None where it says nothing."""
+    """The structs and unions of a file according to another reader, or None if it lists none."""
     if base == "gnu.o":
-        listed = _said("objdump", "--ctf=.ctf", path)
+        listed = _output("objdump", "--ctf=.ctf", path)
         return {(word, name, int(size, 16)) for word, name, size in _GNU.findall(listed)} or None
     if "btf" in base:
-        return plain(set(_of_btf(path.read_bytes()))) or None
+        return without_places(set(_of_btf(path.read_bytes()))) or None
     if "ctf" in base:
         return None
-    listed = _said("llvm-dwarfdump", "--debug-info", path)
+    listed = _output("llvm-dwarfdump", "--debug-info", path)
     found: Named = set()
     for tag, lines in _DWARF.findall(listed):
         name = re.search(r'DW_AT_name\s+\("(.*)"\)', lines)
         size = re.search(r"DW_AT_byte_size\s+\((\w+)\)", lines)
         if name and size:
             found.add(({"structure": "struct"}.get(tag, tag), name[1], int(size[1], 0)))
-    return plain(found) or None
+    return without_places(found) or None
 
 
 def of_other_peer(path: Path) -> Named:
-    """What readelf says of debug information: it goes on where llvm-dwarfdump ends."""
+    """readelf's structs and unions in debug information; it continues where llvm-dwarfdump
+    stops."""
     found: Named = set()
-    for tag, lines in _READELF.findall(_said("readelf", "-wi", path)):
+    for tag, lines in _READELF.findall(_output("readelf", "-wi", path)):
         name = re.search(r"DW_AT_name\s+: (?:\(.*\): )?(.*)", lines)
         size = re.search(r"DW_AT_byte_size\s+: (\w+)", lines)
         if name and size:
             found.add(({"structure": "struct"}.get(tag, tag), name[1].strip(), int(size[1], 0)))
-    return plain(found)
+    return without_places(found)
 
 
-def _said(*words: object) -> str:
+def _output(*words: object) -> str:
     try:
         return subprocess.run([str(word) for word in words], capture_output=True, timeout=10,
                               text=True, errors="replace").stdout
@@ -104,7 +106,7 @@ def _said(*words: object) -> str:
 
 
 def _of_btf(data: bytes) -> Iterator[Tuple[str, str, int]]:
-    """The structs and unions of BTF, by itself or in an ELF file that is sound but for that."""
+    """The structs and unions of BTF, by itself or in an otherwise sound ELF file."""
     at = data.find(struct.pack("<HB", 0xEB9F, 1))
     try:
         length, types, end, names, last = struct.unpack_from("<IIIII", data, at + 4)
@@ -123,7 +125,7 @@ def _of_btf(data: bytes) -> Iterator[Tuple[str, str, int]]:
 
 
 class Judge:
-    """What the commands answer of one file, and what is wrong with that."""
+    """Runs the commands on one file, and collects problems."""
 
     def __init__(self, path: Path, sound: Path, what: str, folder: Path) -> None:
         self.path, self.sound, self.what, self.folder = path, sound, what, folder
@@ -145,7 +147,7 @@ class Judge:
         self.problems.append(Problem(self.path.name, self.what, command, why))
 
     def _wild(self, done: Outcome) -> Iterator[str]:
-        """How it ended otherwise than a command does."""
+        """Problems with how a command ended."""
         if done.status < 0:
             yield f"it was ended by signal {-done.status}"
         if done.seconds > SECONDS:
@@ -158,7 +160,7 @@ class Judge:
             yield "a control character"
 
     def _judge_answers(self) -> None:
-        """What was answered with status 0, beside what others say."""
+        """Compares answers with status 0 with those of other tools."""
         convert, ours = self.done["convert", ""], None
         if convert.status in (0, 1):
             ours = of_dump(self.folder / "out.ctf")
@@ -196,7 +198,7 @@ class Judge:
 
 
 def judge_all(folder: Path, count: int, first: int = 0) -> Tuple[List[Problem], Counter[str]]:
-    """What is wrong with what the commands say of so many files, and how often each status came."""
+    """The problems of all commands with a number of files, and the count of each status."""
     listed = damaged.write(folder / "files", first + count, SEED)[first:]
     statuses: Counter[str] = Counter()
 

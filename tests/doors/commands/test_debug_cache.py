@@ -1,4 +1,4 @@
-"""The kept debug files: one that is not as it was written is made anew, whatever its name."""
+"""Tests of cached debug files: a damaged one is written again, whatever its name."""
 from __future__ import annotations
 
 import os
@@ -16,19 +16,19 @@ int main(void) { return (int) first.x; }
 ANSWER = "$1 = {x = 1, y = 2, z = 3}"
 
 
-class Kept(Case):
+class KeptFiles(Case):
     def setUp(self) -> None:
         super().setUp()
         self.needs("gdb", "objcopy")
-        whole = self.compiled(CODE, "-g", name="whole.exe")
+        whole = self.compile(CODE, "-g", name="whole.exe")
         self.program = self.folder / "program"
         subprocess.run([tool("convert"), "--section", str(whole), str(self.program)],
                        check=True, env={**os.environ, "CTFD": SERVICE}, capture_output=True)
         subprocess.run(["objcopy", "-g", str(self.program)], check=True)
         self.cache = self.folder / "cache/ctfd"
 
-    def asked(self) -> Outcome:
-        """gdb's own answer by the debug file that `ctf load` gives it."""
+    def ask_gdb(self) -> Outcome:
+        """gdb's own answer with the debug file that `ctf load` gives it."""
         return run("gdb", "-batch", "-nx", "-ex", f"source {CLIENTS}/gdb/ctfgdb.py",
                    "-ex", "ctf load", "-ex", "print first", self.program,
                    environment={"XDG_CACHE_HOME": str(self.cache.parent)}, seconds=30)
@@ -38,14 +38,14 @@ class Kept(Case):
 
     def kept_file(self) -> Path:
         """The file that a first load leaves."""
-        self.assertIn(ANSWER, self.asked().output)
+        self.assertIn(ANSWER, self.ask_gdb().output)
         self.assertEqual(len(self.files()), 1)
         return self.files()[0]
 
     def test_it_is_used_again(self) -> None:
         made = self.kept_file()
         before = made.stat()
-        self.assertIn(ANSWER, self.asked().output)
+        self.assertIn(ANSWER, self.ask_gdb().output)
         self.assertEqual(made.stat().st_ino, before.st_ino)
         subprocess.run(["objdump", "-h", str(made)], check=True, capture_output=True)
 
@@ -54,7 +54,7 @@ class Kept(Case):
         whole = made.read_bytes()
         for length in (len(whole) - 1, len(whole) // 2, 64, 8, 0):
             made.write_bytes(whole[:length])
-            done = self.asked()
+            done = self.ask_gdb()
             self.assertIn(ANSWER, done.output, (length, done.text))
             self.assertEqual(made.read_bytes(), whole, length)
 
@@ -63,26 +63,27 @@ class Kept(Case):
         whole = made.read_bytes()
         for at in (0, 20, len(whole) // 3, len(whole) - 1):
             made.write_bytes(whole[:at] + bytes([whole[at] ^ 0xFF]) + whole[at + 1:])
-            done = self.asked()
+            done = self.ask_gdb()
             self.assertIn(ANSWER, done.output, (at, done.text))
             self.assertEqual(made.read_bytes(), whole, at)
         made.write_bytes(whole + b"more")
-        self.assertIn(ANSWER, self.asked().output)
+        self.assertIn(ANSWER, self.ask_gdb().output)
         self.assertEqual(made.read_bytes(), whole)
 
     def test_no_room(self) -> None:
-        """Where a file can't be written whole nothing of it stays, and gdb has its types."""
+        """If a file cannot be written completely, no part of it stays, and gdb still has its
+        types."""
         self.cache.mkdir(mode=0o700, parents=True)
         if subprocess.run(["mount", "-t", "tmpfs", "-o", "size=4k,mode=700", "tmpfs",
                            str(self.cache)], capture_output=True).returncode:
             self.skipTest("no file system can be mounted here")
         self.addCleanup(lambda: subprocess.run(["umount", str(self.cache)], check=True))
-        done = self.asked()
+        done = self.ask_gdb()
         self.assertIn(ANSWER, done.output, done.text)
         self.assertEqual([path.name for path in self.cache.iterdir()], [])
 
     def test_no_room_for_a_dictionary(self) -> None:
-        """What the commands convert is kept there too."""
+        """The results of the commands' conversions are cached there too."""
         self.cache.mkdir(mode=0o700, parents=True)
         if subprocess.run(["mount", "-t", "tmpfs", "-o", "size=4k,mode=700", "tmpfs",
                            str(self.cache)], capture_output=True).returncode:
@@ -95,7 +96,7 @@ class Kept(Case):
         self.assertEqual([path.name for path in self.cache.iterdir()], ["fills"])
 
     def test_what_a_crash_has_left(self) -> None:
-        """A file that was never written to its end goes, once nobody can be writing it."""
+        """An unfinished file is removed when it is so old that nobody can be writing it."""
         self.kept_file().unlink()
         old, new = self.cache / ".new-old", self.cache / ".new-new"
         for path in (old, new):

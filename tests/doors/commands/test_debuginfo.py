@@ -1,4 +1,4 @@
-"""What `ctfd-debuginfo` writes: no name that a debugger prints commands the terminal."""
+"""Tests of `ctfd-debuginfo`: its names contain no control characters for the terminal."""
 from __future__ import annotations
 
 import shutil
@@ -12,7 +12,7 @@ NAMES = {b"luaL_Reg": b"lua\x1b[7m", b"lua_Number": b"lua\r\n\x07\x9b\x7f_x",
 
 class Names(Case):
     def hostile(self) -> Path:
-        """The types of Lua, of which some names are others."""
+        """The types of Lua, with some names replaced."""
         data = (EXAMPLES / "lua.ctf").read_bytes()
         for name, other in NAMES.items():
             self.assertIn(b"\0" + name + b"\0", data)

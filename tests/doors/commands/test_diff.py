@@ -1,4 +1,4 @@
-"""What `ctfd-diff` answers beside abidiff: a change that breaks is never status 0 or 1."""
+"""Compares `ctfd-diff` with abidiff: for a breaking change, the status is never 0 or 1."""
 from __future__ import annotations
 
 import json
@@ -17,7 +17,7 @@ WIDE = "enum wide { SMALL = 1, BIG = 0x%s00000000 }; enum wide wide;"
 BITS = ("enum color { RED, GREEN }; enum shape { ROUND = 1, SQUARE, LONG };"
         " struct s { enum %s a : 4; unsigned b : 4; }; struct s s; enum color c; enum shape h;")
 UNNAMED = "struct s { enum { %s } a : 4; }; struct s s;"
-# Each with what abidiff answers as `ctfd-diff` is to: 4 breaks.
+# Changes that break; abidiff's status has bit 4 set, as that of `ctfd-diff` must have.
 BREAKS = {
     "an object that becomes const": ("int x = 1;", "const int x = 1;"),
     "a pointer that becomes const": ("char *p;", "char *const p;"),
@@ -33,9 +33,9 @@ BREAKS = {
 
 class Diff(Case):
     def library(self, code: str, name: str) -> Path:
-        return self.compiled(EXPORTED + code, "-g", "-shared", "-fPIC", name=name)
+        return self.compile(EXPORTED + code, "-g", "-shared", "-fPIC", name=name)
 
-    def asked(self, old: Path, new: Path, *words: str) -> Outcome:
+    def compare(self, old: Path, new: Path, *words: str) -> Outcome:
         done = run(tool("diff"), *words, old, new)
         self.assert_tame(done, old.name)
         return done
@@ -53,7 +53,7 @@ class BesideAbidiff(Diff):
                 peer = self.peer(old, new)
                 self.assertTrue(peer.returncode & 4, f"{what}: {peer.stdout}")
                 for words in ((), ("--breaking",), ("--all",)):
-                    done = self.asked(old, new, *words)
+                    done = self.compare(old, new, *words)
                     self.assertEqual(done.status, BREAKING, (what, words, done.text, peer.stdout))
 
     def test_the_same(self) -> None:
@@ -63,7 +63,7 @@ class BesideAbidiff(Diff):
                 old = self.library(before, "old.so")
                 new = self.library(before + "\nstatic int unused;", "new.so")
                 self.assertEqual(self.peer(old, new).returncode, 0, what)
-                done = self.asked(old, new)
+                done = self.compare(old, new)
                 self.assertEqual((done.status, done.output), (SAME, ""), (what, done.text))
 
 
@@ -80,8 +80,8 @@ struct inner { int x; int y; };
 int get(struct pub *p, named *n) { return p->a + p->in->x + n->b; }
 """
 GONE = "int gone(void) { return 1; }\n"
-# Sections of suppressions: what they say, how the library changes, and the status: abidiff's is 0
-# where that is 0, and has 4 where that is 4.
+# Sections of suppressions, the change to the library, and the status: abidiff's is 0 for 0, and has
+# bit 4 set for 4.
 SECTIONS = (
     ("[suppress_type]\nname = inner\n", ("int x; int y;", "int y; int x;"), SAME),
     ("[suppress_type]\nname_regexp = ^inn\ntype_kind = struct\n",
@@ -102,10 +102,10 @@ SECTIONS = (
 
 
 class ForUsersOfAbidiff(Diff):
-    """What abidiff has: public headers, sections of suppressions, a verdict, types in full."""
+    """Features of abidiff: public headers, sections of suppressions, a verdict, types in full."""
 
-    def made(self, name: str, body: str = BODY + GONE, header: str = HEADER) -> Path:
-        """A library of `body.c`, and its header in a folder beside it."""
+    def build_library(self, name: str, body: str = BODY + GONE, header: str = HEADER) -> Path:
+        """A library of `body.c`, with its header in a folder beside it."""
         folder = self.folder / name
         (folder / "include").mkdir(parents=True)
         (folder / "include" / "pub.h").write_text(header)
@@ -121,46 +121,47 @@ class ForUsersOfAbidiff(Diff):
 
     def test_types_that_are_not_in_public_headers_are_opaque(self) -> None:
         self.needs("abidiff", "gcc")
-        old = self.made("old")
-        private = self.made("private", BODY.replace("int x; int y;", "int y; int x;") + GONE)
-        public = self.made("public", header=HEADER.replace("int a;", "long a;"))
-        unnamed = self.made("unnamed", header=HEADER.replace("int b;", "long b;"))
-        self.assertEqual(self.asked(old, private).status, BREAKING)
+        old = self.build_library("old")
+        private = self.build_library("private",
+                                     BODY.replace("int x; int y;", "int y; int x;") + GONE)
+        public = self.build_library("public", header=HEADER.replace("int a;", "long a;"))
+        unnamed = self.build_library("unnamed", header=HEADER.replace("int b;", "long b;"))
+        self.assertEqual(self.compare(old, private).status, BREAKING)
         for new, status in ((private, SAME), (public, BREAKING), (unnamed, BREAKING)):
             words = self.both(old, new)
             peer = subprocess.run(["abidiff", *words, old, new], capture_output=True, text=True)
             self.assertEqual(peer.returncode & 4, status & 4, peer.stdout)
             for more in ((), ("--all",)):
-                done = self.asked(old, new, *words, *more)
+                done = self.compare(old, new, *words, *more)
                 self.assertEqual(done.status, status, (new.name, more, done.text))
-        done = self.asked(old, private, "--headers-dir2", str(private.parent / "include"))
+        done = self.compare(old, private, "--headers-dir2", str(private.parent / "include"))
         self.assertEqual(done.status, SAME, done.text)
-        done = self.asked(old, private, "--headers-dir1", str(self.folder / "nowhere"))
+        done = self.compare(old, private, "--headers-dir1", str(self.folder / "nowhere"))
         self.assertEqual((done.status, done.errors.count("\n")), (TROUBLE, 1), done.text)
 
     def test_headers_want_debug_information(self) -> None:
         path = self.folder / "a.ctf"
-        path.write_bytes(doubled(3))
+        path.write_bytes(nested_twice(3))
         other = self.folder / "b.ctf"
-        other.write_bytes(doubled(3) + b"\0")
-        done = self.asked(path, other, "--headers-dir1", str(self.folder))
+        other.write_bytes(nested_twice(3) + b"\0")
+        done = self.compare(path, other, "--headers-dir1", str(self.folder))
         self.assertEqual(done.status, TROUBLE, done.text)
         self.assertRegex(done.errors, "does not record in which source files")
 
     def test_sections_of_suppressions(self) -> None:
         self.needs("abidiff", "gcc")
-        old = self.made("old")
+        old = self.build_library("old")
         listed = self.folder / "known.abignore"
         made: Dict[Tuple[str, str], Path] = {}
         for text, change, status in SECTIONS:
             if change not in made:
-                made[change] = self.made(f"new{len(made)}", (BODY + GONE).replace(*change))
+                made[change] = self.build_library(f"new{len(made)}", (BODY + GONE).replace(*change))
             listed.write_text(text)
             with self.subTest(text):
                 peer = subprocess.run(["abidiff", "--suppressions", listed, old, made[change]],
                                       capture_output=True, text=True)
                 self.assertEqual(peer.returncode & 4, status & 4, peer.stdout)
-                done = self.asked(old, made[change], "--suppress", str(listed))
+                done = self.compare(old, made[change], "--suppress", str(listed))
                 self.assertEqual(done.status, status, done.text)
 
     def test_a_range_of_members(self) -> None:
@@ -170,62 +171,62 @@ class ForUsersOfAbidiff(Diff):
         for text, status in (("{32, end}", BREAKING), ("{0, 31}", BREAKING)):
             listed.write_text("[suppress_type]\nname = s\n"
                               f"has_data_member_inserted_between = {text}\n")
-            done = self.asked(old, new, "--suppress", str(listed))
+            done = self.compare(old, new, "--suppress", str(listed))
             self.assertEqual(done.status, status, done.text)
             self.assertEqual("b added" in done.output, text == "{0, 31}", done.text)
 
     def test_sections_that_are_not_read_are_refused(self) -> None:
-        old, new = self.made("old"), self.made("new", BODY)
+        old, new = self.build_library("old"), self.build_library("new", BODY)
         listed = self.folder / "known.abignore"
         for text in ("[suppress_type]\naccessed_through = pointer\n", "[suppress_type]\n",
                      "[suppress_type]\nname_regexp = (\n", "[suppress_all]\nname = a\n",
                      "[suppress_type]\nname = a\n[suppress_function]\nlabel = b\n"):
             listed.write_text(text)
-            done = self.asked(old, new, "--suppress", str(listed))
+            done = self.compare(old, new, "--suppress", str(listed))
             self.assertEqual((done.status, done.output), (TROUBLE, ""), text)
             self.assertRegex(done.errors, r"\Actfd-diff: \S*known.abignore.*\n\Z")
 
     def test_a_verdict(self) -> None:
         old = self.library("struct s { char a; int b; }; struct s s; int two;", "old.so")
         new = self.library("struct s { char a; char c; int b; }; struct s s;", "new.so")
-        done = self.asked(old, new, "--verdict")
+        done = self.compare(old, new, "--verdict")
         self.assertEqual((done.status, done.output.splitlines()), (BREAKING, [
             "compatible: struct s: c added at 1", "    s: is struct s",
             "breaks: object two: removed",
             "verdict: 1 break, 1 compatible: programs built for the old break with the new"]))
-        self.assertEqual(self.asked(old, old, "--verdict").output, "verdict: nothing differs\n")
-        done = self.asked(old, new, "--verdict", "--json")
+        self.assertEqual(self.compare(old, old, "--verdict").output, "verdict: nothing differs\n")
+        done = self.compare(old, new, "--verdict", "--json")
         self.assertEqual(json.loads(done.output.splitlines()[-1]), {
             "verdict": "breaking", "breaking": 1, "compatible": 1, "uncompared": 0})
 
     def test_types_in_full(self) -> None:
         old = self.library("struct s { int a; }; struct s s;", "old.so")
         new = self.library("struct s { long a; }; struct s s;", "new.so")
-        done = self.asked(old, new, "--full")
+        done = self.compare(old, new, "--full")
         for line in ("    - \tint                        a;                    /*     0     4 */",
                      "    + \tlong int                   a;                    /*     0     8 */"):
             self.assertIn(line, done.output)
-        told = json.loads(self.asked(old, new, "--full", "--json").output)
+        told = json.loads(self.compare(old, new, "--full", "--json").output)
         self.assertIn("int                        a;", told["old"])
 
 
-class Uncompared(Diff):
-    """What could not be compared is never status 0, unless both are the same bytes."""
+class NotCompared(Diff):
+    """If something could not be compared, the status is not 0, unless both files are the same."""
 
     def assert_uncompared(self, old: Path, new: Path, says: str, status: int = TROUBLE) -> None:
-        done = self.asked(old, new)
+        done = self.compare(old, new)
         self.assertEqual(done.status, status, done.text)
         self.assertRegex(done.text, says)
-        done = self.asked(old, new, "--breaking")
+        done = self.compare(old, new, "--breaking")
         self.assertEqual(done.status, TROUBLE, done.text)
         self.assertRegex(done.errors, says)
-        self.assertEqual(self.asked(old, old).status, SAME)
+        self.assertEqual(self.compare(old, old).status, SAME)
 
     def test_units_of_other_languages(self) -> None:
         other = self.compiled_as_ada("int more(int x) { return x; }", "-fPIC", name="more.o")
         made = []
         for name in ("old", "new"):
-            one = self.compiled(EXPORTED + f"static int {name};", "-g", "-fPIC", name=f"{name}.o")
+            one = self.compile(EXPORTED + f"static int {name};", "-g", "-fPIC", name=f"{name}.o")
             made.append(self.folder / f"{name}.so")
             subprocess.run(["gcc", "-shared", "-o", made[-1], one, other], check=True)
         self.assert_uncompared(made[0], made[1], "not compared: 1 unit in Ada")
@@ -246,16 +247,16 @@ class Uncompared(Diff):
     def test_structs_that_are_cut(self) -> None:
         paths = [self.folder / "old.ctf", self.folder / "new.ctf"]
         for path, levels in zip(paths, (30, 30)):
-            path.write_bytes(doubled(levels))
-        paths[1].write_bytes(paths[0].read_bytes() + b"\0")  # other bytes of the same types
+            path.write_bytes(nested_twice(levels))
+        paths[1].write_bytes(paths[0].read_bytes() + b"\0")  # other bytes with the same types
         for words in ((), ("--all",), ("--breaking",)):
-            done = self.asked(paths[0], paths[1], *words)
+            done = self.compare(paths[0], paths[1], *words)
             self.assertEqual((done.status, done.output), (TROUBLE, ""), done.text)
             self.assertRegex(done.errors, "more members of members than are compared|more work")
 
 
 class Slow(Diff):
-    """Files that are made to be slow, or to fill the memory: refused, or cut with a line."""
+    """Files that are made to be slow, or to fill the memory, are refused, or cut with a message."""
 
     def pair(self, make: Callable[[int], bytes]) -> List[Path]:
         paths = [self.folder / "old.ctf", self.folder / "new.ctf"]
@@ -264,33 +265,33 @@ class Slow(Diff):
         return paths
 
     def asked_all(self, old: Path, new: Path) -> List[Outcome]:
-        return [self.asked(old, new, *words) for words in ((), ("--all",), ("--all", "--json"))]
+        return [self.compare(old, new, *words) for words in ((), ("--all",), ("--all", "--json"))]
 
     def test_a_name_that_many_types_share(self) -> None:
-        def made(turn: int) -> bytes:
+        def dictionary_of(turn: int) -> bytes:
             types = [w.record(9, w.STRUCT, 1, 4 + turn, w.member(1, 1, 0)) for _ in range(30_000)]
             names = b"\0int\0ab\0\0" + b"s" * 400_000 + b"\0"
             return w.ctf(b"".join([w.record(1, w.INTEGER, 0, 4, w.INT), *types]), names)
 
-        for done in self.asked_all(*self.pair(made)):
+        for done in self.asked_all(*self.pair(dictionary_of)):
             self.assertEqual((done.status, done.output), (TROUBLE, ""), done.text)
             self.assertRegex(done.errors, "its names share their bytes")
 
     def test_a_long_name_behind_many_pointers(self) -> None:
-        def made(turn: int) -> bytes:
+        def dictionary_of(turn: int) -> bytes:
             types = [w.record(1, w.INTEGER, 0, 4, w.INT), w.record(5, w.STRUCT, 0, 4 + 4 * turn)]
             for n in range(30_000):
                 kind = (w.POINTER, w.CONST, w.VOLATILE)[n % 3]
                 types.append(w.record(0, kind, 0, 2 if n % 64 < 3 else len(types)))
             return w.ctf(b"".join(types), b"\0int\0" + b"s" * 400_000 + b"\0")
 
-        for done in self.asked_all(*self.pair(made)):
+        for done in self.asked_all(*self.pair(dictionary_of)):
             self.assertEqual(done.status, BREAKING, done.text[-300:])
 
     def test_a_large_enum_of_many_members(self) -> None:
         count = 1023
 
-        def made(turn: int) -> bytes:
+        def dictionary_of(turn: int) -> bytes:
             named = b"".join(struct.pack("<Ii", 5 + 2 * (n % 8), n + turn) for n in range(count))
             types = [w.record(1, w.INTEGER, 0, 4, w.INT), w.record(5, w.ENUM, count, 4, named)]
             types += [w.record(0, w.CONST, 0, 2) for _ in range(20_000)]
@@ -299,7 +300,7 @@ class Slow(Diff):
             letters = b"".join(bytes([97 + n, 0]) for n in range(8))
             return w.ctf(b"".join(types), b"\0int\0" + letters)
 
-        for done in self.asked_all(*self.pair(made)):
+        for done in self.asked_all(*self.pair(dictionary_of)):
             self.assertIn(done.status, (TROUBLE, BREAKING), done.text[-300:])
 
     def test_circles_of_structs_that_meet_in_all_pairs(self) -> None:
@@ -309,13 +310,13 @@ class Slow(Diff):
                            for n in range(count))
             made.append(self.library(code + "int f(struct s0 *p) { return p != 0; }",
                                      f"{count}.so"))
-        done = self.asked(*made)
+        done = self.compare(*made)
         self.assertEqual(done.status, TROUBLE, done.text[-300:])
         self.assertRegex(done.errors, "more pairs of types are reached than are compared")
 
 
-def doubled(levels: int) -> bytes:
-    """Structs without names of which each holds the one before twice, in one that has a name."""
+def nested_twice(levels: int) -> bytes:
+    """Unnamed structs that each contain the previous one twice, in one with a name."""
     types = [w.record(1, w.INTEGER, 0, 4, w.INT)]
     for n in range(levels):
         members = w.member(5, n + 1, 0) + w.member(7, n + 1, 0)
@@ -325,7 +326,7 @@ def doubled(levels: int) -> bytes:
 
 class Opaque(Diff):
     def test_an_object_of_an_opaque_type_has_another_size(self) -> None:
-        """Programs that were linked with the old library copy so many bytes."""
+        """Programs that were linked with the old library copy an object of the old size."""
         self.needs("abidiff")
         headers = self.folder / "public"
         headers.mkdir()
@@ -335,12 +336,12 @@ class Opaque(Diff):
         words = ["--headers-dir1", str(headers), "--headers-dir2", str(headers)]
         peer = subprocess.run(["abidiff", *words, old, new], capture_output=True, text=True)
         self.assertTrue(peer.returncode & 4, peer.stdout)
-        done = self.asked(old, new, *words)
+        done = self.compare(old, new, *words)
         self.assertEqual((done.status, done.output), (BREAKING, "object s: size 4 -> 8\n"), done.text)
 
 
 class Baseline(Diff):
-    """A kept baseline answers as the library that it was made of."""
+    """A saved baseline gives the same answers as its library."""
 
     def test_it_answers_as_the_library(self) -> None:
         self.needs("objcopy")
@@ -349,7 +350,7 @@ class Baseline(Diff):
                 old, new = self.library(before, "old.so"), self.library(after, "new.so")
                 kept = self.write_baseline(old)
                 done = run(tool("diff"), "--baseline", kept, new)
-                whole = self.asked(old, new)
+                whole = self.compare(old, new)
                 self.assertEqual((done.status, done.output), (whole.status, whole.output), what)
                 self.assertEqual(run(tool("diff"), "--baseline", kept, old).status, SAME)
 
@@ -371,8 +372,8 @@ class Baseline(Diff):
         words = ("-Wl,--version-script=" + str(script), "-I", str(self.folder))
         both = []
         for name, members in (("old.so", "x"), ("new.so", "y, x")):
-            made = self.compiled(EXPORTED + code % members, "-g", "-shared", "-fPIC", *words,
-                                 name=name)
+            made = self.compile(EXPORTED + code % members, "-g", "-shared", "-fPIC", *words,
+                                name=name)
             debug = made.with_suffix(".debug")
             subprocess.run(["objcopy", "--only-keep-debug", made, debug], check=True)
             subprocess.run(["objcopy", "--strip-all", f"--add-gnu-debuglink={debug}", made],
@@ -409,7 +410,7 @@ class Baseline(Diff):
 
 
 class Packages(Diff):
-    """Packages and folders: each library with that of its name, beside abipkgdiff."""
+    """Packages and folders: libraries of the same name are compared, as by abipkgdiff."""
 
     OLD = {"libsame.so.1": "int x;", "libbroken.so.1": "struct s { int a; }; struct s s;",
            "libgone.so.1": "int y;", "libgrown.so.1": "int z;"}
@@ -417,13 +418,14 @@ class Packages(Diff):
            "libnew.so.1": "int y;", "libgrown.so.1": "int z; int more;"}
 
     def folder_of(self, name: str, libraries: Dict[str, str], is_apart: bool) -> Path:
-        """A folder with libraries as a package has them, their debug information apart."""
+        """A folder with libraries as in a package, with their debug information in separate
+        files."""
         folder = self.folder / name
         place = folder / "usr" / "lib"
         place.mkdir(parents=True)
         for soname, code in libraries.items():
-            made = self.compiled(EXPORTED + code, "-g", "-shared", "-fPIC",
-                                 f"-Wl,-soname,{soname}", "-Wl,--build-id", name=soname)
+            made = self.compile(EXPORTED + code, "-g", "-shared", "-fPIC",
+                                f"-Wl,-soname,{soname}", "-Wl,--build-id", name=soname)
             made.rename(place / f"{soname}.0")
             (place / soname).symlink_to(f"{soname}.0")
             if is_apart:
@@ -438,7 +440,7 @@ class Packages(Diff):
         subprocess.run(["objcopy", "--only-keep-debug", library, debug], check=True)
         subprocess.run(["strip", "-s", library], check=True)
 
-    def packed(self, folder: Path) -> Path:
+    def pack(self, folder: Path) -> Path:
         control = folder / "DEBIAN" / "control"
         control.parent.mkdir(parents=True, exist_ok=True)
         control.write_text(f"Package: {folder.name}\nVersion: 1\nArchitecture: amd64\n"
@@ -460,41 +462,41 @@ class Packages(Diff):
 
     def test_folders(self) -> None:
         old = self.folder_of("old", self.OLD, False)
-        self.assert_told(self.asked(old, self.folder_of("new", self.NEW, False)))
-        done = self.asked(old, old)
+        self.assert_told(self.compare(old, self.folder_of("new", self.NEW, False)))
+        done = self.compare(old, old)
         self.assertEqual((done.status, done.output), (SAME, ""), done.text)
 
     def test_packages_with_debug_packages(self) -> None:
         self.needs("dpkg-deb", "abipkgdiff")
         folders = [self.folder_of("old", self.OLD, True), self.folder_of("new", self.NEW, True)]
-        old, new = map(self.packed, folders)
-        debug = [self.packed(self.folder / f"{name}-dbg") for name in ("old", "new")]
+        old, new = map(self.pack, folders)
+        debug = [self.pack(self.folder / f"{name}-dbg") for name in ("old", "new")]
         words = ["--debug-package1", str(debug[0]), "--debug-package2", str(debug[1])]
-        done = self.asked(old, new, *words)
+        done = self.compare(old, new, *words)
         self.assert_told(done)
         self.assertEqual(done.errors, "")
         peer = subprocess.run(["abipkgdiff", "--d1", debug[0], "--d2", debug[1], old, new],
                               capture_output=True, text=True)
         for name in ("libgone.so.1", "libnew.so.1", "libbroken.so"):
             self.assertIn(name, peer.stdout)
-        done = self.asked(old, new)
-        self.assertEqual(done.status, BREAKING, done.text)  # one is gone, the rest is not known
+        done = self.compare(old, new)
+        self.assertEqual(done.status, BREAKING, done.text)  # the rest is unknown
         self.assertIn("libsame.so.1: not compared: ", done.errors)
         self.assertNotIn(".ctfd-", done.errors)
-        verdict = json.loads(self.asked(old, new, *words, "--json", "--verdict")
+        verdict = json.loads(self.compare(old, new, *words, "--json", "--verdict")
                              .output.splitlines()[-1])
         self.assertEqual((verdict["verdict"], verdict["uncompared"]), ("breaking", 0))
 
     def test_damaged_packages(self) -> None:
         self.needs("dpkg-deb")
-        old = self.packed(self.folder_of("old", {"libsame.so.1": "int x;"}, False))
+        old = self.pack(self.folder_of("old", {"libsame.so.1": "int x;"}, False))
         whole = old.read_bytes()
         cut = self.folder / "cut.deb"
         for length in (30, 100, 200, len(whole) // 2, len(whole) - 10):
             cut.write_bytes(whole[:length])
-            done = self.asked(old, cut)
+            done = self.compare(old, cut)
             self.assertEqual((done.status, done.output), (TROUBLE, ""), (length, done.text))
             self.assertEqual(len(done.errors.splitlines()), 1, done.errors)
         (self.folder / "empty").mkdir()
         for other in (self.folder / "empty", self.folder / "none", Path("/dev/null")):
-            self.assertEqual(self.asked(old, other).status, TROUBLE)
+            self.assertEqual(self.compare(old, other).status, TROUBLE)

@@ -1,6 +1,6 @@
 """How the commands end: interrupted at any time, with standard output closed, full or not read.
 
-No user sees a trace of Python, and a shell sees the status that it knows.
+No user sees a Python traceback, and a shell sees the usual status.
 """
 from __future__ import annotations
 
@@ -19,52 +19,52 @@ CODE = "struct point { long x, y, z; } first; int main(void) { return 0; }"
 
 
 def heeds_interrupts() -> None:
-    """Takes SIGINT as a terminal's programs do, though these tests may run where it is ignored."""
+    """Restores SIGINT's default action, which may be ignored where these tests run."""
     signal.signal(signal.SIGINT, signal.SIG_DFL)
 
 
 class Ending(Case):
     def setUp(self) -> None:
         super().setUp()
-        self.program = self.compiled(CODE, "-g", name="whole.exe")
+        self.program = self.compile(CODE, "-g", name="whole.exe")
 
     def around(self) -> Dict[str, str]:
         return {"XDG_CACHE_HOME": str(self.folder / "cache"), "PYTHONUNBUFFERED": ""}
 
-    def asked(self) -> Dict[str, List[Word]]:
-        """What each command is asked, but for the front."""
+    def questions(self) -> Dict[str, List[Word]]:
+        """Arguments for each command except the front."""
         out = self.folder / "out"
         return {"convert": [self.program, out], "debuginfo": [LUA, out], "diff": [LUA, LUA],
                 "explore": [LUA, "-o", out], "show": ["--pid", str(os.getpid()), "first"],
                 "types": [LUA]}
 
     def printing(self) -> Dict[str, List[Word]]:
-        """What those commands are asked that print something then."""
-        listed = {**self.asked()}
+        """Arguments with which those commands print something."""
+        listed = {**self.questions()}
         listed["convert"] = [self.program, "-"]
         del listed["show"]
         return listed
 
     def shell(self, end: str, *words: Word) -> Outcome:
-        """A command in a shell that ends with a redirection."""
+        """Runs a command in a shell, with a redirection at the end."""
         line = " ".join(shlex.quote(str(word)) for word in words)
         return run("bash", "-c", f"{line} {end}", environment=self.around(), seconds=LIMIT)
 
 
-class Interrupted(Ending):
+class Interrupts(Ending):
     def test_at_any_time(self) -> None:
-        """From its first line on, the front too."""
+        """A command or the front, interrupted at any time from its start, prints no traceback."""
         front: List[Word] = ["--socket", self.folder / "socket", f"lua={LUA}"]
-        listed: Dict[str, List[Word]] = {**self.asked(), "front": front}
+        listed: Dict[str, List[Word]] = {**self.questions(), "front": front}
         for name, words in listed.items():
             for wait in (0.03, 0.06, 0.1, 0.15, 0.25, 0.5):
-                status, errors = self.interrupted(wait, tool(name), *words)
+                status, errors = self.interrupt(wait, tool(name), *words)
                 ours = [line for line in errors.splitlines() if str(TOOLS) in line]
                 self.assertEqual(ours, [], (name, wait, errors))
                 self.assertIn(status, (0, 1, 2, 130, -signal.SIGINT), (name, wait, errors))
 
-    def interrupted(self, wait: float, *words: Word) -> "tuple[int, str]":
-        """The status and messages of a command that gets SIGINT after so many seconds."""
+    def interrupt(self, wait: float, *words: Word) -> "tuple[int, str]":
+        """The status and messages of a command that gets SIGINT after `wait` seconds."""
         door = subprocess.Popen([str(word) for word in words], stdout=subprocess.DEVNULL,
                                 stderr=subprocess.PIPE, env=clean(self.around()), text=True,
                                 preexec_fn=heeds_interrupts)
@@ -74,7 +74,7 @@ class Interrupted(Ending):
         return door.returncode, errors
 
     def test_a_command_that_runs(self) -> None:
-        """Its status is 130, and it says nothing."""
+        """A command interrupted as it reads ends with 130 or by SIGINT, and prints nothing."""
         pipe = self.folder / "pipe"
         os.mkfifo(pipe)
         listed: Dict[str, List[Word]] = {
@@ -93,7 +93,7 @@ class Interrupted(Ending):
 
 class Output(Ending):
     def test_closed(self) -> None:
-        for name, words in self.asked().items():
+        for name, words in self.questions().items():
             done = self.shell(">&-", tool(name), *words)
             self.assert_tame(done, name, seconds=LIMIT)
             self.assertIn(done.status, (1, 2), (name, done.text))
@@ -101,8 +101,8 @@ class Output(Ending):
             self.assertFalse((self.folder / "out").exists(), name)
 
     def test_closed_errors(self) -> None:
-        """A message of trouble does not go into what is printed, nor into a file."""
-        for name in self.asked():
+        """An error message is written neither to the output nor to a file."""
+        for name in self.questions():
             words: List[Word] = [self.folder / "none", self.folder / "none"]
             done = self.shell("2>&-", tool(name), *(["--core"] if name == "show" else []), *words)
             self.assert_tame(done, name, seconds=LIMIT)
@@ -126,7 +126,8 @@ class Output(Ending):
                 self.assertNotIn("Exception", done.errors, name)
 
     def test_a_reader_that_leaves(self) -> None:
-        """At once, or behind the first line: nothing is said, and the status is SIGPIPE's."""
+        """Whether the reader leaves at once or after the first line, nothing is printed, and the
+        status is SIGPIPE's."""
         for name, words in self.printing().items():
             for reader in ("true", "head -1"):
                 done = self.shell(f"| {reader} > /dev/null; exit ${{PIPESTATUS[0]}}", tool(name),

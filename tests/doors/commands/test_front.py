@@ -1,4 +1,4 @@
-"""The front: how it ends, what it says of its files, and where it writes its statistics."""
+"""Tests of the front: how it ends, its messages about files, and its statistics file."""
 from __future__ import annotations
 
 import contextlib
@@ -23,7 +23,7 @@ class Front(Case):
         self.socket = self.folder / "socket"
 
     def front(self, *words: str) -> "subprocess.Popen[str]":
-        """A front that listens."""
+        """Starts a front, and waits until it listens."""
         door = subprocess.Popen([tool("front"), "--socket", str(self.socket), *words,
                                  f"lua={LUA}"], stderr=subprocess.PIPE, text=True, env=clean())
         self.addCleanup(door.communicate)
@@ -31,14 +31,14 @@ class Front(Case):
         until = time.monotonic() + 10
         while time.monotonic() < until:
             try:
-                self.asked(b"{}\n")
+                self.ask(b"{}\n")
                 return door
             except OSError:  # it does not listen yet
                 time.sleep(0.02)
         raise AssertionError("the front does not listen")
 
-    def asked(self, line: bytes, waits: bool = True) -> "socket.socket":
-        """A connection that has sent a line, and has its reply where it waits for it."""
+    def ask(self, line: bytes, waits: bool = True) -> "socket.socket":
+        """A connection that has sent a line, and received its reply if `waits` is true."""
         channel = socket.socket(socket.AF_UNIX)
         self.addCleanup(channel.close)
         channel.settimeout(10)
@@ -48,8 +48,8 @@ class Front(Case):
             self.assertIn("s", json.loads(channel.recv(65_536)))
         return channel
 
-    def ended(self, door: "subprocess.Popen[str]") -> float:
-        """How many seconds a front takes to end."""
+    def seconds_to_end(self, door: "subprocess.Popen[str]") -> float:
+        """The number of seconds that a front takes to end."""
         begun = time.monotonic()
         door.send_signal(signal.SIGTERM)
         door.wait(60)
@@ -58,33 +58,33 @@ class Front(Case):
 
 class Ends(Front):
     def test_a_service_that_is_busy(self) -> None:
-        """It ends in the seconds of --grace, whether somebody reads the answers or not."""
+        """The front ends within the seconds of --grace, even if the client reads no replies."""
         for count in (1, 20_000):
             door = self.front("--grace", "3")
-            channel = self.asked(b'{"op":"info","d":1}\n', waits=False)
+            channel = self.ask(b'{"op":"info","d":1}\n', waits=False)
             channel.setblocking(False)
             with contextlib.suppress(BlockingIOError):
                 channel.sendall(b'{"op":"names","d":1}\n' * count)
-            self.assertLess(self.ended(door), 5, count)  # twice the grace is 6
+            self.assertLess(self.seconds_to_end(door), 5, count)  # twice the grace is 6
             self.socket.unlink(missing_ok=True)
 
     def test_a_service_that_answers(self) -> None:
         door = self.front()
-        self.assertLess(self.ended(door), 5)
+        self.assertLess(self.seconds_to_end(door), 5)
         self.assertEqual(door.returncode, 0)
 
 
 class Files(Front):
-    def refused(self, *words: str) -> "tuple[int, List[str]]":
+    def refusal(self, *words: str) -> "tuple[int, List[str]]":
         done = run(tool("front"), "--socket", self.socket, *words, seconds=20)
         self.assert_tame(done, words, seconds=20)
         return done.status, done.errors.splitlines()
 
     def test_a_file_that_is_not_there(self) -> None:
-        """To start it again would not help."""
+        """Restarting would not help."""
         options: List[List[str]] = [[], ["--restart"]]
         for more in options:
-            status, lines = self.refused(*more, f"x={self.folder}/none")
+            status, lines = self.refusal(*more, f"x={self.folder}/none")
             self.assertEqual(status, 3)
             if more:
                 self.assertEqual(lines.pop(0), WITHOUT_EFFECT)
@@ -92,12 +92,12 @@ class Files(Front):
             self.assertNotIn("--restart", "\n".join(lines))
 
     def test_a_program(self) -> None:
-        program = self.compiled("int main(void) { return 0; }", "-g", name="made.exe")
-        member = self.compiled("int one;", "-g")
+        program = self.compile("int main(void) { return 0; }", "-g", name="made.exe")
+        member = self.compile("int one;", "-g")
         archive = self.folder / "made.a"
         subprocess.run(["ar", "rc", str(archive), str(member)], check=True)
         for path in (program, member, archive):
-            status, lines = self.refused(f"lua={LUA}", f"x={path}")
+            status, lines = self.refusal(f"lua={LUA}", f"x={path}")
             self.assertEqual(status, 1, lines)
             self.assertEqual(len(lines), 1, lines)
             self.assertIn(f"ctfd-convert {path} ", lines[0])
@@ -106,7 +106,7 @@ class Files(Front):
 
 class Metrics(Front):
     def test_a_link_in_its_way(self) -> None:
-        """What another user has put beside the file is neither followed nor changed."""
+        """A link that another user has put beside the file is neither followed nor changed."""
         victim, path = self.folder / "victim", self.folder / "metrics"
         victim.write_text("mine\n")
         links = [self.folder / f"metrics{end}" for end in (".new", ".tmp", "~")]
@@ -115,7 +115,7 @@ class Metrics(Front):
         path.symlink_to(victim)
         door = self.front("--metrics", str(path), "--stats", "0.1")
         self.wait_for(path)
-        self.ended(door)
+        self.seconds_to_end(door)
         self.assertEqual(victim.read_text(), "mine\n")
         self.assertFalse(path.is_symlink())
         self.assertIn("ctfd_front_connections", path.read_text())

@@ -1,7 +1,7 @@
-"""The debuggers' doors: which of several types a name means, and how wide pointers are.
+"""Tests of the debuggers: which of several types a name finds, and the width of pointers.
 
-The program has two source files with types of one name that differ. In a library's function, where
-no source file of the program is the current one, a debugger takes any type of a name that it finds.
+The program has two source files with different types of the same name. In a function of a library,
+no source file of the program is the current one, and a debugger uses any type of a name.
 """
 from __future__ import annotations
 
@@ -54,7 +54,7 @@ class Debuggers(Case):
         return {"XDG_CACHE_HOME": str(self.folder / "cache"), **(more or {})}
 
     def gdb(self, *lines: str, program: Optional[Path] = None) -> Outcome:
-        """What gdb prints with the plug-in."""
+        """The output of gdb with the plug-in."""
         self.needs("gdb")
         words = [word for line in (f"source {CLIENTS}/gdb/ctfgdb.py", *lines)
                  for word in ("-ex", line)]
@@ -67,7 +67,7 @@ class Debuggers(Case):
 
 class Gdb(Debuggers):
     def test_a_section_without_a_program(self) -> None:
-        """gdb's own default is a machine of 32 bits, and a section alone has no machine."""
+        """gdb's default is a 32-bit machine, and a section by itself has no machine."""
         done = self.gdb(f"ctf load {EXAMPLES}/lua.ctf", "ctf ptype struct luaL_Reg")
         self.assertIn("lp64", done.output)
         self.assertRegex(done.output, r"name; +/\* +0 +8 \*/")
@@ -90,7 +90,7 @@ class Gdb(Debuggers):
         self.assertNotIn("unsigned", line)
 
     def test_a_name_means_the_visible_type(self) -> None:
-        """Before it runs, in its own functions, and in one of libc."""
+        """Before the program runs, in its own functions, and in a function of libc."""
         places: List[List[str]] = [[], *([f"break {name}", "run"]
                                          for name in ("main", "other", "write"))]
         for place in places:
@@ -98,7 +98,7 @@ class Gdb(Debuggers):
             self.assertEqual(self.numbers(done), VISIBLE, (place, done.text))
 
     def test_whatever_was_asked_before(self) -> None:
-        """What gdb has read of the other types already changes nothing."""
+        """Other types that gdb has read before make no difference."""
         done = self.gdb("ctf load", "break write", "run", "ptype holder", "ptype holder.inner",
                         *ASKED, program=self.program)
         self.assertEqual(self.numbers(done), VISIBLE, done.text)
@@ -180,7 +180,8 @@ with ctfd.open({str(self.program)!r}) as types:
         self.assertRegex(done.output, r"struct dict__\d+ \*inner;")
 
     def test_a_debug_file(self) -> None:
-        """`ctfd-debuginfo` says the names too, and any debugger takes the visible types of it."""
+        """`ctfd-debuginfo` reports the names too, and its debug file gives any debugger the visible
+        types."""
         done = run(tool("debuginfo"), self.program, self.folder / "out.debug")
         self.assertEqual(done.status, 0, done.text)
         self.assertRegex(done.output, r"struct dict \(also dict__\d+\)")

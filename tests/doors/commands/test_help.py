@@ -1,4 +1,4 @@
-"""Each door answers --help and --version, and refuses a word that it does not know."""
+"""Each command accepts --help and --version, and refuses an unknown option."""
 from __future__ import annotations
 
 
@@ -14,7 +14,7 @@ class Help(Case):
                 self.assertEqual(done.status, status, (name, word, done.text))
 
     def test_words_are_shown_and_not_obeyed(self) -> None:
-        """The service's own messages have no control characters of names and words."""
+        """The service's messages contain no control characters from names and arguments."""
         for words in (("dump", "\x1b[31mred"), ("serve", "own=\x1b[2J"),
                       ("\x1b[2J",), ("dump", "--model", "\x07", "x")):
             done = run(SERVICE, *words)

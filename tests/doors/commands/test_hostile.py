@@ -1,4 +1,5 @@
-"""Small files that are made to take long or much memory: answered in time, or refused in a line."""
+"""Small files that are made to take long or much memory: answered in time, or refused with a
+line."""
 from __future__ import annotations
 
 import sys
@@ -12,7 +13,7 @@ sys.path.insert(0, str(TOP / "bench"))
 import hostile_files as made  # type: ignore[import-not-found]  # noqa: E402
 
 Words = Dict[str, List[str]]
-# What is asked of each: a command and the words behind its file.
+# Commands, with their arguments for each file.
 CONVERT: Words = {"convert": ["{}", "{}.out"]}
 ALL: Words = {
     **CONVERT, "types": ["{}"], "types sizes": ["--sizes", "{}"],
@@ -28,9 +29,9 @@ DEEP = {name: ALL[name] for name in ("types", "types contains", "types uses", "t
 
 
 class Hostile(Case):
-    def asked(self, make: Callable[[int], bytes], size: int, words: Words = SOME
-              ) -> "dict[str, Outcome]":
-        """What each command answers, all of them in time and memory, and none a wrong word."""
+    def ask_each(self, make: Callable[[int], bytes], size: int, words: Words = SOME
+                 ) -> "dict[str, Outcome]":
+        """The outcome of each command; all must stay within time and memory."""
         path = self.folder / make.__name__
         path.write_bytes(make(size))
         Path(f"{path}.two").write_bytes(path.read_bytes())
@@ -51,39 +52,39 @@ class Hostile(Case):
     def test_typedefs_in_a_chain(self) -> None:
         for make in (made.chained_typedefs, made.chained_typedefs_of_btf):
             words = {name: one for name, one in SOME.items() if name != "debuginfo"}
-            done = self.asked(make, 40_000, words)
+            done = self.ask_each(make, 40_000, words)
             self.assert_refused(done, says="more than 512 types lead")
-            self.assertEqual(self.asked(make, 500, CONVERT)["convert"].status, 0)
+            self.assertEqual(self.ask_each(make, 500, CONVERT)["convert"].status, 0)
 
     def test_symbols_of_one_long_name(self) -> None:
-        self.asked(made.symbols_of_one_name, 200_000)
-        done = self.asked(made.debug_with_symbols_of_one_name, 200_000,
-                          {name: SOME[name] for name in ("convert", "types", "types one")})
+        self.ask_each(made.symbols_of_one_name, 200_000)
+        done = self.ask_each(made.debug_with_symbols_of_one_name, 200_000,
+                             {name: SOME[name] for name in ("convert", "types", "types one")})
         self.assert_refused(done, says="more work than|names of .symtab are damaged")
 
     def test_labels(self) -> None:
-        self.assert_refused(self.asked(made.unended_labels, 200_000),
+        self.assert_refused(self.ask_each(made.unended_labels, 200_000),
                             says="more work than|damaged|BadName")
-        self.asked(made.ended_labels, 200_000)
+        self.ask_each(made.ended_labels, 200_000)
 
     def test_structs_of_two_of_the_one_before(self) -> None:
         for make in (made.doubled_structs, made.doubled_unnamed):
             for size, words in ((30, ALL), (400, DEEP)):
-                done = self.asked(make, size, words)
+                done = self.ask_each(make, size, words)
                 self.assertEqual(done["types"].status, 0)
                 self.assert_refused(done, "types contains", says="more work|more members")
-        # What can be told is: each of ten levels twice as often as the one before.
-        done = self.asked(made.doubled_structs, 10, ALL)
+        # Ten levels are not refused: each has twice as many lines as the one before.
+        done = self.ask_each(made.doubled_structs, 10, ALL)
         self.assertEqual(done["types contains"].status, 0, done["types contains"].text)
         self.assertEqual(len(done["types contains"].output.splitlines()), 2 ** 11 - 2)
 
     def test_units_that_overlap_in_their_abbreviations(self) -> None:
         words = {name: SOME[name] for name in ("convert", "types", "types one")}
-        done = self.asked(made.overlapping_abbreviations, 20_000, words)
+        done = self.ask_each(made.overlapping_abbreviations, 20_000, words)
         self.assert_refused(done, says="more work than|damaged.*abbreviation code")
-        self.asked(made.overlapping_abbreviations, 10, CONVERT)
+        self.ask_each(made.overlapping_abbreviations, 10, CONVERT)
 
     def test_entries_that_say_one_byte(self) -> None:
-        for name, done in self.asked(made.entries_of_one_byte, 2_000, ALL).items():
+        for name, done in self.ask_each(made.entries_of_one_byte, 2_000, ALL).items():
             if name.startswith("types ") and name not in ("types uses", "types members"):
                 self.assertIn(done.status, (0, 1), (name, done.text))

@@ -1,4 +1,4 @@
-"""libctf's calls of libctfd.so, from a program that was written for libctf."""
+"""Tests of libctf's calls in libctfd.so, with a program that was written for libctf."""
 from __future__ import annotations
 
 import glob
@@ -13,7 +13,8 @@ from ..support import CLIENTS, LIBRARY, Case, Outcome, Word, run
 OPENS = Path(__file__).parents[1] / "opens.c"
 NAMES = b"\0char\0"
 LABEL = b"ctfd.symbols=.symtab,1,0,"
-# By number: char, char *, char *[12], const of it, a pointer to that, and a grid of const rows.
+# Types 1 to 6: char, char *, char *[12], const of that, a pointer to it, and an array of const
+# rows.
 ROWS = section([integer(1, 8), record(POINTER, 0, 1), array(2, 1, 12), record(CONST, 0, 3),
                 record(POINTER, 0, 4), array(4, 1, 3)], NAMES)
 
@@ -29,24 +30,24 @@ class Libctf(Case):
                         str(self.program), str(LIBRARY), f"-Wl,-rpath,{LIBRARY.parent}"],
                        check=True)
 
-    def opened(self, data: bytes, *words: Word, **environment: str) -> Outcome:
-        """How the program ended that opens a file of these bytes."""
+    def open_bytes(self, data: bytes, *words: Word, **environment: str) -> Outcome:
+        """Runs the program that opens files on these bytes."""
         file = self.folder / "opened"
         file.write_bytes(data)
         done = run(self.program, file, *words, environment=environment)
         self.assert_tame(done, words)
         return done
 
-    def named(self, data: bytes) -> dict[int, list[str]]:
-        """By a type's number, its name and the declaration of `v`."""
-        lines = [line.split("\t") for line in self.opened(data, "named").output.splitlines()]
+    def declarations(self, data: bytes) -> dict[int, list[str]]:
+        """The name of each type, by number, and the declaration of `v` with that type."""
+        lines = [line.split("\t") for line in self.open_bytes(data, "named").output.splitlines()]
         return {int(line[0]): line[1:] for line in lines if len(line) == 3}
 
     def test_names_are_c(self) -> None:
-        """A qualifier of an array is one of what it holds: judged by gcc, by its typedefs."""
-        names = self.named(ROWS)
+        """A qualifier of an array belongs to its elements; gcc checks this with typedefs."""
+        names = self.declarations(ROWS)
         self.assertEqual(names[4], ["char *const [12]", "char *const v[12]"])
-        self.compiled(
+        self.compile(
             "typedef char *row[12]; extern const row v; extern const row grid[3];\n"
             f"extern {names[4][1]};\n"
             f"_Static_assert(__builtin_types_compatible_p({names[5][0]}, const row *), \"\");\n"
@@ -55,17 +56,18 @@ class Libctf(Case):
             f"extern {names[6][1].replace(' v', ' grid').replace('*const v', '*const grid')};\n")
 
     def test_a_short_buffer_is_told(self) -> None:
-        told = self.opened(ROWS).output.splitlines()[-1]
+        told = self.open_bytes(ROWS).output.splitlines()[-1]
         self.assertRegex(told, "^two bytes: .*buffer")
         self.assertNotIn("65,536", told)
 
     def test_beside_gnu_libctf(self) -> None:
-        """In one process with GNU's libctf, which has the same names, each calls its own."""
+        """In one process with GNU's libctf, which has the same names, each calls its own
+        functions."""
         theirs = glob.glob("/usr/lib/*/libctf.so.0") + glob.glob("/usr/lib/libctf.so.0")
         if not theirs:
             self.skipTest("there is no libctf of GNU's here (Debian: libctf0)")
-        alone = self.opened(ROWS, "named")
-        beside = self.opened(ROWS, "named", LD_PRELOAD=theirs[0])
+        alone = self.open_bytes(ROWS, "named")
+        beside = self.open_bytes(ROWS, "named", LD_PRELOAD=theirs[0])
         self.assertEqual((beside.status, beside.output), (alone.status, alone.output))
 
     def test_exports_have_a_version(self) -> None:
@@ -81,12 +83,12 @@ class Libctf(Case):
 
     def test_names_that_are_not_in_the_file(self) -> None:
         strings = Part(".strtab", NOBITS, b"", size=4096)
-        done = self.opened(self.file_of(ROWS, symbol(1) * 8, strings))
+        done = self.open_bytes(self.file_of(ROWS, symbol(1) * 8, strings))
         self.assertEqual((done.status, done.output), (1, "refused: the ELF file is damaged\n"))
 
     def test_entries_of_one_byte(self) -> None:
         strings = Part(".strtab", STRTAB, b"\0one\0")
-        done = self.opened(self.file_of(ROWS, symbol(1) * 300_000, strings, entry=1))
+        done = self.open_bytes(self.file_of(ROWS, symbol(1) * 300_000, strings, entry=1))
         self.assertEqual(done.status, 1)
         self.assertRegex(done.output, "^refused: BadSymtab")
 
@@ -96,7 +98,7 @@ class Libctf(Case):
         strings = Part(".strtab", STRTAB, b"\0" + b"n" * (8 << 20) + b"\0")
         for at in (lambda n: 1, lambda n: 1 + n):
             table = b"".join(symbol(at(n)) for n in range(200_000))
-            done = self.opened(self.file_of(ctf, table, strings))
+            done = self.open_bytes(self.file_of(ctf, table, strings))
             self.assertEqual((done.status, done.output),
                              (1, "refused: the ELF file is damaged\n"))
 
@@ -104,12 +106,12 @@ class Libctf(Case):
         names = NAMES + LABEL + b"1" * (8 << 20)
         labels = struct.pack("<II", len(NAMES), 1) * 200_000
         ctf = section([integer(1, 8)], names, labels)
-        done = self.opened(self.file_of(ctf, symbol(1), Part(".strtab", STRTAB, b"\0one\0")))
+        done = self.open_bytes(self.file_of(ctf, symbol(1), Part(".strtab", STRTAB, b"\0one\0")))
         self.assertEqual(done.status, 1)
         self.assertRegex(done.output, "^refused: Bad")
 
     def test_a_file_that_is_cut_while_it_is_open(self) -> None:
-        """The file is read, so that cutting it harms nobody."""
+        """The file is read, not mapped, so cutting it does no harm."""
         maps = self.folder / "strace"
         self.needs("strace")
         file = self.folder / "cut"

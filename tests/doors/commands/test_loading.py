@@ -1,9 +1,9 @@
-"""No door runs a stranger's code: not from the folder in which it is started, nor from one that
-another user can write to.
+"""No command runs code of other users, neither from the folder in which it is started, nor from one
+that another user can write to.
 
-Each door is started in a folder with hostile files around it, each of which leaves a mark when it
-is loaded or run. What Python does before a line of ours runs is Python's: it takes `ctfd` itself
-from the folder in which `python3 -c` was started, so here it is named by its own folder.
+Each command is started in a folder with hostile files around it, which leave a mark when they are
+loaded or run. What Python does before our first line is beyond our control: it imports `ctfd`
+itself from the folder in which `python3 -c` was started, so these tests name the package's folder.
 """
 from __future__ import annotations
 
@@ -22,7 +22,7 @@ AROUND = (".", "..", "../..", "../lib", "../bin", "../../lib", "../../bin")
 LIBRARIES = ("libctfd.so", "libctfd.so.0", "libctfd_elf.so", "libctfd_elf.so.0")
 PROGRAMS = ("ctfd", "pkg-config", "objcopy")
 MODULES = ("ctfd", "json")
-# Python's own modules that may be asked for as late as an answer.
+# Modules of Python that may be imported late.
 LATER = ("argparse", "array", "bisect", "collections", "contextlib", "copy", "ctypes",
          "dataclasses", "difflib", "enum", "functools", "hashlib", "logging", "math", "mmap",
          "pathlib", "random", "re", "resource", "selectors", "shutil", "socket", "struct",
@@ -33,7 +33,7 @@ LUA = EXAMPLES / "lua.ctf"
 ASKED = "struct luaL_Reg"
 ANSWER = "size: 16"
 PAGE = "luaL_Reg"
-# Prints the names of a file's types, by the package of a folder.
+# Prints the names of a file's types, with the package in a given folder.
 NAMES = """import sys
 sys.path.insert(0, "{package}")
 import ctfd
@@ -59,12 +59,12 @@ program.add_type_finder(ctfd.drgn.type_finder(program, types))
 print("size:", drgn.sizeof(program.type({ASKED!r})))
 client.close()
 """
-# The library is looked for where none is named, and the program where "" names no library.
+# The library is searched for if none is named, and the program if "" disables the library.
 LOOKS_FOR = {"the library": {"CTFD": ""}, "the program": {"CTFD": "", "CTFD_LIBRARY": ""}}
 
 
 class Hostile(Case):
-    """A case with hostile files, and marks of what was run of them."""
+    """A test with hostile files, which leave marks when they are run."""
 
     def setUp(self) -> None:
         super().setUp()
@@ -75,7 +75,7 @@ class Hostile(Case):
         code = ('#include <stdio.h>\n__attribute__((constructor)) static void mark(void) {'
                 f'FILE *file = fopen("{self.marks}", "a");'
                 'if (file) fputs("a library\\n", file), fclose(file); }')
-        self.library = self.compiled(code, "-shared", "-fPIC", name="hostile.so")
+        self.library = self.compile(code, "-shared", "-fPIC", name="hostile.so")
         self.cwd = self.folder / "evil/x/a/b"
         self.cwd.mkdir(parents=True)
 
@@ -91,26 +91,26 @@ class Hostile(Case):
                 f"with open({str(self.marks)!r}, 'a') as file: file.write(__file__ + '\\n')\n")
 
     def program(self, path: Path) -> None:
-        """A hostile program."""
+        """Writes a hostile program."""
         if not path.is_dir():
             path.write_text(f'#!/bin/sh\necho "$0" >> {self.marks}\nexit 1\n')
             path.chmod(0o755)
 
     def around(self, *more: str) -> None:
-        """Hostile files around the folder in which doors are started."""
+        """Puts hostile files around the folder in which commands are started."""
         for place in AROUND:
             self.put(self.cwd / place, dict.fromkeys((*MODULES, *more)))
 
     def door(self, *words: Word, looks_for: str = "the library", stdin: str = "",
              environment: Optional[Mapping[str, str]] = None, seconds: float = 20) -> Outcome:
-        """The outcome of a door in that folder."""
+        """Runs a command in that folder."""
         around = {"PATH": RELATIVE + os.environ["PATH"], **LOOKS_FOR[looks_for],
                   "XDG_CACHE_HOME": str(self.folder / "cache"), **(environment or {})}
         return run(*words, stdin=stdin.encode(), folder=self.cwd, environment=around,
                    seconds=seconds)
 
     def assert_unmarked(self, done: Outcome, what: object, answer: str) -> None:
-        """Nothing hostile was run, and the door has answered."""
+        """Asserts that nothing hostile was run, and that the command has answered."""
         marks = self.marks.read_text() if self.marks.exists() else ""
         self.marks.unlink(missing_ok=True)
         self.assertEqual(marks, "", f"{what}: {done.text}")
@@ -154,7 +154,7 @@ class Folder(Hostile):
 
     def with_types(self) -> Path:
         """A program with a section of types, and no debug information."""
-        made = self.compiled(POINT, "-g", name="whole.exe")
+        made = self.compile(POINT, "-g", name="whole.exe")
         subprocess.run([tool("convert"), "--section", str(made), str(made) + ".ctf"],
                        check=True, capture_output=True, env={**os.environ, "CTFD": SERVICE})
         subprocess.run(["objcopy", "-g", str(made) + ".ctf"], check=True)
@@ -180,11 +180,11 @@ class Folder(Hostile):
                 self.assert_unmarked(done, (kind, "drgn"), "size: 16")
 
     def test_c(self) -> None:
-        """libctfd.so loads its part for ELF files from beside itself."""
+        """libctfd.so loads its part for ELF files from its own folder."""
         if not LIBRARY.with_name("libctfd_elf.so.0").exists():
             self.skipTest("the part for ELF files is not built")
         types = self.with_types()
-        program = self.compiled(f"""
+        program = self.compile(f"""
             #include <stdio.h>
             #include "{CLIENTS}/c/ctfd_libctf.h"
             int main(void)
@@ -197,12 +197,13 @@ class Folder(Hostile):
                                                                      "struct point")));
                 ctf_close(types);
             }}""", f"-I{CLIENTS}/c", f"-L{LIBRARY.parent}", "-Wl,--no-as-needed", "-lctfd",
-                                f"-Wl,-rpath,{LIBRARY.parent}", name="asks.exe")
+                               f"-Wl,-rpath,{LIBRARY.parent}", name="asks.exe")
         self.around()
         self.assert_unmarked(self.door(program), "C", "24 bytes")
 
     def test_python(self) -> None:
-        """By a text, from standard input, and interactively; `json` is Python's own too then."""
+        """Python runs code from a string, from standard input, and interactively; `json` must also
+        be Python's own."""
         self.around()
         for kind in LOOKS_FOR:
             for words, stdin in ((("-c", CODE), ""), (("-",), CODE), (("-i", "-q"), CODE)):
@@ -217,12 +218,12 @@ class Folder(Hostile):
                 self.assert_unmarked(done, (kind, words), ANSWER)
 
     def test_commands(self) -> None:
-        """Each by its whole path, by a relative one, and from the PATH."""
-        program = self.compiled(POINT, "-g", name="whole.exe")
+        """Each command is started by its absolute path, by a relative one, and from the PATH."""
+        program = self.compile(POINT, "-g", name="whole.exe")
         self.around(*LATER)
         whole = {"PATH": f"{TOOLS}:{COMPILED}:{RELATIVE}{os.environ['PATH']}"}
         for name in COMMANDS:
-            words, answer = self.asked(name, program)
+            words, answer = self.question_for(name, program)
             for kind in LOOKS_FOR:
                 paths: List[Word] = [tool(name), f"ctfd-{name}",
                                      os.path.relpath(tool(name), self.cwd)]
@@ -232,8 +233,8 @@ class Folder(Hostile):
                     if name in ("convert", "debuginfo", "explore"):
                         (self.folder / "out").unlink()
 
-    def asked(self, name: str, program: Path) -> Tuple[List[Word], str]:
-        """What a command is asked, and a part of its answer."""
+    def question_for(self, name: str, program: Path) -> Tuple[List[Word], str]:
+        """The arguments for a command, and a part of its answer."""
         out = self.folder / "out"
         waits = subprocess.Popen(["sleep", "100"]) if name == "show" else None
         if waits:
@@ -253,7 +254,7 @@ class Folder(Hostile):
 
 
 class Others(Hostile):
-    """Files that another user could have put where they are."""
+    """Files that another user could have put there."""
 
     def setUp(self) -> None:
         super().setUp()
@@ -271,12 +272,12 @@ class Others(Hostile):
         self.program(self.open / "ctfd")
 
     def script(self, package: Path) -> Path:
-        """A program over the package of a folder."""
+        """A program that uses the package in a folder."""
         made = self.folder / "names.py"
         made.write_text(NAMES.format(package=package))
         return made
 
-    def asked(self, kind: str, path: str) -> Outcome:
+    def ask(self, kind: str, path: str) -> Outcome:
         return self.door(sys.executable, self.script(self.clone / "clients/python"), LUA,
                          looks_for=kind, environment={"PATH": path})
 
@@ -286,11 +287,11 @@ class Others(Hostile):
             for folder in (self.out, self.built, self.open):
                 folder.chmod(mode)
             if mode == 0o777:
-                self.assert_unmarked(self.asked("the library", whole), oct(mode), PAGE)
-                done = self.asked("the program", f"{self.open}:{whole}")
+                self.assert_unmarked(self.ask("the library", whole), oct(mode), PAGE)
+                done = self.ask("the program", f"{self.open}:{whole}")
                 self.assert_unmarked(done, oct(mode), PAGE)
             elif is_mine:
-                self.asked("the library", whole)
+                self.ask("the library", whole)
                 self.assertEqual(self.marks.read_text(), "a library\n", oct(mode))
                 self.marks.unlink()
 
@@ -298,8 +299,8 @@ class Others(Hostile):
         whole = f"{Path(SERVICE).parent}:{os.environ['PATH']}"
         (self.out / "libctfd.so").chmod(0o666)
         (self.open / "ctfd").chmod(0o777)
-        self.assert_unmarked(self.asked("the library", whole), "the library", PAGE)
-        done = self.asked("the program", f"{self.open}:{whole}")
+        self.assert_unmarked(self.ask("the library", whole), "the library", PAGE)
+        done = self.ask("the program", f"{self.open}:{whole}")
         self.assert_unmarked(done, "the program", PAGE)
 
     def test_a_folder_of_another(self) -> None:
@@ -308,22 +309,23 @@ class Others(Hostile):
         whole = f"{Path(SERVICE).parent}:{os.environ['PATH']}"
         for folder in (self.out, self.open):
             os.chown(folder, 65533, 65533)
-        self.assert_unmarked(self.asked("the library", whole), "the library", PAGE)
-        done = self.asked("the program", f"{self.open}:{whole}")
+        self.assert_unmarked(self.ask("the library", whole), "the library", PAGE)
+        done = self.ask("the program", f"{self.open}:{whole}")
         self.assert_unmarked(done, "the program", PAGE)
 
     def test_a_link_of_another(self) -> None:
-        """A folder that all may write to leads to one that its owner alone may."""
+        """A folder that all users may write to has a link to one that only its owner may write
+        to."""
         whole = f"{Path(SERVICE).parent}:{os.environ['PATH']}"
         link = self.folder / "world"
         link.mkdir()
         (link / "bin").symlink_to(self.open)
         link.chmod(0o777)
-        done = self.asked("the program", f"{link / 'bin'}:{whole}")
+        done = self.ask("the program", f"{link / 'bin'}:{whole}")
         self.assert_unmarked(done, "the program", PAGE)
 
     def test_what_is_above_a_clone(self) -> None:
-        """A package that is in no clone takes nothing from the folders above it."""
+        """A package outside a clone takes nothing from the folders above it."""
         made = self.folder / "shared/mine"
         shutil.copytree(self.clone / "clients/python", made / "tools")
         shutil.copytree(self.clone / "crates", self.folder / "shared/crates")

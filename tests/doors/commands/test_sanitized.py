@@ -1,7 +1,7 @@
-"""Damaged files through ctf_open, under AddressSanitizer and UndefinedBehaviorSanitizer.
+"""Opens damaged files with ctf_open, under AddressSanitizer and UndefinedBehaviorSanitizer.
 
-A program opens each file by libctf's calls, whose C is compiled with the sanitizers, asks all its
-types, and looks at its objects. A share of the files is tried, and 2,000 with --whole.
+A program opens each file through libctf's calls, whose C code is compiled with the sanitizers, and
+asks for all its types and objects. Tries a sample of the files, and 2,000 with --whole.
 """
 from __future__ import annotations
 
@@ -18,12 +18,12 @@ from ..support import ARCHIVE, CLIENTS, MEGABYTES, SECONDS, TRACE, has_header, r
 SHARE, ALL, SEED = 200, 2000, 1
 OPENS = Path(__file__).parents[1] / "opens.c"
 SANITIZERS = ("-g", "-O1", "-fsanitize=address,undefined", "-fno-sanitize-recover=all")
-# What the sanitizers keep of memory that was freed, and their shadow, are no memory of the program.
+# The sanitizers' shadow, and freed memory that they keep, do not count as the program's memory.
 OF_SANITIZERS = 200
 
 
-def compiled(folder: Path) -> Path:
-    """The program with libctf's calls in it. Raises CalledProcessError."""
+def build(folder: Path) -> Path:
+    """Compiles the program, with libctf's calls in it. Raises CalledProcessError."""
     sources = [path for path in sorted((CLIENTS / "c" / "libctf").glob("*.c"))
                if path.name != "loading.c"]
     made = folder / "opens"
@@ -34,10 +34,10 @@ def compiled(folder: Path) -> Path:
 
 
 def problems(count: int, seed: int) -> Iterator[str]:
-    """What is wrong, a line each."""
+    """The problems, one per line."""
     with tempfile.TemporaryDirectory() as made:
         folder = Path(made)
-        program = compiled(folder)
+        program = build(folder)
         files = folder / "files"
         files.mkdir()
         damaged.write(files, count, seed)

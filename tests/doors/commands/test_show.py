@@ -1,4 +1,5 @@
-"""ctfd-show over hostile processes, core files and programs: an answer, or one line and status 2."""
+"""ctfd-show with hostile processes, core files and programs: an answer, or one line and status
+2."""
 from __future__ import annotations
 
 import os
@@ -40,17 +41,17 @@ PT_LOAD, WRITABLE = 1, 2
 
 class Show(Case):
     def program(self, name: str = "program") -> Path:
-        """A program with its types as CTF, and no debug information."""
+        """A program with its types as CTF, and without debug information."""
         self.needs("objcopy")
-        made = self.compiled(CODE, "-g", name="made.exe")
+        made = self.compile(CODE, "-g", name="made.exe")
         path = self.folder / name
         done = run(tool("convert"), "--lossy", "--section", made, path)
         self.assertEqual(done.status, 0, done.text)
         subprocess.run(["objcopy", "--strip-debug", str(path)], check=True)
         return path
 
-    def started(self, path: Path, *words: str) -> "subprocess.Popen[str]":
-        """A program that runs, once it has said so."""
+    def start(self, path: Path, *words: str) -> "subprocess.Popen[str]":
+        """Starts a program, and waits until it says that it is ready."""
         door = subprocess.Popen([str(path), *words], stdout=subprocess.PIPE, text=True)
         assert door.stdout
         self.addCleanup(door.stdout.close)
@@ -60,24 +61,24 @@ class Show(Case):
         return door
 
     def core_of(self, path: Path) -> Path:
-        """The core file of a program that runs."""
+        """The core file of a running program."""
         self.needs("gdb")
-        door, core = self.started(path), self.folder / "core"
+        door, core = self.start(path), self.folder / "core"
         subprocess.run(["gdb", "-batch", "-nx", "-p", str(door.pid), "-ex",
                         f"generate-core-file {core}"], check=True, capture_output=True)
         if not core.exists():
             self.skipTest("gdb writes no core file here")
         return core
 
-    def asked(self, *words: Word, expressions: Optional[List[str]] = None) -> Outcome:
+    def ask(self, *words: Word, expressions: Optional[List[str]] = None) -> Outcome:
         done = run(tool("show"), *words, "--", *(expressions or ASKED))
         self.assert_tame(done, words)
         self.assertIn(done.status, (0, 2), done.text)
         return done
 
-    def refused(self, pattern: str, *words: Word) -> None:
-        """One line, and status 2."""
-        done = self.asked(*words, expressions=["first"])
+    def assert_refused(self, pattern: str, *words: Word) -> None:
+        """Asserts one line of error, and status 2."""
+        done = self.ask(*words, expressions=["first"])
         self.assertEqual((done.status, done.output), (2, ""), done.text)
         self.assertRegex(done.errors, rf"\Actfd-show: [^\n]*{pattern}[^\n]*\n\Z")
 
@@ -87,7 +88,7 @@ class Cores(Show):
         super().setUp()
         self.path = self.program()
         self.core = self.core_of(self.path)
-        self.whole = self.asked("--core", self.core)
+        self.whole = self.ask("--core", self.core)
         self.assertEqual(self.whole.status, 0, self.whole.text)
 
     def test_answers(self) -> None:
@@ -99,17 +100,18 @@ class Cores(Show):
         self.assertEqual(lines[7], "34")
 
     def judge(self, data: bytes) -> None:
-        """What is answered with status 0 is what the whole file answers, or says what is missing."""
+        """Asserts that each answer with status 0 is the same as for the whole file, or says what is
+        missing."""
         cut = self.folder / "cut"
         cut.write_bytes(data)
-        done = self.asked("--core", cut)
+        done = self.ask("--core", cut)
         if done.status == 2:
             self.assertEqual(len(done.errors.splitlines()), 1, done.errors)
         for ours, whole in zip(done.output.splitlines(), self.whole.output.splitlines()):
             self.assertTrue(ours == whole or any(word in ours for word in GONE), (ours, whole))
 
     def test_cut(self) -> None:
-        """At places all over the file, and at each of its headers."""
+        """A core file is cut at random places, and at each of its headers."""
         data = self.core.read_bytes()
         chance = random.Random(SEED)
         places = {*range(0, 1200, 40), *(chance.randrange(len(data)) for _ in range(CORE_CUTS))}
@@ -117,7 +119,7 @@ class Cores(Show):
             self.judge(data[:place])
 
     def test_damaged_headers(self) -> None:
-        """Of the headers and notes: anything may be answered, in time and memory."""
+        """With damaged headers and notes, any answer is accepted, but within time and memory."""
         data = self.core.read_bytes()
         chance = random.Random(SEED)
         for number in range(DAMAGES):
@@ -126,7 +128,7 @@ class Cores(Show):
                 made[chance.randrange(4, 6000)] = chance.choice((0, 1, 0x7F, 0x80, 0xFF))
             damaged_core = self.folder / "damaged"
             damaged_core.write_bytes(made)
-            self.asked("--core", damaged_core)
+            self.ask("--core", damaged_core)
 
     def test_damaged_programs(self) -> None:
         """Damaged headers and sections of the program, and of a file with its types."""
@@ -138,10 +140,10 @@ class Cores(Show):
             other = self.folder / "other"
             other.write_bytes(made)
             option = "--program" if number % 2 else "--types"
-            self.asked("--core", self.core, option, other)
+            self.ask("--core", self.core, option, other)
 
     def test_damaged_types(self) -> None:
-        """Files of all forms as the types, which casts ask for."""
+        """Files of all forms as the source of types, which casts look up."""
         alone = self.folder / "alone"
         alone.write_bytes(struct.pack("<16sHHIQQQIHHHHHH", b"\x7fELF\2\1\1", 4, 62, 1, 0, 64, 0, 0,
                                       64, 56, 1, 64, 0, 0)
@@ -157,7 +159,7 @@ class Cores(Show):
             self.assertIn(done.status, (0, 2), done.text)
 
     def test_symbols_past_the_end(self) -> None:
-        """A symbol whose name is not in the strings is none; the others are there."""
+        """A symbol whose name is not in the strings is ignored; the others are found."""
         self.needs("readelf")
         data = bytearray(self.path.read_bytes())
         listed = subprocess.run(["readelf", "-SW", self.path], capture_output=True, text=True)
@@ -168,63 +170,65 @@ class Cores(Show):
         other = self.folder / "other"
         other.write_bytes(data)
         for name in ("first", "last", "head", "counts"):
-            self.asked("--core", self.core, "--program", other, expressions=[name])
+            self.ask("--core", self.core, "--program", other, expressions=[name])
 
 
 class Processes(Show):
     def test_odd_names(self) -> None:
-        """Names with newlines, blanks, quotes and what the kernel says of deleted files."""
+        """Names with newlines, blanks, quotes, and the text that the kernel adds for deleted
+        files."""
         path = self.program()
         for name in ("a\nname", "a b", "it's \\012 'so'", "x (deleted)", "\x1b[2J", "caf\u00e9"):
             odd = self.folder / name
             odd.write_bytes(path.read_bytes())
             odd.chmod(0o755)
-            door = self.started(odd)
-            done = self.asked("--pid", str(door.pid), expressions=["first.number"])
+            door = self.start(odd)
+            done = self.ask("--pid", str(door.pid), expressions=["first.number"])
             self.assertEqual((done.status, done.output), (0, "1\n"), (name, done.text))
             odd.unlink()
-            again = self.asked("--pid", str(door.pid), expressions=["first.number", "main"])
+            again = self.ask("--pid", str(door.pid), expressions=["first.number", "main"])
             self.assertEqual((again.status, again.output[:2]), (0, "1\n"), (name, again.text))
 
     def test_debug_information(self) -> None:
-        """A program as the compiler made it is converted, a library that was deleted too."""
-        library = self.compiled("struct part { int size; } part = {7}; int of_part(void) "
-                                "{ return part.size; }", "-g", "-shared", "-fPIC", name="libpart.so")
-        program = self.compiled(CODE, "-g", "-Wl,--no-as-needed", str(library),
-                                f"-Wl,-rpath,{self.folder}", name="with.exe")
-        door = self.started(program)
+        """A program with the compiler's debug information is converted, and so is a deleted
+        library."""
+        library = self.compile("struct part { int size; } part = {7}; int of_part(void) "
+                               "{ return part.size; }", "-g", "-shared", "-fPIC", name="libpart.so")
+        program = self.compile(CODE, "-g", "-Wl,--no-as-needed", str(library),
+                               f"-Wl,-rpath,{self.folder}", name="with.exe")
+        door = self.start(program)
         for is_deleted in (False, True):
             if is_deleted:
                 library.unlink()
-            done = self.asked("--pid", str(door.pid),
-                              expressions=["head->number", "part", "sizeof(struct part)"])
+            done = self.ask("--pid", str(door.pid),
+                            expressions=["head->number", "part", "sizeof(struct part)"])
             if is_deleted and os.geteuid():
-                continue  # the kernel lets root alone open it
+                continue  # only root may open it
             self.assertEqual((done.status, done.output), (0, "1\n{size = 7}\n4\n"), done.text)
 
     def test_one_that_ends(self) -> None:
-        door = self.started(self.program(), "400")
+        door = self.start(self.program(), "400")
         begun = time.monotonic()
-        done = self.asked("--pid", str(door.pid), "--watch", "0.05", expressions=["head->number"])
+        done = self.ask("--pid", str(door.pid), "--watch", "0.05", expressions=["head->number"])
         self.assertEqual((done.status, done.output), (2, "head->number = 1\n"), done.text)
         self.assertRegex(done.errors, r"\Actfd-show: process \d+ has ended\n\Z")
         self.assertLess(time.monotonic() - begun, 4)
         door.wait()
-        self.refused("there is no process", "--pid", str(door.pid))
+        self.assert_refused("there is no process", "--pid", str(door.pid))
 
     def test_what_is_no_program(self) -> None:
-        """One that nobody waits for is there, without memory."""
+        """A zombie process exists, but has no memory."""
         ended = subprocess.Popen(["true"])
         self.addCleanup(ended.wait)
         time.sleep(0.3)
-        self.refused(f"process {ended.pid}", "--pid", str(ended.pid))
-        self.refused("there is no process", "--pid", "4194304")
+        self.assert_refused(f"process {ended.pid}", "--pid", str(ended.pid))
+        self.assert_refused("there is no process", "--pid", "4194304")
 
     def test_another_users(self) -> None:
-        """Root asks as a user who owns nothing."""
+        """Root runs the command as a user who owns nothing."""
         if os.geteuid():
             self.skipTest("root alone is another user")
-        door = self.started(self.program())
+        door = self.start(self.program())
         words = [tool("show"), "--pid", str(door.pid), "first"]
 
         def nobody() -> None:
@@ -243,18 +247,18 @@ class Processes(Show):
                          r"its owner, [^\n]* and by root\n\Z")
 
 
-class Deep(Show):
+class DeepValues(Show):
     def test_types_that_double(self) -> None:
-        """Arrays of arrays, 60,000 structs and 16 levels of each other: an answer that is cut."""
+        """Arrays of arrays, 60,000 structs, and 16 levels of nesting: the answer is cut."""
         levels = "".join(f"struct s{n} {{ struct s{n - 1} one[200], two[200]; }};"
                          for n in range(1, 4))
         code = CODE.replace("struct item {", "struct s0 { int x, y; };" + levels
                             + "struct item {").replace(
             "int main(", "struct s2 *many; struct s3 *most; int cube[70][70][70]; struct s1 wide[300]; int main(")
-        program = self.compiled(code.replace('puts("ready")',
-                                             'many = calloc(1, sizeof(struct s3)), puts("ready")'),
-                                "-g", name="deep.exe")
-        door = self.started(program)
+        program = self.compile(code.replace('puts("ready")',
+                                            'many = calloc(1, sizeof(struct s3)), puts("ready")'),
+                               "-g", name="deep.exe")
+        door = self.start(program)
         for expression in ("*many", "wide", "cube", "*(struct s3 *) many", "cube[0]@70",
                            "wide[0]@300", "counts[0]@4000000000"):
             done = run(tool("show"), "--elements", "65536", "--pid", str(door.pid), expression)

@@ -1,7 +1,7 @@
-"""A file that another user cuts off while a door reads it: no door ends by a signal.
+"""A file that is cut off while a command reads it: no command is killed by a signal.
 
-Each door is given a pipe beside the file. When it opens the pipe it has read the file, so that is
-cut off then, before anything comes from the pipe.
+Each command is given a pipe beside the file. When it opens the pipe, it has begun to read the file,
+which is cut off then, before anything comes from the pipe.
 """
 from __future__ import annotations
 
@@ -21,11 +21,11 @@ CODE = "struct point { long x, y, z; } first = { 1, 2, 3 }; int main(void) { ret
 LIMIT = 30
 
 
-class Truncated(Case):
+class TruncatedFiles(Case):
     def setUp(self) -> None:
         super().setUp()
         self.needs("gcc", "objcopy")
-        self.whole = self.compiled(CODE, "-g", name="whole.exe")
+        self.whole = self.compile(CODE, "-g", name="whole.exe")
         self.program = self.folder / "program"
         subprocess.run([tool("convert"), "--section", str(self.whole),
                         str(self.program)], check=True, env={**os.environ, "CTFD": SERVICE},
@@ -39,29 +39,29 @@ class Truncated(Case):
 
     def cut(self, path: Path, data: bytes, *words: Word, length: int = 0, times: int = 1
             ) -> Outcome:
-        """The outcome of a door whose file is cut off when it has opened the pipe so many times, of
-        which this data comes each time."""
+        """The outcome of a command whose file is cut off when it has opened the pipe `times` times.
+        Each time, the pipe delivers `data`."""
         saved = path.read_bytes()
         made: List[Outcome] = []
         door = threading.Thread(target=lambda: made.append(
             run(*words, environment=self.around(), seconds=LIMIT)))
         door.start()
         for time_of_it in range(times):
-            handle = self.opened(door)
+            handle = self.open_pipe(door)
             if handle is None:
                 break
             if time_of_it == times - 1:
                 os.truncate(path, length)
             self.fill(handle, data, door)
-        while door.is_alive():  # whatever else it wants to read of the pipe
-            handle = self.opened(door)
+        while door.is_alive():  # serves further reads of the pipe
+            handle = self.open_pipe(door)
             if handle is not None:
                 self.fill(handle, data, door)
         path.write_bytes(saved)
         return made[0]
 
     def fill(self, handle: int, data: bytes, door: threading.Thread) -> None:
-        """Writes into the pipe, as far as it is read, and waits until the door has closed it."""
+        """Writes to the pipe, as far as it is read, and waits until the command has closed it."""
         os.set_blocking(handle, True)
         with contextlib.suppress(BrokenPipeError), open(handle, "wb") as file:
             file.write(data)
@@ -72,8 +72,8 @@ class Truncated(Case):
             except OSError:
                 return
 
-    def opened(self, door: threading.Thread) -> "int | None":
-        """The pipe, once the door has opened it; None where it has ended."""
+    def open_pipe(self, door: threading.Thread) -> "int | None":
+        """The pipe, when the command has opened it; None if the command has ended."""
         while door.is_alive():
             try:
                 return os.open(self.pipe, os.O_WRONLY | os.O_NONBLOCK)
@@ -117,7 +117,7 @@ class Truncated(Case):
                          self.pipe, self.folder / "out")
 
     def test_show(self) -> None:
-        """A core file, and the types of a pipe beside it."""
+        """A core file, with the types from a pipe."""
         self.needs("gdb")
         core = self.folder / "core"
         subprocess.run(["gdb", "-batch", "-nx", "-ex", "break main", "-ex", "run",
@@ -134,7 +134,7 @@ class Truncated(Case):
                          "--types", self.pipe, "first")
 
     def test_gdb(self) -> None:
-        """gdb reads the program by itself; the plug-in reads it, and its parent from the pipe."""
+        """gdb reads the program itself; the plug-in reads it too, and its parent from the pipe."""
         self.needs("gdb")
         parent, child = self.folder / "parent", self.folder / "child"
         asked: List[List[Word]] = [[self.whole, parent],

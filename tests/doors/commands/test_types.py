@@ -1,4 +1,4 @@
-"""What `ctfd-types` prints: C that a compiler lays out so, and answers in bounded time."""
+"""Tests of `ctfd-types`: it prints C that a compiler lays out the same way, in bounded time."""
 from __future__ import annotations
 
 import subprocess
@@ -7,7 +7,7 @@ from pathlib import Path
 from .. import writers as w
 from ..support import Case, run, tool
 
-# One tag as a forward in one file, and as two definitions in others.
+# A tag that is a forward in one file, and has a definition in each of two others.
 LISTS = {
     "one.c": "struct list { unsigned length; void *nodes; };\n"
              "struct list first; unsigned size_one = sizeof(struct list);\n",
@@ -22,7 +22,7 @@ LISTS = {
 
 class Names(Case):
     def test_a_long_name_that_many_types_share(self) -> None:
-        """12 GB of names, each told by itself: one is printed, and all are refused."""
+        """12 GB of names, if each is printed: one is printed, and a listing of all is refused."""
         types = [w.record(9, w.STRUCT, 1, 4, w.member(1, 1, 0)) for _ in range(30_000)]
         names = b"\0int\0ab\0\0" + b"s" * 400_000 + b"\0"
         path = self.folder / "shared.ctf"
@@ -41,7 +41,7 @@ class Names(Case):
 
     def test_a_name_without_its_word_is_offered(self) -> None:
         self.needs("gcc")
-        made = self.compiled("struct packet { int length; } p; enum color { RED } c;", "-g", "-c")
+        made = self.compile("struct packet { int length; } p; enum color { RED } c;", "-g", "-c")
         for words, near in (("pakcet", "struct packet"), ("struct pakcet", "struct packet"),
                             ("colour", "enum color")):
             done = run(tool("types"), made, words)
@@ -50,7 +50,7 @@ class Names(Case):
 
 
 class Compilable(Case):
-    def linked(self, codes: "dict[str, str]") -> Path:
+    def link(self, codes: "dict[str, str]") -> Path:
         """A program of several files, with debug information."""
         self.needs("gcc")
         for name, code in codes.items():
@@ -65,7 +65,7 @@ class Compilable(Case):
 
     def test_a_forward_and_two_definitions(self) -> None:
         for names in (LISTS, dict(reversed(LISTS.items()))):
-            made = run(tool("types"), "--c", self.linked(names))
+            made = run(tool("types"), "--c", self.link(names))
             self.assertEqual(made.status, 0, made.text)
             self.assert_compiles(made.output + "_Static_assert(sizeof(struct user) == 16, \"\");\n")
             tags = [line for line in made.output.splitlines() if line.startswith("struct list")

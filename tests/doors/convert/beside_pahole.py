@@ -1,20 +1,21 @@
 #!/usr/bin/env python3
-"""Compares all structs and unions of programs, as ctfd-convert takes them, with pahole's view.
+"""Compares all structs and unions of programs, as ctfd-convert converts them, with pahole's view.
 
 usage: beside_pahole.py SERVICE FILE...
 
-SERVICE is a built ctfd. A FILE is an ELF file with debug information, here or in the debug file of
-its package, or the bytes of BTF, as /sys/kernel/btf/vmlinux. Compared are, of each struct and union
-that pahole lists, its size, the name, place and size of each member, and how many bits lie unused
-between its members and behind them. Of several types of a name one has to be the same.
+SERVICE is a built ctfd. A FILE is an ELF file with debug information, in the file or in the debug
+file of its package, or BTF by itself, such as /sys/kernel/btf/vmlinux. For each struct and union
+that pahole lists, these are compared: its size; the name, offset and size of each member; and the
+number of unused bits between and after its members. If several types have a name, one must be
+equal.
 
-Prints each that differs, with both views; then, for each file, how many were compared, and the
-processor time of ctfd-convert and its memory. The status is 1 where one differs.
+Prints each difference, with both views; then, for each file, the number of compared types, and the
+processor time and memory of ctfd-convert. The status is 1 if there is a difference.
 
-Bits behind a bit-field are counted in bits as they lie, whole bytes of them or not. pahole takes
-all up to the end of the bit-field's declared type for bits of its unit, and the client whole bytes
-for bytes: C says that "an implementation may allocate any addressable storage unit large enough to
-hold a bit-field" (C11, 6.7.2.1), and gcc and clang put a char into those bytes.
+After a bit-field, all unused bits are counted as bits, whether or not they fill bytes. pahole takes
+all bits up to the end of the bit-field's declared type for bits of its unit, the client takes whole
+bytes for bytes: C says that "an implementation may allocate any addressable storage unit large
+enough to hold a bit-field" (C11, 6.7.2.1), and gcc and clang put a char into those bytes.
 """
 from __future__ import annotations
 
@@ -38,10 +39,10 @@ DEBUG = "/usr/lib/debug/.build-id"
 ERROR = "<ERROR("
 TOO_MANY = "that a dictionary holds"
 _BLOCK = re.compile(r"^(struct|union|class) (\w+)(?: : [^{\n]*)? \{\n(.*?)^\};?", re.MULTILINE | re.DOTALL)
-# A type that is declared in a struct, which pahole lists a second time in front of its member where
-# clang has it there: it has no place.
+# A type declared inside a struct. pahole lists it again in front of its member, as clang records
+# it; this second listing has no offsets.
 _INNER = re.compile(r"^(\t+)(?:struct|union)(?: \w+)? \{\n(?:\1\t.*\n|\n)*\1\};\n", re.MULTILINE)
-# What a note under a struct says in bytes or bits, and how many bits one of these is.
+# The notes under a struct, in bytes or bits, with the number of bits per unit.
 _NOTES = {
     "holes": ((re.compile(r"[ ,] holes: \d+, sum holes: (\d+)"), 8),
               (re.compile(r"bit holes: \d+, sum bit holes: (\d+)"), 1)),
@@ -51,8 +52,7 @@ _NOTES = {
 
 
 class Struct(NamedTuple):
-    """What a listing says of one: its places, and how many bits lie unused between its members
-    and behind them."""
+    """A struct in a listing: its members, and the numbers of unused bits between and after them."""
 
     places: Tuple[headers.Place, ...]
     holes: int
@@ -64,33 +64,33 @@ Listed = Dict[str, List[Struct]]
 
 
 class Figures(NamedTuple):
-    """What one run of ctfd-convert took."""
+    """The cost of one run of ctfd-convert, and what it lost."""
 
     seconds: float
     megabytes: int
     losses: List[str]
 
 
-def parsed(text: str) -> Listed:
-    """The structs and unions of a listing, by their names."""
+def parse(text: str) -> Listed:
+    """The structs and unions of a listing, by name."""
     found: Listed = defaultdict(list)
     for block in _BLOCK.finditer(text):
         name = f"{'union' if block[1] == 'union' else 'struct'} {block[2]}"
         own = _INNER.sub("", block[3])
-        places = headers.parsed(f"{name} {{\n{own}}}\n").get(name, ())
+        places = headers.parse(f"{name} {{\n{own}}}\n").get(name, ())
         found[name].append(Struct(places, _bits("holes", own), _bits("padding", own),
                                   ERROR in own))
     return found
 
 
 def _bits(what: str, block: str) -> int:
-    """How many bits the notes under a struct say; those of structs in it stand in front."""
+    """The number of bits in the notes under a struct; notes of nested structs come before."""
     return sum(bits * int(found[-1]) for pattern, bits in _NOTES[what]
                for found in [pattern.findall(block)] if found)
 
 
-def converted(path: str, made: str, *options: str) -> Figures:
-    """Runs ctfd-convert; what it took."""
+def convert(path: str, made: str, *options: str) -> Figures:
+    """Runs ctfd-convert, and returns its cost."""
     words = [str(COMMAND), *options, path, made]
     with tempfile.TemporaryFile("w+") as told:
         child = subprocess.Popen(words, stderr=told)
@@ -102,8 +102,8 @@ def converted(path: str, made: str, *options: str) -> Figures:
     return Figures(used.ru_utime + used.ru_stime, used.ru_maxrss // 1024, lines)
 
 
-def listed(service: str, made: str, parent: str) -> Listed:
-    """What the client lists of all structs and unions with a name, those of a parent too."""
+def client_listing(service: str, made: str, parent: str) -> Listed:
+    """The client's listing of all named structs and unions, also those of a parent."""
     with ctfd.Client(service) as client:
         session = client.session()
         types = ctfd.open_file(session, made)
@@ -114,21 +114,22 @@ def listed(service: str, made: str, parent: str) -> Listed:
             own += types.parent.types()
         found = [t for t in own if t.kind in ("struct", "union") and t.name]
         types.gather([t.number for t in found])
-        return parsed("\n".join(ctfd.listing(t) for t in found))
+        return parse("\n".join(ctfd.listing(t) for t in found))
 
 
-def shown(path: str) -> Listed:
-    """What pahole lists."""
+def pahole_listing(path: str) -> Listed:
+    """pahole's listing."""
     form = ["-F", "btf"]
     if Path(path).read_bytes()[:4] == MAGIC:
         path, form = with_debug(path), ["-F", "dwarf"]
     done = subprocess.run(["pahole", *form, path], capture_output=True, text=True,
                           errors="replace")
-    return parsed(re.sub(r"\bclass \{", "struct {", done.stdout))  # C++: one without a name
+    return parse(re.sub(r"\bclass \{", "struct {", done.stdout))  # a C++ class without a name
 
 
 def with_debug(path: str) -> str:
-    """The file with the debug information of a program: its own, or that of its package."""
+    """The file with a program's debug information: the program itself, or its package's debug
+    file."""
     sections = subprocess.run(["readelf", "-SWn", path], capture_output=True, text=True).stdout
     found = re.search(r"Build ID: (\w\w)(\w+)", sections)
     debug = Path(DEBUG, found[1], f"{found[2]}.debug") if found else Path(DEBUG)
@@ -136,15 +137,15 @@ def with_debug(path: str) -> str:
 
 
 def compare(service: str, path: str) -> int:
-    """How many differ in one file."""
+    """The number of differences in one file."""
     with tempfile.TemporaryDirectory() as folder:
         made, parent = str(Path(folder) / "made.ctf"), str(Path(folder) / "parent.ctf")
-        figures = converted(path, made, "--one")
+        figures = convert(path, made, "--one")
         if any(TOO_MANY in line for line in figures.losses):
-            figures = converted(path, made, "--split", parent)
-        ours = listed(service, made, parent)
+            figures = convert(path, made, "--split", parent)
+        ours = client_listing(service, made, parent)
     count = wrong = unknown = 0
-    for name, all_of_name in shown(path).items():
+    for name, all_of_name in pahole_listing(path).items():
         for one in all_of_name:
             count += 1
             if one in ours.get(name, []):
@@ -156,13 +157,13 @@ def compare(service: str, path: str) -> int:
             tell(wrong, name, one, ours.get(name, []))
     print(f"{path}: {count} structs and unions of pahole's view, {wrong} otherwise, {unknown} with"
           f" members that pahole can't read; {figures.seconds:.1f} s, {figures.megabytes} MB,"
-          f" {len(figures.losses)} lines on what CTF can't hold")
+          f" {len(figures.losses)} lines on what CTF cannot represent")
     return wrong + (not count)
 
 
 def _is_unknown(theirs: Struct, ours: Struct) -> bool:
-    """Whether two differ in members alone that pahole leaves out with a word on its error, or says
-    have no bytes: those of _Atomic types, which it does not know."""
+    """Whether two differ only in members that pahole leaves out with an error, or gives no bytes:
+    those of _Atomic types, which it does not know."""
     if theirs.has_error:
         return set(theirs.places) <= set(ours.places)
     return len(theirs.places) == len(ours.places) and all(

@@ -1,4 +1,4 @@
-"""The compiled ctfd-convert, as the tests here run it."""
+"""Runs the compiled ctfd-convert, for these tests."""
 from __future__ import annotations
 
 import os
@@ -14,17 +14,17 @@ WRITTEN = (0, 1)
 LOST = "lost: "
 
 
-class Refused(Exception):
-    """Nothing was written, and why."""
+class Refusal(Exception):
+    """The command wrote nothing; the text says why."""
 
 
 def convert(*words: str) -> List[str]:
-    """Runs it; what was lost, a line each. Raises Refused."""
+    """Runs the command. Returns one line for each loss. Raises Refusal."""
     with tempfile.TemporaryDirectory() as folder:
         report = Path(folder, "report")
         done = subprocess.run([COMMAND, *words, "--report", report], capture_output=True, text=True,
                               errors="backslashreplace")
         if done.returncode not in WRITTEN:
-            raise Refused(f"{' '.join(words)}: status {done.returncode}: {done.stderr}")
+            raise Refusal(f"{' '.join(words)}: status {done.returncode}: {done.stderr}")
         lines = report.read_text(errors="backslashreplace").splitlines()
     return [line[len(LOST):] for line in lines if line.startswith(LOST)]

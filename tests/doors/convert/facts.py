@@ -1,4 +1,4 @@
-"""The facts that a compiled program prints of its types, against what a dictionary says."""
+"""Compares the facts that a compiled program prints about its types with a dictionary."""
 from __future__ import annotations
 
 from typing import Callable, Dict, List, NamedTuple, Optional
@@ -7,14 +7,14 @@ import ctfd
 
 
 class Count(NamedTuple):
-    """How many facts were compared, by their kinds, and those that are wrong."""
+    """The number of compared facts of each kind, and the wrong ones."""
 
     compared: Dict[str, int]
     wrong: List[str]
 
 
 class Place(NamedTuple):
-    """Where something lies: its type, its first bit, and the bits of a bit-field."""
+    """A member's type, its offset in bits, and its width if it is a bit-field."""
 
     type: ctfd.Type
     bit: int
@@ -38,8 +38,8 @@ def compare(types: ctfd.Dictionary, printed: str) -> Count:
     return Count(compared, wrong)
 
 
-def placed(whole: ctfd.Type, path: str) -> Place:
-    """Where the member at the end of a path lies."""
+def place_of(whole: ctfd.Type, path: str) -> Place:
+    """The member at the end of a path."""
     bit = 0
     t = whole
     width = None
@@ -57,14 +57,14 @@ def size(t: ctfd.Type, _: str) -> str:
 
 
 def member(t: ctfd.Type, path: str, _: str, bits: str) -> str:
-    place = placed(t, path)
+    place = place_of(t, path)
     told = "-" if bits == "-" else str(place.width or 8 * (place.type.size or 0))
     return f"{path}|{place.bit}|{told}"
 
 
 def array(t: ctfd.Type, path: str, _: str) -> str:
-    """The counts of an array, the outermost first."""
-    held = placed(t, path).type
+    """The lengths of an array's dimensions, the outermost first."""
+    held = place_of(t, path).type
     counts = []
     while held.resolved.kind == "array" and not (counts and held.kind == "typedef"):
         counts.append(held.count)
@@ -73,13 +73,14 @@ def array(t: ctfd.Type, path: str, _: str) -> str:
 
 
 def calls(t: ctfd.Type, path: str, *_: str) -> str:
-    """How many arguments a pointer to a function wants, and whether it takes more."""
-    function = placed(t, path).type.reference
+    """The number of arguments of a function behind a pointer, and whether it is variadic."""
+    function = place_of(t, path).type.reference
     return f"{path}|{len(function.signature.arguments)}|{int(function.signature.varargs)}"
 
 
 def enumerator(t: ctfd.Type, name: str, printed: str) -> str:
-    """A constant: of an enum of 4 bytes the dictionary has the 32 bits, and not their sign."""
+    """An enumerator's value. For an enum of 4 bytes, the dictionary has the 32 bits without their
+    sign."""
     value = next(one.value for one in t.enumerators if one.name == name)
     is_same = t.size == 4 and (value - int(printed)) % (1 << 32) == 0
     return f"{name}|{printed if is_same else value}"

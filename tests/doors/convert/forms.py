@@ -1,20 +1,19 @@
 #!/usr/bin/env python3
-"""Compares one program, in all forms that compilers and tools give to debug information, with what
-pahole and gdb say of it.
+"""Compares one program, in all forms of debug information that compilers and tools make, with the
+output of pahole and gdb.
 
 usage: forms.py SERVICE
 
-SERVICE is a built ctfd. The program of tests/doors/convert/forms is built by gcc and clang, as far as
-they are here, with DWARF 4 and 5: as program, library, object file and archive; for 32 bits; with
-split debug information, packages of it, type units, compressed sections; optimized as one; after
-dwz, by itself and with a common file; and stripped in four ways, with a debug file beside it and
-with the dictionary in it. Of each form ctfd-convert makes a dictionary. Each struct and union has
-to be as pahole lists it of the plain program, and none may be missing that is in the form; each
-symbol of which something is told has to be as gdb declares it, and where the form has all symbols,
-something is told of each.
+SERVICE is a built ctfd. The program of tests/doors/convert/forms is built by gcc and clang, if they
+are installed, with DWARF 4 and 5: as program, library, object file and archive; for 32 bits; with
+split debug information, packages of it, type units, compressed sections; with link-time
+optimization; after dwz, by itself and with a common file; and stripped in four ways, with a debug
+file beside it and with the dictionary in it. ctfd-convert converts each form. Each struct and union
+must be as pahole lists it for the plain program, and none of the form may be missing. Each symbol
+with a type must be as gdb declares it, and if the form has all symbols, each must have a type.
 
-Prints each that differs, then counts; the status is 1 where one does. What a tool that is missing
-would have made is skipped, by a line.
+Prints each difference, then counts; the status is 1 if there is one. Forms that need a missing tool
+are skipped, with a line that says so.
 """
 from __future__ import annotations
 
@@ -36,19 +35,19 @@ from ctfd.view import declare
 
 SOURCES = Path(__file__).resolve().parent / "forms"
 UNITS = ("one", "two")
-# The functions and objects, by the file that defines each: gdb may tell another's declaration.
+# The functions and objects, by the file that defines each; gdb may show another file's declaration.
 DEFINED = {"one": ("both", "count", "hidden", "only_here", "state", "add", "half", "nothing"),
            "two": ("own", "names", "found", "main", "is_any", "local")}
 NOT_EXPORTED = {"hidden", "only_here", "is_any", "local"}
 STRIPS = ("-g", "-s", "--strip-unneeded", "--only-keep-debug")
-# Not in the program: headers of 32 bits declare it.
+# Not in the program, but headers of 32 bits declare it.
 ACCEPTED = "_Float128: CTF has no word"
 COMPILERS = ("gcc", "clang")
 
 
 @dataclass
-class Expected:
-    """What pahole and gdb say of a program."""
+class Expectation:
+    """pahole's structs and gdb's declarations of a program."""
 
     structs: Listed
     symbols: Dict[str, str]
@@ -56,7 +55,7 @@ class Expected:
 
 @dataclass
 class Tally:
-    """What was compared, and what of it is wrong."""
+    """The numbers of compared items, and the differences."""
 
     forms: int = 0
     structs: int = 0
@@ -65,7 +64,7 @@ class Tally:
 
 
 class Builder:
-    """Builds the program in a folder, by one compiler and in one version of DWARF."""
+    """Builds the program in a folder, with one compiler and one version of DWARF."""
 
     def __init__(self, folder: Path, compiler: str, version: str) -> None:
         self.folder = folder
@@ -74,7 +73,7 @@ class Builder:
             self.command.pop()
 
     def run(self, *words: str) -> None:
-        """A tool, in the folder. Raises CalledProcessError."""
+        """Runs a tool in the folder. Raises CalledProcessError."""
         subprocess.run(words, cwd=self.folder, check=True, capture_output=True, text=True)
 
     def objects(self, *options: str) -> List[str]:
@@ -84,43 +83,43 @@ class Builder:
         return made
 
     def program(self, name: str, *options: str) -> str:
-        """A program that exports what a library would."""
+        """A program that exports the same symbols as a library."""
         self.run(*self.command, *options, *self.objects(*options), "-rdynamic", "-o", name)
         return name
 
 
-def expected(builder: Builder, *options: str) -> Expected:
-    """What pahole lists of the plain program, and gdb declares."""
+def expect(builder: Builder, *options: str) -> Expectation:
+    """pahole's listing and gdb's declarations of the plain program."""
     path = str(builder.folder / builder.program("plain", "-gdwarf-4", *options))
     words = [word for unit, names in DEFINED.items() for name in names
              for word in ("-ex", f"whatis '{unit}.c'::{name}")]
     said = subprocess.run(["gdb", "-nx", "-batch", *words, path], capture_output=True, text=True)
     told = [line[len("type = "):] for line in said.stdout.splitlines()]
     symbols = dict(zip((name for names in DEFINED.values() for name in names), told))
-    return Expected(beside_pahole.shown(path), symbols)
+    return Expectation(beside_pahole.pahole_listing(path), symbols)
 
 
 class Forms:
-    """The forms of one program, each compared as it is made."""
+    """The forms of one program, each compared when it is made."""
 
     def __init__(self, service: str, builder: Builder, tally: Tally) -> None:
         self.service = service
         self.builder = builder
         self.folder = builder.folder
         self.tally = tally
-        self.expected = expected(builder)
+        self.expected = expect(builder)
 
     def all(self) -> None:
-        """Makes and compares them."""
-        for make in (self.plain, self.compressed, self.split, self.type_units, self.as_one,
-                     self.by_dwz, self.stripped, self.short):
+        """Makes and compares all forms."""
+        for make in (self.plain_program, self.compressed_program, self.split, self.type_units,
+                     self.as_one, self.by_dwz, self.stripped_program, self.short_program):
             try:
                 make()
             except (subprocess.CalledProcessError, FileNotFoundError) as error:
                 tool = error.cmd[0] if isinstance(error, subprocess.CalledProcessError) else error
                 print(f"not possible here: {make.__name__} by {self.builder.command[0]}: {tool}")
 
-    def plain(self) -> None:
+    def plain_program(self) -> None:
         run = self.builder.run
         self.compare(self.builder.program("program"), is_whole=True)
         run("ar", "rc", "code.a", "one.o", "two.o")
@@ -133,7 +132,7 @@ class Forms:
             "-o", "lib.so")
         self.compare("lib.so", is_whole=True)
 
-    def compressed(self) -> None:
+    def compressed_program(self) -> None:
         self.compare(self.builder.program("squeezed", "-gz"), is_whole=True)
         self.builder.program("older")
         self.builder.run("objcopy", "--compress-debug-sections=zlib-gnu", "older")
@@ -161,46 +160,46 @@ class Forms:
         self.builder.run("dwz", "-m", "common", "-M", "common", "first", "second")
         self.compare("first", is_whole=True)
 
-    def stripped(self) -> None:
-        """With a debug file beside it, and with the dictionary in it."""
+    def stripped_program(self) -> None:
+        """Stripped programs with a debug file, and with the dictionary in the program."""
         for number, how in enumerate(STRIPS):
             name = self.builder.program(f"stripped{number}")
             self.builder.run("objcopy", "--only-keep-debug", name, f"{name}.debug")
             for table in ("symtab", "dynsym"):
                 self.convert(name, f"{name}.{table}", "--section", "--symbols", table)
                 self.builder.run("strip", how, f"{name}.{table}")
-                self.told(f"{name}.{table}", f"{name}.{table}",
-                          table == "dynsym" and how != "--only-keep-debug")
+                self.compare_types(f"{name}.{table}", f"{name}.{table}",
+                                   table == "dynsym" and how != "--only-keep-debug")
             if how != "--only-keep-debug":
                 self.builder.run("strip", how, name)
                 self.builder.run("objcopy", f"--add-gnu-debuglink={name}.debug", name)
                 self.compare(name)
 
-    def short(self) -> None:
-        """A program of 32 bits, of whose symbols the service is not asked."""
-        plain, self.expected = self.expected, expected(self.builder, "-m32")
+    def short_program(self) -> None:
+        """A program of 32 bits, whose symbols the service cannot read."""
+        plain, self.expected = self.expected, expect(self.builder, "-m32")
         self.compare(self.builder.program("short", "-m32"))
         self.expected = plain
 
     # Comparing.
 
     def compare(self, name: str, is_whole: bool = False) -> None:
-        """Converts a form, and compares its types and symbols; `is_whole` where it has all."""
+        """Converts a form, and compares its types and symbols; `is_whole` if it has all of them."""
         words = ["--section"] if not name.endswith(".a") else []
         made = f"{name}.made"
         for line in self.convert(name, made, *words):
             if ACCEPTED not in line:
                 self.wrong(name, f"lost: {line}")
-        self.told(name, made, is_whole)
+        self.compare_types(name, made, is_whole)
 
     def convert(self, name: str, made: str, *words: str) -> List[str]:
         place = self.folder
         return convert(*words, str(place / name), str(place / made))
 
-    def told(self, name: str, made: str, is_whole: bool) -> None:
-        """Compares what a dictionary tells."""
+    def compare_types(self, name: str, made: str, is_whole: bool) -> None:
+        """Compares the types of a dictionary."""
         self.tally.forms += 1
-        ours = beside_pahole.listed(self.service, str(self.folder / made), "")
+        ours = beside_pahole.client_listing(self.service, str(self.folder / made), "")
         for struct, listed in self.expected.structs.items():
             self.tally.structs += 1
             if set(ours.get(struct, [])) != set(listed):
@@ -231,7 +230,7 @@ class Forms:
 
 
 def normal(declared: str) -> str:
-    """A declaration without its blanks, which gdb sets otherwise."""
+    """A declaration without blanks, which gdb puts in other places."""
     return re.sub(r"\s+", "", declared)
 
 

@@ -4,10 +4,10 @@
 usage: headers.py SERVICE [COUNT]
 
 SERVICE is a built ctfd. The headers of Debian's libc6-dev and linux-libc-dev, or the first COUNT of
-them, are compiled with debug information, as many in one unit as go together, and linked into one
-object file. ctfd-convert takes its types; each struct and union is then listed by the client, and
-by pahole from the debug information, and the name, place and size of each member compared. Prints
-what differs, then how many there are; the status is 1 where one differs.
+them, are compiled with debug information, as many in one unit as compile together, and linked into
+one object file. ctfd-convert converts its types. Each struct and union is then listed by the
+client, and by pahole from the debug information, and the name, offset and size of each member are
+compared. Prints the differences, then their number; the status is 1 if there is one.
 """
 from __future__ import annotations
 
@@ -39,7 +39,8 @@ _SIZE = re.compile(r"\t/\* size: (\d+)")
 
 
 class Place(NamedTuple):
-    """Where a member lies, as both list it: its byte, the bit in its storage, its bytes."""
+    """The position of a member in both listings: its byte, its bit in the storage unit, and its
+    size in bytes."""
 
     name: str
     byte: int
@@ -57,8 +58,8 @@ def headers() -> List[str]:
     return sorted(name for name in dict.fromkeys(found) if not name.startswith(("bits/", "c++/")))
 
 
-def compiled(names: List[str], folder: Path) -> Iterator[Path]:
-    """Object files of as many of some headers as compile."""
+def compile_headers(names: List[str], folder: Path) -> Iterator[Path]:
+    """Object files with as many of some headers as compile."""
     text = "".join(f"#include <{name}>\n" for name in names)
     made = folder / f"{abs(hash(tuple(names)))}.o"
     done = subprocess.run(["gcc", *OPTIONS, "-x", "c", "-", "-o", str(made)], input=text, text=True,
@@ -66,12 +67,12 @@ def compiled(names: List[str], folder: Path) -> Iterator[Path]:
     if done.returncode == 0:
         yield made
     elif len(names) > 1:
-        yield from compiled(names[:len(names) // 2], folder)
-        yield from compiled(names[len(names) // 2:], folder)
+        yield from compile_headers(names[:len(names) // 2], folder)
+        yield from compile_headers(names[len(names) // 2:], folder)
 
 
-def parsed(text: str) -> Listed:
-    """The structs and unions of a listing, with the places of all that is in them."""
+def parse(text: str) -> Listed:
+    """The structs and unions of a listing, with all their members."""
     found: Listed = {}
     name = ""
     places: List[Place] = []
@@ -89,13 +90,13 @@ def parsed(text: str) -> Listed:
                 places.append(Place((called[1] or called[2]) if called else "",
                                     int(placed["byte"]), int(placed["bit"] or 0),
                                     int(placed["size"])))
-            elif _SIZE.match(line):  # not that of a struct within it
+            elif _SIZE.match(line):  # not that of a nested struct
                 places.append(Place("size", int(_SIZE.findall(line)[0]), 0, 0))
     return found
 
 
-def listed(service: str, path: Path, folder: Path) -> Listed:
-    """What the client lists of the structs and unions that are found by name."""
+def client_listing(service: str, path: Path, folder: Path) -> Listed:
+    """The client's listing of the structs and unions that can be found by name."""
     made = folder / "all.ctf"
     began = time.monotonic()
     for line in convert(str(path), str(made)):
@@ -105,8 +106,8 @@ def listed(service: str, path: Path, folder: Path) -> Listed:
         types = ctfd.open_file(client.session(), str(made))
         own = types.types()
         types.gather([t.number for t in own])
-        return parsed("\n".join(ctfd.listing(t) for t in own
-                                if t.kind in ("struct", "union") and t.name and t.is_root))
+        return parse("\n".join(ctfd.listing(t) for t in own
+                               if t.kind in ("struct", "union") and t.name and t.is_root))
 
 
 def main(service: str, count: str = "100000") -> int:
@@ -114,12 +115,12 @@ def main(service: str, count: str = "100000") -> int:
     with tempfile.TemporaryDirectory() as place:
         folder = Path(place)
         made = [one for start in range(0, len(names), BATCH)
-                for one in compiled(names[start:start + BATCH], folder)]
+                for one in compile_headers(names[start:start + BATCH], folder)]
         whole = folder / "all.o"
         subprocess.run(["ld", "-r", "-o", str(whole), *map(str, made)], check=True)
-        ours = listed(service, whole, folder)
+        ours = client_listing(service, whole, folder)
         shown = subprocess.run(["pahole", str(whole)], capture_output=True, text=True)
-    theirs = parsed(shown.stdout)
+    theirs = parse(shown.stdout)
     wrong = [name for name in theirs if ours.get(name) != theirs[name]]
     for name in wrong[:MOST]:
         print(f"{name}\n  pahole {theirs[name]}\n  ctfd   {ours.get(name)}")

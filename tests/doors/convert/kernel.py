@@ -4,9 +4,9 @@ pahole's.
 
 usage: kernel.py SERVICE BTF
 
-SERVICE is a built ctfd, and BTF the file, as /sys/kernel/btf/vmlinux. Prints the types, the seconds
-and the memory that it took, and how many structs and unions are listed as pahole lists them; the
-status is 1 where more was taken, or one is listed otherwise.
+SERVICE is a built ctfd, and BTF the file, such as /sys/kernel/btf/vmlinux. Prints the number of
+types, the time and memory used, and how many structs and unions are listed as by pahole. The status
+is 1 if a limit was exceeded, or one is listed differently.
 """
 from __future__ import annotations
 
@@ -35,11 +35,11 @@ def main(service: str, btf: str) -> int:
             types = ctfd.open_file(client.session(), made)
             own = [t for t in types.types() if t.kind in ("struct", "union") and t.name]
             types.gather([t.number for t in own])
-            ours = headers.parsed("\n".join(ctfd.listing(t) for t in own if t.is_root))
+            ours = headers.parse("\n".join(ctfd.listing(t) for t in own if t.is_root))
     print(f"{types.own} types in {took:.1f} s of the processor and {memory // 1000} MB;"
-          f" {len(losses)} lines tell what CTF can't hold")
+          f" {len(losses)} lines on what CTF cannot represent")
     shown = subprocess.run(["pahole", "-F", "btf", btf], capture_output=True, text=True)
-    theirs = headers.parsed(shown.stdout)
+    theirs = headers.parse(shown.stdout)
     wrong = [name for name in theirs if ours.get(name) != theirs[name]]
     for name in wrong[:MOST]:
         print(f"{name}\n  pahole {theirs[name]}\n  ctfd   {ours.get(name)}")

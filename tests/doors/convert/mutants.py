@@ -3,14 +3,14 @@
 
 usage: mutants.py SERVICE COUNT [FIRST]
 
-SERVICE is a built ctfd. COUNT files are made, each by a seed, of programs and object files of gcc
-in the forms that debug information has (DWARF 4 and 5, split, compressed, in type units), of BTF,
-of both sorts of CTF and of an archive: in one part of a file (a header, the section headers, a
-section) bytes are changed at random, or numbers are replaced by extreme ones, or the file is cut.
+SERVICE is a built ctfd. COUNT files are made, each from a seed, out of programs and object files of
+gcc in all forms of debug information (DWARF 4 and 5, split, compressed, in type units), of BTF, of
+both sorts of CTF and of an archive. In one part of a file (a header, the section headers, a
+section), bytes are changed at random, or numbers are replaced by extreme ones, or the file is cut.
 
-Each is read or refused: the status is 0, 1 or 2, what was refused is told by one line, and none of
-them takes 20 seconds of the processor or a gigabyte. Prints each that is not so, with its seed, and
-counts; the status is 1 where one is not.
+Each file must be read or refused: the status is 0, 1 or 2, a refusal has one line, and no command
+takes 20 seconds of processor time or a gigabyte. Prints each failure, with its seed, and counts;
+the status is 1 if there is one.
 """
 from __future__ import annotations
 
@@ -58,22 +58,22 @@ EXTREMES = (0, 1, 2, 0x7F, 0x80, 0xFF, 0xFFFF, 0x7FFFFFFF, 0x80000000, 0xFFFFFFF
 
 
 class Part(NamedTuple):
-    """A part of a file that is damaged."""
+    """A part of a file, to be damaged."""
 
     start: int
     end: int
 
 
 class Outcome(NamedTuple):
-    """How a mutant went: what is wrong with that, or nothing, and the status."""
+    """The outcome of a mutant: the problem, or "", and the status."""
 
     seed: int
     wrong: str
     status: int
 
 
-def made(folder: Path) -> Iterator[Path]:
-    """The files that are damaged."""
+def sources(folder: Path) -> Iterator[Path]:
+    """The files to damage."""
     source = folder / "code.c"
     source.write_text(CODE)
     for name, options in FORMS.items():
@@ -92,7 +92,7 @@ def made(folder: Path) -> Iterator[Path]:
 
 
 def with_dictionaries(folder: Path, service: str) -> Iterator[Path]:
-    """Files with dictionaries, as ctfd-convert makes them."""
+    """Files with dictionaries, written by ctfd-convert."""
     for words in (["five.o", "own.ctf"], ["--section", "program", "with"]):
         paths = [word if word[0] == "-" else str(folder / word) for word in words]
         run(paths)
@@ -100,7 +100,7 @@ def with_dictionaries(folder: Path, service: str) -> Iterator[Path]:
 
 
 def parts(data: bytes) -> List[Part]:
-    """The parts of a file: of an ELF file its header, the section headers, and the sections that
+    """The parts of a file: for an ELF file, its header, the section headers, and the sections that
     are read."""
     try:
         sections = elf.sections(data)
@@ -115,7 +115,7 @@ def parts(data: bytes) -> List[Part]:
     return found
 
 
-def damaged(data: bytes, chance: random.Random) -> bytes:
+def damage(data: bytes, chance: random.Random) -> bytes:
     """A file with one of its parts changed."""
     part = chance.choice(parts(data))
     changed = bytearray(data)
@@ -134,18 +134,19 @@ def damaged(data: bytes, chance: random.Random) -> bytes:
 
 
 def run(words: List[str]) -> Tuple[int, str]:
-    """The status of ctfd-convert and what it told. It may not take more than it should."""
-    done = subprocess.run([COMMAND, *words], capture_output=True, preexec_fn=_bounded, check=False)
+    """The status and messages of ctfd-convert, run with limits."""
+    done = subprocess.run([COMMAND, *words], capture_output=True, preexec_fn=_set_limits,
+                          check=False)
     return done.returncode, done.stderr.decode("utf-8", "replace")
 
 
-def _bounded() -> None:
+def _set_limits() -> None:
     resource.setrlimit(resource.RLIMIT_AS, (BYTES + (1 << 28), resource.RLIM_INFINITY))
     resource.setrlimit(resource.RLIMIT_CPU, (SECONDS, SECONDS))
 
 
 class Worker:
-    """Tries mutants in a process that may not take more than it should."""
+    """Tries mutants in a process with limits."""
 
     def __init__(self, service: str, folder: Path, paths: List[Path]) -> None:
         self.service = service
@@ -156,11 +157,11 @@ class Worker:
         chance = random.Random(seed)
         path, data = chance.choice(self.files)
         mutant = self.folder / f"mutant{os.getpid()}_{path.name}"
-        mutant.write_bytes(damaged(data, chance))
+        mutant.write_bytes(damage(data, chance))
         try:
             out = str(mutant) + ".out"
             status, told = run([str(mutant), out])
-            wrong = _judged(status, told)
+            wrong = _fault_in(status, told)
             if not wrong and path.suffix in ("", ".ctf"):
                 wrong = _judged_types(mutant) if TYPES.exists() else ""
             return Outcome(seed, wrong and f"{path.name}: {wrong}", status)
@@ -170,8 +171,8 @@ class Worker:
             mutant.unlink()
 
 
-def _judged(status: int, told: str) -> str:
-    """What is wrong with how ctfd-convert went."""
+def _fault_in(status: int, told: str) -> str:
+    """The problem with how ctfd-convert ended, or ""."""
     lines = told.splitlines()
     if "memory ran out" in told or "panicked" in told:
         return told
@@ -181,7 +182,7 @@ def _judged(status: int, told: str) -> str:
 
 
 def _judged_types(path: Path) -> str:
-    """What is wrong with how ctfd-types goes on a file."""
+    """The problem with how ctfd-types ends for a file, or ""."""
     done = subprocess.run([TYPES, path], capture_output=True, timeout=SECONDS, check=False)
     status, told = done.returncode, done.stderr.decode("utf-8", "replace")
     if "memory ran out" in told or "panicked" in told or status not in (0, 1):
@@ -192,8 +193,8 @@ def _judged_types(path: Path) -> str:
 WORKER: Optional[Worker] = None
 
 
-def tried(seed: int) -> Outcome:
-    """One mutant, in a process of the pool."""
+def try_mutant(seed: int) -> Outcome:
+    """Tries one mutant in a process of the pool."""
     assert WORKER
     return WORKER(seed)
 
@@ -210,13 +211,13 @@ def main() -> int:
     wrong: List[Outcome] = []
     with tempfile.TemporaryDirectory() as place:
         folder = Path(place)
-        paths = list(made(folder))
+        paths = list(sources(folder))
         paths += with_dictionaries(folder, words.service)
         WORKER = Worker(words.service, folder, paths)
         fork = multiprocessing.get_context("fork")
         with fork.Pool(min(4, os.cpu_count() or 1)) as pool:
             seeds = range(words.first, words.first + words.count)
-            for outcome in pool.imap_unordered(tried, seeds, 16):
+            for outcome in pool.imap_unordered(try_mutant, seeds, 16):
                 statuses[outcome.status] += 1
                 if outcome.wrong:
                     wrong.append(outcome)

@@ -1,7 +1,7 @@
-"""Random C files: types, and a program that prints where each of their members lies.
+"""Random C files: types, and a program that prints the positions of their members.
 
-The program asks its own compiler, by `sizeof`, `offsetof` and its constants; where a bit-field lies
-it finds out by filling it. Its lines are facts:
+The program asks its own compiler, with `sizeof`, `offsetof` and constants; it finds the position of
+a bit-field by filling it. Its lines are facts:
 
     size|TYPE|BYTES
     member|TYPE|PATH|BIT|BITS        BITS is - where the member has no size
@@ -49,7 +49,7 @@ static void field(const char *type, const char *path, const unsigned char *bytes
 
 
 class Member(NamedTuple):
-    """A member as C declares it, and the statements that say where it is; `{}` is its struct."""
+    """A member in C, and the statements that print its position; `{}` stands for its struct."""
 
     text: str
     says: List[str]
@@ -57,7 +57,7 @@ class Member(NamedTuple):
 
 @dataclass
 class File:
-    """A file so far: the text of its types, and what its program says of them."""
+    """A file under construction: the text of its types, and its program's statements."""
 
     model: str
     chance: random.Random
@@ -102,7 +102,7 @@ class File:
         given = [f"{word} = {self.chance.randint(low, high - 1)}" if self.rarely(2) else word
                  for word in words]
         far = [f"{name}_far = {1 << 40}"] if self.rarely(8) and not self.is_plain else []
-        given += far  # more than 32 bits: it is told, and left out
+        given += far  # more than 32 bits: left out, with a message
         packed = " __attribute__((packed))" if self.rarely(4) and not self.is_plain else ""
         self.texts.append(f"enum {name} {{ {', '.join(given)} }}{packed};")
         self.enums.append(f"enum {name}")
@@ -156,7 +156,7 @@ class File:
     def members(self, word: str, depth: int) -> List[Member]:
         made = [self.member(depth) for _ in range(self.chance.randint(1, 7))]
         if not any(member.says for member in made):
-            made.append(self.scalar())  # C has no struct without a named member
+            made.append(self.scalar())  # C requires a named member
         return made
 
     def member(self, depth: int) -> Member:
@@ -173,7 +173,7 @@ class File:
         base = self.chance.choice(self.scalars)
         qualifier = self.chance.choice(("", "", "", "const ", "volatile "))
         before = ""
-        if self.rarely(12) and not base.startswith(("_Atomic", "t")):  # a typedef may say more
+        if self.rarely(12) and not base.startswith(("_Atomic", "t")):  # a typedef may ask for more
             before = f"_Alignas({self.chance.choice((16, 32, 64))}) "
         return Member(f"{before}{qualifier}{base} {name}{self.of_member()};",
                       [f"MEMBER({{}}, {name});"])
@@ -201,7 +201,7 @@ class File:
 
     def array(self) -> Member:
         name = self.name("a")
-        most = 1 if self.is_plain else 3  # gcc 12 writes dimensions in the other order there
+        most = 1 if self.is_plain else 3  # gcc 12 writes the dimensions there in another order
         counts = [self.chance.randint(1, 5) for _ in range(self.chance.randint(1, most))]
         if self.rarely(12):
             counts = [0]
@@ -254,8 +254,9 @@ class Text(NamedTuple):
 
 
 def file(seed: int, model: str, is_plain: bool = False) -> Text:
-    """The file of a seed. A plain one has nothing that gcc 12 writes wrongly as GNU's CTF: arrays
-    of arrays, unnamed bit-fields, atomic types and packed enums, and on i386 a long double."""
+    """The file of a seed. A plain one contains nothing that gcc 12 writes wrongly as GNU's CTF:
+    arrays of arrays, unnamed bit-fields, atomic types and packed enums, and on i386 a long
+    double."""
     made = File(model, random.Random(f"{seed}"), is_plain)
     made.types(made.chance.randint(4, 14))
     types = "\n".join(made.texts) + "\n"

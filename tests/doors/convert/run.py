@@ -1,15 +1,15 @@
 #!/usr/bin/env python3
-"""Converts random C files, and compares what the service says of them with what their compiler
-says.
+"""Converts random C files, and compares the dictionaries with their compiler's view.
 
 usage: run.py SERVICE COUNT [FIRST] [--gnu COUNT]
 
 SERVICE is a built ctfd. Each of COUNT files, from seed FIRST on, is compiled for both data models
-where gcc has them, and run; its types are taken from its debug information by ctfd-convert, and
-made of its text by ctfd.build.declare. The first files of --gnu have nothing that other forms don't
-say; of these GNU's CTF, in an object file, and BTF, as pahole writes it, are compared as well.
-Prints each fact that differs, then how many were compared; the status is 1 where one differs.
-Without pahole there is no BTF, and a data model may have no programs here: a line says so.
+if gcc supports them, and run. Its types are converted from debug information by ctfd-convert, and
+made from its text by ctfd.build.declare. The first files, as many as --gnu says, contain only what
+other formats can represent; for these, GNU's CTF in an object file, and BTF as pahole writes it,
+are compared too. Prints each fact that differs, then the number of compared ones; the status is 1
+if one differs. Without pahole there is no BTF, and a data model may have no programs here; a line
+says so.
 """
 from __future__ import annotations
 
@@ -42,7 +42,7 @@ ACCEPTED = ("CTF has widths of integers alone", "_Float128: CTF has no word", FA
 
 
 class Run:
-    """What was compared so far, by the ways in which a dictionary was made."""
+    """The results so far, by the way in which a dictionary was made."""
 
     def __init__(self, service: str, folder: Path) -> None:
         self.service = service
@@ -59,7 +59,7 @@ class Run:
         source.write_text(text.program)
         printed = self.program(source, model)
         with ctfd.Client(self.service) as client:
-            self.compare(f"{model} {seed} DWARF", self.converted(client, "program"), printed)
+            self.compare(f"{model} {seed} DWARF", self.convert(client, "program"), printed)
             made = build.declare(text.types, model)
             told = self.far, sum(FAR in line for line in made.losses)
             if told != (text.types.count("_far"),) * 2:
@@ -68,26 +68,26 @@ class Run:
             if gnu and self.has_pahole:
                 subprocess.run(["pahole", "-J", str(self.folder / "program")], check=True,
                                capture_output=True)
-                types = self.converted(client, "program", "--from", "btf")
+                types = self.convert(client, "program", "--from", "btf")
                 self.compare(f"{model} {seed} BTF", types, printed)
-            if gnu:  # of an object file: ld makes other sizes of packed structs
-                self.compiled(source, model, "types.o", "-gctf", "-c")
-                self.compare(f"{model} {seed} GNU", self.converted(client, "types.o"), printed)
+            if gnu:  # only in an object file: ld changes sizes of packed structs
+                self.compile(source, model, "types.o", "-gctf", "-c")
+                self.compare(f"{model} {seed} GNU", self.convert(client, "types.o"), printed)
 
     def program(self, source: Path, model: str) -> str:
-        """Compiles and runs a file; what it prints."""
-        made = self.compiled(source, model, "program", "-g")
+        """Compiles and runs a file, and returns its output."""
+        made = self.compile(source, model, "program", "-g")
         return subprocess.run([str(made)], check=True, capture_output=True, text=True).stdout
 
-    def compiled(self, source: Path, model: str, name: str, *options: str) -> Path:
+    def compile(self, source: Path, model: str, name: str, *options: str) -> Path:
         made = self.folder / name
         command = ["gcc", *options, "-w", "-Wno-psabi", "-fno-eliminate-unused-debug-types",
                    MODELS[model], "-o", str(made), str(source)]
         subprocess.run(command, check=True, stderr=subprocess.DEVNULL)
         return made
 
-    def converted(self, client: ctfd.Client, name: str, *options: str) -> ctfd.Dictionary:
-        """The dictionary of a program, by the command."""
+    def convert(self, client: ctfd.Client, name: str, *options: str) -> ctfd.Dictionary:
+        """The dictionary of a program, from the command."""
         made = self.folder / "types.ctf"
         losses = convert(*options, str(self.folder / name), str(made))
         self.wrong += [f"{self.model} lost: {line}" for line in losses
@@ -104,7 +104,7 @@ class Run:
         self.wrong += [f"{what}: {line}" for line in count.wrong]
 
     def tell(self, model: str) -> None:
-        """Prints what was compared for a model, and what of it is wrong."""
+        """Prints the results for a model."""
         for line in [line for line in self.wrong if line.startswith(model)][:MOST]:
             print(line)
         for way in sorted({key.rsplit(" ", 1)[0] for key in self.counts if key.startswith(model)}):

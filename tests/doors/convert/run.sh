@@ -1,21 +1,20 @@
 #!/usr/bin/env bash
-# Compares the types that ctfd-convert and ctfd.build make with what compilers and pahole say of
-# them.
+# Compares the types that ctfd-convert and ctfd.build make with what compilers and pahole report.
 # usage: tests/doors/convert/run.sh PROGRAM [--whole] [CASE..]
-# PROGRAM is crates/ctfd/out/ctfd once `rt run` in crates/ctfd has built it. Needs gcc, and a Python
-# with pycparser (Debian's python3-pycparser); says so and ends with status 0 where one is missing.
-# Programs of 32 bits want gcc-multilib, BTF and headers want dwarves.
+# PROGRAM is a built ctfd. Needs gcc, and a Python with pycparser (Debian's python3-pycparser); if
+# one is missing, says so and exits with status 0. 32-bit programs need gcc-multilib, and BTF and
+# headers need dwarves.
 #
-# Random C files are compiled and run, for each data model that gcc has, and say where their members
-# lie: so do, through the service, the dictionaries made of their debug information, of GNU's CTF,
-# of BTF, and of their declarations. All of what is compared stands in run.py. Then files are
-# damaged in 600 ways (mutants.py): each is read or refused. And one program, in all forms that gcc,
-# clang, the linker, strip, objcopy and dwz give to debug information, is compared with what pahole
-# and gdb say of it (forms.py).
+# Random C files are compiled for each data model of gcc and run, and print the offsets of their
+# members. These are compared, through the service, with dictionaries made from the files' debug
+# information, from GNU's CTF, from BTF and from their declarations; run.py lists all comparisons.
+# Then files are damaged in 600 ways, each of which must be read or refused (mutants.py). And one
+# program, with debug information in all forms that gcc, clang, the linker, strip, objcopy and dwz
+# produce, is compared with what pahole and gdb report (forms.py).
 #
-# With --whole there are 500 files and 6,000 damaged ones, and the headers of the C library and the
-# kernel are compared with pahole's view of them (headers.py), and the BTF of this machine's kernel
-# is converted, where it shows one (kernel.py). CASE is one of run, mutants, forms, headers, kernel.
+# --whole takes 500 files and 6,000 damaged ones, compares the headers of the C library and the
+# kernel with pahole's view of them (headers.py), and converts the BTF of this machine's kernel if
+# it is readable (kernel.py). CASE is one of run, mutants, forms, headers, kernel.
 set -eu
 program=$(realpath "$1")
 here=$(realpath "$(dirname "$0")")

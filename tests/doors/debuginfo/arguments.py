@@ -1,10 +1,10 @@
-"""Writes what gdb says of the arguments of each function of a program as it is first called.
+"""Writes gdb's values of the arguments of each function of a program at its first call.
 
 usage: NAMES=FILE OUT=FILE gdb -batch -nx .. -x arguments.py PROGRAM, which stands in main
 
-NAMES is what dump.py wrote. Each function gets a breakpoint at its first instruction, where it
-stops once; OUT gets the values of its arguments in their order, as JSON. Ends with the program, or
-after MOST functions.
+NAMES is the file that dump.py wrote. Each function gets a breakpoint at its first instruction,
+where it stops once; OUT gets the values of its arguments in their order, as JSON. Ends with the
+program, or after MOST functions.
 """
 import json
 import os
@@ -16,7 +16,7 @@ MOST = 1500
 
 
 def values():
-    """The values of the arguments of the function that begins."""
+    """The arguments of the function in the selected frame, as text."""
     frame = gdb.selected_frame()
     block = frame.block()
     while block.function is None:
@@ -36,7 +36,7 @@ for name in json.loads(Path(os.environ["NAMES"]).read_text())["functions"]:
 found = {}
 
 
-def stopped(event):
+def on_stop(event):
     for one in getattr(event, "breakpoints", ()):
         name = points.get(one.number)
         if name:
@@ -47,7 +47,7 @@ def stopped(event):
             one.enabled = False
 
 
-gdb.events.stop.connect(stopped)
+gdb.events.stop.connect(on_stop)
 while len(found) < MOST and gdb.selected_inferior().pid:
     seen = len(found)
     try:

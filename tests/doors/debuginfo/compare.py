@@ -1,13 +1,13 @@
 #!/usr/bin/env python3
-"""Compares what gdb says of a program by two kinds of debug information.
+"""Compares gdb's answers about a program, with two kinds of debug information.
 
 usage: compare.py KNOWN ORIGINAL AGAIN OURS
 
-ORIGINAL and AGAIN are dump.py's answers by the compiler's debug information, in two runs, and OURS
-those by a dictionary's. An answer that differs from run to run is not compared. `()` is `(void)`,
-since CTF does not tell them apart. KNOWN has a line `NAME: REASON` for each name of which questions
-may be answered otherwise. Prints how many answers are the same, each that differs and is not known,
-and each name that is known and of which all is the same; the status is 1 then.
+ORIGINAL and AGAIN are dump.py's answers with the compiler's debug information, in two runs, and
+OURS those with a dictionary's. Answers that vary from run to run are not compared. `()` counts as
+`(void)`, since CTF does not distinguish them. KNOWN has a line `NAME: REASON` for each name whose
+answers may differ. Prints the number of equal answers, each difference that is not known, and each
+known name without a difference; the status is 1 if there is one.
 """
 from __future__ import annotations
 
@@ -18,29 +18,29 @@ from typing import NamedTuple
 
 
 class Question(NamedTuple):
-    """What is asked of a name, with {} in its place."""
+    """A question, with {} in place of the name."""
 
     text: str
     name: str
 
 
 def answers(path: str) -> dict[Question, str]:
-    """The answers of a file, as they are compared."""
+    """The answers in a file, in the form in which they are compared."""
     kinds = json.loads(Path(path).read_text())
     return {Question(text, name): answer.replace("()", "(void)")
             for asked in kinds.values() for text, named in asked.items()
             for name, answer in named.items()}
 
 
-def known(path: str) -> set[str]:
-    """The names of which questions may be answered otherwise."""
+def known_differences(path: str) -> set[str]:
+    """The names whose answers may differ."""
     lines = Path(path).read_text().splitlines()
     return {line.partition(": ")[0] for line in lines if line and not line.startswith("#")}
 
 
 def main() -> int:
     original, again, ours = map(answers, sys.argv[2:5])
-    allowed = known(sys.argv[1]) & {question.name for question in original}
+    allowed = known_differences(sys.argv[1]) & {question.name for question in original}
     firm = {question for question, answer in original.items() if again.get(question) == answer}
     differ = {question for question in firm if ours.get(question) != original[question]}
     wrong = sorted(question for question in differ if question.name not in allowed)

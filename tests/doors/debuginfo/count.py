@@ -1,10 +1,11 @@
 #!/usr/bin/env python3
-"""Counts, by kind and question, what gdb says of a program by two kinds of debug information.
+"""Counts, by kind and question, gdb's answers about a program with two kinds of debug information.
 
 usage: count.py ORIGINAL AGAIN OURS
 
-The words are those of compare.py. Prints for each question how many answers are the same, of how
-many that do not vary from run to run, how many are none, and the names of these and the others.
+The arguments are those of compare.py. Prints for each question how many answers are equal, of how
+many that do not vary from run to run, how many are missing, and the names of the missing and the
+different ones.
 """
 from __future__ import annotations
 
@@ -15,7 +16,7 @@ from typing import Optional
 
 
 def is_none(answer: Optional[str]) -> bool:
-    """Whether gdb has nothing to tell."""
+    """Whether gdb has no answer."""
     return answer is None or answer.startswith("error: ")
 
 

@@ -1,10 +1,10 @@
-"""Writes what gdb says of a program's types, variables and functions.
+"""Writes gdb's answers about a program's types, variables and functions.
 
 usage: NAMES=FILE OUT=FILE [FOUND=FILE] gdb -batch -nx .. -x dump.py PROGRAM
 
-NAMES is a file of names that were found before; where it is not there, names are found by gdb's
-`info types`, `info variables` and `info functions`, and written to it. OUT gets an answer for each
-question on each name, as JSON.
+NAMES is a file of names from an earlier run. If it does not exist, gdb's `info types`, `info
+variables` and `info functions` list the names, which are written to it. OUT gets an answer for each
+question about each name, as JSON.
 """
 import json
 import os
@@ -32,21 +32,21 @@ def answer(question):
         return f"error: {error}"
 
 
-def listed(question):
-    """The lines of an `info` that stand below a file's name, without their numbers."""
+def lines_of(question):
+    """The lines of an `info` command below a file's name, without line numbers."""
     text = answer(question).partition("\nNon-debugging symbols:")[0]
     lines = (re.sub(r"^\d+:", "", line) for line in text.splitlines())
     return [line.strip() for line in lines if line[:1] in ("\t", " ") and line.strip()]
 
 
-def found():
-    """The names of what gdb lists."""
-    types = listed("info types")
+def listed_names():
+    """The names that gdb lists, by kind."""
+    types = lines_of("info types")
     names = {
         "tags": [TAGGED.match(line) for line in types],
         "typedefs": [TYPEDEF.match(line) for line in types],
-        "variables": [VARIABLE.search(line) for line in listed("info variables")],
-        "functions": [FUNCTION.search(line) for line in listed("info functions")],
+        "variables": [VARIABLE.search(line) for line in lines_of("info variables")],
+        "functions": [FUNCTION.search(line) for line in lines_of("info functions")],
     }
     return {kind: sorted({next(filter(None, one.groups())) for one in matches if one})
             for kind, matches in names.items()}
@@ -57,7 +57,7 @@ for setting in ("pagination off", "width 0", "confirm off", "print symbol on",
     gdb.execute(f"set {setting}")
 place = Path(os.environ["NAMES"])
 if not place.exists():
-    place.write_text(json.dumps(found()))
+    place.write_text(json.dumps(listed_names()))
 names = json.loads(place.read_text())
 answers = {kind: {asked: {name: answer(asked.format(name)) for name in names[kind]}
                   for asked in QUESTIONS[kind]} for kind in QUESTIONS}

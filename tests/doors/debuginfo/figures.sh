@@ -1,12 +1,12 @@
 #!/usr/bin/env bash
-# Tells how much of what gdb says of programs by the compiler's debug information it says by the
-# debug files of ctfd-debuginfo, and what these cost.
+# Measures how many of gdb's answers with the compiler's debug information are the same with the
+# debug files of ctfd-debuginfo, and what these files cost.
 # usage: tests/doors/debuginfo/figures.sh CTFD PROGRAM [WORD]..
 # CTFD is a built ctfd. PROGRAM has debug information, and runs with the WORDs. Needs what
-# tests/doors/debuginfo/run.sh needs. Prints the processor time and memory of ctfd-debuginfo, the bytes of its
-# file beside those of the compiler's debug sections, the processor time that gdb takes for one
-# question without the file and with it, and the answers that are the same (count.py): at the start
-# of main, and of the arguments of each function as it is first called.
+# tests/doors/debuginfo/run.sh needs. Prints the processor time and memory of ctfd-debuginfo, the
+# size of its file and of the compiler's debug sections, the processor time that gdb takes for one
+# question without the file and with it, and the number of equal answers (count.py): at the start of
+# main, and about the arguments of each function at its first call.
 set -eu
 CTFD=$(realpath "$1")
 export CTFD LC_ALL=C
@@ -17,7 +17,7 @@ shift 2
 work=$(mktemp -d)
 trap 'rm -r "$work"' EXIT
 
-# spent WORD..: runs a command, and prints its processor time and the most memory that it had.
+# spent WORD..: runs a command, and prints its processor time and peak memory.
 spent() {
     python3 -c '
 import resource, subprocess, sys
@@ -27,8 +27,9 @@ used = resource.getrusage(resource.RUSAGE_CHILDREN)
 print(f"{used.ru_utime + used.ru_stime:.2f} s, {used.ru_maxrss >> 10} MB")' "$@"
 }
 
-# by SCRIPT OUT WORD..: what dump.py or arguments.py writes at the start of main, in gdb that gets
-# the words. The names OUT are of one length: they stand on the program's stack, in its environment.
+# by SCRIPT OUT WORD..: runs dump.py or arguments.py at the start of main, in gdb with the words.
+# The names OUT are equally long, since they are in the environment, which is on the program's
+# stack.
 by() {
     NAMES=names OUT=$2 gdb -batch -nx -iex 'set debug-file-directory /none' -ex 'break *main' \
         -ex "run $words < /dev/null > /dev/null 2>&1" -ex 'delete' -x "$tests/$1.py" "${@:3}" \
@@ -37,7 +38,7 @@ by() {
 
 printf -v words '%q ' "$@"
 cd "$work"
-cp "$program" full  # by a path as long as the other's, so that the stack is at the same place
+cp "$program" full  # as long a path as `bare`, so that the stack has the same addresses
 "$compiled/ctfd-convert" --lossy --section full with.ctf 2> /dev/null
 objcopy --strip-debug with.ctf bare
 echo "ctfd-debuginfo: $(spent "$compiled/ctfd-debuginfo" bare it.debug)"

@@ -1,5 +1,5 @@
-/* What both files of a module see: a struct of the kernel and one of its own, and the sections into
-   which a kernel's module puts its code and data. */
+/* Included by both files of a module: a struct of the kernel, one of its own, and the sections into
+   which a kernel module puts its code and data. */
 struct list_head { struct list_head *next, *previous; };
 struct device { const char *name; struct list_head list; unsigned is_open : 1, number : 7; };
 struct operations { int (*open)(struct device *), (*close)(struct device *, long flags); };

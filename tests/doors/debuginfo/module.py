@@ -1,11 +1,11 @@
 #!/usr/bin/env python3
-"""Compares what gdb says of a kernel's module by two kinds of debug information.
+"""Compares gdb's answers about a kernel's module, with two kinds of debug information.
 
 usage: module.py MODULE ORIGINAL OURS
 
-ORIGINAL and OURS are dump.py's answers by the compiler's debug information and by a dictionary's.
-Prints for each question how many answers are the same, how many differ for each reason that is
-known, and those that differ for none; the status is 1 then.
+ORIGINAL and OURS are dump.py's answers with the compiler's debug information and with a
+dictionary's. Prints for each question how many answers are equal, how many differ for each known
+reason, and those that differ without one; the status is then 1.
 """
 from __future__ import annotations
 
@@ -24,19 +24,20 @@ def symbols(path: str) -> set[str]:
 
 
 def flat(answer: str) -> str:
-    """An answer without what CTF or BTF can't tell: `[0]` from `[]`, arrays of arrays from one."""
+    """An answer without what CTF or BTF cannot distinguish: `[0]` from `[]`, and nested arrays from
+    simple ones."""
     return re.sub(r"(\[\d*\])+", "[]", answer)
 
 
 class Reasons:
-    """Why answers on a module's names differ."""
+    """The reasons why answers about a module's names differ."""
 
     def __init__(self, module: str) -> None:
         self.names = symbols(module)
         self.copied = {name.split(".")[0] for name in self.names if "." in name}
 
     def of(self, kind: str, name: str, theirs: str, ours: str) -> str:
-        """A reason that is known, or ""."""
+        """A known reason, or ""."""
         if kind == "tags":
             if "[" in theirs and flat(theirs) == flat(ours):
                 return "dimensions of arrays"

@@ -1,10 +1,10 @@
 #!/usr/bin/env bash
-# Compares what gdb says of a kernel's module by the compiler's debug information with what it says
-# by the debug file of ctfd-debuginfo, both put where a kernel might have put the module.
+# Compares gdb's answers about a kernel module with the compiler's debug information and with the
+# debug file of ctfd-debuginfo, both loaded at addresses that a kernel might choose.
 # usage: tests/doors/debuginfo/module.sh CTFD MODULE [VMLINUX]
-# CTFD is a built ctfd, and MODULE a module with debug information, as Debian's linux-image-..-dbg
-# has them. With VMLINUX, its kernel with BTF, the module is a child of the kernel's types.
-# Prints counts (module.py); the status is 1 where an answer differs for no reason that is known.
+# CTFD is a built ctfd, and MODULE a module with debug information, such as those of Debian's
+# linux-image-..-dbg. With VMLINUX, its kernel with BTF, the module's types are a child of the
+# kernel's. Prints counts (module.py); the status is 1 if an answer differs without a known reason.
 set -eu
 CTFD=$(realpath "$1")
 export CTFD LC_ALL=C

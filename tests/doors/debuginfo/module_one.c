@@ -1,4 +1,4 @@
-/* One of two files of a module, which is not linked: `ld -r` puts them together. */
+/* The first of two files of a module, which is not linked: `ld -r` joins them. */
 #include "module.h"
 static int count;
 static struct { int first, last; } range IN(".data.once") = {1, 2};

@@ -1,5 +1,5 @@
-/* The other of two files of a module. It has a variable and a function of the names of the
- * first. */
+/* The second of two files of a module. It has a variable and a function with the same names as in
+ * the first. */
 #include "module.h"
 static long count = 5;
 static __attribute__((noinline)) long open_device(const struct device *one, long more)

@@ -1,9 +1,10 @@
 #!/usr/bin/env python3
-"""Prints gdb's words by which the sections of an object file are each at an address of its own.
+"""Prints gdb's options that place each section of an object file at a different address.
 
 usage: placed.py FILE
 
-As a kernel does with a module's, it puts sections behind each other, each on pages of its own.
+As a kernel does with a module's sections, it places them one after the other, each on pages of its
+own.
 """
 from __future__ import annotations
 

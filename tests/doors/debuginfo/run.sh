@@ -1,21 +1,21 @@
 #!/usr/bin/env bash
-# Compares what gdb says of programs by the debug files of ctfd-debuginfo with what it says by the
+# Compares gdb's answers about programs with the debug files of ctfd-debuginfo and with the
 # compiler's debug information.
 # usage: tests/doors/debuginfo/run.sh PROGRAM
-# PROGRAM is a built ctfd. Needs gdb with Python, gcc, objcopy, llvm-dwarfdump, the libraries of
-# Debian's libstb-dev and libpng-dev, and a Python with what ctfd-convert takes. Programs of 32 bits
-# want gcc-multilib, and lldb and drgn are asked too where they are.
+# PROGRAM is a built ctfd. Needs gdb with Python, gcc, objcopy, llvm-dwarfdump, Python, the compiled
+# commands, and the libraries of Debian's libstb-dev and libpng-dev. 32-bit programs need
+# gcc-multilib; lldb and drgn are tested too if they are installed.
 #
-# The programs are what others wrote: the libraries of libstb-dev as one (PIE, of 32 bits, and as a
-# shared library), and pngtest.c of libpng-dev (at fixed addresses). Each is compiled with debug
-# information, its types are converted to CTF, and the debug information is taken away. Then all
-# structs, unions, enums, typedefs, global variables and functions are asked of gdb, running, by
-# both (debuginfo/dump.py, compare.py); what differs is named in debuginfo/known.txt.
-# llvm-dwarfdump verifies what was written, and converted back it has the same types. Arguments of all
-# classes have the values that a program hands in (debuginfo/passing.c, passing.txt). A process is
-# attached to, and its core file read. `ctf load` of the plug-in gives gdb the same, by a file that
-# it keeps.
-# Prints what was wrong, and counts; the status is 1 where something was wrong.
+# The programs are other people's code: the libraries of libstb-dev in one program (as PIE, for 32
+# bits, and as a shared library), and pngtest.c of libpng-dev (at fixed addresses). Each is compiled
+# with debug information, its types are converted to CTF, and the debug information is removed. Then
+# gdb answers questions about all structs, unions, enums, typedefs, global variables and functions
+# of the running program, with both kinds of debug information (debuginfo/dump.py, compare.py);
+# debuginfo/known.txt names what may differ. llvm-dwarfdump verifies the debug files, and converted
+# back they have the same types. Arguments of all classes have the values that a program passes
+# (debuginfo/passing.c, passing.txt). gdb attaches to a process, and reads its core file. `ctf load`
+# of the plug-in gives gdb the same types, by a file that it caches.
+# Prints errors and counts; the status is 1 if there was an error.
 set -eu
 program=$(realpath "$1")
 top=$(realpath "$(dirname "$0")/../../..")
@@ -35,14 +35,13 @@ cd "$work"
 export CTFD=$program LC_ALL=C
 . "$top/tests/doors/counting.sh"
 
-# client COMMAND WORD..: a command.
+# client COMMAND WORD..: runs a compiled command.
 client() {
     "$compiled/$1" "${@:2}"
 }
 
-# made NAME WORD..: NAME.g with debug information, NAME without it, and NAME.debug, of what gcc
-# makes of the words.
-# It has the data model that $model names, lp64 where it names none.
+# made NAME WORD..: compiles NAME.g with debug information, by gcc with the words, and makes from it
+# NAME without debug information, and NAME.debug. $model names the data model, by default lp64.
 made() {
     local name=$1 model=${model:-lp64}
     shift
@@ -56,9 +55,9 @@ made() {
     count "$name converted back" same_types --model "$model" "$name" back.ctf
 }
 
-# same_types OLD NEW: their types do not differ.
-# A debug file has no types of functions and objects: that these are not compared is said, with
-# status 2, and nothing else is.
+# same_types OLD NEW: checks that their types are equal.
+# A debug file has no types of functions and objects. Only the message that these are not compared,
+# with status 2, is accepted.
 same_types() {
     local status=0
     client ctfd-diff "$@" > differ 2> left || status=$?
@@ -67,7 +66,7 @@ same_types() {
     [[ $status = [02] && ! -s differ ]] || { cat differ; return 1; }
 }
 
-# says_160 DEBUG: drgn tells the size of a struct by a debug file alone.
+# says_160 DEBUG: checks that drgn knows the size of a struct from a debug file alone.
 says_160() {
     [ "$(/usr/bin/python3 -c '
 import drgn, sys
@@ -77,7 +76,7 @@ program.load_debug_info(sys.argv[1:])
 print(drgn.sizeof(program.type("struct stbtt_fontinfo")))' "$1")" = 160 ]
 }
 
-# says_6 PID DEBUG: drgn reads a variable of a process, whose program is at fixed addresses.
+# says_6 PID DEBUG: checks that drgn reads a variable of a process; its program has fixed addresses.
 says_6() {
     [ "$(/usr/bin/python3 -c '
 import drgn, sys
@@ -86,13 +85,13 @@ program.load_debug_info(sys.argv[2:])
 print(program["first"].next.y.value_())' "$@")" = 6 ]
 }
 
-# added NAME [DEBUG]: gdb's words by which a file gets its debug file, NAME.debug or DEBUG.debug.
+# added NAME [DEBUG]: prints the gdb command that adds NAME.debug or DEBUG.debug to the file NAME.
 added() {
     echo "python next(it for it in gdb.objfiles() if it.filename.endswith('/$1'))" \
         ".add_separate_debug_file('$work/${2:-$1}.debug')"
 }
 
-# asked OUT PROGRAM WORD..: all that dump.py asks, in gdb that gets the words.
+# asked OUT PROGRAM WORD..: writes dump.py's answers to OUT, from gdb with the words.
 asked() {
     local out=$1 file=$2
     shift 2
@@ -100,7 +99,7 @@ asked() {
         -x "$tests/dump.py" "$file" > log 2>&1
 }
 
-# compared NAME: both kinds of debug information, at the start of main.
+# compared NAME: compares both kinds of debug information, at the start of main.
 compared() {
     local name=$1
     rm -f names
@@ -110,7 +109,7 @@ compared() {
     "$tests/compare.py" "$tests/known.txt" first again ours
 }
 
-# compared_as_is NAME: both kinds of debug information, of a file that does not run.
+# compared_as_is NAME: compares both kinds of debug information, of a file that does not run.
 compared_as_is() {
     local name=$1
     rm -f names
@@ -119,7 +118,7 @@ compared_as_is() {
     "$tests/compare.py" "$tests/known.txt" first again ours
 }
 
-# taken NAME: the values of arguments, as each function begins, are those that the program hands in.
+# taken NAME: checks that gdb shows the passed values of arguments at the start of each function.
 taken() {
     local name=$1
     rm -f names
@@ -154,8 +153,8 @@ else
     echo "skipped: gcc -m32 makes no program here (Debian: gcc-multilib)"
 fi
 
-# Object files, whose addresses are filled in as the file is loaded. With a section for each
-# function and object one can't be taken for the other.
+# Object files, whose addresses are assigned when the file is loaded. With one section for each
+# function and object, they cannot be confused with each other.
 made object -ffunction-sections -fdata-sections -c "$tests/stb.c"
 count "an object file" compared_as_is object
 grep same said
@@ -164,8 +163,8 @@ gdb -batch -nx -ex "add-symbol-file object.debug $placed" -ex 'info address stbi
     -ex 'print &stbi__de_iphone_flag_global' > seen 2>&1
 count "a function where a module is" grep -q 'is a function at address 0x100000\.$' seen
 count "an object where a module is" grep -q '(int \*) 0x200000 <stbi' seen
-# A kernel's module: sections of many names, put where the kernel put them, and a child of the
-# kernel's types. `ctf load` takes the file that `add-symbol-file` has placed.
+# A kernel module: sections with many names, placed where the kernel placed them, and types that are
+# a child of the kernel's. `ctf load` takes the file that `add-symbol-file` has placed.
 gcc -g -O1 -w -c "$tests/module_one.c" "$tests/module_two.c"
 ld -r -o module.g module_one.o module_two.o
 gcc -g -w -shared -o kernel.so "$tests/kernel.c"
@@ -177,8 +176,8 @@ prepare "the debug file of a module" client ctfd-debuginfo module --parent kerne
 count "module.debug is right" llvm-dwarfdump --verify module.debug
 placed=$("$tests/placed.py" module)
 
-# compared_placed NAME: both kinds of debug information, of a module that a kernel has loaded, but
-# for the names that two files have.
+# compared_placed NAME: compares both kinds of debug information, of a module that a kernel has
+# loaded, without the names that two of its files define.
 compared_placed() {
     local name=$1 out
     rm -f names
@@ -199,7 +198,7 @@ done
 count "names of two files of a module" diff seen.module.g seen.module.debug
 count "which are four" [ "$(sed 's/.* //' seen.module.debug | wc -l)" = 4 ]
 
-# loaded WORD..: what gdb says by the plug-in of a module, which the words have placed.
+# loaded WORD..: writes the plug-in's answers about a module, which the words have placed, to seen.
 loaded() {
     gdb -batch -nx -iex 'set architecture i386:x86-64' -ex "source $top/clients/gdb/ctfgdb.py" \
         -ex "${1:-echo}" -ex 'ctf load module kernel.types' -ex 'print &operations' \
@@ -240,8 +239,8 @@ if command -v clang > /dev/null; then
 fi
 
 # Two files with functions, a variable and a struct of the same names: gdb takes those of the file
-# in which the program stands. Which file that is tells the whole symbol table, and not what is left
-# of it without debug information.
+# in which the program is stopped. Only the whole symbol table tells the files apart; what remains
+# of it without debug information does not.
 gcc -g -O0 -w -o statics.g "$tests/statics_one.c" "$tests/statics_two.c"
 client ctfd-convert --lossy --section statics.g statics.ctf > said 2>&1
 objcopy --strip-debug statics.ctf statics
@@ -255,13 +254,13 @@ for name in statics.g statics; do
         -ex 'print count.number' -ex continue -ex 'print &count' -ex 'print touch' \
         -ex 'print count.number' $name 2>&1 | grep '^\$' > seen.$name
 done
-# The struct by whose name another is found has its number behind its own name.
+# The second struct of the same name has its number appended to the name.
 sed 's/struct counted__[0-9]*/struct counted/' seen.statics > plain.statics
 count "statics of two files" diff seen.statics.g plain.statics
 count "which are two" [ "$(grep -c '^\$[14] = (struct counted \*)' plain.statics)" = 2 ]
 count "of two names" [ "$(grep -c '^\$[14] = (struct counted__[0-9]* \*)' seen.statics)" = 1 ]
 
-# A library, in a program that has no types.
+# A library, in a program without types.
 made libstb.so -shared -fPIC -Dmain=stb_main "$tests/stb.c" -lm
 echo 'int stb_main(int, char **); int main(int c, char **v) { return stb_main(c, v); }' > user.c
 gcc -o user user.c -L. -l:libstb.so -Wl,-rpath,"$work"
@@ -273,13 +272,13 @@ count "a library's function" grep -Fq "$wanted" seen
 count "a library's type" grep -Eq '^\$1 = [1-9]' seen
 count "arguments" grep -q '^arg0 = 1$' seen
 
-# By the build id, in the folder where gdb looks.
+# The debug file is found by build id, in the folder where gdb looks.
 prepare "--folder" client ctfd-debuginfo --folder stb "$work/debug"
 gdb -batch -nx -iex "set debug-file-directory $work/debug" -ex 'ptype struct stbtt_fontinfo' stb \
     > seen 2>&1
 count "by the build id" grep -q 'unsigned char \*data;' seen
 
-# Other debuggers, by the same file.
+# Other debuggers, with the same file.
 if command -v lldb > /dev/null; then
     lldb -b -o 'target create stb' -o 'target symbols add stb.debug' \
         -o 'expression sizeof(stbtt_fontinfo)' -o 'image lookup -t stbtt_bakedchar' > seen 2>&1
@@ -299,7 +298,7 @@ else
     echo "not possible here: Debian's Python has no drgn"
 fi
 
-# What is not compressed has the same entries, and pahole the compiler's sizes.
+# An uncompressed file has the same entries, and pahole reports the compiler's sizes.
 entries() {
     llvm-dwarfdump --debug-info "$1" | sed 1d
 }
@@ -321,7 +320,7 @@ if [ -r /sys/kernel/btf/vmlinux ] &&
     count "a type of it" grep -q '^\$1 = 16$' seen
 fi
 
-# A process that waits, and its core file.
+# A waiting process, and its core file.
 made waits "$tests/waits.c"
 ./waits &
 pid=$!
@@ -339,7 +338,8 @@ else
 fi
 kill $pid
 
-# The plug-in: made once, then taken from the user's folder; not where others may write to that.
+# The plug-in writes the file once, then takes it from the user's cache folder, unless other users
+# may write there.
 export XDG_CACHE_HOME=$work/cache
 loads() {
     gdb -batch -nx -iex 'set debug-file-directory /none' \
@@ -352,7 +352,7 @@ for time in first second; do
     count "one file is kept" [ "$(ls cache/ctfd | wc -l)" = 1 ]
 done
 count "which is its owner's" [ "$(stat -c %a cache/ctfd)" = 700 ]
-# hinted WORD..: how often `ctf print` says that gdb's own print would do.
+# hinted WORD..: prints how often `ctf print` says that gdb's own print would do.
 hinted() {
     gdb -batch -nx -iex 'set debug-file-directory /none' \
         -ex "source $top/clients/gdb/ctfgdb.py" "$@" -ex 'ctf load' -ex 'ctf print first.y' \
@@ -364,10 +364,10 @@ count "beside both values" [ "$(grep -cx '[34]' seen)" = 2 ]
 loads -ex 'set ctf-debuginfo off' > seen 2>&1 || true  # gdb's last command fails
 count "set ctf-debuginfo off" grep -q 'has unknown type' seen
 count "that print would do is not said then" [ "$(hinted -ex 'set ctf-debuginfo off')" = 0 ]
-# lldb 14 of Debian looks for its package in another folder than it has.
+# Debian's lldb 14 looks for its Python package in the wrong folder.
 packages=$(echo /usr/lib/llvm-*/lib/python3*/dist-packages)
 export PYTHONPATH=${packages// /:}
-path=$PATH PATH=/usr/bin:$PATH  # of the Pythons on the path it wants its own first
+path=$PATH PATH=/usr/bin:$PATH  # lldb needs the Python in /usr/bin first
 if lldb -b -o 'script import lldb; print(lldb.SBTarget)' 2>&1 | grep -q "^<class"; then
     lldb -b -o "command script import $top/clients/lldb/ctfdlldb.py" -o 'target create waits' \
         -o ctfload -o 'expression sizeof(struct point)' -o 'target variable first' > seen 2>&1
@@ -406,8 +406,8 @@ loads > seen 2>&1
 count "a folder of others" grep -q 'is not a folder that its owner alone may write to' seen
 count "which is not used" [ "$(grep '^\$' seen)" = "$answers" ]
 
-# Stripped whole, the symbols are those of a copy, or nothing is told of them.
-# says TEXT WORD..: ctfd-debuginfo with these words says a text.
+# For a stripped program, the symbols are those of a copy; without one, there are none.
+# says TEXT WORD..: checks that ctfd-debuginfo with these words prints a line that matches TEXT.
 says() {
     local text=$1
     shift
@@ -423,7 +423,7 @@ rm x.debug
 count "another build" says '^ctfd-debuginfo: png is of another build than bare' \
     bare --symbols png x.debug
 count "which leaves no file" [ ! -e x.debug ]
-# Without a build id, what is loaded and the symbols tell.
+# Without a build id, the loaded parts and the symbols tell whether a copy is of the same build.
 for name in one two; do
     echo "int number_$name = 1; int main(void) { return number_$name; }" > $name.c
     gcc -g -Wl,--build-id=none -o $name.g $name.c
@@ -441,7 +441,7 @@ count "a copy with other symbols" \
     bare --symbols two.g x.debug
 count "of which types alone are written" says '^x.debug: [0-9]+ types, 0 objects, 0 functions' \
     bare --symbols two.g x.debug
-# Types by themselves, beside their program; and a child of a parent's types.
+# A file of types alone with its program, and a child of a parent's types.
 client ctfd-convert --lossy stb.g stb.types > said 2>&1 || true
 count "a section beside its program" says ' [1-9][0-9]* objects, [1-9][0-9]* functions' \
     stb.types x.debug --program stb

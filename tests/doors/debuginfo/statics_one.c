@@ -1,4 +1,4 @@
-/* One of two files that have functions, a variable and a struct of the same names. */
+/* The first of two files that have functions, a variable and a struct with the same names. */
 struct counted { int number; };
 static struct counted count = {1};
 static int again(void);

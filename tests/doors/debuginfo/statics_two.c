@@ -1,4 +1,4 @@
-/* The other of two files that have functions, a variable and a struct of the same names. */
+/* The second of two files that have functions, a variable and a struct with the same names. */
 struct counted { long first, number; };
 static struct counted count = {2, 3};
 static long again(long more);

@@ -1,4 +1,4 @@
-/* A program of what others wrote: the single-file libraries of Debian's libstb-dev. */
+/* A program of other people's code: the single-file libraries of Debian's libstb-dev. */
 #define STBI_NO_SIMD
 #define STB_IMAGE_IMPLEMENTATION
 #define STB_IMAGE_WRITE_IMPLEMENTATION

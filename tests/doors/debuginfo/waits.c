@@ -1,4 +1,4 @@
-/* A program that waits, with what is to be seen of it meanwhile. */
+/* A program that waits, so that debuggers can read its variables. */
 #include <unistd.h>
 
 struct point { int x, y; struct point *next; };

@@ -1,1 +1,1 @@
-"""`ctfd dump`: a dictionary as text, and dictionaries that other programs read."""
+"""Tests of `ctfd dump`, and of other programs that read our dictionaries."""

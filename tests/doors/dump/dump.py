@@ -1,11 +1,11 @@
 #!/usr/bin/env python3
-"""Prints a dictionary as `ctfd dump` does, from the words of docs/DUMP.md, the pages that it names
-and docs/FORMAT.md alone.
+"""Prints a dictionary as `ctfd dump` does, written only from docs/DUMP.md, the pages that it names
+and docs/FORMAT.md.
 
 usage: tests/doors/dump/dump.py [--model lp64|ilp32] CTF [SYM STR]
 
-A second program for the same text, to compare the first with. It knows no parents and judges
-nothing: the dictionary is one that ctfd accepts. `examples/lua.dump` was made by it.
+A second implementation, with which the first is compared. It knows no parents and checks nothing:
+the dictionary must be one that ctfd accepts. It made `examples/lua.dump`.
 """
 from __future__ import annotations
 
@@ -19,12 +19,12 @@ KINDS = ("unknown integer float pointer array function struct union enum forward
  CONST, RESTRICT) = range(14)
 QUALIFIERS = (VOLATILE, CONST, RESTRICT)
 AGGREGATES = (STRUCT, UNION)
-# How many bytes a pointer has.
+# The number of bytes of a pointer.
 POINTERS = {"lp64": 8, "ilp32": 4}
 
-# What stands behind a type's head: numbers that struct unpacked.
+# An item after a type's head: numbers unpacked by struct.
 Item = tuple[int, ...]
-# A kind, whether it is root, a name, a size or what it refers to, and what stands behind.
+# A kind, the root bit, a name, a size or a reference, and the items.
 Record = tuple[int, int, bytes, int, list[Item]]
 
 
@@ -32,12 +32,12 @@ class Fault(Exception):
     pass
 
 
-def quoted(name: bytes) -> str:
+def quote(name: bytes) -> str:
     return '"%s"' % "".join(
         chr(b) if 0x20 <= b <= 0x7E and b not in b'"\\' else "\\x%02x" % b for b in name)
 
 
-def joined(numbers: Iterable[int]) -> str:
+def join(numbers: Iterable[int]) -> str:
     return ",".join(str(n) for n in numbers)
 
 
@@ -124,7 +124,7 @@ class Dictionary:
             number = self.type(number)[3]
         return self.type(number)[0] if number else UNKNOWN
 
-    def spelled(self, number: int, declared: bytes = b"") -> bytes:
+    def spelling(self, number: int, declared: bytes = b"") -> bytes:
         def behind(word: bytes) -> bytes:
             return word + b" " + declared if declared else word
 
@@ -138,16 +138,16 @@ class Dictionary:
             return behind({UNION: b"union ", ENUM: b"enum "}.get(to, b"struct ") + name)
         if kind == POINTER:
             wrapped = self.past(to) in (ARRAY, FUNCTION)
-            return self.spelled(to, b"(*" + declared + b")" if wrapped else b"*" + declared)
+            return self.spelling(to, b"(*" + declared + b")" if wrapped else b"*" + declared)
         if kind == ARRAY:
-            return self.spelled(items[0][0], declared + b"[%d]" % items[0][2])
+            return self.spelling(items[0][0], declared + b"[%d]" % items[0][2])
         if kind == FUNCTION:
-            return self.spelled(to, declared + b"()")
+            return self.spelling(to, declared + b"()")
         if kind in QUALIFIERS:
             word = KINDS[kind].encode()
             if self.past(to) == POINTER:
-                return self.spelled(to, behind(word))
-            return word + b" " + self.spelled(to, declared)
+                return self.spelling(to, behind(word))
+            return word + b" " + self.spelling(to, declared)
         return behind(name)
 
 
@@ -158,7 +158,7 @@ def or_fault(figure: Callable[[], int]) -> int | Fault:
         return fault
 
 
-def considered(sym: bytes, strs: bytes) -> Iterator[tuple[int, int, bytes]]:
+def considered_symbols(sym: bytes, strs: bytes) -> Iterator[tuple[int, int, bytes]]:
     for i in range(len(sym) // 24):
         at, info, _, section, value, _ = struct.unpack_from("<IBBHQQ", sym, 24 * i)
         end = strs.find(b"\0", at)
@@ -171,12 +171,12 @@ def considered(sym: bytes, strs: bytes) -> Iterator[tuple[int, int, bytes]]:
 
 def symbol_lines(d: Dictionary, sym: bytes) -> None:
     objects = functions = 0
-    for number, class_, name in considered(sym, d.strs):
+    for number, class_, name in considered_symbols(sym, d.strs):
         if class_ == 1:
             told = d.objects[objects : objects + 2]
             objects += 2
             if len(told) == 2 and told != b"\0\0":
-                print("object", number, quoted(name), *struct.unpack("<H", told))
+                print("object", number, quote(name), *struct.unpack("<H", told))
         elif functions + 2 <= len(d.functions):
             (info,) = struct.unpack_from("<H", d.functions, functions)
             functions += 2
@@ -184,7 +184,7 @@ def symbol_lines(d: Dictionary, sym: bytes) -> None:
                 ret, *args = struct.unpack_from("<%dH" % (1 + (info & 0x3FF)), d.functions,
                                                 functions)
                 functions += 2 + 2 * len(args)
-                print("function", number, quoted(name), "return=%d args=%s" % (ret, joined(args)))
+                print("function", number, quote(name), "return=%d args=%s" % (ret, join(args)))
 
 
 def detail(kind: int, size: int, items: list[Item]) -> str:
@@ -196,7 +196,7 @@ def detail(kind: int, size: int, items: list[Item]) -> str:
         contents, index, count = items[0]
         return " contents=%d index=%d count=%d size=%d" % (contents, index, count, size)
     if kind == FUNCTION:
-        return " return=%d args=%s" % (size, joined(a for a, in items))
+        return " return=%d args=%s" % (size, join(a for a, in items))
     if kind in (STRUCT, UNION, ENUM):
         return " size=%d" % size
     if kind == FORWARD:
@@ -207,18 +207,18 @@ def detail(kind: int, size: int, items: list[Item]) -> str:
 def type_lines(d: Dictionary) -> None:
     for number, (kind, root, name, size, items) in enumerate(d.types, 1):
         print(
-            "type", number, KINDS[kind], quoted(name),
+            "type", number, KINDS[kind], quote(name),
             ("root" if root else "hidden") + detail(kind, size, items), ":",
-            quoted(d.spelled(number)),
+            quote(d.spelling(number)),
             "bytes=%s align=%s" % (
                 or_fault(lambda: d.size(number)), or_fault(lambda: d.align(number))),
         )
         if kind in AGGREGATES:
             for name, to, offset in items:
-                print("  member", quoted(d.name(name)), "offset=%d type=%d" % (offset, to))
+                print("  member", quote(d.name(name)), "offset=%d type=%d" % (offset, to))
         if kind == ENUM:
             for name, value in items:
-                print("  value", quoted(d.name(name)), value)
+                print("  value", quote(d.name(name)), value)
 
 
 def read(path: str | None) -> bytes:
@@ -243,10 +243,10 @@ def main() -> None:
     d = Dictionary(read(said.ctf), read(said.strs), POINTERS[said.model])
     print(
         "ctf types=%d child=%s" % (len(d.types), "yes" if d.child else "no"),
-        "parname=%s parlabel=%s" % (quoted(d.parname), quoted(d.parlabel)),
+        "parname=%s parlabel=%s" % (quote(d.parname), quote(d.parlabel)),
     )
     for name, last in d.labels:
-        print("label", quoted(d.name(name)), last)
+        print("label", quote(d.name(name)), last)
     symbol_lines(d, sym)
     type_lines(d)
 

@@ -1,8 +1,8 @@
-"""Compares dumps of files that were typed by hand with the text that each is to give.
+"""Compares dumps of files that were typed by hand with the expected texts.
 
-In test_dumps.txt, behind a title (`# `), a row has its files (`NAME = `, and their bytes in
-hexadecimal digits), the words behind `ctfd dump` (`$ `), the lines that standard output has then
-(`> `), those of standard error (`! `), and the exit status (`= `). A row is a case, by its title.
+In test_dumps.txt, a row has a title (`# `), followed by its files (`NAME = `, with bytes in
+hexadecimal), the arguments of `ctfd dump` (`$ `), the expected lines of standard output (`> `) and
+standard error (`! `), and the exit status (`= `). Each row is a test, named by its title.
 """
 from __future__ import annotations
 
@@ -16,13 +16,13 @@ from typing import Iterator, Optional
 import pytest
 
 ROWS = Path(__file__).with_suffix(".txt")
-# The front of a line that goes on with the bytes of the file above.
+# The beginning of a line that continues the bytes of the previous file.
 MORE = "    "
 
 
 @dataclass
 class Row:
-    """Files, the words of a command over them, and how it is to end."""
+    """Files, the arguments of a command that reads them, and the expected outcome."""
 
     title: str
     files: dict[str, bytes] = field(default_factory=dict)
@@ -32,7 +32,8 @@ class Row:
     status: int = 0
 
     def read(self, line: str, last: str) -> str:
-        """Takes a line of the row, behind bytes of the file `last`; says whose the bytes are."""
+        """Reads a line of the row, after bytes of the file `last`. Returns the file that has the
+        bytes."""
         mark, _, rest = line.partition(" ")
         if line.startswith(MORE):
             self.files[last] += bytes.fromhex(line)
@@ -60,7 +61,7 @@ def rows(path: Path) -> Iterator[Row]:
 
 
 def wrong(program: str, row: Row) -> Iterator[str]:
-    """What is other than the row says."""
+    """The differences from the row."""
     with tempfile.TemporaryDirectory() as folder:
         for name, data in row.files.items():
             (Path(folder) / name).write_bytes(data)
@@ -74,7 +75,7 @@ def wrong(program: str, row: Row) -> Iterator[str]:
 
 
 def cut_off(program: str, row: Row, room: int) -> Iterator[str]:
-    """What is wrong where standard output is a file that takes so many bytes and no more."""
+    """The errors with a standard output that accepts only `room` bytes."""
     with tempfile.TemporaryDirectory() as folder:
         for name, data in row.files.items():
             (Path(folder) / name).write_bytes(data)
@@ -91,7 +92,7 @@ def cut_off(program: str, row: Row, room: int) -> Iterator[str]:
 
 
 def unheard(program: str, row: Row) -> Iterator[str]:
-    """What is wrong where nothing can be said of a refusal: the status tells of it."""
+    """The errors if standard error is full: the status must still be right."""
     with tempfile.TemporaryDirectory() as folder, open("/dev/full", "wb") as full:
         for name, data in row.files.items():
             (Path(folder) / name).write_bytes(data)

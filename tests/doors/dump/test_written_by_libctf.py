@@ -1,16 +1,16 @@
-"""Gives a dictionary that this project writes to GNU libctf, and compares what that says of it.
+"""Gives a dictionary that this project writes to GNU libctf, and checks how libctf reads it.
 
-Needs libctf, which comes with binutils (tried with 2.40 of Debian 12).
+Needs libctf, which comes with binutils (tested with 2.40 of Debian 12).
 
 libctf descends from the library that the format comes from, and still reads its types, but as a
-version 1 of its own: the magic is another, and the header has one word more, where variables begin.
-So the header of examples/written.ctf is written anew, and what stands behind it is as the project
-writes it, but for type 6, a function: on any function that is told in this form libctf stops with a
-failed assertion (`upgrade_types_v1`). A copy of type 2, as long, stands in its place;
-tests/doors/dump/written_by_pahole.sh shows the function. Labels of such a dictionary libctf looks for in the
-wrong place, so they are not compared.
+version 1 of its own: the magic differs, and the header has one more word, the offset of variables.
+So the header of examples/written.ctf is rewritten. The rest is unchanged, except for type 6, a
+function: libctf stops with a failed assertion (`upgrade_types_v1`) at any function in this form. A
+copy of type 2, which has the same size, replaces it; tests/doors/dump/written_by_pahole.sh tests
+the function. libctf looks for labels of such a dictionary in the wrong place, so they are not
+compared.
 
-What is expected was worked out by hand from the types.
+The expected text was worked out by hand from the types.
 """
 import ctypes
 import pathlib
@@ -23,7 +23,7 @@ from . import written_bytes
 
 DICTIONARY = pathlib.Path(__file__).resolve().parents[3] / "examples/written.ctf"
 HEADER, TYPE_2, TYPE_6, LENGTH = 36, 52, 100, 12
-TYPES = 5  # of the sections that libctf dumps
+TYPES = 5  # the number of the section that libctf dumps
 EXPECTED = """\
 0x1: (kind 0) (nonrepresentable type)
 0x2: (kind 1) int (format 0x1) (size 0x4) (aligned at 0x4)
@@ -51,7 +51,7 @@ class Array(ctypes.Structure):
 
 
 def rewritten(dictionary):
-    """The dictionary behind a header as libctf has it, and without its function."""
+    """The dictionary with a header for libctf, and without its function."""
     _, _, flags, parlabel, parname, labels, objects, functions, types, strings, length = (
         struct.unpack_from("<HBB8I", dictionary))
     words = parlabel, parname, labels, objects, functions, types, types, strings, length
@@ -62,7 +62,7 @@ def rewritten(dictionary):
 
 
 class Read:
-    """A dictionary as libctf has read it."""
+    """A dictionary, read by libctf."""
 
     def __init__(self, dictionary):
         try:
@@ -80,7 +80,7 @@ class Read:
         self.dictionary = ctypes.c_void_p(opened)
 
     def dump(self):
-        """Its types as libctf prints them, what they refer to by its number alone."""
+        """The types as libctf prints them, with references reduced to numbers."""
         state = ctypes.c_void_p()
         while text := self.libctf.ctf_dump(self.dictionary, ctypes.byref(state), TYPES, None, None):
             for line in filter(str.strip, text.decode().split("\n")):
@@ -104,4 +104,4 @@ def test_written() -> None:
 
 def test_example_is_what_is_written_now() -> None:
     """examples/written.ctf has the bytes that the service writes in a transcript."""
-    assert written_bytes.written() == DICTIONARY.read_bytes()
+    assert written_bytes.bytes_by_service() == DICTIONARY.read_bytes()

@@ -1,31 +1,30 @@
 #!/usr/bin/env bash
-# Gives a dictionary that this project writes to pahole, another reader of the format, and compares
-# its listing.
+# Passes a dictionary that this project writes to pahole, another reader of the format, and compares
+# its output.
 # usage: tests/doors/dump/written_by_pahole.sh
-# Prints a row for each comparison, which ends in "yes" or in "no" and the difference; the status is
-# 1 where one was no. Needs Debian's package dwarves (tried with 1.24 of Debian 12), gcc, objcopy
-# and Python; says so and ends with status 0 where one is missing.
+# Prints a row for each comparison, which ends in "yes", or in "no" followed by the difference; the
+# status is 1 if one was "no". Needs Debian's package dwarves (tested with 1.24 of Debian 12), gcc,
+# objcopy and Python; if one is missing, says so and exits with status 0.
 #
-# The dictionary is examples/written.ctf, one type of each kind, the bytes that a test of the writer
-# expects. pahole and pdwtags, which lists all types, read it from the section .SUNW_ctf of an
-# object file. That file has to have a symbol table, and in it no function: they want to be told
-# something of each, and nothing is told here.
+# The dictionary is examples/written.ctf, with one type of each kind: the bytes that a test of the
+# writer expects. pahole, and pdwtags, which lists all types, read it from the section .SUNW_ctf of
+# an object file. That file must have a symbol table, and no function in it: the readers expect type
+# information for every function, and here there is none.
 #
-# The lists below were worked out by hand from the types, with these ways of the readers, of which
-# those on the sizes of enums and on forwards were seen with the dictionary of another tool too
-# (examples/lua.ctf):
-# - Of type 1, an unknown one, they say no more than number, place and visibility, on standard
-#   error.
-# - A float's width in a struct is that of C's type of its name. `f` is no such name, so the member
-#   has none.
-# - An enum's size in bytes is taken for bits, so 4 are no byte, and "packed". Values are without
-#   sign: -1 is 4294967295.
-# - A forward is taken for a struct without members, and the kind that it declares (6, struct) for
-#   its size.
-# - A function's size is that of what it returns.
-# - Of a qualified type only the size of what is qualified is shown.
-# Not shown are labels, encodings, the index of an array and what qualifiers stand before. All of
-# these but labels are shown by tests/doors/dump/test_written_by_libctf.py.
+# The expected lists below were worked out by hand from the types. The readers have these
+# peculiarities; those about sizes of enums and about forwards also appeared with a dictionary of
+# another tool (examples/lua.ctf):
+# - For type 1, which is unknown, they only print number, offset and visibility, on standard error.
+# - A float's width in a struct is that of the C type with its name. `f` is no such type, so the
+#   member has no width.
+# - An enum's size in bytes is taken as bits, so 4 becomes 0 bytes, and "packed". Values are
+#   unsigned: -1 is 4294967295.
+# - A forward is shown as a struct without members, and the kind that it declares (6, struct) as its
+#   size.
+# - The size of a function is that of its return type.
+# - For a qualified type, only the size of the unqualified type is shown.
+# They do not show labels, encodings, the index type of an array, and what a qualifier applies to.
+# tests/doors/dump/test_written_by_libctf.py shows all of these except labels.
 set -u
 here=$(realpath "$(dirname "$0")")
 for tool in pahole pdwtags gcc objcopy python3; do
@@ -37,7 +36,7 @@ trap 'rm -r "$work"' EXIT
 cd "$work" || exit 1
 failed=0
 
-# same NAME FILE WANTED: the file holds what is wanted, which is a file too.
+# same NAME FILE WANTED: checks that FILE has the contents of the file WANTED.
 same() {
     local well=yes
     diff "$3" "$2" > difference 2>&1 || well=no
@@ -46,8 +45,8 @@ same() {
     [ "$well" = yes ] || failed=1
 }
 
-# listed PROGRAM: what it lists in FILE listed, a type on each line and blanks squeezed, and in FILE
-# said what it says beside that.
+# listed PROGRAM: writes the program's list to the file `listed`, one type per line with blanks
+# squeezed, and its standard error to the file `said`.
 listed() {
     { "$1" -F ctf written.o 2> said | tr -s ' \t\n' ' '; echo; } > words
     sed -E 's#/\* ([0-9]+|Functions:) \*/#\n\1#g; s#; (union|struct) #;\n\1 #g; s/ +(\n|$)/\1/g' \

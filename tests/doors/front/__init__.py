@@ -1,1 +1,1 @@
-"""`ctfd-front`: many clients on one socket."""
+"""Tests of `ctfd-front`: many clients on one socket."""

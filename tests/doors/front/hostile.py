@@ -1,9 +1,8 @@
-"""Lines that a client may send, valid ones and hostile ones, and what each is to be answered as.
+"""Valid and hostile lines that a client may send, each with the line that has the same reply.
 
-A `Sent` has the line, and the line that a service of the client's own is given in its place: the
-same where the line names the client's session as the last `s` or is none that names a session;
-else the same request with that session in it. `named` is the session that the reply has for the
-client.
+A `SentLine` has the line, and the line that the client's own service gets instead: the same line if
+its last `s` names the client's session, or if it names none; otherwise the same request with that
+session. `named` is the session in the reply to the client.
 """
 from __future__ import annotations
 
@@ -13,7 +12,7 @@ import struct
 from dataclasses import dataclass
 from typing import Any, Callable, Dict, List, Optional, Sequence
 
-LONGEST = 1_048_576  # as docs/SERVING.md tells
+LONGEST = 1_048_576  # see docs/SERVING.md
 Fields = Dict[str, Any]
 
 NO_SESSIONS = ("null", "0", "-1", "-0", '"5"', "5.0", "5e0", "4294967296", "[]", "{}", "true",
@@ -34,8 +33,8 @@ NO_REQUESTS: Sequence[bytes] = (
 
 
 @dataclass(frozen=True)
-class Sent:
-    """A line of a client; `took` is the owner and name of a take."""
+class SentLine:
+    """A line of a client. `took` is the owner and name of a take, or None."""
 
     line: bytes
     own: bytes
@@ -43,56 +42,56 @@ class Sent:
     took: Optional[tuple[int, str]] = None
 
 
-def written(fields: Fields) -> str:
+def request_text(fields: Fields) -> str:
     return json.dumps(fields, separators=(",", ":"))
 
 
 class Sender:
-    """The lines of one client. `number` is its session's, `own` the one that it writes."""
+    """The lines of one client. `number` is its session, and `own` the one that it writes."""
 
     def __init__(self, number: int, own: int, others: Sequence[int], chance: random.Random) -> None:
         self.number, self.own, self._others, self._chance = number, own, others, chance
 
-    def plain(self, fields: Fields) -> Sent:
-        """A request as most clients write it."""
-        line = written({"s": self.own, **fields}).encode()
-        return Sent(line, line, self.own, self._took(fields))
+    def plain_request(self, fields: Fields) -> SentLine:
+        """A request in the usual spelling."""
+        line = request_text({"s": self.own, **fields}).encode()
+        return SentLine(line, line, self.own, self._took(fields))
 
-    def disguised(self, fields: Fields) -> Sent:
+    def disguised_request(self, fields: Fields) -> SentLine:
         """A request whose session is written in one of many ways."""
         way = self._chance.choice(self._WAYS)
         other = self._chance.choice(self._others)
-        plain = self.plain(fields)
-        line, named = way(self, written(fields)[1:-1], other)
-        return Sent(line.encode(), plain.own, named, plain.took)
+        plain = self.plain_request(fields)
+        line, named = way(self, request_text(fields)[1:-1], other)
+        return SentLine(line.encode(), plain.own, named, plain.took)
 
-    def refused(self, fields: Fields) -> Sent:
-        """A line that names no session: the service answers it alike, whoever asks."""
+    def refused_request(self, fields: Fields) -> SentLine:
+        """A line that names no session; the service's reply does not depend on the client."""
         if self._chance.random() < 0.5:
             line = self._chance.choice(NO_REQUESTS)
         else:
             session = self._chance.choice(NO_SESSIONS)
             first = self._chance.choice(("", f'"s":{self.own},'))
             key = self._chance.choice(('"s"', '"\\u0073"', ' "s" '))
-            line = f"{{{first}{written(fields)[1:-1]},{key}:{session}}}".encode()
-        return Sent(line, line, None)
+            line = f"{{{first}{request_text(fields)[1:-1]},{key}:{session}}}".encode()
+        return SentLine(line, line, None)
 
-    def long(self) -> Sent:
+    def long_line(self) -> SentLine:
         """A line that is too long."""
         size = self._chance.choice((LONGEST + 1, LONGEST + 2, 1_200_000))
-        line = written({"s": self.own, "op": "reset"}).encode().ljust(size)
-        return Sent(line, 1_048_577 * b" ", None)
+        line = request_text({"s": self.own, "op": "reset"}).encode().ljust(size)
+        return SentLine(line, 1_048_577 * b" ", None)
 
-    def longest(self) -> Sent:
-        """A line that is just not too long."""
-        line = written({"s": self.own, "op": "info", "d": 1}).encode()
+    def longest(self) -> SentLine:
+        """A line of the greatest allowed length."""
+        line = request_text({"s": self.own, "op": "info", "d": 1}).encode()
         line = line[:-1] + b',"x":"' + (LONGEST - len(line) - 7) * b"y" + b'"}'
-        return Sent(line, line, self.own)
+        return SentLine(line, line, self.own)
 
     def _took(self, fields: Fields) -> Optional[tuple[int, str]]:
         return (fields["owner"], fields["name"]) if fields["op"] == "take" else None
 
-    # Each is given the fields without their braces, and another's session.
+    # Each takes the fields without their braces, and another client's session.
 
     def _of_other(self, fields: str, other: int) -> tuple[str, int]:
         return f'{{"s":{other},{fields}}}', other
@@ -106,7 +105,7 @@ class Sender:
     def _twice_own(self, fields: str, other: int) -> tuple[str, int]:
         return f'{{"s":{other},{fields},"s":{self.own}}}', self.own
 
-    def _escaped(self, fields: str, other: int) -> tuple[str, int]:
+    def _with_escapes(self, fields: str, other: int) -> tuple[str, int]:
         return f'{{"s":{self.own},{fields},"\\u0073":{other}}}', other
 
     def _escaped_first(self, fields: str, other: int) -> tuple[str, int]:
@@ -118,7 +117,7 @@ class Sender:
     def _as_text(self, fields: str, other: int) -> tuple[str, int]:
         return f'{{"s":{self.own},{fields},"x":"s","y":"}}{other}{{"}}', self.own
 
-    def _nested(self, fields: str, other: int) -> tuple[str, int]:
+    def _with_nesting(self, fields: str, other: int) -> tuple[str, int]:
         return f'{{"s":{self.own},{fields},"x":{{"s":{other}}}}}', self.own
 
     def _nested_alone(self, fields: str, other: int) -> tuple[str, int]:
@@ -130,20 +129,20 @@ class Sender:
     def _blanks(self, fields: str, other: int) -> tuple[str, int]:
         return f'\t {{ {fields} ,\r "s" :\t{other} }} \r', other
 
-    def _mended(self, fields: str, other: int) -> tuple[str, int]:
+    def _mend(self, fields: str, other: int) -> tuple[str, int]:
         return f'{{"s":null,{fields},"s":{other}}}', other
 
-    def _deep(self, fields: str, other: int) -> tuple[str, int]:
+    def _with_depth(self, fields: str, other: int) -> tuple[str, int]:
         deep = '{"s":' * 120 + str(other) + "}" * 120
         return f'{{"x":{deep},{fields},"s":{self.own}}}', self.own
 
     _WAYS: Sequence[Callable[["Sender", str, int], "tuple[str, int]"]] = (
-        _of_other, _behind, _twice, _twice_own, _escaped, _escaped_first, _in_text, _as_text,
-        _nested, _nested_alone, _without, _blanks, _mended, _deep)
+        _of_other, _behind, _twice, _twice_own, _with_escapes, _escaped_first, _in_text, _as_text,
+        _with_nesting, _nested_alone, _without, _blanks, _mend, _with_depth)
 
 
 def dictionary(types: int) -> bytes:
-    """So many integers, the first of them named by their number."""
+    """A dictionary of integers. The first has their number in its name."""
     names = b"\0of_%d\0" % types
     records = b"".join(struct.pack("<IHHI", 0 if place else 1, 1 << 11 | 1 << 10, 4, 1 << 24 | 32)
                        for place in range(types))

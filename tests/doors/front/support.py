@@ -1,4 +1,4 @@
-"""What the tests of the front share: fronts to start, and clients that are plain sockets."""
+"""Helpers for the tests of the front: starting fronts, and clients on plain sockets."""
 from __future__ import annotations
 
 import contextlib
@@ -55,17 +55,17 @@ class Talker:
         return line
 
     def ask(self, *lines: bytes) -> bytes:
-        """What the last of some lines is answered."""
+        """The reply to the last of some lines."""
         self.send(b"".join(lines))
         return [self.line() for _ in range(sum(line.count(b"\n") for line in lines))][-1]
 
     def number(self) -> int:
-        """The session that the front has given it."""
+        """The session that the front has assigned."""
         found: int = json.loads(self.ask(b"{}\n"))["s"]
         return found
 
     def is_closed(self) -> bool:
-        """Whether the other end is closed, once it is or the patience is over."""
+        """Whether the other end closes the connection within PATIENCE."""
         try:
             while self.socket.recv(1 << 20):
                 pass
@@ -80,7 +80,7 @@ class Talker:
 
 
 class Front:
-    """A ctfd-front of a test's own, under another program perhaps."""
+    """A ctfd-front for one test, optionally run by another program such as valgrind."""
 
     def __init__(self, folder: str, *words: str, path: str = "front.sock",
                  under: Sequence[str] = ()) -> None:
@@ -92,37 +92,39 @@ class Front:
                 stderr=log, stdout=log, stdin=subprocess.DEVNULL)
 
     @property
-    def said(self) -> str:
+    def output(self) -> str:
         return self._log.read_text()
 
-    def started(self, times: int = 1) -> Front:
-        """Waits till it listens."""
-        until(lambda: self.said.count("listening") >= times or self.process.poll() is not None)
+    def start(self, times: int = 1) -> Front:
+        """Waits until it listens."""
+        until(lambda: self.output.count("listening") >= times or self.process.poll() is not None)
         if self.process.poll() is not None:
-            raise AssertionError(self.said)
+            raise AssertionError(self.output)
         return self
 
     def tell(self) -> str:
-        """What it tells at SIGUSR1."""
-        before = self.said
+        """The statistics that it prints at SIGUSR1."""
+        before = self.output
         self.process.send_signal(signal.SIGUSR1)
-        until(lambda: len(self.said) > len(before) or self.process.poll() is not None)
-        assert self.process.poll() is None, f"it has ended with {self.process.poll()}: {self.said}"
-        return self.said[len(before):]
+        until(lambda: len(self.output) > len(before) or self.process.poll() is not None)
+        status = self.process.poll()
+        assert status is None, f"it has ended with {status}: {self.output}"
+        return self.output[len(before):]
 
     def until_told(self, *parts: str) -> None:
-        """Waits till it tells some parts: a shard of a busy machine may tell late."""
+        """Waits until its statistics contain some parts; on a busy machine, shards may report
+        late."""
         until(lambda: all(part in self.tell() for part in parts))
 
     def end(self, how: signal.Signals = signal.SIGTERM) -> int:
-        """Ends it; the status."""
+        """Ends it, and returns its status."""
         if self.process.poll() is None:
             self.process.send_signal(how)
         return self.process.wait(PATIENCE)
 
 
 class WithFront(unittest.TestCase):
-    """A test case with a folder, fronts and clients that are ended with it."""
+    """A test case with a folder; fronts and clients are ended with it."""
 
     def setUp(self) -> None:
         made = tempfile.TemporaryDirectory(prefix="front")
@@ -142,7 +144,7 @@ class WithFront(unittest.TestCase):
 
 @contextlib.contextmanager
 def standing(front: Front) -> Iterator[None]:
-    """The front stands still meanwhile."""
+    """Stops the front inside this context."""
     front.process.send_signal(signal.SIGSTOP)
     try:
         until(lambda: all(state(task) == "T" for task in tasks(front)))
@@ -157,15 +159,15 @@ def tasks(front: Front) -> List[Path]:
 
 
 def state(task: Path) -> str:
-    """Whether a thread runs, sleeps or is stopped."""
+    """The state of a thread: running, sleeping or stopped."""
     try:
         return (task / "stat").read_text().rsplit(")", 1)[1].split()[0]
     except OSError:
-        return "T"  # it has ended
+        return "T"  # the thread has ended
 
 
 def until(holds: Callable[[], bool], patience: float = PATIENCE) -> None:
-    """Waits till something holds."""
+    """Waits until a condition holds."""
     end = time.monotonic() + patience
     while not holds():
         if time.monotonic() > end:
@@ -174,18 +176,18 @@ def until(holds: Callable[[], bool], patience: float = PATIENCE) -> None:
 
 
 def memory(pid: int) -> Dict[str, int]:
-    """The memory of a process in KiB: VmHWM at most, VmRSS now."""
+    """The memory of a process in KiB: VmHWM is the peak, VmRSS the present size."""
     status = Path(f"/proc/{pid}/status").read_text()
     return {name: int(size) for name, size in re.findall(r"(VmHWM|VmRSS):\s+([0-9]+) kB", status)}
 
 
 def processor(pid: int) -> float:
     """The seconds of processor time that a process has used."""
-    return time.clock_gettime(~pid << 3 | 2)  # as clock_getcpuclockid(3) has it
+    return time.clock_gettime(~pid << 3 | 2)  # see clock_getcpuclockid(3)
 
 
 def serve(given: bytes, files: Sequence[str] = (LUA,)) -> "list[bytes]":
-    """What a `ctfd serve` of its own replies."""
+    """The replies of a separate `ctfd serve`."""
     ended = subprocess.run([PROGRAM, "serve", *files], input=given, capture_output=True,
                            check=True)
     return ended.stdout.split(b"\n")[:-1]

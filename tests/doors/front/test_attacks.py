@@ -1,4 +1,4 @@
-"""Attacks on a session's number, and on the others' patience and memory."""
+"""Attacks on another client's session, and on other clients' time and memory."""
 from __future__ import annotations
 
 import contextlib
@@ -21,17 +21,18 @@ ENDLESS = 2048
 
 
 class Numbers(WithFront):
-    """Nobody speaks for another."""
+    """No client can use another one's session."""
 
     def setUp(self) -> None:
         super().setUp()
-        front = self.front().started()
+        front = self.front().start()
         self.victim, self.attacker = self.talker(front), self.talker(front)
         self.number = self.victim.number()
         self.victim.ask(HAND_IN)
 
     def attack(self, line: str) -> bytes:
-        """What an attack with the victim's number is answered; the victim has what it had."""
+        """The reply to an attack with the victim's number. Asserts that the victim still has its
+        types."""
         said = self.attacker.ask(line.replace("VICTIM", str(self.number)).encode() + b"\n")
         self.assertEqual(self.victim.ask(KIND), INTEGER)
         return said
@@ -81,10 +82,10 @@ class Numbers(WithFront):
 
 
 class Patience(WithFront):
-    """Nobody holds back another."""
+    """No client can delay another."""
 
     def test_line_without_end(self) -> None:
-        front = self.front().started()
+        front = self.front().start()
         talker, other = self.talker(front), self.talker(front)
         other.ask(HAND_IN)
         talker.number()
@@ -99,7 +100,7 @@ class Patience(WithFront):
         self.assertLess(after - before, 16 * 1024)
 
     def test_half_a_line_and_a_hang(self) -> None:
-        front = self.front("--stalled", "1").started()
+        front = self.front("--stalled", "1").start()
         stalled, other = self.talker(front), self.talker(front)
         other.ask(HAND_IN)
         stalled.send(b'{"s":1,"op"')
@@ -109,7 +110,7 @@ class Patience(WithFront):
         front.until_told("half a line 1")
 
     def test_drop_by_drop(self) -> None:
-        front = self.front("--stalled", "0.5").started()
+        front = self.front("--stalled", "0.5").start()
         talker = self.talker(front)
         began = time.monotonic()
         with self.assertRaises(OSError):
@@ -118,14 +119,14 @@ class Patience(WithFront):
                 time.sleep(0.05)
 
     def test_idle(self) -> None:
-        front = self.front("--idle", "3").started()
+        front = self.front("--idle", "3").start()
         talker = self.talker(front)
         talker.number()
         self.assertTrue(talker.is_closed())
         front.until_told("idle 1")
 
     def test_client_that_never_reads(self) -> None:
-        front = self.front().started()
+        front = self.front().start()
         deaf, other = self.talker(front), self.talker(front)
         other.ask(HAND_IN)
         deaf.ask(ask("take", owner=0, name="lua"))
@@ -136,14 +137,14 @@ class Patience(WithFront):
         for _ in range(questions):
             self.assertEqual(other.ask(KIND), INTEGER)
         used = processor(front.process.pid) - before
-        self.assertLess(used / questions, 0.001)  # seconds of a processor
+        self.assertLess(used / questions, 0.001)  # seconds of processor time
         self.assertLess(memory(front.process.pid)["VmHWM"], 128 * 1024)
-        deaf.socket.shutdown(socket.SHUT_RDWR)  # it wakes the writer
+        deaf.socket.shutdown(socket.SHUT_RDWR)  # wakes the writer
         writer.join()
         until(lambda: "connections 1 of 2" in front.tell())
 
     def test_client_that_never_reads_is_ended(self) -> None:
-        front = self.front("--stalled", "1").started()
+        front = self.front("--stalled", "1").start()
         deaf = self.talker(front)
         deaf.ask(ask("take", owner=0, name="lua"))
         threading.Thread(target=pour, args=(deaf, ask("bytes", **{"d": 1, "from": 0,
@@ -152,7 +153,7 @@ class Patience(WithFront):
         until(lambda: "unread 1" in front.tell())
 
     def test_unanswered_lines(self) -> None:
-        front = self.front("--bytes", "1000", "--unread", "1000").started()
+        front = self.front("--bytes", "1000", "--unread", "1000").start()
         deaf = self.talker(front)
         deaf.number()
         deaf.socket.settimeout(2)
@@ -163,7 +164,7 @@ class Patience(WithFront):
         self.assertLess(sent, 8 * MEBIBYTE)
 
     def test_memory(self) -> None:
-        front = self.front("--memory", str(3 * MEBIBYTE)).started()
+        front = self.front("--memory", str(3 * MEBIBYTE)).start()
         talkers = [self.talker(front) for _ in range(5)]
         for talker in talkers:
             with contextlib.suppress(OSError):
@@ -172,11 +173,11 @@ class Patience(WithFront):
         self.assertLess(memory(front.process.pid)["VmHWM"], 64 * 1024)
 
     def test_memory_that_the_system_refuses(self) -> None:
-        """It ends nothing: who asked for more is told so, others are answered, and statistics are
-        told, or said to find no memory."""
+        """Nothing ends: a client that asked for more is refused, others are answered, and
+        statistics are printed, or report that there is no memory."""
         path = os.path.join(self.folder, "front.prom")
         front = self.front("--memory", str(1 << 30), "--user-memory", str(1 << 30),
-                           "--metrics", path).started()
+                           "--metrics", path).start()
         honest = self.talker(front)
         honest.ask(HAND_IN)
         resource.prlimit(front.process.pid, resource.RLIMIT_AS, 2 * (64 * MEBIBYTE,))
@@ -195,9 +196,10 @@ class Patience(WithFront):
         self.assertEqual(front.end(), 0)
 
     def test_memory_of_the_services(self) -> None:
-        """What needs more is refused as Memory; what is held stays, and the rest goes on."""
+        """A request that needs more is refused with Memory; sessions keep their content, and others
+        go on."""
         front = self.front("--service-memory", str(48 * MEBIBYTE), "--memory", str(4 * MEBIBYTE),
-                           "--connections", "20").started()
+                           "--connections", "20").start()
         honest, greedy = self.talker(front), self.talker(front)
         honest.ask(HAND_IN)
         part = ask("part", section="str", bytes="61" * 400_000)
@@ -211,8 +213,9 @@ class Patience(WithFront):
         self.assertGreater(self.talker(front).number(), 2)
 
     def test_turns(self) -> None:
-        """One line of each in turn: who has a thousand waiting does not come before who has one."""
-        front = self.front().started()
+        """Clients take turns by lines: one with a thousand waiting lines does not delay one with a
+        single line."""
+        front = self.front().start()
         greedy, other = self.talker(front), self.talker(front)
         for talker in (greedy, other):
             talker.ask(ask("take", owner=0, name="lua"))
@@ -230,10 +233,10 @@ class Patience(WithFront):
 
 
 class Connections(WithFront):
-    """Many of them."""
+    """Many connections."""
 
     def test_a_thousand(self) -> None:
-        front = self.front("--connections", "200").started()
+        front = self.front("--connections", "200").start()
         before, numbers = files(front), []
         for _ in range(10):
             talkers = [Talker(front.path) for _ in range(100)]
@@ -250,7 +253,7 @@ class Connections(WithFront):
         self.assertGreater(last.number(), max(numbers))
 
     def test_a_thousand_at_once(self) -> None:
-        front = self.front("--connections", "1000", "--user-connections", "1000").started()
+        front = self.front("--connections", "1000", "--user-connections", "1000").start()
         talkers: List[Talker] = []
         self.addCleanup(lambda: [talker.close() for talker in talkers])
         for _ in range(900):
@@ -262,7 +265,7 @@ class Connections(WithFront):
         self.assertLess(memory(front.process.pid)["VmHWM"], 128 * 1024)
 
     def test_too_many(self) -> None:
-        front = self.front("--connections", "2").started()
+        front = self.front("--connections", "2").start()
         first, second = self.talker(front), self.talker(front)
         first.number(), second.number()
         self.assertTrue(self.talker(front).is_closed())
@@ -273,7 +276,7 @@ class Connections(WithFront):
 
 
 def pour(talker: Talker, line: bytes) -> None:
-    """Writes and reads nothing."""
+    """Writes without reading."""
     try:
         for _ in range(100_000):
             talker.send(line)
@@ -282,5 +285,5 @@ def pour(talker: Talker, line: bytes) -> None:
 
 
 def files(front: Front) -> int:
-    """How many files a front has open."""
+    """The number of open files of a front."""
     return len(os.listdir(f"/proc/{front.process.pid}/fd"))

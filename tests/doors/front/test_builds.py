@@ -1,6 +1,5 @@
-"""Types by build-id: what a store has is published when a client first takes it, and withdrawn when
-there is no more room.
-"""
+"""Types by build-id: a store's types are published when a client first takes them, and withdrawn
+when there is no more room."""
 from __future__ import annotations
 
 import json
@@ -30,10 +29,10 @@ class Builds(WithFront):
         if missing:
             self.skipTest(f"{', '.join(missing)} is not here")
         self.store = os.path.join(self.folder, "store")
-        self.ids = [self.added(n) for n in range(3)]
+        self.ids = [self.add(n) for n in range(3)]
 
-    def added(self, n: int) -> str:
-        """A program in the store; its build-id."""
+    def add(self, n: int) -> str:
+        """Adds a program to the store, and returns its build-id."""
         source, program = Path(self.folder, f"{n}.c"), os.path.join(self.folder, str(n))
         source.write_text(SOURCE.format(n=n))
         subprocess.run(["gcc", "-g", "-Wl,--build-id", "-o", program, source], check=True)
@@ -42,7 +41,7 @@ class Builds(WithFront):
         return said.stdout.split("Build ID: ")[1].split()[0]
 
     def serving(self, *words: str) -> Front:
-        return self.front("--store", self.store, *words).started()
+        return self.front("--store", self.store, *words).start()
 
     def reply_to_take(self, talker: Talker, name: str, owner: int = OWNER) -> Dict[str, Any]:
         reply: Dict[str, Any] = json.loads(talker.ask(ask("take", owner=owner, name=name)))
@@ -52,7 +51,7 @@ class Builds(WithFront):
         self.assertEqual(reply["fault"]["name"], "NotPublished", reply)
 
     def bytes_of(self, *ids: str) -> int:
-        """The bytes of the lists of some builds."""
+        """The size of the lists of some builds."""
         heads: List[Dict[str, Any]] = []
         for one in ids:
             said = subprocess.run([str(TARGET / "release" / "ctfd-convert"), "--bundle", one, "-"],
@@ -71,10 +70,10 @@ class Builds(WithFront):
                 for name, kind in (("weigh", "function"), (f"number{n}", "object")):
                     symbol = json.loads(talker.ask(ask("symbol", d=slot, name=name)))
                     self.assertEqual(symbol["ok"]["class"], kind)
-        self.assertEqual(front.said.count("published"), 0)
+        self.assertEqual(front.output.count("published"), 0)
 
     def test_who_else_is_asked(self) -> None:
-        """Owner 0 has the files of the command line, and a client what it publishes, as ever."""
+        """Owner 0 still has the files of the command line, and a client what it publishes."""
         front = self.serving()
         one, other = self.talker(front), self.talker(front)
         self.assertEqual(self.reply_to_take(one, "lua", 0)["ok"]["types"], 526)
@@ -87,11 +86,11 @@ class Builds(WithFront):
             self.assertIn("fault", self.reply_to_take(other, name))
 
     def test_without_a_store(self) -> None:
-        front = self.front().started()
+        front = self.front().start()
         self.assert_absent(self.reply_to_take(self.talker(front), self.ids[0]))
 
     def test_no_session_is_the_stores(self) -> None:
-        """What a client writes as its session is never the number of the owner of builds."""
+        """The session that a client writes is never the number of the owner of builds."""
         talker = self.talker(self.serving())
         self.reply_to_take(talker, self.ids[0])
         reply = talker.ask(ask("withdraw", s=OWNER, name=self.ids[0]))
@@ -104,7 +103,8 @@ class Builds(WithFront):
         front = self.serving("--store-memory", str(room))
         talker, later = self.talker(front), self.talker(front)
         slots = [self.reply_to_take(talker, one)["ok"]["d"] for one in (first, second, first)]
-        # What is published needs its files no more, and what was withdrawn can't be had then.
+        # A published dictionary does not need its files; a withdrawn one cannot be taken without
+        # them.
         subprocess.run([STORE, "remove", self.store, first, second], check=True,
                        capture_output=True)
         self.assertIn("ok", self.reply_to_take(later, second))
@@ -112,14 +112,14 @@ class Builds(WithFront):
         self.assertIn("ok", self.reply_to_take(talker, third))
         self.assert_absent(self.reply_to_take(later, second))
         self.assertIn("ok", self.reply_to_take(later, first))
-        # Who took it keeps it.
+        # Sessions that took it keep it.
         for slot in slots:
             self.assertIn(b'"ok"', talker.ask(ask("find", d=slot, text="struct packet")))
 
     def test_one_that_is_too_large(self) -> None:
         front = self.serving("--store-memory", str(self.bytes_of(self.ids[0]) - 1))
         self.assert_absent(self.reply_to_take(self.talker(front), self.ids[0]))
-        until(lambda: "bytes are too many" in front.said)
+        until(lambda: "bytes are too many" in front.output)
 
     def test_many_that_come_and_go(self) -> None:
         front = self.serving("--store-memory", str(self.bytes_of(self.ids[0]) + 100))
@@ -140,10 +140,11 @@ class Builds(WithFront):
         for _ in range(3):
             self.assert_absent(self.reply_to_take(talker, self.ids[0]))
         self.assertIn("ok", self.reply_to_take(talker, self.ids[1]))
-        self.assertEqual(front.said.count(f"build {self.ids[0]} is not published"), 1)
+        self.assertEqual(front.output.count(f"build {self.ids[0]} is not published"), 1)
 
     def test_nothing_else_is_asked(self) -> None:
-        """No server, and no file of a build that the store has not."""
+        """No server is asked, and no files are searched for a build that the store does not
+        have."""
         if not shutil.which("strace"):
             self.skipTest("no strace")
         trace = os.path.join(self.folder, "trace")
@@ -152,7 +153,7 @@ class Builds(WithFront):
         if probe.returncode != 0:
             self.skipTest("not possible here: strace may trace nothing")
         front = Front(self.folder, "--store", self.store,
-                      under=("env", "DEBUGINFOD_URLS=http://127.0.0.1:1", *words)).started()
+                      under=("env", "DEBUGINFOD_URLS=http://127.0.0.1:1", *words)).start()
         self.addCleanup(front.end, signal.SIGKILL)
         talker = self.talker(front)
         self.assert_absent(self.reply_to_take(talker, "ab" * 20))
@@ -168,4 +169,4 @@ class Builds(WithFront):
                            (("--store-memory", "268435457"), "is not in 1..=268435456")):
             front = self.front(*words)
             self.assertEqual(front.process.wait(60), 2)
-            self.assertIn(why, front.said)
+            self.assertIn(why, front.output)

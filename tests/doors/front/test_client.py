@@ -1,4 +1,4 @@
-"""The Python client over a socket: of a front, and where each connection has its own service."""
+"""The Python client over a socket: of a front, and of a service for each connection."""
 from __future__ import annotations
 
 import os
@@ -20,7 +20,7 @@ FILE = str(TOP / "examples" / "lua.ctf")
 OLDER = str(TOP / "examples" / "zlib.ctf")
 
 
-# Prints the names and sizes of a file's types; what is refused in a line.
+# Prints the names and sizes of a file's types, or a refusal on one line.
 NAMES = f"""import sys
 sys.path.insert(0, "{CLIENT}")
 import ctfd
@@ -34,7 +34,7 @@ except ctfd.Error as error:
 
 
 def run(path: str, **more: str) -> "tuple[int, str, str]":
-    """How a program over the client ends in an environment, and what it prints of a file."""
+    """Runs a program with the client on a file. Returns its status and its texts."""
     environment = {**os.environ, **more}
     environment.pop("CTFD" if "CTFD_SOCKET" in more else "CTFD_SOCKET", None)
     ended = subprocess.run([sys.executable, "-c", NAMES, path], capture_output=True, text=True,
@@ -44,7 +44,7 @@ def run(path: str, **more: str) -> "tuple[int, str, str]":
 
 class OverSocket(WithFront):
     def test_programs_print_the_same(self) -> None:
-        front = self.front().started()
+        front = self.front().start()
         for path in (FILE, OLDER, "/dev/null"):
             self.assertEqual(run(path, CTFD_SOCKET=front.path), run(path), path)
         until(lambda: "lines 0" not in front.tell())
@@ -56,8 +56,8 @@ class OverSocket(WithFront):
         self.assertEqual(len(said.splitlines()), 1)
 
     def test_sessions(self) -> None:
-        """Each is a connection; they publish for each other by their numbers."""
-        front = self.front().started()
+        """Each session is a connection; sessions publish for each other under their numbers."""
+        front = self.front().start()
         with ctfd.Client(socket=front.path) as client:
             first, second = client.session(), client.session()
             self.assertNotEqual(first.number, second.number)
@@ -72,7 +72,7 @@ class OverSocket(WithFront):
         until(lambda: "connections 0 of 2" in front.tell())
 
     def test_many_in_one_round(self) -> None:
-        front = self.front().started()
+        front = self.front().start()
         with ctfd.Client(socket=front.path) as client:
             session = client.session()
             slot = ctfd.open_file(session, FILE).slot
@@ -81,7 +81,7 @@ class OverSocket(WithFront):
             self.assertTrue(all(answer == answers[0] for answer in answers))
 
     def test_front_ends(self) -> None:
-        front = self.front().started()
+        front = self.front().start()
         with ctfd.Client(socket=front.path) as client:
             session = client.session()
             session.ask("create")
@@ -91,14 +91,14 @@ class OverSocket(WithFront):
             self.assertIn("was closed", str(caught.exception))
 
     def test_connection_is_refused(self) -> None:
-        front = self.front("--connections", "1").started()
+        front = self.front("--connections", "1").start()
         with ctfd.Client(socket=front.path):
             with self.assertRaises(ctfd.Gone) as caught:
                 ctfd.Client(socket=front.path)
             self.assertIn("too many connections", str(caught.exception))
 
     def test_service_of_ones_own(self) -> None:
-        """As systemd's Accept=yes has it: then sessions are numbers on the one connection."""
+        """A service of one connection, as by systemd's Accept=yes: sessions are numbers on it."""
         path = os.path.join(self.folder, "own")
         with socket.socket(socket.AF_UNIX) as listener:
             listener.bind(path)
@@ -111,7 +111,7 @@ class OverSocket(WithFront):
             serving.join()
 
     def test_environment(self) -> None:
-        front = self.front().started()
+        front = self.front().start()
         before: Dict[str, str] = dict(os.environ)
         self.addCleanup(os.environ.update, before)
         self.addCleanup(os.environ.pop, "CTFD_SOCKET")

@@ -1,10 +1,10 @@
-"""Ends at any moment: the front is told to end, or is killed, while clients come and leave.
+"""Tests a front that gets SIGTERM, SIGINT or SIGKILL while clients come and leave.
 
 Each run starts a front and some clients. Some read all their replies, some slowly, some never; some
-leave with lines in flight and replies unread, some amid a line. At a random moment the front is
-told to end, or killed. Then it has to end with the status that its manual page says, without a
-panic, and with no file left behind where it was not killed; and whoever reads has been sent whole
-lines, each the reply to its next line.
+leave with unanswered lines and unread replies, some in the middle of a line. At a random moment the
+front gets one of the signals. It must then end with the status in its manual page, without a panic,
+and, unless it was killed, leave no file. Clients that read must have received complete lines, each
+the reply to their next line.
 """
 from __future__ import annotations
 
@@ -29,7 +29,7 @@ REPLIES = dict(zip((TAKE, KIND, LARGE), serve(TAKE + KIND + LARGE)))
 
 
 class Client(threading.Thread):
-    """A client that behaves in one of several ways, and what it was sent."""
+    """A client that behaves in one of several ways, and the replies that it got."""
 
     def __init__(self, path: str, chance: random.Random) -> None:
         super().__init__(daemon=True)
@@ -55,7 +55,7 @@ class Client(threading.Thread):
         self._socket.close()
 
     def wrong(self, is_killed: bool) -> Optional[str]:
-        """What is wrong with what it was sent, if anything."""
+        """An error in its replies, or None."""
         *lines, last = self.read.split(b"\n")
         for line, asked in zip(lines, self.sent):
             if line != REPLIES[asked]:
@@ -80,7 +80,7 @@ class Client(threading.Thread):
     def _read(self) -> None:
         if self.way in ("deaf", "leaves"):
             time.sleep(self._moment if self.way == "leaves" else 5 * self._moment)
-            return  # replies are unread, which resets the connection
+            return  # unread replies reset the connection
         while True:
             self._take(20_000 if self.way == "slow" else 65_536)
             if self.way == "slow":
@@ -101,11 +101,11 @@ class Run:
         self.processes = self.chance.choice((1, 1, 2))
         words = ["--grace", "5", "--processes", str(self.processes)]
         words += ["--withdraw"] if self.chance.random() < 0.5 else []
-        self.front = Front(folder, *words, path=f"front{seed}").started()
+        self.front = Front(folder, *words, path=f"front{seed}").start()
         self.clients = [Client(self.front.path, self.chance) for _ in range(8)]
 
     def go(self) -> Iterator[str]:
-        """Runs it; what was wrong."""
+        """Starts the clients, ends the front while they ask, and yields the errors."""
         for client in self.clients:
             client.start()
         time.sleep(self.chance.uniform(0, 0.06))
@@ -123,8 +123,8 @@ class Run:
         yield from self._left_behind(is_killed)
 
     def _left_behind(self, is_killed: bool) -> Iterator[str]:
-        """What should not be there afterwards."""
-        said = self.front.said
+        """Errors after the end: a panic, files that are left, wrong replies to clients."""
+        said = self.front.output
         if "panicked" in said or "rror" in said:
             yield said[-2000:]
         files = [self.front.path] * (not is_killed) + [f"{self.front.path}.lock"]
@@ -139,7 +139,7 @@ class Run:
 
 
 def pytest_generate_tests(metafunc: pytest.Metafunc) -> None:
-    """With --whole there are a thousand runs more."""
+    """With --whole there are a thousand more runs."""
     if "number" in metafunc.fixturenames:
         whole = range(1000, 2000) if metafunc.config.getoption("--whole") else ()
         metafunc.parametrize("number", [*range(1, 41), *whole])

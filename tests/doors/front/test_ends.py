@@ -1,4 +1,4 @@
-"""How the front begins and ends, and what becomes of clients when a process is killed."""
+"""How the front begins and ends, and what happens to clients when a process is killed."""
 from __future__ import annotations
 
 import os
@@ -18,7 +18,7 @@ KIND = ask("kind", d=1, t=1)
 
 
 class Load:
-    """Clients that ask without end, each in a thread, till their sockets are closed."""
+    """Clients that ask without end, each in a thread, until their sockets are closed."""
 
     def __init__(self, front: Front, count: int = 4) -> None:
         self.talkers = [Talker(front.path) for _ in range(count)]
@@ -40,30 +40,30 @@ class Load:
             talker.close()
 
     def has_ended(self) -> bool:
-        """Whether all have been told by a closed socket."""
+        """Whether all clients have noticed the closed socket."""
         for thread in self.threads:
             thread.join(PATIENCE)
         return not any(thread.is_alive() for thread in self.threads)
 
 
 class Kills(WithFront):
-    """A process is killed in the middle of a load."""
+    """A process is killed under load."""
 
     def test_front(self) -> None:
-        """Clients are told by their sockets, and the next front, with the same words, begins anew
-        at the same path: that is what a unit does with Restart=on-failure."""
+        """Clients see their sockets closed, and the next front, with the same arguments, starts at
+        the same path, as by a unit with Restart=on-failure."""
         for _ in range(3):
-            front = self.front().started()
+            front = self.front().start()
             load = Load(front)
             front.process.kill()
             self.assertTrue(load.has_ended())
             self.assertTrue(os.path.exists(front.path))
-        talker = self.talker(self.front().started())
+        talker = self.talker(self.front().start())
         self.assertEqual(talker.number(), 1)
         self.assertIn(b'"types":526', talker.ask(TAKE))
 
     def test_clients(self) -> None:
-        front = self.front("--withdraw").started()
+        front = self.front("--withdraw").start()
         code = (f"import sys; sys.path.insert(0, {str(Path(__file__).parent)!r})\n"
                 "from support import *\n"
                 f"t = Talker({front.path!r})\n"
@@ -85,10 +85,10 @@ class Kills(WithFront):
 
 
 class Ends(WithFront):
-    """It is told to end, or its clients leave."""
+    """The front is ended by a signal, or its clients leave."""
 
     def test_answers_what_was_read(self) -> None:
-        front = self.front().started()
+        front = self.front().start()
         talkers = [self.talker(front) for _ in range(5)]
         for talker in talkers:
             talker.ask(TAKE)
@@ -102,19 +102,19 @@ class Ends(WithFront):
         self.assertFalse(os.path.exists(front.path))
 
     def test_under_load(self) -> None:
-        front = self.front().started()
+        front = self.front().start()
         load = Load(front)
         self.assertEqual(front.end(), 0)
         self.assertTrue(load.has_ended())
 
     def test_beside_a_client_that_has_left(self) -> None:
-        """It left with lines that are not answered, and the others' replies come all the same."""
-        front = self.front().started()
+        """If a client left with unanswered lines, the others still get their replies."""
+        front = self.front().start()
         gone, honest = Talker(front.path), self.talker(front)
         large = ask("bytes", **{"d": 1, "from": 0, "count": 20_000})
         for talker in (gone, honest):
             talker.ask(TAKE)
-        gone.send(KIND)  # a reply that it does not read, so that its end breaks the connection
+        gone.send(KIND)  # an unread reply, so its end resets the connection
         until(lambda: "lines 3," in front.tell())
         with standing(front):
             for talker in (gone, honest):
@@ -125,10 +125,10 @@ class Ends(WithFront):
             self.assertIn(b'"length"', honest.line())
         self.assertEqual(honest.line(), b"")
         self.assertEqual(front.process.wait(PATIENCE), 0)
-        self.assertNotIn("panicked", front.said)
+        self.assertNotIn("panicked", front.output)
 
     def test_client_that_does_not_read_holds_up_no_end(self) -> None:
-        front = self.front("--grace", "1").started()
+        front = self.front("--grace", "1").start()
         deaf = self.talker(front)
         deaf.ask(TAKE)
         deaf.send(200 * ask("bytes", **{"d": 1, "from": 0, "count": 20_000}))
@@ -138,16 +138,16 @@ class Ends(WithFront):
         self.assertLess(time.monotonic() - began, 20)
 
     def test_last_piece_is_a_line(self) -> None:
-        talker = self.talker(self.front().started())
+        talker = self.talker(self.front().start())
         talker.send(HAND_IN + KIND[:-1])
         talker.socket.shutdown(socket.SHUT_WR)
         self.assertEqual([talker.line() for _ in range(4)][2:],
                          [b'{"ok":{"kind":"integer"},"s":1}', b""])
 
     def test_reset_at_the_end(self) -> None:
-        """Without --withdraw a publication stays; what was taken of it stays in any case."""
+        """Without --withdraw a publication stays; sessions that took it keep it in any case."""
         for words, wanted in (((), b'"types":1'), (("--withdraw",), b"NotPublished")):
-            front = self.front(*words).started()
+            front = self.front(*words).start()
             owner, other = self.talker(front), self.talker(front)
             number = owner.number()
             owner.ask(HAND_IN, ask("publish", d=1, name="a"), ask("publish", d=1, name="b"),
@@ -163,35 +163,35 @@ class Ends(WithFront):
 
 
 class Begins(WithFront):
-    """The socket, and what stands in the way."""
+    """The socket, and obstacles at its path."""
 
-    def refused(self, *words: str, status: int = 5) -> str:
+    def refusal(self, *words: str, status: int = 5) -> str:
         front = self.front(*words, path="other")
         self.assertEqual(front.process.wait(PATIENCE), status)
-        self.assertTrue(all(line.startswith("ctfd") for line in front.said.splitlines()))
-        return front.said
+        self.assertTrue(all(line.startswith("ctfd") for line in front.output.splitlines()))
+        return front.output
 
     def test_somebody_listens(self) -> None:
-        front = self.front().started()
-        self.assertIn("somebody listens there already", self.refused("--socket", front.path))
+        front = self.front().start()
+        self.assertIn("somebody listens there already", self.refusal("--socket", front.path))
         self.assertEqual(self.talker(front).number() > 0, True)
 
     def test_file_that_is_no_socket(self) -> None:
         path = os.path.join(self.folder, "plain")
         Path(path).write_text("kept")
-        self.assertIn("is no socket", self.refused("--socket", path))
+        self.assertIn("is no socket", self.refusal("--socket", path))
         self.assertEqual(Path(path).read_text(), "kept")
 
     def test_folder_that_is_not_there(self) -> None:
-        self.assertIn("No such file", self.refused("--socket", f"{self.folder}/no/socket"))
+        self.assertIn("No such file", self.refusal("--socket", f"{self.folder}/no/socket"))
 
     def test_group_that_is_not_there(self) -> None:
-        self.assertIn("no group nobodys", self.refused("--group", "nobodys"))
+        self.assertIn("no group nobodys", self.refusal("--group", "nobodys"))
 
     def test_file_that_is_refused(self) -> None:
         bad = os.path.join(self.folder, "bad.ctf")
         Path(bad).write_text("no dictionary")
-        said = self.refused(f"bad={bad}", status=1)
+        said = self.refusal(f"bad={bad}", status=1)
         self.assertIn("BadMagic", said)
         self.assertIn("ended with status 1 before it answered", said)
         self.assertFalse(os.path.exists(os.path.join(self.folder, "other")))
@@ -204,15 +204,14 @@ class Begins(WithFront):
             self.assertIn(words[0], ended.stderr)
 
     def test_words_of_older_scripts(self) -> None:
-        """They named the program of a service, had it started again, and bounded what waited for
-        it."""
-        front = self.front("--service", "/no/ctfd", "--restart", "--lines", "50").started()
+        """Options that named a service's program, restarted it, and limited its queue."""
+        front = self.front("--service", "/no/ctfd", "--restart", "--lines", "50").start()
         for word in ("restart", "service", "lines"):
-            self.assertIn(f"--{word} is without effect: ", front.said)
+            self.assertIn(f"--{word} is without effect: ", front.output)
         self.assertIn(b'"types":526', self.talker(front).ask(TAKE))
 
     def test_program_in_place_of_a_section(self) -> None:
-        said = self.refused(f"own={COMMAND}", status=1)
+        said = self.refusal(f"own={COMMAND}", status=1)
         self.assertIn(f"`ctfd-convert {COMMAND} OUT`", said)
 
     def test_no_socket(self) -> None:
@@ -222,7 +221,7 @@ class Begins(WithFront):
 
     def test_mode(self) -> None:
         for words, mode in (((), 0o660), (("--mode", "600"), 0o600)):
-            front = self.front(*words, "--group", str(os.getgid())).started()
+            front = self.front(*words, "--group", str(os.getgid())).start()
             found = os.stat(front.path)
             self.assertEqual(stat.S_IMODE(found.st_mode), mode)
             self.assertEqual(found.st_gid, os.getgid())
@@ -259,16 +258,16 @@ class Begins(WithFront):
         self.assertIn("does not listen", ended.stderr)
 
 
-class Told(WithFront):
+class Statistics(WithFront):
     """Statistics."""
 
     def test_counts(self) -> None:
-        front = self.front().started()
+        front = self.front().start()
         talker = self.talker(front)
         talker.ask(TAKE, KIND, b"no\n", ask("kind", d=9, t=1), ask("kind", d=9, t=1))
         front.until_told("connections 1 of 1, lines 5,", "NoSlot 2, NotJson 1", "dearest: ",
                          "session 1, ")
 
     def test_again_and_again(self) -> None:
-        front = self.front("--stats", "0.2").started()
-        until(lambda: front.said.count("connections 0 of 0") >= 3)
+        front = self.front("--stats", "0.2").start()
+        until(lambda: front.output.count("connections 0 of 0") >= 3)

@@ -1,11 +1,11 @@
 """Lines of 200 clients while sockets are cut, files run out, and memory is refused.
 
-Each line names a session that no other line names, which stands in its reply: so each reply tells
-which line it answers. The types of each client have a name of their own, which replies have too.
-A connection is replied to its lines in their order, each once and without a gap, until it is
-closed; one that its client ends is replied to all of them. What was granted is there afterwards:
-each publication whose reply came is taken at the end. Where memory is refused a line may be
-answered Memory, and a connection closed with HeldFull.
+Each line names a session that no other line names, and the reply names it too, so each reply shows
+which line it answers. The types of each client have a name of their own, which replies contain. A
+connection gets replies to its lines in their order, each once and without a gap, until it is
+closed; one that its client ends gets all of them. Granted requests last: each publication whose
+reply came is taken at the end. When memory is refused, the reply to a line may be Memory, and a
+connection may be closed with HeldFull.
 """
 from __future__ import annotations
 
@@ -26,7 +26,7 @@ from typing import Counter as Counts, Deque, Dict, Iterator, List, Tuple
 
 import pytest
 
-from .hostile import handed_in, written
+from .hostile import handed_in, request_text
 from .support import PATIENCE, Front, Talker, ask
 
 CLIENTS = 200
@@ -50,14 +50,14 @@ class Wrong(Exception):
 
 
 class Connection:
-    """One connection of a client: what it asks, and what it is to be replied."""
+    """One connection of a client: what it asks, and the replies that it expects."""
 
     def __init__(self, path: str, types: int, chance: random.Random, seen: Counts[str]) -> None:
         self.socket = socket.socket(socket.AF_UNIX)
         self.socket.setblocking(False)
         self.socket.connect(path)
         self.types, self.chance, self.seen = types, chance, seen
-        self.is_cut = chance.random() < 0.5  # or it is ended, and all of its lines answered
+        self.is_cut = chance.random() < 0.5  # or it is ended, with all lines answered
         self.name, self.number, self.is_published = f"v{next(numbers)}", 0, False
         self.is_refused = self.is_poor = self.has_ended = False
         self.wanted: Deque[Tuple[int, bytes]] = deque()
@@ -66,7 +66,7 @@ class Connection:
         self.wanted.append((0, NUMBERED))
         for fields in (*handed_in(types), {"op": "publish", "d": 1, "name": self.name}):
             begins = PUBLISHED if fields["op"] == "publish" else GRANTED
-            self._ask(written(fields)[1:-1].encode(), begins)
+            self._ask(request_text(fields)[1:-1].encode(), begins)
         self._data = memoryview(b"".join(self._unsent))
 
     def _ask(self, fields: bytes, begins: bytes) -> None:
@@ -75,7 +75,7 @@ class Connection:
         self.wanted.append((number, begins))
 
     def _ask_some(self) -> None:
-        """Questions, of which half are answered by the client's own name."""
+        """Writes questions; replies to half of them contain the client's own name."""
         self._unsent = []
         own = b'{"ok":{"name":"of_%d"}' % self.types
         for _ in range(BATCH):
@@ -91,11 +91,11 @@ class Connection:
         self._batches -= 1
 
     def end(self) -> None:
-        """It asks no more."""
+        """Stops asking."""
         self._batches, self.is_cut = 0, False
 
     def write(self) -> bool:
-        """Writes a piece; whether the connection goes on."""
+        """Writes a piece. Returns whether the connection goes on."""
         if not self._data and self._batches > 0 and not self.is_poor:
             self._ask_some()
         if self._data:
@@ -111,10 +111,10 @@ class Connection:
         return True
 
     def read(self) -> bool:
-        """Reads and judges; whether the connection goes on."""
+        """Reads and checks replies. Returns whether the connection goes on."""
         try:
             data = self.socket.recv(PIECE)
-        except ConnectionResetError:  # it was closed with lines that it had not read
+        except ConnectionResetError:  # it was closed with unread lines
             data = b""
         *replies, self._rest = (self._rest + data).split(b"\n")
         for reply in replies:
@@ -125,7 +125,7 @@ class Connection:
         return bool(data)
 
     def _judge(self, reply: bytes) -> None:
-        """Whether a reply is the one to the next line."""
+        """Checks that a reply is the one to the next line."""
         if reply == HELD_FULL:
             self.is_refused = True
             self.seen["HeldFull"] += 1
@@ -150,11 +150,11 @@ class Connection:
 
 
 class Load:
-    """A front, its clients, and what befalls it."""
+    """A front, its clients, and the faults that it suffers."""
 
     def __init__(self, folder: str, count: int, seed: int) -> None:
         self.chance, self._count = random.Random(seed), count
-        self.front = Front(folder, *WORDS).started()
+        self.front = Front(folder, *WORDS).start()
         self.seen: Counts[str] = Counter()
         self.published: List[Tuple[int, str, int]] = []
         self._ready = selectors.DefaultSelector()
@@ -163,17 +163,17 @@ class Load:
         self._before = {name: resource.prlimit(pid, name) for name in LIMITS}
 
     @property
-    def left(self) -> int:
-        """How many lines are to be answered still."""
+    def unanswered_count(self) -> int:
+        """The number of lines that are still to be answered."""
         return max(0, self._count - self.seen["answered"])
 
     def run(self) -> None:
-        """Has lines answered until there were enough, and all clients end."""
+        """Runs until enough lines were answered, and all clients have ended."""
         open_now = 0
         free = list(range(1, CLIENTS + 1))
         quiet = time.monotonic()
-        while self.left or open_now:
-            while free and self.left and self._connects(free[-1]):
+        while self.unanswered_count or open_now:
+            while free and self.unanswered_count and self._connects(free[-1]):
                 free.pop()
                 open_now += 1
             events = self._ready.select(0.1)
@@ -185,20 +185,20 @@ class Load:
                 connection: Connection = key.data
                 goes_on = not mask & selectors.EVENT_READ or connection.read()
                 if goes_on and mask & selectors.EVENT_WRITE:
-                    if not self.left:
+                    if not self.unanswered_count:
                         connection.end()
                     goes_on = connection.write()
                 if goes_on and connection.has_ended:
                     self._ready.modify(connection.socket, selectors.EVENT_READ, connection)
                 if not goes_on:
-                    self._closed(connection)
+                    self._close(connection)
                     free.append(connection.types)
                     open_now -= 1
             self._befall()
         self._limit({})
 
     def _connects(self, types: int) -> bool:
-        """Whether a connection can be had: not where too many wait to be taken."""
+        """Whether a connection can be opened; false if too many wait to be accepted."""
         try:
             connection = Connection(self.front.path, types, self.chance, self.seen)
         except BlockingIOError:
@@ -208,24 +208,25 @@ class Load:
         self.seen["connections"] += 1
         return True
 
-    def _closed(self, connection: Connection) -> None:
+    def _close(self, connection: Connection) -> None:
         self._ready.unregister(connection.socket)
         connection.socket.close()
         if connection.is_published:
             self.published.append((connection.number, connection.name, connection.types))
 
     def _befall(self) -> None:
-        """Sometimes the system has no more files, or no more memory, until the next time."""
+        """Sometimes takes away files or memory from the front, until the next time."""
         if self.seen["answered"] < self._next_fault:
             return
         self._next_fault += BETWEEN
-        fault = self.chance.choice(("files", "memory", "memory", "nothing")) if self.left else "end"
+        faults = ("files", "memory", "memory", "nothing") if self.unanswered_count else ("end",)
+        fault = self.chance.choice(faults)
         self._limit(dict(self._short_of(fault)))
         self.seen["short"] = int(fault == "memory")
         self.seen[f"times {fault}"] += 1
 
     def _short_of(self, fault: str) -> Iterator[Tuple[int, int]]:
-        """Limits that the front has reached already, or soon reaches."""
+        """Limits that the front has reached already, or reaches soon."""
         process = Path(f"/proc/{self.front.process.pid}")
         if fault == "files":
             yield resource.RLIMIT_NOFILE, len(list(process.joinpath("fd").iterdir()))
@@ -236,12 +237,12 @@ class Load:
             yield resource.RLIMIT_DATA, (int(sizes["VmData"]) + more) << 10
 
     def _limit(self, limits: Dict[int, int]) -> None:
-        """Limits what the front may have, and gives back all else."""
+        """Sets limits for the front, and restores all others."""
         for name, (soft, hard) in self._before.items():
             resource.prlimit(self.front.process.pid, name, (limits.get(name, soft), hard))
 
     def lost(self) -> int:
-        """How many publications that were granted can't be taken: each is in one shard."""
+        """The number of granted publications that cannot be taken; each is in one shard."""
         talkers = [Talker(self.front.path) for _ in range(SHARDS)]
         lost = 0
         for owner, name, types in self.published:
@@ -253,7 +254,7 @@ class Load:
 
 
 def pytest_generate_tests(metafunc: pytest.Metafunc) -> None:
-    """With --whole there are a million lines of another seed too."""
+    """With --whole there are also a million lines from another seed."""
     if "count" in metafunc.fixturenames:
         whole = [(1_000_000, 2)] if metafunc.config.getoption("--whole") else []
         metafunc.parametrize("count, seed", [(100_000, 1), *whole])
@@ -268,8 +269,8 @@ def test_faults(count: int, seed: int) -> None:
             assert load.front.end() == 0
         except BaseException:
             load.front.end(signal.SIGKILL)
-            print(load.front.said[-2000:])
+            print(load.front.output[-2000:])
             raise
-        assert "panicked" not in load.front.said
+        assert "panicked" not in load.front.output
     told = ", ".join(f"{name} {number}" for name, number in load.seen.most_common())
     print(f"{CLIENTS} clients, {len(load.published)} publications, {told}")

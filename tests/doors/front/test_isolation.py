@@ -1,10 +1,10 @@
-"""Isolation from outside: each client of a front is replied what a service of its own replies.
+"""Isolation, tested from outside: each client of a front gets the replies of a service of its own.
 
 Clients send valid and hostile lines through one front, in random order and in pieces of random
-sizes, and publish for each other, withdraw and take as they come. What each is replied is compared,
-byte for byte, with a `ctfd serve` of its own, which is given the client's lines, and before each
-take the publication that it found. A take tells which: an owner's publications differ in their
-number of types.
+sizes. They publish for each other, withdraw and take. The replies to each are compared, byte for
+byte, with those of a separate `ctfd serve`, which is given the client's lines, and before each take
+the publication that the take has found. The reply to a take shows which: an owner's publications
+differ in their number of types.
 """
 from __future__ import annotations
 
@@ -18,7 +18,7 @@ from typing import Counter as Counts, Iterator, List, Sequence
 
 import pytest
 
-from .hostile import Fields, Sender, Sent, handed_in, written
+from .hostile import Fields, Sender, SentLine, handed_in, request_text
 from .support import Front, Talker, serve
 
 NAMES = ("base", "more", "x")
@@ -26,21 +26,21 @@ FIRST_OF_OTHERS = 1_000_000
 CLIENTS, LINES = 200, 100_000
 EACH = 4
 LUA_TYPES = 526
-# Many clients with lines of 1 MB are no reason to close one here.
+# Many clients with lines of 1 MB should not be closed here.
 ROOM = ("--memory", "2000000000", "--user-memory", "2000000000")
 
 
 class Client:
-    """One client: what it sends, and what it has been replied."""
+    """A client: what it sends, and the replies that it got."""
 
     def __init__(self, path: str) -> None:
         self.talker = Talker(path)
         self.number = self.talker.number()
-        self.sent: List[Sent] = []
+        self.sent: List[SentLine] = []
         self.unsent = memoryview(b"")
         self.read: List[bytes] = []
 
-    def begin(self, sent: List[Sent], with_end: bool) -> None:
+    def begin(self, sent: List[SentLine], with_end: bool) -> None:
         self.sent = sent
         data = b"\n".join(one.line for one in sent)
         is_last_empty = not sent[-1].line
@@ -48,7 +48,7 @@ class Client:
         self.talker.socket.setblocking(False)
 
     def write(self, size: int) -> bool:
-        """Writes a piece; whether more is to be written."""
+        """Writes a piece. Returns whether there is more to write."""
         try:
             self.unsent = self.unsent[self.talker.socket.send(self.unsent[:size]):]
         except BlockingIOError:
@@ -58,7 +58,7 @@ class Client:
         return bool(self.unsent)
 
     def take(self) -> bool:
-        """Reads a piece; whether more is to come."""
+        """Reads a piece. Returns whether more may come."""
         data = self.talker.socket.recv(1 << 16)
         self.read.append(data)
         return bool(data)
@@ -70,7 +70,8 @@ class Client:
 
 def requests(number: int, others: Sequence[int], count: int,
              chance: random.Random) -> Iterator[Fields]:
-    """What a client asks: it opens, publishes and withdraws its own, takes and asks any."""
+    """The requests of a client: it opens, publishes and withdraws its own dictionaries, and takes
+    and asks any."""
     is_first = True
     while count > 0:
         if is_first or chance.random() < 0.02:
@@ -84,7 +85,7 @@ def requests(number: int, others: Sequence[int], count: int,
 
 
 def types_of(number: int, place: int) -> int:
-    """How many types a dictionary of a client has: no two have as many, nor as many as lua."""
+    """The number of types of a client's dictionary; it is unique, and different from lua's."""
     types = 1 + (number - 2) * EACH + place
     return types + (types >= LUA_TYPES)
 
@@ -112,26 +113,28 @@ def any_request(number: int, others: Sequence[int], chance: random.Random) -> Fi
     return chance.choice([{"op": "reset"}, {"op": "nothing"}])
 
 
-def lines(client: Client, others: Sequence[int], count: int, chance: random.Random) -> List[Sent]:
-    """What one client sends."""
+def lines(client: Client, others: Sequence[int], count: int,
+          chance: random.Random) -> List[SentLine]:
+    """The lines that one client sends."""
     own = chance.choice((client.number, 1, FIRST_OF_OTHERS + client.number))
     sender = Sender(client.number, own, others, chance)
-    made: List[Sent] = []
+    made: List[SentLine] = []
     for fields in requests(client.number, [n for n in others if n != client.number], count,
                            chance):
-        # Halves of two dictionaries could make one that nobody could tell from another's.
+        # Halves of two dictionaries could form one that looks like another client's.
         most = 0.85 if fields["op"] in ("clear", "part", "open") else 1
         kind = most * chance.random()
-        made.append(sender.plain(fields) if kind < 0.6 else
-                    sender.disguised(fields) if kind < 0.85 else sender.refused(fields))
+        made.append(sender.plain_request(fields) if kind < 0.6 else
+                    sender.disguised_request(fields) if kind < 0.85 else
+                    sender.refused_request(fields))
     if chance.random() < 0.1:
-        made[chance.randrange(len(made))] = sender.long()
+        made[chance.randrange(len(made))] = sender.long_line()
         made[chance.randrange(len(made))] = sender.longest()
     return made
 
 
 def exchange(clients: Sequence[Client], chance: random.Random) -> None:
-    """All clients write and read, in random order and sizes."""
+    """Lets all clients write and read, in random order and sizes."""
     with selectors.DefaultSelector() as ready:
         for client in clients:
             ready.register(client.talker.socket, 3, client)
@@ -149,8 +152,8 @@ def exchange(clients: Sequence[Client], chance: random.Random) -> None:
                         ready.modify(client.talker.socket, selectors.EVENT_READ, client)
 
 
-class Own:
-    """The service of a client's own: what it is given, and which of its replies count."""
+class OwnService:
+    """A client's own service: its lines, and which of its replies count."""
 
     def __init__(self, own: int) -> None:
         self.given: List[bytes] = []
@@ -162,7 +165,7 @@ class Own:
         self.counts.append(counts)
 
     def before_take(self, owner: int, name: str, reply: bytes) -> None:
-        """Makes what the take has found: what its owner had published by that name, if anything."""
+        """Makes what the take has found: the owner's publication of that name, if there was one."""
         if owner in (0, self._own):
             return
         told = json.loads(reply)
@@ -170,10 +173,10 @@ class Own:
             return
         asked: List[Fields] = [{"op": "withdraw", "name": name}, {"op": "reset"}]
         if "ok" in told:
-            asked += [*found(told["ok"]["types"]),
+            asked += [*recipe_of(told["ok"]["types"]),
                       {"op": "publish", "d": 1, "name": name}]
         for fields in asked:
-            self.ask(written({"s": owner, **fields}).encode(), False)
+            self.ask(request_text({"s": owner, **fields}).encode(), False)
 
     def replies(self) -> List[bytes]:
         told = serve(b"\n".join(self.given) + b"\n")
@@ -181,21 +184,21 @@ class Own:
         return [reply for reply, counts in zip(told, self.counts) if counts]
 
 
-def found(types: int) -> List[Fields]:
-    """How a dictionary is made anew that a take has found: by its number of types."""
+def recipe_of(types: int) -> List[Fields]:
+    """The requests that make the dictionary that a take has found, from its number of types."""
     if types == LUA_TYPES:
         return [{"op": "take", "owner": 0, "name": "lua"}]
     return handed_in(types) if types else [{"op": "create"}]
 
 
 def wrong(client: Client) -> Iterator[str]:
-    """Where a client was replied otherwise than by a service of its own."""
+    """Differences between a client's replies and those of its own service."""
     replies = client.replies
     if len(replies) != len(client.sent):
         yield f"session {client.number}: {len(replies)} replies to {len(client.sent)} lines"
         return
-    own = Own(next(sent.named for sent in client.sent if sent.line == sent.own and sent.named)
-              or 0)
+    named = (sent.named for sent in client.sent if sent.line == sent.own and sent.named)
+    own = OwnService(next(named) or 0)
     for sent, reply in zip(client.sent, replies):
         if sent.took:
             own.before_take(*sent.took, reply)
@@ -208,7 +211,7 @@ def wrong(client: Client) -> Iterator[str]:
 
 
 def pytest_generate_tests(metafunc: pytest.Metafunc) -> None:
-    """With --whole there are other seeds too, with twice as many lines."""
+    """With --whole there are more seeds, with twice as many lines."""
     if "seed" in metafunc.fixturenames:
         metafunc.parametrize("seed", range(1, 7 if metafunc.config.getoption("--whole") else 2))
 
@@ -216,7 +219,7 @@ def pytest_generate_tests(metafunc: pytest.Metafunc) -> None:
 def test_isolation(seed: int) -> None:
     chance, seen, total = random.Random(seed), Counter[str](), LINES if seed == 1 else 2 * LINES
     with tempfile.TemporaryDirectory() as folder:
-        front = Front(folder, *ROOM).started()
+        front = Front(folder, *ROOM).start()
         first = Talker(front.path)
         assert first.number() == 1
         clients = [Client(front.path) for _ in range(CLIENTS)]

@@ -1,7 +1,7 @@
-"""The front behind nginx and haproxy, as docs/SERVING.md shows it: TCP on loopback with TLS and
-certificates of clients, and several fronts of which each client always meets the same.
+"""The front behind nginx and haproxy, as in docs/SERVING.md: TCP on loopback with TLS and client
+certificates, and several fronts, of which each client always reaches the same one.
 
-What is run are the page's own blocks, with the test's ports and files in the place of theirs.
+The tests run the page's own blocks, with their own ports and files.
 """
 from __future__ import annotations
 
@@ -41,7 +41,7 @@ def free_port() -> str:
 
 
 class Network(WithFront):
-    """A folder with certificates, a front or two, and a program in front of them."""
+    """A folder with certificates, one or two fronts, and a program in front of them."""
 
     def setUp(self) -> None:
         super().setUp()
@@ -52,7 +52,7 @@ class Network(WithFront):
             self.certify(name, ["-CA", "authority.crt", "-CAkey", "authority.key"])
 
     def certify(self, name: str, by: List[str]) -> None:
-        """Makes a key and a certificate, by an authority or by itself."""
+        """Makes a key and a certificate, signed by an authority or by itself."""
         self.run_here("openssl", "req", "-x509", "-newkey", "ec", "-pkeyopt",
                       "ec_paramgen_curve:P-256", "-nodes", "-days", "2", "-subj", f"/CN={name}",
                       "-keyout", f"{name}.key", "-out", f"{name}.crt", *by)
@@ -76,7 +76,7 @@ class Network(WithFront):
         self.assertIsNone(program.poll(), log.read_text())
 
     def here(self, block: str) -> str:
-        """A block with the test's own port, on loopback alone, and its own files."""
+        """A block with the test's own port, on loopback only, and its own files."""
         places = {"types.example:7700": "HERE", ":7700": "HERE", "7700": "HERE",
                   "HERE": f"127.0.0.1:{self.port}", "/etc/ctfd": self.folder,
                   "/run/ctfd-f": f"{self.folder}/ctfd-f"}
@@ -85,7 +85,7 @@ class Network(WithFront):
         return block
 
     def listens(self, text: str) -> bool:
-        """Whether a program with some words does."""
+        """Whether the program with this configuration listens."""
         if "listen unix:" in text:
             return Path(self.folder, "ctfd-far.sock").exists()
         try:
@@ -114,8 +114,8 @@ class Network(WithFront):
         self.begin(name, "", "/usr/sbin/haproxy", "-db", "-f")
 
     def one_front(self, begin: Callable[[str], None], name: str) -> None:
-        """Lines pass, replies come in their order, and who has no certificate is let in nowhere."""
-        front = self.front("--mode", "666", path="ctfd-front.sock").started()
+        """Lines pass, replies come in order, and a client without a certificate is refused."""
+        front = self.front("--mode", "666", path="ctfd-front.sock").start()
         begin(name)
         for who in ("ann", "bob"):
             client = self.client(who)
@@ -131,8 +131,8 @@ class Network(WithFront):
         front.until_told(f"lines {2 * (LINES + 2)},")
 
     def two_fronts(self, begin: Callable[[str], None], name: str) -> None:
-        """Each client always meets the same front, and both have clients."""
-        fronts = [self.front("--mode", "666", path=f"ctfd-front-{number}.sock").started()
+        """Each client always reaches the same front, and both fronts have clients."""
+        fronts = [self.front("--mode", "666", path=f"ctfd-front-{number}.sock").start()
                   for number in (1, 2)]
         begin(name)
         places: Dict[str, int] = {}
@@ -154,7 +154,7 @@ class Network(WithFront):
 
 
 def lines(client: ssl.SSLSocket, count: int) -> List[bytes]:
-    """So many lines that come."""
+    """The next `count` lines."""
     data = b""
     while data.count(b"\n") < count:
         more = client.recv(65_536)
@@ -164,7 +164,7 @@ def lines(client: ssl.SSLSocket, count: int) -> List[bytes]:
 
 
 def lines_of(front: Front) -> int:
-    """How many lines a front has answered."""
+    """The number of lines that a front has answered."""
     return int(front.tell().split("lines ")[1].split(",")[0])
 
 
@@ -177,8 +177,8 @@ class Nginx(Network):
         self.two_fronts(self.nginx, "nginx of several")
 
     def test_client_in_python(self) -> None:
-        """Over a Unix socket of its own machine."""
-        self.front("--mode", "666", path="ctfd-front.sock").started()
+        """Over a Unix socket of the client's machine."""
+        self.front("--mode", "666", path="ctfd-front.sock").start()
         self.nginx("nginx")
         self.nginx("nginx of a client")
         with ctfd.Client(socket=f"{self.folder}/ctfd-far.sock") as client:

@@ -1,4 +1,4 @@
-"""Several services in one front: rooms, where clients meet."""
+"""Several services in one front: rooms, in which clients meet."""
 from __future__ import annotations
 
 import json
@@ -21,22 +21,22 @@ def room(name: str, **fields: object) -> bytes:
 
 
 class Rooms(WithFront):
-    def entered(self, front: Front, name: str) -> Talker:
+    def enter(self, front: Front, name: str) -> Talker:
         talker = self.talker(front)
         self.assertEqual(talker.ask(room(name, s=1)), b'{"ok":{"room":"%b"},"s":1}' % name.encode())
         return talker
 
     def test_clients_of_a_room_meet(self) -> None:
-        """For any names; those without a room, or of another, may find nothing."""
-        front = self.front("--processes", str(SERVICES)).started()
+        """Clients in a room of any name find what others there publish; clients outside may not."""
+        front = self.front("--processes", str(SERVICES)).start()
         services: Set[int] = set()
         for number in range(12):
             name = f"group-{number}"
-            owner = self.entered(front, name)
+            owner = self.enter(front, name)
             session = owner.number()
             owner.ask(PUBLISH)
             for _ in range(3):
-                taker = self.entered(front, name)
+                taker = self.enter(front, name)
                 self.assertIn(b'"types":1', taker.ask(ask("take", owner=session, name="base")))
         told = front.tell()
         services = {int(part.split(" has ")[1].split()[0])
@@ -44,7 +44,7 @@ class Rooms(WithFront):
         self.assertNotIn(0, services, told)
 
     def test_operator_is_met_anywhere(self) -> None:
-        front = self.front("--processes", str(SERVICES)).started()
+        front = self.front("--processes", str(SERVICES)).start()
         names = [(task / "comm").read_text() for task in tasks(front)]
         self.assertEqual(sum(name.startswith("shard ") for name in names), SERVICES)
         talkers = [self.talker(front) for _ in range(2 * SERVICES)]
@@ -53,26 +53,26 @@ class Rooms(WithFront):
         self.assertEqual(front.tell().count("has 2 connections"), SERVICES)
 
     def test_numbers_differ_over_services(self) -> None:
-        front = self.front("--processes", str(SERVICES)).started()
+        front = self.front("--processes", str(SERVICES)).start()
         numbers = [self.talker(front).number() for _ in range(20)]
         self.assertEqual(len(set(numbers)), 20)
 
     def test_room_is_asked_for_first(self) -> None:
-        """A later one, and one without a right name, is no request."""
-        talker = self.talker(self.front("--processes", "2").started())
+        """A later request for a room, and one with a wrong name, is refused."""
+        talker = self.talker(self.front("--processes", "2").start())
         for line in (room("a b"), room(""), room("x" * 65), room("a"), b'{"op":"room"}\n'):
             self.assertIn(b'"BadRequest"', talker.ask(line))
 
     def test_room_with_one_service(self) -> None:
-        """The same lines do whatever the number of services."""
-        front = self.front().started()
+        """The same lines work with any number of services."""
+        front = self.front().start()
         talker = self.talker(front)
         number = json.loads(talker.ask(room("a")))["s"]
         self.assertEqual(number, talker.number())
         self.assertIn(b'"types":526', talker.ask(TAKE))
 
     def test_lines_behind_the_room(self) -> None:
-        talker = self.talker(self.front("--processes", "2").started())
+        talker = self.talker(self.front("--processes", "2").start())
         talker.send(room("a", s=1) + TAKE + ask("kind", d=1, t=218) + b'{"s":1,"op":"inf')
         talker.send(b'o","d":1}\n')
         told = [talker.line() for _ in range(4)]
@@ -80,7 +80,7 @@ class Rooms(WithFront):
                           b'"child"' in told[3]], [True] * 4, told)
 
     def test_python_client(self) -> None:
-        front = self.front("--processes", str(SERVICES)).started()
+        front = self.front("--processes", str(SERVICES)).start()
         path = str(TOP / "examples" / "lua.ctf")
         for name in ("one", "two", "three"):
             with ctfd.Client(socket=front.path, room=name) as client:

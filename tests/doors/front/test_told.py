@@ -1,5 +1,4 @@
-"""What an operator sees: the file of statistics, as Prometheus reads it, and levels of the journal.
-"""
+"""The operator's view: the file of statistics, as Prometheus reads it, and the journal's levels."""
 from __future__ import annotations
 
 import os
@@ -24,10 +23,10 @@ Labels = Tuple[Tuple[str, str], ...]
 
 
 class Metrics(WithFront):
-    def seen(self) -> str:
-        """A file of statistics, behind some requests and refusals."""
+    def page(self) -> str:
+        """A file of statistics, after some requests and refusals."""
         path = os.path.join(self.folder, "front.prom")
-        front = self.front("--metrics", path, "--processes", "2").started()
+        front = self.front("--metrics", path, "--processes", "2").start()
         talkers = [self.talker(front), self.talker(front)]
         for talker in talkers:
             talker.ask(HAND_IN, KIND, ask("kind", d=9, t=1), b"no\n")
@@ -49,7 +48,7 @@ class Metrics(WithFront):
     def test_read_by_the_client_of_prometheus(self) -> None:
         if text_string_to_metric_families is None:
             self.skipTest("python3-prometheus-client is not there")
-        found = self.samples(self.seen())
+        found = self.samples(self.page())
         one = found["ctfd_front_requests_total"][()]
         self.assertEqual(one, 11)
         refusals = found["ctfd_front_refusals_total"]
@@ -66,7 +65,7 @@ class Metrics(WithFront):
     def test_read_by_the_node_exporter(self) -> None:
         if not os.path.exists(EXPORTER):
             self.skipTest("not possible here: prometheus-node-exporter is not installed")
-        self.seen()
+        self.page()
         with socket.socket() as free:
             free.bind(("127.0.0.1", 0))
             port = free.getsockname()[1]
@@ -76,13 +75,13 @@ class Metrics(WithFront):
              f"--web.listen-address=127.0.0.1:{port}"], stderr=subprocess.DEVNULL)
         self.addCleanup(exporter.communicate)
         self.addCleanup(exporter.terminate)
-        text = fetched(f"http://127.0.0.1:{port}/metrics")
+        text = fetch(f"http://127.0.0.1:{port}/metrics")
         self.assertIn("ctfd_front_requests_total 11", text)
         self.assertIn("node_textfile_scrape_error 0", text)
 
     def test_written_again_and_again(self) -> None:
         path = os.path.join(self.folder, "front.prom")
-        front = self.front("--metrics", path, "--stats", "0.2").started()
+        front = self.front("--metrics", path, "--stats", "0.2").start()
         until(lambda: os.path.exists(path))
         talker = self.talker(front)
         talker.ask(HAND_IN)
@@ -93,15 +92,15 @@ class Metrics(WithFront):
         self.assertEqual([name for name in os.listdir(self.folder) if "new" in name], [])
 
     def test_folder_that_is_not_there(self) -> None:
-        """It is told, and nothing else suffers."""
-        front = self.front("--metrics", f"{self.folder}/no/file").started()
+        """If the folder of --metrics is missing, this is reported, and the front still answers."""
+        front = self.front("--metrics", f"{self.folder}/no/file").start()
         self.assertIn("statistics can't be written there", front.tell())
         self.assertGreater(self.talker(front).number(), 0)
 
 
 class Levels(WithFront):
-    def said(self, stream: "Tuple[int, int] | None") -> "list[str]":
-        """What a front says, where the journal reads its standard error."""
+    def messages(self, stream: "Tuple[int, int] | None") -> "list[str]":
+        """The messages of a front whose standard error the journal reads."""
         path, log = os.path.join(self.folder, "s"), Path(self.folder) / "log"
         with log.open("wb") as writing:
             found = os.fstat(writing.fileno())
@@ -119,17 +118,17 @@ class Levels(WithFront):
         return log.read_text().splitlines()
 
     def test_levels_of_the_journal(self) -> None:
-        lines = self.said(None)
+        lines = self.messages(None)
         self.assertTrue(lines[0].startswith("<5>ctfd-front: listening"), lines)
         self.assertTrue(lines[1].startswith("<6>ctfd-front: connections "), lines)
 
     def test_none_elsewhere(self) -> None:
-        lines = self.said((1, 2))
+        lines = self.messages((1, 2))
         self.assertTrue(all(line.startswith("ctfd-front: ") for line in lines), lines)
 
 
-def fetched(address: str) -> str:
-    """A page, once it is served."""
+def fetch(address: str) -> str:
+    """A page, as soon as it is served."""
     until_then = time.monotonic() + PATIENCE
     while True:
         try:

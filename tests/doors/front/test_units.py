@@ -1,7 +1,7 @@
-"""Asks systemd-analyze whether the units of docs/SERVING.md are right.
+"""Checks the units in docs/SERVING.md with systemd-analyze.
 
 Each block below a line that names a file in /etc/systemd/system is a unit. The programs that they
-start stand elsewhere here, so those of this repository are put in their place.
+start are replaced, since they are installed in another place here.
 """
 from __future__ import annotations
 
@@ -21,7 +21,7 @@ WANTED = {"ctfd.socket", "ctfd@.service", "ctfd-front.socket", "ctfd-front.servi
 
 
 def units() -> Iterator[tuple[str, str]]:
-    """The names and texts of units."""
+    """The names and texts of the units."""
     for unit in UNIT.finditer((TOP / "docs" / "SERVING.md").read_text()):
         yield unit[1], re.sub(r"ExecStart=/usr/local/bin/\S+", "ExecStart=/bin/true", unit[2])
 

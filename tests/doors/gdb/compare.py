@@ -1,15 +1,15 @@
-"""Asks the plug-in for each expression on a program without debug information, then gdb itself.
+"""Asks the plug-in about each expression on a program without debug information, then gdb itself.
 
 usage: BUILD=WORDS TWIN=FILE EXPRESSIONS=FILE KNOWN=FUNCTION=ADDRESS [POINTED=FILE] \
     gdb -batch -nx -x compare.py PROGRAM
 
-The program was stopped; TWIN is the same with debug information, which is loaded only when the
-plug-in has answered all. A line of EXPRESSIONS is a command, `print`, `print/x` or `whatis`, and
-an expression; behind ` | ` may stand what gdb is asked instead. Where names have no types, POINTED
-has those to which the program's object `every` holds a pointer each, and the plug-in is asked for
-what is behind that. All are asked under several of gdb's settings for printing. Prints those that
-differ, and, behind BUILD, how many answers and values are the same; the status is 1 where one
-differs.
+The program is stopped. TWIN is the same program with debug information, which is loaded only after
+the plug-in has answered everything. A line of EXPRESSIONS is a command, `print`, `print/x` or
+`whatis`, and an expression; after ` | ` there may be another question for gdb. If names have no
+types, POINTED lists those to which the program's object `every` has a pointer each, and the plug-in
+is asked about what these point to. Everything is asked with several of gdb's print settings. Prints
+the differences, and, after BUILD, the number of equal answers and values; the status is 1 if there
+is a difference.
 """
 import os
 import pathlib
@@ -24,36 +24,37 @@ SETTINGS = ({}, {"elements": 4, "repeats": 2}, {"max-depth": 1, "symbol": "off"}
 
 
 def answer(command):
-    """What gdb prints for a command, without the number of a value in its history."""
+    """gdb's output for a command, without the number in its value history."""
     try:
         told = gdb.execute(command, to_string=True).strip()
     except gdb.error as error:
         return f"error: {error}"
-    return plain(re.sub(r"^\$\d+ = ", "", told))
+    return without_blanks(re.sub(r"^\$\d+ = ", "", told))
 
 
-def plain(told):
+def without_blanks(told):
     """An answer without the blanks that gdb puts beside the qualifiers of pointers."""
     return re.sub(r"\b(const|volatile)\[", r"\1 [", re.sub(r"\* (const|volatile)", r"*\1", told))
 
 
-def wanted():
-    """Each line as what is asked of the plug-in and what of gdb."""
+def questions():
+    """Each line as a question for the plug-in and one for gdb."""
     names = lines_of("POINTED") if "POINTED" in os.environ else []
     for line in lines_of("EXPRESSIONS"):
         if line and not line.startswith("#"):
             asked, _, other = line.partition(" | ")
             command, _, expression = asked.partition(" ")
-            yield f"{command} {pointed(expression, names)}", f"{command} {other or expression}"
+            yield (f"{command} {with_pointers(expression, names)}",
+                   f"{command} {other or expression}")
 
 
 def lines_of(variable):
-    """The lines of the file that a variable of the environment names."""
+    """The lines of the file that an environment variable names."""
     return pathlib.Path(os.environ[variable]).read_text().splitlines()
 
 
-def pointed(expression, names):
-    """An expression with what is behind the pointers of `every` in place of some names."""
+def with_pointers(expression, names):
+    """An expression in which some names are replaced by what the pointers of `every` point to."""
     if not names:
         return expression
     name = rf"(?<![\w.>$])(?<!struct )(?<!union )(?<!enum )({'|'.join(names)})\b"
@@ -61,13 +62,13 @@ def pointed(expression, names):
 
 
 def slide():
-    """How far from the addresses in its file the program runs, by the function KNOWN."""
+    """The offset of the running program from the addresses in its file, by the function KNOWN."""
     name, address = os.environ["KNOWN"].split("=")
     return int(gdb.parse_and_eval(f"(unsigned long) &{name}")) - int(address, 16)
 
 
 def answers(commands):
-    """What the commands answer, under each of the settings."""
+    """The answers to the commands, with each of the settings."""
     told = []
     for settings in SETTINGS:
         for name, value in settings.items():
@@ -79,7 +80,7 @@ def answers(commands):
 
 
 def main():
-    lines = list(wanted())
+    lines = list(questions())
     by_ctf = answers([f"ctf {asked}" for asked, _ in lines])
     gdb.execute(f"add-symbol-file {os.environ['TWIN']} -o {slide()}", to_string=True)
     by_gdb = answers([other for _, other in lines])

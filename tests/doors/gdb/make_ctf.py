@@ -1,14 +1,14 @@
-"""Writes a CTF section of version 2 from what gdb reads of a program's DWARF.
+"""Writes a CTF section of version 2 from gdb's view of a program's DWARF.
 
 usage: MADE_OF=PROGRAM MADE=FILE [ALL=1] gdb -batch -nx -x make_ctf.py TWIN
 
-TWIN has debug information; PROGRAM is the same without it, and its symbol table is the one that
-the object and function sections are written for. The types are those to which its symbols lead;
-with ALL, all that have a name or enumerators in the sources of these symbols. A word of C alone:
-what C++ or Fortran say is not known here. A program may be of 64 bits or of 32: CTF has no size of
-pointers, and all other sizes are those of the debug information. What is not in CTF gets lost:
-widths of enums as bit-fields, which of two arrays without elements was declared without a length,
-all but 32 bits of an enumerator, and formats of floats such as _Float128.
+TWIN has debug information; PROGRAM is the same program without it, and the object and function
+sections are written for its symbol table. The types are those that its symbols lead to; with ALL,
+all that have a name or enumerators in the sources of these symbols. Only C is supported, not C++ or
+Fortran. The program may have 64 bits or 32: CTF has no size of pointers, and all other sizes are
+those of the debug information. What CTF cannot represent is lost: widths of enums as bit-fields,
+which of two arrays without elements was declared without a length, all but 32 bits of an
+enumerator, and formats of floats such as _Float128.
 """
 import operator
 import os
@@ -29,13 +29,13 @@ LONG_MEMBERS = 8192
 FLOATS = {"float": 1, "double": 2, "long double": 6,
           "complex float": 3, "complex double": 4, "complex long double": 5}
 OBJECT_SYMBOL, FUNCTION_SYMBOL, ABSOLUTE = 1, 2, 0xFFF1
-# The entries of a symbol table, and where each has its name, its info, its section and its value.
+# The entries of a symbol table, and the positions of name, info, section and value in each.
 SYMBOLS = {"lp64": (struct.Struct("<IBBHQQ"), operator.itemgetter(0, 1, 3, 4)),
            "ilp32": (struct.Struct("<IIIBBH"), operator.itemgetter(0, 3, 5, 1))}
 
 
 class Maker:
-    """The types so far, each with a number from 1; `known` finds them again."""
+    """The types so far, numbered from 1; `known` finds them again."""
 
     def __init__(self):
         self.records = []
@@ -44,14 +44,14 @@ class Maker:
         self.fields = 0
 
     def name(self, text):
-        """The reference of a name; the same text twice is stored twice."""
+        """Stores a name, and returns its reference. Equal texts are stored twice."""
         if not text:
             return 0
         self.names += text.encode() + b"\0"
         return len(self.names) - len(text.encode()) - 1
 
     def record(self, key, kind, name, field, tail=b"", length=0):
-        """A record under a number that was kept for it, or a new one."""
+        """Stores a record under its reserved number, or a new one, and returns the number."""
         info = kind << 11 | 1 << 10 | length
         head = struct.pack("<IHH", self.name(name), info, field if field < 0xFFFF else 0xFFFF)
         if field >= 0xFFFF:
@@ -66,15 +66,15 @@ class Maker:
         return len(self.records)
 
     def type(self, t):
-        """The number of a type of gdb; 0 for void."""
-        key = described(t)
+        """The number of one of gdb's types; 0 for void."""
+        key = description(t)
         if key in self.known:
             return self.known[key]
         if t != t.unqualified():
-            return self.qualified(t, key)
+            return self.qualify(t, key)
         return 0 if t.code == gdb.TYPE_CODE_VOID else WRITERS[t.code](self, t, key)
 
-    def qualified(self, t, key):
+    def qualify(self, t, key):
         plain = t.unqualified()
         kind, inner = CONST, plain
         if t == plain.volatile():
@@ -120,7 +120,7 @@ class Maker:
         return number
 
     def signature(self, t):
-        """What a function returns, and its arguments; a 0 behind them where more may follow."""
+        """The return type of a function, and its arguments, followed by 0 if it is variadic."""
         listed = [self.type(field.type) for field in t.fields()]
         more = [0] if str(t).rstrip().endswith("...)") else []
         return self.type(t.target()), listed + more
@@ -144,8 +144,8 @@ class Maker:
     def member(self, field):
         """The type and offset of a member.
 
-        A bit-field has an integer of its width; every other one has its place in the integer's
-        encoding, as some compilers write it, and not in the member's offset.
+        A bit-field has an integer of its width. Every other bit-field has its offset in the
+        integer's encoding, as some compilers write it, and not in the member.
         """
         if not field.bitsize:
             return self.type(field.type), field.bitpos
@@ -178,34 +178,34 @@ WRITERS = {
 
 
 def is_complete(t):
-    """Whether a struct or union without members is declared in full anywhere."""
+    """Whether a struct or union without members is defined anywhere."""
     try:
         return bool(gdb.lookup_type(str(t)))
     except gdb.error:
         return not t.tag
 
 
-def described(t):
-    """What two types have in common only where they are the same.
+def description(t):
+    """A key that two types share only if they are the same.
 
-    A struct, union or enum without a name goes by its members, also within an array or behind a
-    pointer: gdb spells all of them alike.
+    A struct, union or enum without a name is identified by its members, also within an array or
+    behind a pointer, since gdb spells all of them alike.
     """
     base = t
     while base.code in (gdb.TYPE_CODE_ARRAY, gdb.TYPE_CODE_PTR):
         base = base.target()
     inner = ()
     if base.code in (gdb.TYPE_CODE_STRUCT, gdb.TYPE_CODE_UNION) and not base.tag:
-        inner = tuple((f.name, f.bitpos, *described(f.type)) for f in base.fields())
+        inner = tuple((f.name, f.bitpos, *description(f.type)) for f in base.fields())
     elif base.code == gdb.TYPE_CODE_ENUM and not base.tag:
         inner = tuple((e.name, e.enumval) for e in base.fields())
     return (t.code, str(t), t.sizeof, inner)
 
 
 def symbols(program):
-    """The kind and name of each symbol of which a dictionary tells something."""
+    """The kind and name of each considered symbol."""
     whole = program.read_bytes()
-    table = elf.named(whole, ".symtab")
+    table = elf.section_named(whole, ".symtab")
     data, strings = table.bytes(whole), elf.sections(whole)[table.link].bytes(whole)
     entry, parts = SYMBOLS[elf.model(whole)]
     for at, info, section, value in map(parts, entry.iter_unpack(data)):
@@ -217,18 +217,18 @@ def symbols(program):
             yield kind, name
 
 
-def declared(name):
-    """The symbol as gdb knows it; None where the compiler told nothing."""
+def symbol_of(name):
+    """gdb's symbol, or None if the compiler described none."""
     return gdb.lookup_global_symbol(name) or gdb.lookup_static_symbol(name)
 
 
 def object_entry(maker, symbol):
-    """What the section of objects has for a symbol."""
+    """The entry of a symbol in the object section."""
     return struct.pack("<H", maker.type(symbol.type) if symbol else 0)
 
 
 def function_entry(maker, symbol):
-    """What the section of functions has for a symbol."""
+    """The entry of a symbol in the function section."""
     if symbol is None:
         return struct.pack("<H", 0)
     returns, listed = maker.signature(symbol.type)
@@ -237,7 +237,8 @@ def function_entry(maker, symbol):
 
 
 def named_beside(found):
-    """The types of all that has a name in the sources of some symbols, as tags and enumerators."""
+    """The types of everything that has a name in the sources of some symbols, including tags and
+    enumerators."""
     tables = [symbol.symtab for symbol in found]
     for table in {(one.static_block().start, one.filename): one for one in tables}.values():
         for block in (table.global_block(), table.static_block()):
@@ -245,11 +246,11 @@ def named_beside(found):
 
 
 def main():
-    sys.setrecursionlimit(20_000)  # from struct to struct by their pointers
+    sys.setrecursionlimit(20_000)  # deep through pointers from struct to struct
     maker = Maker()
-    if os.environ.get("ALL"):  # once all is read, a symbol is its definition and no declaration
+    if os.environ.get("ALL"):  # when all is read, a symbol has its definition, not a declaration
         gdb.execute("maint expand-symtabs")
-    known = [(kind, declared(name)) for kind, name in symbols(pathlib.Path(os.environ["MADE_OF"]))]
+    known = [(kind, symbol_of(name)) for kind, name in symbols(pathlib.Path(os.environ["MADE_OF"]))]
     objects = b"".join(object_entry(maker, s) for kind, s in known if kind == OBJECT_SYMBOL)
     functions = b"".join(function_entry(maker, s) for kind, s in known if kind == FUNCTION_SYMBOL)
     if os.environ.get("ALL"):
@@ -267,4 +268,4 @@ try:
     main()
 except Exception:
     traceback.print_exc()
-    gdb.execute("quit 1")  # gdb itself ends with status 0
+    gdb.execute("quit 1")  # gdb's own status would be 0

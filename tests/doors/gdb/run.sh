@@ -1,16 +1,16 @@
 #!/usr/bin/env bash
-# Compares what the plug-in of clients/gdb prints on a program without debug information with what
-# gdb itself prints on the same program with it, of 64 bits and of 32.
+# Compares what the plug-in in clients/gdb prints about a program without debug information with
+# what gdb itself prints about the same program with it, for 64 bits and for 32.
 # usage: tests/doors/gdb/run.sh PROGRAM
-# PROGRAM is crates/ctfd/out/ctfd once `rt run` in crates/ctfd has built it. Needs gdb with Python,
-# gcc, objcopy and nm; says so and ends with status 0 where one is missing, where gcc or the machine
-# has no programs of 32 bits, or where the machine lets gdb run none. Prints each answer that
-# differs, then how many are the same; the status is 1 where one differs.
+# PROGRAM is a built ctfd. Needs gdb with Python, gcc, objcopy and nm; if one is missing, or gdb can
+# run no program on this machine, says so and exits with status 0. If 32-bit programs cannot be
+# built or run, only 64 bits are compared. Prints each answer that differs, then the number of equal
+# ones; the status is 1 if one differs.
 #
-# tests/doors/gdb/values.c is compiled with debug information, and tests/doors/gdb/with_ctf.sh makes a program
-# without, which has a CTF section that was written from what gdb reads of it. One gdb runs the
-# stripped program up to stop(), asks the plug-in for every object and for each line of
-# tests/doors/gdb/expressions.txt, then loads the debug information and asks itself.
+# tests/doors/gdb/values.c is compiled with debug information. tests/doors/gdb/with_ctf.sh makes a
+# program without it, but with a CTF section made from what gdb reads of it. One gdb runs the
+# stripped program up to stop(), asks the plug-in about every object and about each line of
+# tests/doors/gdb/expressions.txt, then loads the debug information and answers itself.
 set -eu
 program=$(realpath "$1")
 doors=$(realpath "$(dirname "$0")/..")
@@ -27,23 +27,24 @@ cd "$work"
 export CTFD=$program LC_ALL=C
 failed=0
 
-# built SOURCE OPTION..: makes ./twin, with debug information.
+# built SOURCE OPTION..: compiles ./twin, with debug information.
 built() {
     gcc -g -O0 -fpie -pie -nostdlib -ffreestanding -fno-stack-protector -o twin "$@"
 }
 
-# named KINDS: the names in ./twin that are of some of nm's kinds, but for the compiler's own.
+# named KINDS: prints the names in ./twin with one of these nm kinds, except the compiler's own.
 named() {
     nm twin | awk -v kinds="^[$1]\$" '$2 ~ kinds && $3 !~ /^_/ { print $3 }' | sort
 }
 
-# asked: what is asked of each object of ./twin, and tests/doors/gdb/expressions.txt.
+# asked: prints the questions about each object of ./twin, and tests/doors/gdb/expressions.txt.
 asked() {
     named BDdbRr | sed 's/.*/print &\nprint\/x &\nprint \&&\nwhatis &\nwhatis \&&/'
     cat "$doors/gdb/expressions.txt"
 }
 
-# compared BUILD WORD..: asks for ./expressions on ./twin; WORD.. stand in the environment too.
+# compared BUILD WORD..: compares the answers to ./expressions for ./twin; the WORDs are added to
+# the environment.
 compared() {
     "$doors/gdb/with_ctf.sh" twin stripped
     known=$(nm stripped | awk '$3 == "_start" { print $3 "=0x" $1 }')
@@ -58,8 +59,8 @@ built "$doors/gdb/values.c"
 asked > expressions
 compared "64 bits"
 
-# Symbols of 32 bits are not read, so every.c gives the program a pointer to each object and
-# function, all in one object. stop() takes its arguments in registers, as it does in 64 bits.
+# The service reads no 32-bit symbol tables, so every.c gives the program a pointer to each object
+# and function, all in one object. stop() takes its arguments in registers, as on 64 bits.
 if ! built "$doors/gdb/values.c" -m32 -mregparm=3 2> said; then
     cat said
     echo "skipped: gcc -m32 makes no program here (Debian: gcc-multilib)"

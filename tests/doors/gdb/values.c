@@ -1,6 +1,6 @@
-/* The values that tests/doors/gdb/run.sh asks for: each kind that the plug-in prints. Without a C library,
-   so that all of it is known. stop() is called once all is set. It is compiled for x86-64 and for
-   i386, where a long has 32 bits and the system is called in another way. */
+/* The values that tests/doors/gdb/run.sh reads: of each kind that the plug-in prints. No C library
+   is linked, so nothing else is in the program. Calls stop() once all values are set. For x86-64,
+   and for i386, where long has 32 bits and system calls are made differently. */
 
 #ifdef __x86_64__
 #define WIDTH 37

@@ -1,10 +1,10 @@
 #!/usr/bin/env bash
-# Writes a program without debug information, and with its types as CTF of version 2 in their place.
+# Copies a program without its debug information, but with its types as CTF of version 2.
 # usage: tests/doors/gdb/with_ctf.sh PROGRAM OUT
 # PROGRAM is an ELF file of C with debug information, as `gcc -g` makes it: a program or a library,
-# of 64 bits or of 32. OUT is the same without it, with its symbol table and a section .SUNW_ctf.
-# Needs gdb with Python and objcopy. Which types it has, with ALL=1 in the environment and without,
-# and what gets lost on the way, stands in make_ctf.py.
+# for 64 bits or 32. OUT is the same without it, with its symbol table and a section .SUNW_ctf.
+# Needs gdb with Python and objcopy. make_ctf.py describes which types OUT gets, with ALL=1 in the
+# environment and without, and what is lost.
 set -eu
 here=$(realpath "$(dirname "$0")")
 made=$(mktemp)

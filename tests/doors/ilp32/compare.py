@@ -1,12 +1,12 @@
 #!/usr/bin/env python3
-"""Compares the structs, unions and enums of a 32-bit program with what its compiler says of them.
+"""Compares the structs, unions and enums of a 32-bit program with its compiler's view of them.
 
 usage: compare.py SERVICE TWIN PROGRAM
 
-SERVICE is a built ctfd. TWIN has debug information; PROGRAM is the same with a CTF section in its
-place. Prints each type that one of the two has and the other has not, or has with another size or
-with other members, and then how many there are. A member is its name, its first bit and its bits.
-The status is 1 where one differs, or where none does though pointers are taken to have 8 bytes.
+SERVICE is a built ctfd. TWIN has debug information; PROGRAM is the same with a CTF section instead.
+Prints each type that only one of the two has, or that differs in its size or members, and then
+their number. A member is compared by name, first bit and number of bits. The status is 1 if a type
+differs, or if none differs even when pointers are assumed to have 8 bytes.
 """
 import sys
 from collections import Counter
@@ -18,37 +18,37 @@ sys.path.insert(0, str(Path(__file__).resolve().parents[3] / "clients/python"))
 import ctfd  # noqa: E402
 from ctfd.text import printable  # noqa: E402
 
-from dwarf import ENUMERATOR, KINDS, Described, Dwarf, Part  # noqa: E402
+from dwarf import ENUMERATOR, KINDS, Description, Dwarf, Part  # noqa: E402
 
 MOST = 40
 
 
-def described(types: ctfd.Dictionary) -> Set[Described]:
-    """All structs, unions and enums of a dictionary, as the service tells them."""
+def descriptions(types: ctfd.Dictionary) -> Set[Description]:
+    """All structs, unions and enums of a dictionary."""
     own = types.types()
     types.gather([t.number for t in own])
-    return {_described(t) for t in own if t.kind in KINDS.values()}
+    return {_description(t) for t in own if t.kind in KINDS.values()}
 
 
-def _described(t: ctfd.Type) -> Described:
-    """A struct, union or enum."""
+def _description(t: ctfd.Type) -> Description:
+    """The description of a struct, union or enum."""
     if t.kind == "enum":
         parts = [Part(printable(name), value & ENUMERATOR, None) for name, value in t.enumerators]
     else:
         parts = [_member(member) for member in t.members]
-    return Described(t.kind, printable(t.name), t.size, tuple(parts))
+    return Description(t.kind, printable(t.name), t.size, tuple(parts))
 
 
 def _member(member: ctfd.Member) -> Part:
-    """A member: a bit-field lies where its type says it does within its storage."""
+    """The description of a member; the offset of a bit-field includes that of its type."""
     lies, size, name = member.type.bit_field, member.type.size, printable(member.name)
     if lies is not None:
         return Part(name, member.offset + lies.offset, lies.bits)
     return Part(name, member.offset, None if size is None else 8 * size)
 
 
-def differing(known: Set[Described], told: Set[Described]) -> int:
-    """Prints what one of the two has and the other has not; how many there are."""
+def differing(known: Set[Description], told: Set[Description]) -> int:
+    """Prints what only one of the two has, and returns the number of differences."""
     lines = [f"gcc      {t}" for t in known - told]
     lines += [f"service  {t}" for t in told - known]
     for line in sorted(lines, key=lambda line: line.split(None, 1)[1])[:MOST]:
@@ -59,11 +59,11 @@ def differing(known: Set[Described], told: Set[Described]) -> int:
 
 
 def main(service: str, twin: str, program: str) -> int:
-    known, left_out = Dwarf(twin).described()
+    known, left_out = Dwarf(twin).descriptions()
     with ctfd.Client(service) as client:
         types = ctfd.open_file(client.session(), program)
-        model, told = types.model, described(types)
-        wrongly = described(ctfd.open_file(client.session(), program, model="lp64"))
+        model, told = types.model, descriptions(types)
+        wrongly = descriptions(ctfd.open_file(client.session(), program, model="lp64"))
     differs = differing(known, told)
     kinds = Counter(t.kind for t in known)
     counted = ", ".join(f"{kinds[kind]} {kind}s" for kind in KINDS.values())

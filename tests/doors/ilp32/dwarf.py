@@ -1,7 +1,6 @@
-"""The structs, unions and enums of a program, as its compiler wrote them in its debug information.
+"""The structs, unions and enums in a program's debug information.
 
-It is read by readelf, so that nothing here is shared with tests/doors/gdb/make_ctf.py, which reads it by
-gdb.
+It is read with readelf, so it shares nothing with tests/doors/gdb/make_ctf.py, which uses gdb.
 """
 import re
 import subprocess
@@ -11,7 +10,7 @@ from typing import Dict, List, NamedTuple, Optional, Set, Tuple
 KINDS = {"structure_type": "struct", "union_type": "union", "enumeration_type": "enum"}
 ALIASES = ("typedef", "const_type", "volatile_type", "restrict_type", "atomic_type")
 FUNCTIONS = ("subprogram", "lexical_block", "inlined_subroutine")
-ENUMERATOR = 0xFFFFFFFF  # of an enumerator CTF has 32 bits
+ENUMERATOR = 0xFFFFFFFF  # CTF has 32 bits for an enumerator
 
 _ENTRY = re.compile(r" <(\d+)><(\w+)>: Abbrev Number: \d+ \(DW_TAG_(\w+)\)")
 _ATTRIBUTE = re.compile(
@@ -19,15 +18,15 @@ _ATTRIBUTE = re.compile(
 
 
 class Part(NamedTuple):
-    """A member, its bits from the start on, or an enumerator, its value and no bits."""
+    """A member with its offset and width in bits, or an enumerator with its value."""
 
     name: str
     at: int
     bits: Optional[int]
 
 
-class Described(NamedTuple):
-    """A struct, union or enum: its tag, its size in bytes and what is in it."""
+class Description(NamedTuple):
+    """A struct, union or enum: its tag, its size in bytes, and its members or enumerators."""
 
     kind: str
     tag: str
@@ -42,7 +41,7 @@ class Described(NamedTuple):
 
 @dataclass
 class Entry:
-    """An entry of the debug information, with what it says and the entries in it."""
+    """An entry of the debug information, with its attributes and children."""
 
     tag: str
     is_local: bool
@@ -50,12 +49,12 @@ class Entry:
     inner: List["Entry"] = field(default_factory=list)
 
     def number(self, name: str) -> Optional[int]:
-        """A number that it says, or None."""
+        """A numeric attribute, or None."""
         return int(self.says[name].split()[0], 0) if name in self.says else None
 
     @property
     def is_named(self) -> bool:
-        """Whether it, or an enumerator in it, has a name."""
+        """Whether the entry, or an enumerator in it, has a name."""
         return "name" in self.says or self.tag == "enumeration_type"
 
     @property
@@ -65,7 +64,7 @@ class Entry:
 
 
 class Dwarf:
-    """The entries of a file by their offsets."""
+    """The entries of a file, by offset."""
 
     def __init__(self, path: str) -> None:
         self.entries: Dict[int, Entry] = {}
@@ -85,32 +84,32 @@ class Dwarf:
                 open_ones[-1].says[says[1]] = says[2].strip()
 
     def _entry(self, tag: str, open_ones: List[Entry]) -> Entry:
-        """A new entry in the innermost of those that are open."""
+        """A new entry, inside the innermost open one."""
         outer = open_ones[-1] if open_ones else None
         entry = Entry(tag, outer is not None and (outer.is_local or outer.tag in FUNCTIONS))
         if outer:
             outer.inner.append(entry)
         return entry
 
-    def described(self) -> Tuple[Set[Described], int]:
-        """All structs, unions and enums that are declared in full, and how many are left out.
+    def descriptions(self) -> Tuple[Set[Description], int]:
+        """All defined structs, unions and enums, and the number of those left out.
 
-        These are those within functions, and those without a name to which nothing leads: gcc has
-        one beside a copy without members, to which the name of a transparent union leads.
+        These are the ones within functions, and those without a name that nothing refers to: gcc
+        writes one beside a copy without members, to which the name of a transparent union refers.
         """
         referred = {entry.type for entry in self.entries.values()}
         full = {number: entry for number, entry in self.entries.items()
                 if entry.tag in KINDS and "declaration" not in entry.says}
-        kept = {self._described(entry) for number, entry in full.items()
+        kept = {self._description(entry) for number, entry in full.items()
                 if not entry.is_local and (entry.is_named or number in referred)}
-        left_out = {self._described(entry) for entry in full.values()} - kept
+        left_out = {self._description(entry) for entry in full.values()} - kept
         return kept, len(left_out)
 
-    def _described(self, entry: Entry) -> Described:
+    def _description(self, entry: Entry) -> Description:
         parts = [self._enumerator(part) for part in entry.inner if part.tag == "enumerator"]
         parts += [self._member(part) for part in entry.inner if part.tag == "member"]
         tag = entry.says.get("name", "")
-        return Described(KINDS[entry.tag], tag, entry.number("byte_size"), tuple(parts))
+        return Description(KINDS[entry.tag], tag, entry.number("byte_size"), tuple(parts))
 
     def _enumerator(self, entry: Entry) -> Part:
         return Part(entry.says["name"], (entry.number("const_value") or 0) & ENUMERATOR, None)
@@ -125,7 +124,7 @@ class Dwarf:
         return Part(name, at, None if size is None else 8 * size)
 
     def _size(self, number: Optional[int]) -> Optional[int]:
-        """The bytes of a type; None where it has no size."""
+        """The size of a type in bytes, or None if it has none."""
         if number is None:
             return None
         entry = self.entries[number]
@@ -138,7 +137,7 @@ class Dwarf:
 
 
 def _count(array: Entry) -> int:
-    """How many elements an array has, of all its dimensions; 0 where none is said."""
+    """The number of elements of an array, over all dimensions; 0 if unknown."""
     count = 1
     for one in array.inner:
         if one.tag == "subrange_type":

@@ -1,17 +1,17 @@
 #!/usr/bin/env bash
-# Compares the structs, unions and enums of a program of 32 bits, as the service has them, with what
-# gcc says of them: the size of each, and the name, place and size of each of its members.
+# Compares the structs, unions and enums of a 32-bit program, as the service reports them, with
+# gcc's view of them: the size of each, and the name, offset and size of each of its members.
 # usage: tests/doors/ilp32/run.sh PROGRAM [FILE]
-# PROGRAM is crates/ctfd/out/ctfd once `rt run` in crates/ctfd has built it. FILE is an ELF file of
-# 32 bits in C, with debug information; where none is named it is made of tests/doors/ilp32/types.c. Needs
-# gdb with Python, objcopy, readelf and Python, and for types.c gcc with what -m32 wants, which is
-# Debian's package gcc-multilib; says so and ends with status 0 where one is missing.
+# PROGRAM is a built ctfd. FILE is a 32-bit ELF file of C with debug information; by default it is
+# compiled from tests/doors/ilp32/types.c. Needs gdb with Python, objcopy, readelf and Python, and
+# for types.c gcc with -m32, which needs Debian's package gcc-multilib; if one is missing, says so
+# and exits with status 0.
 #
-# tests/doors/gdb/with_ctf.sh makes a program whose CTF section was written from what gdb reads of FILE,
-# and the client takes it as a file of 32 bits. tests/doors/ilp32/compare.py compares what is answered of
-# its types with the debug information of FILE as readelf prints it. It prints each type that
-# differs, then how many do not, and how many would not where pointers had 8 bytes; the status is 1
-# where one differs.
+# tests/doors/gdb/with_ctf.sh makes a program with a CTF section from what gdb reads of FILE, and
+# the client opens it as a 32-bit file. tests/doors/ilp32/compare.py compares its types with the
+# debug information of FILE, as readelf prints it. It prints each type that differs, then the number
+# of types that are equal, and the number that would be equal if pointers had 8 bytes; the status is
+# 1 if one differs.
 set -eu
 program=$(realpath "$1")
 file=${2:+$(realpath "$2")}

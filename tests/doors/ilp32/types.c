@@ -1,5 +1,5 @@
-/* The types that tests/doors/ilp32/run.sh compares: those of the C library and of the kernel, and below them
-   what i386 lays out in another way than x86-64, or what is laid out in a way of its own. */
+/* The types that tests/doors/ilp32/run.sh compares: of the C library and the kernel, and below them
+   types that i386 lays out differently from x86-64, or whose layout is unusual. */
 #define _GNU_SOURCE
 #include <aio.h>
 #include <arpa/inet.h>
@@ -76,7 +76,7 @@
 #include <linux/rtnetlink.h>
 #include <linux/videodev2.h>
 
-/* Of 8 bytes or more, and aligned to 4 in a struct. */
+/* Types of 8 bytes or more, aligned to 4 in a struct. */
 struct wide { char c; long long l; char d; double f; char e; int64_t i; };
 struct longest { char c; long double l; char d; long double complex f; };
 struct aligned {
@@ -87,7 +87,7 @@ struct aligned {
 };
 struct packed { char c; void *p; long l; long long ll; short s; } __attribute__((packed));
 
-/* Of 4 bytes here. */
+/* Types of 4 bytes on i386. */
 struct pointers { char c; void *p, *rows[3][2]; char d; void (*call)(long), (*calls[2])(void); };
 struct sizes {
 	char c;

@@ -1,15 +1,16 @@
 #!/usr/bin/env bash
-# Checks `make install` and `make uninstall`, and that programs are built by what is installed.
+# Tests `make install` and `make uninstall`, and building programs with what is installed.
 # usage: tests/doors/packages/install.sh PROGRAM
-# The archive is the one that CTFD_ARCHIVE names, else crates/ctf_c/out/libctfd.a. Needs make, a C
-# compiler and pkg-config; cargo is used where it is.
+# Uses the archive that CTFD_ARCHIVE names, by default crates/ctf_c/out/libctfd.a. Needs make, a C
+# compiler and pkg-config; uses cargo if it is installed.
 #
-# Installed is into a folder by DESTDIR and PREFIX, and into another by PREFIX alone. From each a C
-# file of a few lines is built by what `pkg-config --cflags --libs ctfd` says, and a Rust one by the
-# crate. The program, the Python package, the commands and the manual pages are used where they were
-# put; the package finds program and library by where it stands. After `make uninstall` no file is
-# left. PREFIX=/usr, and what is said where pip or wheel is missing, are tried too.
-# Prints what was wrong, and counts; the status is 1 where something was wrong.
+# Installs into one folder with DESTDIR and PREFIX, and into another with PREFIX alone. With each, a
+# short C program is built with the flags of `pkg-config --cflags --libs ctfd`, and a Rust program
+# with the crate. The program, the Python package, the commands and the manual pages are used where
+# they were installed; the package finds the program and the library relative to its own folder.
+# After `make uninstall` no file is left. PREFIX=/usr, and the message if pip or wheel is missing,
+# are tested too.
+# Prints errors and counts; the status is 1 if there was an error.
 set -eu
 program=$(realpath "$1")
 top=$(realpath "$(dirname "$0")/../../..")
@@ -24,7 +25,7 @@ trap 'rm -r "$work"' EXIT
 said=$work/said
 compiled=${CARGO_TARGET_DIR:-$top/clients/rust/target}/release/ctfd-tools
 
-# says WANTED COMMAND..: it prints just that.
+# says WANTED COMMAND..: checks that the command prints exactly WANTED.
 says() {
     local wanted=$1
     shift
@@ -66,7 +67,7 @@ fn main() -> Result<(), Box<dyn std::error::Error>> {
 }
 END
 
-# used FOLDER: what is installed below it is used. The words for pkg-config are in the environment.
+# used FOLDER: uses what is installed below it. The variables for pkg-config are in the environment.
 used() {
     local below=$1 lua=$top/examples/lua.ctf
     # shellcheck disable=SC2046 # the words one by one
@@ -85,7 +86,7 @@ used() {
     fi
     count "a conversion" env -u CTFD PATH="/usr/bin:/bin" "$below/bin/ctfd-convert" "$lua" \
         "$work/converted"
-    # The package finds the library beside it, under each Python that is here.
+    # The package finds the library beside it, under each installed Python.
     local packages
     packages=$(dirname "$(find "$below" -type d -path '*-packages/ctfd')")
     for python in python3 /usr/bin/python3; do
@@ -111,7 +112,7 @@ with ctfd.open(sys.argv[1]) as types: types["struct luaL_Reg"]' "$lua"
 prepare "install with DESTDIR" made install DESTDIR="$work/root" PREFIX=/opt/ctfd
 (
     export PKG_CONFIG_PATH=$work/root/opt/ctfd/lib/pkgconfig PKG_CONFIG_SYSROOT_DIR=$work/root
-    # Where it is installed is not yet where it will stand.
+    # The files are in DESTDIR, not yet at their final place, so the loader needs the path.
     export LD_LIBRARY_PATH=$work/root/opt/ctfd/lib
     used "$work/root/opt/ctfd"
     echo "$checks $wrong" > "$work/counts"
@@ -135,14 +136,14 @@ count "ctfd-convert by a link" env -u CTFD PATH="/usr/bin:/bin" \
 prepare "uninstall" made uninstall PREFIX="$work/prefix"
 count "nothing is left" says "" find "$work/prefix" ! -type d
 
-# Below /usr the package stands where Debian's Python looks for it.
+# Below /usr, the package is installed where Debian's Python looks for it.
 prepare "install below /usr" made install DESTDIR="$work/root" PREFIX=/usr PYTHON=/usr/bin/python3
 count "the package below /usr" test -f "$work/root/usr/lib/python3/dist-packages/ctfd/version.py"
 count "nothing below local" test ! -e "$work/root/usr/local"
 prepare "uninstall below /usr" made uninstall DESTDIR="$work/root" PREFIX=/usr PYTHON=/usr/bin/python3
 count "nothing is left" says "" find "$work/root" ! -type d
 
-# A Python that says that it lacks two packages.
+# A Python that reports that it lacks two packages.
 cat > "$work/python" << 'END'
 #!/bin/sh
 [ "$1" != -c ] || { echo pip wheel; exit 0; }

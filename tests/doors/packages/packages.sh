@@ -1,14 +1,14 @@
 #!/usr/bin/env bash
-# Checks the packages that `make deb` and `make dist` make, and that one version stands everywhere.
+# Tests the packages that `make deb` and `make dist` make, and that all have the same version.
 # usage: tests/doors/packages/packages.sh PROGRAM
-# The archive is the one that CTFD_ARCHIVE names, else crates/ctf_c/out/libctfd.a. Needs a C
-# compiler, dpkg, pkg-config, and what builds a wheel.
+# Uses the archive that CTFD_ARCHIVE names, by default crates/ctf_c/out/libctfd.a. Needs make, a C
+# compiler, dpkg, pkg-config, and the tools that build a wheel.
 #
-# Made twice, in other folders and by another mask, each package has the same bytes. The package for
-# Debian is unpacked by `dpkg-deb -x`, and installed by `dpkg --root`; the tarball is installed by
-# its script; the wheel by pip. Each time the types of a program that gcc made are printed by what
-# was put there, and after it is removed no file is left. All files that a user looks for are in it.
-# Prints what was wrong, and counts; the status is 1 where something was wrong.
+# A second build, in another folder and with another umask and time zone, gives the same bytes. The
+# Debian package is unpacked by `dpkg-deb -x`, and installed by `dpkg --root`; the tarball by its
+# script; the wheel by pip. Each time, the installed files print the types of a program that gcc
+# compiled, and after removal no file is left. All files that users look for are included.
+# Prints errors and counts; the status is 1 if there was an error.
 set -eu
 program=$(realpath "$1")
 top=$(realpath "$(dirname "$0")/../../..")
@@ -25,19 +25,19 @@ version=$(cat "$top/VERSION")
 unset CTFD CTFD_SOCKET PYTHONPATH
 compiled=${CARGO_TARGET_DIR:-$top/clients/rust/target}/release/ctfd-tools
 
-# says WANTED COMMAND..: it prints just that.
+# says WANTED COMMAND..: checks that the command prints exactly WANTED.
 says() {
     local wanted=$1
     shift
     [ "$("$@" 2>&1)" = "$wanted" ] || { "$@"; return 1; }
 }
 
-# first COMMAND..: the first line of what it prints.
+# first COMMAND..: prints the first line of a command's output.
 first() {
     "$@" | head -n 1
 }
 
-# packed KIND INTO: makes a package of what is built.
+# packed KIND INTO: makes a package from the built files.
 packed() {
     "$top/scripts/package.py" "$1" --into "$2" --program "$program" --archive "$archive"
 }
@@ -48,7 +48,7 @@ cc -g -o "$work/own" "$work/own.c"
 printf '#include <ctfd.h>\n#include <stdio.h>\nint main(void)\n{\n    %s\n}\n' \
     'return puts(CTFD_VERSION) < 0 || ctfd_status_name(CTFD_OK)[0] == 0;' > "$work/header.c"
 
-# answers_by_front FRONT: a dictionary is taken from it, over its socket.
+# answers_by_front FRONT: checks that a dictionary can be taken from it, over its socket.
 answers_by_front() {
     env -i "$1" --socket "$work/socket" "own=$work/own.ctf" 2> "$work/front" &
     local front=$! tries=0
@@ -61,7 +61,7 @@ with socket.socket(socket.AF_UNIX) as front:
     kill $front && wait $front
 }
 
-# used BELOW LIBRARIES: the types of an own program, by what stands below a folder.
+# used BELOW LIBRARIES: reads the types of a new program, with what is installed below a folder.
 used() {
     local below=$1 libraries=$2
     count "ctfd-convert in $below" env PATH=/usr/bin:/bin "$below/bin/ctfd-convert" \
@@ -108,7 +108,7 @@ if command -v cargo > /dev/null && cargo --version > /dev/null 2>&1; then
 fi
 count "all packages" says $packages sh -c "ls '$work/first' | wc -l"
 
-# A copy is no build that is known to be proved.
+# A copy of the program is not known to be proved.
 cp "$program" "$work/copy"
 refuses_copy() {
     ! "$top/scripts/package.py" release --into "$work/release" --program "$work/copy" \
@@ -124,7 +124,7 @@ count "the deb's dependencies" sh -c \
     "dpkg-deb -f '$deb' Depends | grep -Eq '^libc6 \(>= 2\.[0-9]+\)(, libgcc-s1)?$'"
 count "all of it is root's" says "" sh -c "dpkg-deb -c '$deb' | grep -v ' root/root ' || true"
 
-# What README shows first, where there is nothing but the C library and the package: no Python.
+# What README shows first, with only the C library and the package installed, without Python.
 without_python() {
     local bare=$work/bare library
     mkdir -p "$bare"
@@ -150,7 +150,7 @@ else
     echo "not possible here: chroot takes root, and the compiled commands"
 fi
 
-# The scripts in the package are run outside the root, which has no shell.
+# dpkg runs the scripts in the package outside the root, since there is no shell in it.
 root=$work/root
 mkdir -p "$root"/var/lib/dpkg/{info,updates,triggers} "$root/var/log"
 touch "$root"/var/lib/dpkg/{status,available}

@@ -1,10 +1,10 @@
 #!/usr/bin/env bash
-# Builds the program and the library for C without their proofs, and compares them with built ones.
+# Builds the program and the library for C without proofs, and compares them with proved ones.
 # usage: tests/doors/packages/quick.sh PROGRAM [LINES]
-# PROGRAM is one that the kit built with its proofs. Both programs answer LINES random lines
-# (1000000) with the same bytes, and the library that was built passes tests/doors/c_library/run.sh. Each says
-# which build it is, and the proved one by which kit. Needs the kit.
-# Prints what was wrong; the status is 1 then.
+# PROGRAM was built by the kit with its proofs. Both programs reply to LINES random lines (1000000)
+# with the same bytes, and the new library passes tests/doors/c_library/run.sh. Each build says
+# which kind it is, and the proved one names its kit. Needs the kit.
+# Prints errors; the status is then 1.
 set -eu
 program=$(realpath "$1")
 lines=${2:-1000000}
@@ -15,7 +15,7 @@ trap 'rm -r "$work"' EXIT
 cd "$work"
 "$top/scripts/quick.py" --into "$work/built"
 
-# says TEXT FILE: whether a program or a library has this on which build it is.
+# says TEXT FILE: checks that a program or library contains this text about its build.
 says() {
     grep -qaF "$1" "$2" || { echo "$2 does not say: $1"; exit 1; }
 }

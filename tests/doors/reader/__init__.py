@@ -1,1 +1,1 @@
-"""The reader of programs, by which `ctfd-convert` and others read them."""
+"""Tests of the reader of programs, which `ctfd-convert` and other commands use."""

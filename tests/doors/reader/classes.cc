@@ -1,4 +1,4 @@
-// classes.cc - classes of C++ whose sizes and data members a struct of C tells.
+// classes.cc - C++ classes whose sizes and data members a struct of C can represent.
 #include <map>
 #include <memory>
 #include <string>

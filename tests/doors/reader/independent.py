@@ -1,13 +1,13 @@
 #!/usr/bin/env python3
-"""The compiled ctfd-convert beside an independent reading: the text of llvm-dwarfdump.
+"""Compares the compiled ctfd-convert with an independent reader: the text of llvm-dwarfdump.
 
 usage: tests/doors/reader/independent.py [PROGRAM..]
 
-Of each struct, class and union with a name that a program's debug information defines, the size, the
-names, places and widths of its data members and the places of its bases must be those of a type of
-this name in the dictionary; each such type of the dictionary must be defined so. The command compares
-what it writes with the units itself too (--verify). Without programs
-some are compiled: C, C++ by gcc and clang, and Rust. Needs llvm-dwarfdump and the compiled commands.
+For each named struct, class and union that a program's debug information defines, the dictionary
+must have a type of this name with the same size, the same names, offsets and widths of data
+members, and the same offsets of bases; and each such type of the dictionary must be defined so. The
+command itself also compares its output with the units (--verify). Without programs some are
+compiled: C, C++ by gcc and clang, and Rust. Needs llvm-dwarfdump and the compiled commands.
 """
 from __future__ import annotations
 
@@ -39,7 +39,7 @@ CHILD = 0x8000
 ARCHIVE = b"!<arch>\n"
 LISTED = 10
 IN_PARTS = b"more than one dictionary holds"
-# Types of Rust that have one value or none, which debug information has as integers of no bytes.
+# Rust types with one value or none, which debug information describes as integers of no bytes.
 NO_STRUCTS = (b"()", b"!")
 
 Member = tuple[str, int, Optional[int]]
@@ -48,7 +48,7 @@ Shape = tuple[int, str, int, tuple[Member, ...]]
 
 @dataclass
 class Entry:
-    """An entry of the text, with those within it that tell its layout."""
+    """An entry of the text, with its children that describe its layout."""
 
     place: str
     tag: str
@@ -59,7 +59,7 @@ class Entry:
 
 
 def entries(program: Path) -> Iterator[Entry]:
-    """The entries of a program's text, each once what stands in it is complete."""
+    """The entries of a program's text, each when its text is complete."""
     with subprocess.Popen(["llvm-dwarfdump", "--debug-info", "--debug-types", str(program)],
                           stdout=subprocess.PIPE, text=True, errors="surrogateescape") as process:
         assert process.stdout
@@ -75,7 +75,7 @@ def entries(program: Path) -> Iterator[Entry]:
             yield last
 
 
-def quoted(text: str) -> str:
+def quote(text: str) -> str:
     begin, end = text.find('"'), text.rfind('"')
     return text[begin + 1:end].replace('\\"', '"').replace("\\\\", "\\") if begin >= 0 else ""
 
@@ -85,7 +85,7 @@ def number(text: Optional[str]) -> int:
 
 
 def scope_of(above: list[Entry]) -> str:
-    """The name of the innermost namespace or class with a name; "" where there is none."""
+    """The name of the innermost named namespace or class, or ""."""
     for one in reversed(above):
         if one.tag not in SCOPES:
             return ""
@@ -95,7 +95,7 @@ def scope_of(above: list[Entry]) -> str:
 
 
 def shapes(program: Path) -> Iterator[Shape]:
-    """What a program's debug information defines."""
+    """The definitions in a program's debug information."""
     above: list[Entry] = []
     full_names: dict[str, str] = {}
     is_scoped = is_read = False
@@ -108,7 +108,7 @@ def shapes(program: Path) -> Iterator[Shape]:
         if one.tag.endswith("_unit"):
             language = one.said.get("language", "DW_LANG_C")
             is_scoped, is_read = bool(SCOPED.match(language)), bool(READ.match(language))
-        one.name = quoted(one.said.get("name", ""))
+        one.name = quote(one.said.get("name", ""))
         if is_scoped and one.tag in SCOPES:
             outer = scope_of(above)
             if declared := re.match(r"0x[0-9a-f]+", one.said.get("specification", "")):
@@ -127,7 +127,7 @@ def shapes(program: Path) -> Iterator[Shape]:
 
 
 def shape_of(entry: Entry) -> Optional[Shape]:
-    """What a definition says; None where it is none with a name."""
+    """The shape of a definition, or None if the entry is not a named one."""
     parts, entry.parts = entry.parts, []
     if entry.tag not in CLASSES or not entry.name or {"declaration", "signature"} & {*entry.said}:
         return None
@@ -141,15 +141,15 @@ def shape_of(entry: Entry) -> Optional[Shape]:
         place = 8 * number(part.said.get("data_member_location"))
         place += number(part.said.get("data_bit_offset"))
         if bits and "bit_offset" in part.said:
-            place = -1  # by its storage: DWARF of before version 4
-        members.append((quoted(part.said.get("name", "")), place, number(bits) if bits else None))
+            place = -1  # offset given by storage unit: DWARF before version 4
+        members.append((quote(part.said.get("name", "")), place, number(bits) if bits else None))
     if len(members) > MOST_MEMBERS:
         return None
     return CLASSES[entry.tag], entry.name, number(entry.said.get("byte_size")), tuple(members)
 
 
 def width(parents: list[Type], own: list[Type], of: int) -> Optional[int]:
-    """The bits of an integer behind typedefs and qualifiers."""
+    """The width of an integer behind typedefs and qualifiers, or None."""
     while of:
         one = own[of - CHILD - 1] if parents and of > CHILD else (parents or own)[of - 1]
         kind, said = one.said[0], one.said[4]  # type: ignore[index]
@@ -161,7 +161,7 @@ def width(parents: list[Type], own: list[Type], of: int) -> Optional[int]:
     return None
 
 
-def told(ctf: bytes) -> dict[tuple[int, str], list[Shape]]:
+def shapes_of(ctf: bytes) -> dict[tuple[int, str], list[Shape]]:
     """The structs and unions of a dictionary, by name."""
     made: dict[tuple[int, str], list[Shape]] = {}
     parents: list[Type] = []
@@ -177,7 +177,7 @@ def told(ctf: bytes) -> dict[tuple[int, str], list[Shape]]:
                 bits = width(parents, own, of)
                 members.append((member.decode("utf-8", "surrogateescape"), offset, bits))
             if said[0] > MOST_MEMBERS and not any(one[0] for one in members):
-                continue  # its members are too many, and stand in unnamed ones
+                continue  # too many members, which are in unnamed ones
             key = (kind, name.decode("utf-8", "surrogateescape"))
             made.setdefault(key, []).append((*key, said[0], tuple(members)))
         parents = parents or own
@@ -197,7 +197,7 @@ def parts(ctf: bytes) -> Iterator[bytes]:
 
 
 def is_told(defined: Shape, shape: Shape) -> bool:
-    """Whether a type of the dictionary is one that is defined."""
+    """Whether a type of the dictionary matches a definition."""
     if defined[2] != shape[2] or len(defined[3]) != len(shape[3]):
         return False
     for (name, place, bits), (own, offset, own_bits) in zip(defined[3], shape[3]):
@@ -209,14 +209,14 @@ def is_told(defined: Shape, shape: Shape) -> bool:
 
 
 def judge(program: Path) -> tuple[int, int, list[str]]:
-    """How many definitions and members were compared, and which differ."""
+    """The numbers of compared definitions and members, and the differences."""
     command = [str(rust.folder() / "ctfd-convert"), str(program), "-", "--from", "dwarf", "--lossy"]
     done = subprocess.run([*command, "--verify"], capture_output=True)
     if done.returncode and IN_PARTS in done.stderr:
         done = subprocess.run(command, capture_output=True)
     if done.returncode:
         return 0, 0, [f"it is not converted: {done.stderr.decode(errors='replace').strip()}"]
-    known = told(done.stdout)
+    known = shapes_of(done.stdout)
     wanted = set(shapes(program))
     wrong = []
     met: set[int] = set()
@@ -230,7 +230,7 @@ def judge(program: Path) -> tuple[int, int, list[str]]:
     return len(wanted), sum(len(shape[3]) for shape in wanted), wrong
 
 
-def compiled(folder: Path) -> Iterator[Path]:
+def compile_programs(folder: Path) -> Iterator[Path]:
     """Programs in C, C++ and Rust."""
     for name, command in {
             "c": f"gcc -g {HERE / 'types.c'}", "old": f"gcc -gdwarf-3 {HERE / 'types.c'}",
@@ -254,7 +254,7 @@ def main(words: Sequence[str] = ()) -> int:
         return 0
     failed = 0
     with tempfile.TemporaryDirectory() as folder:
-        for program in [Path(word) for word in words] or compiled(Path(folder)):
+        for program in [Path(word) for word in words] or compile_programs(Path(folder)):
             definitions, members, wrong = judge(program)
             print(f"independent: {program.name}: {definitions} definitions with {members} members,"
                   f" {len(wrong)} differ")

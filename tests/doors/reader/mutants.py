@@ -1,12 +1,13 @@
 #!/usr/bin/env python3
-"""Damaged programs, which the compiled ctfd-convert reads or refuses.
+"""Runs the compiled ctfd-convert on damaged programs, which it must read or refuse.
 
 usage: tests/doors/reader/mutants.py [--count N] [--seed N] [PROGRAM..]
 
-Bytes of a program's debug information, of its types and of its headers are changed, sections are cut
-and parts of them are moved, as a seed says. The command ends within 5 s with status 0, 1 or 2,
-without a panic or a signal, and takes no more memory than 64 MiB and 64 times the file. Without programs some are compiled: C, C++ and Rust,
-type units, old DWARF, GNU's CTF, BTF, big-endian, compressed sections. Needs gcc and the compiled commands.
+In a program's debug information, types and headers, bytes are changed, sections are cut, and parts
+of them are moved, from a seed. The command must end within 5 s with status 0, 1 or 2, without a
+panic or a signal, and use at most 64 MiB and 64 times the file's size of memory. Without programs
+some are compiled: C, C++ and Rust, type units, old DWARF, GNU's CTF, BTF, big-endian, compressed
+sections. Needs gcc and the compiled commands.
 """
 from __future__ import annotations
 
@@ -31,7 +32,7 @@ import rust  # noqa: E402
 
 HERE = Path(__file__).parent
 ADDRESSES = 1 << 30
-# The first are those of Python, which a child of it has until it begins.
+# The constant part includes Python's memory, which a child process has until it execs.
 MEMORY, TIMES = 64 << 20, 64
 SECONDS = 5
 COUNT = 150
@@ -44,7 +45,7 @@ def limit() -> None:
     resource.setrlimit(resource.RLIMIT_AS, (ADDRESSES, ADDRESSES))
 
 
-def compiled(folder: Path) -> Iterator[Path]:
+def compile_programs(folder: Path) -> Iterator[Path]:
     """Programs of many forms."""
     for name, command in {
             "c": f"gcc -g -w {HERE / 'types.c'}", "units": "g++ -g -w -fdebug-types-section -c"
@@ -64,7 +65,7 @@ def compiled(folder: Path) -> Iterator[Path]:
 
 
 def ranges(path: Path) -> list[tuple[int, int]]:
-    """Where the sections with types are, and the header; else all of a file."""
+    """The ranges of the header and of the sections with types, or the whole file."""
     done = subprocess.run(["readelf", "-S", "-W", str(path)], capture_output=True, text=True)
     found = [(0, 64)]
     for line in done.stdout.splitlines():
@@ -99,9 +100,9 @@ def mutant(whole: bytes, places: list[tuple[int, int]], chance: random.Random) -
     return bytes(data)
 
 
-def ended(number: int, path: Path, whole: bytes, places: list[tuple[int, int]], seed: int,
-          folder: Path) -> tuple[str, str]:
-    """How the command ends on a mutant: a word for it, and what is wrong with it."""
+def end_of(number: int, path: Path, whole: bytes, places: list[tuple[int, int]], seed: int,
+           folder: Path) -> tuple[str, str]:
+    """The outcome of the command on a mutant: a word, and what is wrong with it."""
     chance = random.Random(f"{seed} {path.name} {number}")
     damaged, out = folder / f"{path.name}{number}", folder / f"{path.name}{number}.out"
     damaged.write_bytes(mutant(whole, places, chance))
@@ -123,7 +124,7 @@ def ended(number: int, path: Path, whole: bytes, places: list[tuple[int, int]], 
 
 
 def run(damaged: Path, out: Path) -> tuple[int, int, str]:
-    """Converts a file: the status, the most bytes of memory, and what is said."""
+    """Converts a file, and returns the status, the peak memory in bytes, and the messages."""
     with tempfile.TemporaryFile() as errors:
         process = subprocess.Popen([str(rust.folder() / "ctfd-convert"), str(damaged), str(out)],
                                    stdout=subprocess.DEVNULL, stderr=errors, preexec_fn=limit,
@@ -150,15 +151,15 @@ def main(given: Sequence[str] = ()) -> int:
     counts: Counter[str] = Counter()
     with tempfile.TemporaryDirectory() as made_in, ThreadPoolExecutor(2) as lanes:
         folder = Path(made_in)
-        programs = words.programs or list(compiled(folder))
+        programs = words.programs or list(compile_programs(folder))
         each = -(-words.count // len(programs))
         for path in programs:
             whole, places = path.read_bytes(), ranges(path)
 
-            def judged(number: int) -> tuple[str, str]:
-                return ended(number, path, whole, places, words.seed, folder)
+            def fault_of(number: int) -> tuple[str, str]:
+                return end_of(number, path, whole, places, words.seed, folder)
 
-            for word, wrong in lanes.map(judged, range(each)):
+            for word, wrong in lanes.map(fault_of, range(each)):
                 counts[word] += 1
                 if wrong:
                     print(wrong)

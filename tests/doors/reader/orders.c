@@ -1,4 +1,4 @@
-/* orders.c - types that compilers lay out alike for machines of either byte order; includes nothing. */
+/* orders.c - types that compilers lay out alike for both byte orders; includes nothing. */
 enum color { RED, GREEN = 5, BLUE = -1 };
 enum small { SMALL_ONE = 1, SMALL_TWO } __attribute__((packed));
 struct node;

@@ -1,5 +1,5 @@
-/* Functions of units that are optimised as they are linked: each is told apart from its types, and
-   several name those of one unit. */
+/* Units for link-time optimisation: the debug information of each function is separate from that of
+   its types, and several functions refer to the types of one unit. */
 struct node;
 typedef int lanes __attribute__((vector_size(16)));
 

@@ -1,20 +1,20 @@
 #!/usr/bin/env python3
-"""Compares what the compiled ctfd-convert writes with sums of what it wrote before.
+"""Compares the output of the compiled ctfd-convert with stored hashes.
 
 usage: tests/doors/reader/sums.py [--all | --write]
 
-The sums in sums.txt were made as two readers that know nothing of each other wrote the same bytes
-and the same words. Converted are programs, libraries and object files of gcc and clang in all forms
-that these give to types, archives, sections by themselves, the BTF of this machine's kernel where it
-shows one, debug files of Debian where they are installed, damaged files, and files of which nothing
-can be made. A sum is of the dictionary, the report, the parent of --split, and what stands on
-standard error; beside it stands the status. Each file that is not damaged is converted once more
-with --verify, which compares what is written with the debug information in a way of its own.
+The hashes in sums.txt were made when two independently written readers gave the same bytes and
+messages. The files are programs, libraries and object files of gcc and clang with types in all
+formats, archives, sections by themselves, the BTF of this machine's kernel if it shows one,
+Debian's debug files if they are installed, damaged files, and files that cannot be converted. A
+hash is of the dictionary, the report, the parent of --split, and standard error; the status is
+stored beside it. Each undamaged file is converted again with --verify, which checks the output
+against the debug information in a different way.
 
-Prints each that differs, and counts; the status is 1 where one differs. Sums are of the tools that
-sums.txt names, and of files of just those bytes: what others made is only verified. With --all there
-are ten times as many damaged files. --write makes the sums anew: look at each that changes. Needs
-gcc, objcopy and the compiled commands (`make`).
+Prints each difference, and counts; the status is 1 if there is one. The hashes are valid for the
+tools that sums.txt names, and for files of exactly those bytes; other output is only verified. With
+--all there are ten times as many damaged files. --write stores new hashes: look at each that
+changes. Needs gcc, objcopy and the compiled commands (`make`).
 """
 from __future__ import annotations
 
@@ -47,8 +47,8 @@ DAMAGED = 40
 Words = Sequence[str]
 
 
-class Ended(NamedTuple):
-    """How a command ended, and the files that it wrote."""
+class Outcome(NamedTuple):
+    """The outcome of a command, and the files that it wrote."""
 
     status: int
     errors: str
@@ -56,41 +56,41 @@ class Ended(NamedTuple):
 
     @property
     def sum(self) -> str:
-        """The status, and a sum of all else."""
+        """The status, and a hash of everything else."""
         made = hashlib.blake2b(self.errors.encode(), digest_size=8)
         for name in sorted(self.files):
             made.update(b"%d %s " % (len(self.files[name]), name.encode()) + self.files[name])
         return f"{self.status} {made.hexdigest()}"
 
 
-def run(command: Path, words: Words, inputs: Path) -> Ended:
-    """A command with words, in which @OUT stands for a folder of its own."""
+def run(command: Path, words: Words, inputs: Path) -> Outcome:
+    """Runs a command, with @OUT replaced by the path of a new folder's file."""
     with tempfile.TemporaryDirectory() as folder:
         given = [word.replace("@OUT", f"{folder}/out") for word in words]
         try:
             done = subprocess.run([str(command), *given], capture_output=True, cwd=inputs,
                                   timeout=SECONDS)
         except subprocess.TimeoutExpired:
-            return Ended(-99, "it hangs", {})
+            return Outcome(-99, "it hangs", {})
         files = {path.name: path.read_bytes() for path in Path(folder).iterdir()}
         errors = done.stderr.decode("utf-8", "backslashreplace")
-        return Ended(done.returncode, errors.replace(folder, "@").replace(str(inputs), "@IN"),
-                     files)
+        return Outcome(done.returncode, errors.replace(folder, "@").replace(str(inputs), "@IN"),
+                       files)
 
 
 def plain_words(folder: Path, compiler: str = "gcc") -> Words:
-    """What lets a compiler write the same bytes in any folder."""
+    """Options with which a compiler writes the same bytes in any folder."""
     seed = ("-frandom-seed=7",) if compiler == "gcc" else ()
     return ("-w", f"-fdebug-prefix-map={folder}=.", f"-fdebug-prefix-map={TOP}=/ctfd", *seed)
 
 
 def compiled_cases(folder: Path) -> Iterator[Words]:
-    """Files of compilers and what goes with them, and the words to convert each."""
+    """Compiled files and variants of them, with the arguments to convert each."""
     code = SOURCE.read_text()
     (folder / "types.c").write_text(code)
     (folder / "other.c").write_text(code.replace("main", "second"))
 
-    # gcc writes GNU's CTF in the order in which its own memory lies.
+    # gcc orders GNU's CTF by addresses in its memory.
     steady = ("setarch", "-R") if shutil.which("setarch") else ()
 
     def gcc(*words: str, compiler: str = "gcc") -> bool:
@@ -113,7 +113,7 @@ def compiled_cases(folder: Path) -> Iterator[Words]:
     if shutil.which("clang") and gcc("-g", "types.c", "-o", "clang", compiler="clang"):
         yield ("clang", *report)
     yield from split(folder)
-    yield from derived(folder)
+    yield from derived_files(folder)
     yield from apart(folder)
     units = [f"tags{unit}.o" for unit in (1, 2, 3)]
     if all(gcc("-g", "-c", f"-DUNIT={name[4]}", str(TAGS), "-o", name) for name in units):
@@ -123,8 +123,8 @@ def compiled_cases(folder: Path) -> Iterator[Words]:
 
 
 def apart(folder: Path) -> Iterator[Words]:
-    """A program that was optimised as it was linked: each function is in a unit of its own, and its
-    types in others; and the same as dwz makes it smaller."""
+    """A program with link-time optimization, in which each function has a unit of its own and its
+    types are in other units; and the same after dwz."""
     lto = (*plain_words(folder), "-g", "-O2", "-flto", "-flto-partition=max")
     commands = [("gcc", *lto, "-c", f"-DUNIT={unit}", str(PARTS), "-o", f"parts{unit}.o")
                 for unit in (1, 2)]
@@ -168,8 +168,8 @@ def split(folder: Path) -> Iterator[Words]:
             yield (f"package{version}/program", "@OUT.ctf")
 
 
-def derived(folder: Path) -> Iterator[Words]:
-    """Files made of others, and other words."""
+def derived_files(folder: Path) -> Iterator[Words]:
+    """Files derived from others, and other options."""
     def tool(*words: str) -> bool:
         return bool(shutil.which(words[0])) and subprocess.run(
             words, cwd=folder, capture_output=True).returncode == 0
@@ -207,7 +207,7 @@ def derived(folder: Path) -> Iterator[Words]:
         yield words
 
 
-def installed() -> Iterator[Words]:
+def installed_files() -> Iterator[Words]:
     """The kernel's BTF, and a large debug file of Debian's."""
     report = ("@OUT.ctf", "--report", "@OUT.report")
     if os.access(KERNEL, os.R_OK):
@@ -220,7 +220,7 @@ def installed() -> Iterator[Words]:
         yield (str(path), *report)
 
 
-def damaged(folder: Path, count: int) -> Iterator[Words]:
+def damaged_copies(folder: Path, count: int) -> Iterator[Words]:
     """Copies of a program with some bytes changed."""
     chance = random.Random(7)
     sound = [folder / name for name in ("program", "units", "gnu.o", "btf.o", "lua.ctf")
@@ -235,7 +235,7 @@ def damaged(folder: Path, count: int) -> Iterator[Words]:
 
 
 def tools() -> str:
-    """The versions of what makes the files."""
+    """The versions of the tools that make the files."""
     found = []
     for name in TOOLS:
         said = subprocess.run([name, "--version"], capture_output=True, text=True).stdout \
@@ -245,16 +245,16 @@ def tools() -> str:
     return ", ".join(found)
 
 
-def called(words: Words) -> str:
-    """A case by its words; by the sum of its bytes too where the file is not made here."""
+def case_name(words: Words) -> str:
+    """The name of a case: its arguments, and a hash of the file if it was not made here."""
     path = Path(words[0])
     is_here = path.is_absolute() and os.path.isfile(path) and path.stat().st_size
     of = f"{hashlib.blake2b(path.read_bytes(), digest_size=8).hexdigest()} " if is_here else ""
     return of + " ".join(words)
 
 
-def known() -> tuple[str, dict[str, str]]:
-    """The tools that sums are of, and the sums by their cases."""
+def stored_sums() -> tuple[str, dict[str, str]]:
+    """The tools that the hashes are valid for, and the hashes by case."""
     made, lines = {}, SUMS.read_text().splitlines() if SUMS.exists() else [""]
     for line in lines[1:]:
         status, total, case = line.split(" ", 2)
@@ -263,18 +263,18 @@ def known() -> tuple[str, dict[str, str]]:
 
 
 class Counts:
-    """What was compared, and what is wrong with it."""
+    """The numbers of comparisons and errors."""
 
     def __init__(self, command: Path, folder: Path) -> None:
         self.command, self.folder = command, folder
-        self.tools, self.sums = known()
+        self.tools, self.sums = stored_sums()
         self.is_same_tools = self.tools == tools()
         self.made: dict[str, str] = {}
         self.compared = self.verified = self.unknown = self.wrong = 0
 
-    def judge(self, words: Words, found: Ended, again: Optional[Ended]) -> None:
-        """Compares one with its sum, and with what comes out where it is verified."""
-        case = called(words)
+    def judge(self, words: Words, found: Outcome, again: Optional[Outcome]) -> None:
+        """Compares an output with its hash, and with the verified one."""
+        case = case_name(words)
         self.made[case] = found.sum
         if again is not None:
             self.verified += 1
@@ -292,8 +292,8 @@ class Counts:
             self.wrong += 1
             print(f"ctfd-convert {' '.join(words)}: {why}")
 
-    def pair(self, words: Words) -> tuple[Words, Ended, Optional[Ended]]:
-        """A case, and the same verified."""
+    def pair(self, words: Words) -> tuple[Words, Outcome, Optional[Outcome]]:
+        """A case's outcome, and its outcome with --verify."""
         found = run(self.command, words, self.folder)
         is_sound = not words[0].startswith("damaged") and found.status in (0, 1)
         again = run(self.command, (*words, "--verify"), self.folder) if is_sound else None
@@ -309,9 +309,9 @@ def main(given: Sequence[str] = ()) -> int:
     with tempfile.TemporaryDirectory() as made_in:
         folder = Path(made_in)
         counts = Counts(compiled, folder)
-        cases = [*compiled_cases(folder), *installed()]
+        cases = [*compiled_cases(folder), *installed_files()]
         is_all = "--all" in given or "--write" in given
-        cases += damaged(folder, DAMAGED * (10 if is_all else 1))
+        cases += damaged_copies(folder, DAMAGED * (10 if is_all else 1))
         with ThreadPoolExecutor(2) as lanes:
             for words, found, again in lanes.map(counts.pair, cases):
                 counts.judge(words, found, again)

@@ -1,7 +1,7 @@
-/* tags.c - tags that units declare, define alike, and define otherwise: compiled for UNIT 1, 2 and 3.
+/* tags.c - tags that units declare, define alike or define differently, for UNIT 1, 2 and 3.
 
-   `shared`, `node` and `list` are the same in all units, though each unit only declares some of them.
-   `own` differs by unit with the same size in the same line, and so do all that reach it. */
+   `shared` and `node` are the same in units 1 and 3, and only declared in unit 2. `own` differs in
+   unit 2, with the same size and line, and so do the types that refer to it. */
 #if UNIT == 1
 typedef int field;
 #elif UNIT == 2

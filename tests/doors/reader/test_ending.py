@@ -1,11 +1,11 @@
-"""How the compiled commands work for a person: a bar on a terminal, and an interrupt that leaves
-nothing behind.
+"""The compiled commands as a person uses them: a progress bar on a terminal, and interrupts that
+leave nothing behind.
 
-A program comes out of a pipe after more than a second: a bar is then shown where standard error is a
-terminal, and nothing where it is a file; the bar is gone at the end. SIGINT, SIGTERM and SIGHUP end
-ctfd-convert while it waits for its input, and while it waits for objcopy, and ctfd-diff while it
-waits for dpkg-deb: the command ends by the signal, OUT is as it was, and no other file is left.
-Needs gcc and the compiled commands (`make`).
+A program comes out of a pipe after more than a second: then a bar is shown if standard error is a
+terminal, but not if it is a file; the bar is gone at the end. SIGINT, SIGTERM and SIGHUP end
+ctfd-convert while it waits for its input or for objcopy, and ctfd-diff while it waits for dpkg-deb:
+the command ends by the signal, OUT is unchanged, and no other file is left. Needs gcc and the
+compiled commands (`make`).
 """
 from __future__ import annotations
 
@@ -31,12 +31,12 @@ PATIENCE = 1.3
 LIMIT = 30
 SIGNALS = (signal.SIGINT, signal.SIGTERM, signal.SIGHUP)
 BEFORE = b"what was there"
-# An objcopy that waits to be told to end, as one of a large file does.
+# An objcopy that takes long, as with a large file.
 SLOW = "#!/bin/sh\ntouch {0}/begun\nsleep 20\n"
 
 
 class Case:
-    """A folder with a program, and a command that is run there."""
+    """A folder with a program, in which commands are run."""
 
     def __init__(self, folder: Path) -> None:
         self.folder = folder
@@ -46,9 +46,9 @@ class Case:
         (folder / "code.c").write_text(CODE)
         subprocess.run(["gcc", "-g", folder / "code.c", "-o", self.program], check=True)
 
-    def begun(self, *words: object, errors: Optional[int] = None, path: str = "",
+    def begin(self, *words: object, errors: Optional[int] = None, path: str = "",
               command: str = "ctfd-convert") -> subprocess.Popen[bytes]:
-        """A command, as it runs."""
+        """Starts a command."""
         environment = {**os.environ, "TMPDIR": str(self.temporary),
                        "PATH": f"{path}{os.environ['PATH']}", "TERM": "xterm"}
         return subprocess.Popen([str(rust.folder() / command), *map(str, words)], env=environment,
@@ -56,14 +56,14 @@ class Case:
                                 stdout=subprocess.DEVNULL)
 
 
-def shown(case: Case) -> Iterator[str]:
-    """What is wrong with the bar."""
+def faults_of_bar(case: Case) -> Iterator[str]:
+    """Errors of the progress bar."""
     asked = [("ctfd-convert", [case.out]), ("ctfd-types", []), ("ctfd-diff", [case.program])]
     for is_terminal, (command, words) in itertools.product((True, False), asked):
         pipe = case.folder / f"pipe-{command}{is_terminal}"
         os.mkfifo(pipe)
         ours, theirs = pty.openpty() if is_terminal else os.pipe()
-        child = case.begun(pipe, *words, errors=theirs, command=command)
+        child = case.begin(pipe, *words, errors=theirs, command=command)
         os.close(theirs)
         with pipe.open("wb") as file:
             time.sleep(PATIENCE)
@@ -80,41 +80,41 @@ def shown(case: Case) -> Iterator[str]:
 
 
 def read(handle: int) -> str:
-    """All that was written to the other end, which is closed."""
+    """Everything that was written to the other end, which is closed."""
     made = b""
     try:
         while piece := os.read(handle, 65536):
             made += piece
-    except OSError:  # as a terminal that is closed has it
+    except OSError:  # a closed terminal
         pass
     os.close(handle)
     return made.decode()
 
 
 def waiting_for_input(case: Case) -> subprocess.Popen[bytes]:
-    """The command as it reads a pipe into which nobody writes."""
+    """The command, reading a pipe into which nobody writes."""
     pipe = case.folder / "input"
     if not pipe.exists():
         os.mkfifo(pipe)
-    child = case.begun(pipe, case.out)
+    child = case.begin(pipe, case.out)
     child.kept_open = os.open(pipe, os.O_WRONLY)  # type: ignore[attr-defined]
     return child
 
 
 def waiting_for_objcopy(case: Case) -> subprocess.Popen[bytes]:
-    """The command as it waits for objcopy."""
+    """The command, waiting for objcopy."""
     return begun_with(case, "objcopy", "--section", case.program, case.out)
 
 
 def begun_with(case: Case, tool: str, *words: object, command: str = "ctfd-convert"
                ) -> subprocess.Popen[bytes]:
-    """A command that has begun a tool which takes its time."""
+    """A command that has started a slow tool."""
     tools = case.folder / "tools"
     tools.mkdir(exist_ok=True)
     (tools / "begun").unlink(missing_ok=True)
     (tools / tool).write_text(SLOW.format(tools))
     (tools / tool).chmod(0o755)
-    child = case.begun(*words, path=f"{tools}:", command=command)
+    child = case.begin(*words, path=f"{tools}:", command=command)
     last = time.monotonic() + LIMIT
     while not (tools / "begun").exists() and time.monotonic() < last:
         time.sleep(0.02)
@@ -122,14 +122,14 @@ def begun_with(case: Case, tool: str, *words: object, command: str = "ctfd-conve
 
 
 def waiting_for_dpkg(case: Case) -> subprocess.Popen[bytes]:
-    """ctfd-diff as it waits for dpkg-deb."""
+    """ctfd-diff, waiting for dpkg-deb."""
     package = case.folder / "package.deb"
     package.write_bytes(b"!<arch>\ndebian-binary   ")
     return begun_with(case, "dpkg-deb", package, package, command="ctfd-diff")
 
 
-def interrupted(case: Case, begin: Callable[[Case], subprocess.Popen[bytes]]) -> Iterator[str]:
-    """What is wrong with how it ends by each signal."""
+def faults_of_ending(case: Case, begin: Callable[[Case], subprocess.Popen[bytes]]) -> Iterator[str]:
+    """Errors in how it ends by each signal."""
     for one in SIGNALS:
         case.out.write_bytes(BEFORE)
         there = {path.name for path in case.folder.iterdir()} | {"tools", "input", "package.deb"}
@@ -154,9 +154,9 @@ def case(tmp_path: Path) -> Case:
 
 
 def test_bar(case: Case) -> None:
-    assert not list(shown(case))
+    assert not list(faults_of_bar(case))
 
 
 @pytest.mark.parametrize("begin", (waiting_for_input, waiting_for_objcopy, waiting_for_dpkg))
 def test_interrupts(case: Case, begin: Callable[[Case], subprocess.Popen[bytes]]) -> None:
-    assert not list(interrupted(case, begin))
+    assert not list(faults_of_ending(case, begin))

@@ -1,11 +1,10 @@
-"""A program of 150,000 types, more than a dictionary holds, by the compiled commands.
+"""A program of 150,000 types, more than one dictionary can have, with the compiled commands.
 
-The dictionaries that are written into one file are opened by `ctfd.open`,
-which finds each struct with its size and members. One thread writes the same bytes as many; `--one`
-writes one dictionary, and reports what is left out. `ctfd-types`, `ctfd-diff` and `ctfd-explore`
-answer for all dictionaries as one, of the program and of the file alike, and what they say is what
-pahole says of each struct, and what the source has. Needs gcc and the compiled commands; pahole
-where it is.
+`ctfd.open` opens the dictionaries in one file, and finds each struct with its size and members. One
+thread writes the same bytes as many; `--one` writes one dictionary, and reports what is left out.
+`ctfd-types`, `ctfd-diff` and `ctfd-explore` treat all dictionaries as one, for the program and for
+the file alike, and their answers must match pahole's about each struct, and the source. Needs gcc
+and the compiled commands; pahole is optional.
 """
 from __future__ import annotations
 
@@ -30,15 +29,16 @@ LEAST = 150_000
 
 
 def size(number: int) -> int:
-    """The bytes of a struct: an int, a pointer and its array, aligned."""
+    """The size of a struct in bytes: an int, a pointer and its array, aligned."""
     return -(-(16 + number % LONGEST + 1) // 8) * 8
 
 
 def source(chance: random.Random) -> str:
-    """Structs that name each other, each with an array and a pointer of its own."""
+    """Structs that refer to each other, each with an array and a pointer."""
     lines = []
     for number in range(STRUCTS):
-        lines.append(f"struct s{number} {{ int a{number % 7}; struct s{near(chance, number)} *near;"
+        lines.append(f"struct s{number} {{ int a{number % 7};"
+                     f" struct s{target_of(chance, number)} *near;"
                      f" char text[{number % LONGEST + 1}]; }};")
     last = f"struct s{STRUCTS - 1}"
     lines += [f"struct holder {{ long first; {last} held; }} object;",
@@ -46,20 +46,20 @@ def source(chance: random.Random) -> str:
     return "\n".join(lines)
 
 
-def near(chance: random.Random, number: int) -> int:
-    """The struct that another has a pointer to."""
+def target_of(chance: random.Random, number: int) -> int:
+    """The number of the struct to which another one has a pointer."""
     return max(0, number - chance.randrange(1, NEAR))
 
 
 def answer(name: str, *words: str) -> str:
-    """What a command prints, which says nothing else."""
+    """The output of a command, which must succeed without messages."""
     done = subprocess.run([str(rust.folder() / name), *words], capture_output=True, text=True)
     assert (done.returncode, done.stderr) == (0, ""), (words, done)
     return done.stdout
 
 
 def ask_commands(program: str, out: str, count: int) -> None:
-    """The commands answer for the parts as one, and alike for the program and for the file."""
+    """Checks that the commands treat the parts as one, and answer the same for program and file."""
     for words in (["--sizes"], ["--plain", "struct s4?"]):
         of_program, of_file = (answer("ctfd-types", one, *words) for one in (program, out))
         assert of_program == of_file, words
@@ -68,7 +68,7 @@ def ask_commands(program: str, out: str, count: int) -> None:
     assert sorted(line[51:] for line in sizes) == sorted(wanted), "each struct once"
     assert len(answer("ctfd-types", out).splitlines()) == count, "each type once"
     chance = random.Random(5)
-    users = [n for n in range(STRUCTS) if near(chance, n) == 50]
+    users = [n for n in range(STRUCTS) if target_of(chance, n) == 50]
     uses = answer("ctfd-types", out, "--uses", "s50").splitlines()
     assert [line.split()[2] for line in uses] == [f"s{n}" for n in users], uses
     held = answer("ctfd-types", out, "--contains", f"s{STRUCTS - 1}").splitlines()
@@ -86,7 +86,7 @@ def ask_commands(program: str, out: str, count: int) -> None:
 
 
 def compare(folder: Path, out: Path) -> None:
-    """Of two programs in parts what differs is found, in whatever part it is."""
+    """Checks that a difference between two programs is found, whatever part it is in."""
     code, program, other = folder / "other.c", folder / "other.o", folder / "other.ctf"
     text = source(random.Random(5))
     code.write_text(text.replace("struct s56000 { int", "struct s56000 { long"))
@@ -104,7 +104,7 @@ def compile_to(code: Path, program: Path) -> None:
 
 
 def ask_pahole(program: str, out: str) -> None:
-    """Sizes as pahole has them, of the program itself."""
+    """Compares sizes with pahole's for the program itself."""
     if not shutil.which("pahole"):
         return
     done = subprocess.run(["pahole", "--sizes", program], capture_output=True, text=True)
@@ -122,7 +122,7 @@ def convert(program: Path, out: Path, *words: str, threads: str = "") -> subproc
 
 @dataclass(frozen=True)
 class Conversion:
-    """A program of many types, its dictionaries in one file, and how many types these have."""
+    """A program of many types, its dictionaries in one file, and the number of their types."""
 
     program: Path
     out: Path

@@ -1,9 +1,9 @@
 """The compiled ctfd-convert on files of big-endian machines, and on FreeBSD's CTF of version 3.
 
-A program that is compiled for a machine of either byte order has the same types: clang compiles one
-for powerpc64 and s390x, for BPF with its BTF, and gcc for powerpc64 with GNU's CTF where it is
-installed. A dictionary that is written anew with big-endian numbers, or as version 3, has the types
-that it had. Needs clang and the compiled commands.
+A program has the same types when compiled for machines of either byte order: clang compiles it for
+powerpc64 and s390x, and for BPF with BTF, and gcc, if installed, for powerpc64 with GNU's CTF. A
+dictionary that is rewritten with big-endian numbers, or as version 3, keeps its types. Needs clang
+and the compiled commands.
 """
 from __future__ import annotations
 
@@ -28,7 +28,7 @@ SECONDS = 60
 LONG = 0xFFFF
 
 
-def converted(path: Path, *words: str) -> bytes:
+def convert(path: Path, *words: str) -> bytes:
     """The dictionary of a file."""
     command = [str(rust.folder() / "ctfd-convert"), str(path), "-", "--lossy", *words]
     done = subprocess.run(command, capture_output=True, timeout=SECONDS)
@@ -37,15 +37,15 @@ def converted(path: Path, *words: str) -> bytes:
     return done.stdout
 
 
-def compiled(command: str, output: Path) -> Optional[Path]:
-    """An object file of the source; None where it can't be made here."""
+def compile_source(command: str, output: Path) -> Optional[Path]:
+    """An object file of the source, or None if it cannot be compiled here."""
     words = [*command.split(), "-w", "-c", str(SOURCE), "-o", str(output)]
     is_there = shutil.which(words[0])
     return output if is_there and subprocess.run(words, capture_output=True).returncode == 0 else None
 
 
 def foreign(ctf: bytes, order: str, is_wide: bool) -> bytes:
-    """A dictionary of version 2 with numbers of another order, or of version 3."""
+    """A dictionary of version 2, rewritten in another byte order, or as version 3."""
     label, parent, *ends, length = struct.unpack_from("<8I", ctf, 4)
     body = ctf[HEADER:]
     types = b"".join(records(body[ends[3]:ends[4]], order, is_wide))
@@ -60,7 +60,7 @@ def foreign(ctf: bytes, order: str, is_wide: bool) -> bytes:
 
 
 def records(types: bytes, order: str, is_wide: bool) -> Iterator[bytes]:
-    """The records of a dictionary, one after the other, as another has them."""
+    """The records of a dictionary, rewritten one by one."""
     at = 0
     number = "I" if is_wide else "H"
     while at < len(types):
@@ -116,28 +116,28 @@ def have_same_types(one: bytes, other: bytes) -> bool:
 @pytest.mark.parametrize("target", BIG)
 def test_big_endian(tmp_path: Path, target: str, version: str) -> None:
     options = f"-gdwarf-{version} -fsigned-char"
-    little = compiled(f"clang --target={LITTLE} {options}", tmp_path / "little.o")
-    big = compiled(f"clang --target={target} {options}", tmp_path / "big.o")
+    little = compile_source(f"clang --target={LITTLE} {options}", tmp_path / "little.o")
+    big = compile_source(f"clang --target={target} {options}", tmp_path / "big.o")
     assert little and big
-    assert have_same_types(converted(little), converted(big))
+    assert have_same_types(convert(little), convert(big))
 
 
 def test_btf(tmp_path: Path) -> None:
-    one = compiled("clang --target=bpfel -g", tmp_path / "el.o")
-    other = compiled("clang --target=bpfeb -g", tmp_path / "eb.o")
+    one = compile_source("clang --target=bpfel -g", tmp_path / "el.o")
+    other = compile_source("clang --target=bpfeb -g", tmp_path / "eb.o")
     assert one and other
-    assert have_same_types(converted(one, "--from", "btf"), converted(other, "--from", "btf"))
+    assert have_same_types(convert(one, "--from", "btf"), convert(other, "--from", "btf"))
 
 
 @pytest.mark.skipif(not shutil.which("powerpc64-linux-gnu-gcc"),
                     reason="not possible here: no powerpc64-linux-gnu-gcc")
 @pytest.mark.parametrize("option", ("-gctf", "-gbtf", "-gdwarf-3 -gstrict-dwarf", "-g -gz"))
 def test_gcc(tmp_path: Path, option: str) -> None:
-    one = compiled(f"gcc {option}", tmp_path / "one.o")
-    other = compiled(f"powerpc64-linux-gnu-gcc {option} -fsigned-char", tmp_path / "other.o")
+    one = compile_source(f"gcc {option}", tmp_path / "one.o")
+    other = compile_source(f"powerpc64-linux-gnu-gcc {option} -fsigned-char", tmp_path / "other.o")
     if not one or not other:
         pytest.skip(f"not possible here: gcc does not know {option}")
-    assert have_same_types(converted(one), converted(other))
+    assert have_same_types(convert(one), convert(other))
 
 
 @pytest.mark.parametrize("order, is_wide", ((">", False), ("<", True), (">", True)))
@@ -146,4 +146,4 @@ def test_written_anew(tmp_path: Path, name: str, order: str, is_wide: bool) -> N
     whole = (TOP / "examples" / f"{name}.ctf").read_bytes()
     path = tmp_path / "foreign"
     path.write_bytes(foreign(whole, order, is_wide))
-    assert have_same_types(whole, converted(path))
+    assert have_same_types(whole, convert(path))

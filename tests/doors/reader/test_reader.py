@@ -1,4 +1,4 @@
-"""The reader of programs by stored sums, by an independent reading, and over damaged programs."""
+"""The reader of programs: stored hashes, an independent reader, and damaged programs."""
 from __future__ import annotations
 
 import shutil
@@ -11,8 +11,8 @@ HERE = Path(__file__).parent
 
 
 def run(script: str, *words: str) -> None:
-    """Runs a script in a process of its own: a command's memory is never told as less than that of
-    the Python that started it."""
+    """Runs a script in a Python of its own. The scripts measure the memory of commands, and the
+    system reports at least the memory of the Python that starts the command."""
     done = subprocess.run([str(HERE / script), *words], capture_output=True, text=True)
     assert done.returncode == 0, done.stdout + done.stderr
     missing = [line for line in done.stdout.splitlines() if line.startswith("not possible here")]
@@ -34,7 +34,7 @@ def test_mutants(whole: bool) -> None:
 
 @pytest.mark.skipif(not shutil.which("pahole"), reason="no pahole here")
 def test_beside_pahole(program: str, tmp_path: Path) -> None:
-    """Classes of C++ that are in no namespace, which are all that pahole lists, and a program."""
+    """C++ classes outside namespaces, which are all that pahole lists, and a program."""
     made = []
     for compiler, source in (("g++", "classes.cc"), ("gcc", "types.c")):
         made.append(tmp_path / f"{source}.o")

@@ -1,9 +1,9 @@
-"""A unit that is most of a program, which several threads go through.
+"""A unit that is most of a program, read by several threads.
 
-The entries of functions say which entry is behind them, and further threads begin there. Whatever
-they say, also where it is wrong, all threads together write what one does, with the same messages
-and the same status: what one writes does not depend on it. Local variables without an address are
-passed over. Needs gcc and the compiled commands.
+The entries of functions give the offset of the next entry, and further threads begin there.
+Whatever these offsets are, also if they are wrong, all threads together write what a single one
+does, with the same messages and status; a single thread does not use them. Local variables without
+an address are skipped. Needs gcc and the compiled commands.
 """
 from __future__ import annotations
 
@@ -25,7 +25,7 @@ import rust  # noqa: E402
 FUNCTIONS = 3_000
 SIBLING = re.compile(r"(\(DIE \((0x[0-9a-f]+)\) DW_TAG_subprogram\)\n(?:(?!DIE).)*?"
                      r"\.long\t)(0x[0-9a-f]+)(\t# DW_AT_sibling)", re.DOTALL)
-# What stands in place of where a function's sibling is, by its own place, that one and a number.
+# The wrong offset of a sibling, from the function's own, the right one and a number.
 Wrong = Callable[[int, int, int], int]
 WRONG: dict[str, Wrong] = {
     "within its last entry": lambda own, sibling, _: sibling - 1,
@@ -42,7 +42,7 @@ pytestmark = pytest.mark.skipif(
 
 
 def source() -> str:
-    """Functions, each with types, objects and variables of its own, in blocks too."""
+    """Functions, each with types, objects and variables of its own, also in blocks."""
     lines = []
     for n in range(FUNCTIONS):
         lines.append(f"struct s{n} {{ int a; struct s{max(0, n - 3)} *near; }};\n"
@@ -60,7 +60,7 @@ def assembly(tmp_path_factory: pytest.TempPathFactory) -> str:
     subprocess.run(["gcc", "-g", "-dA", "-O0", "-S", "-o", folder / "code.s", folder / "code.c"],
                    check=True)
     text = (folder / "code.s").read_text()
-    assert len(SIBLING.findall(text)) == FUNCTIONS - 1  # behind the last is nothing
+    assert len(SIBLING.findall(text)) == FUNCTIONS - 1  # nothing follows the last
     return text
 
 
@@ -83,10 +83,10 @@ def test_as_it_is(assembly: str, tmp_path: Path) -> None:
 
 @pytest.mark.parametrize("name", WRONG)
 def test_wrong_siblings(assembly: str, tmp_path: Path, name: str) -> None:
-    """One function in fifty leads elsewhere, which nobody follows."""
+    """Wrong siblings of one function in fifty do not change the output."""
     count = 0
 
-    def changed(found: re.Match[str]) -> str:
+    def changes(found: re.Match[str]) -> str:
         nonlocal count
         count += 1
         if count % 50:
@@ -94,7 +94,7 @@ def test_wrong_siblings(assembly: str, tmp_path: Path, name: str) -> None:
         place = WRONG[name](int(found[2], 16), int(found[3], 16), count)
         return f"{found[1]}{place:#x}{found[4]}"
 
-    text = SIBLING.sub(changed, assembly)
+    text = SIBLING.sub(changes, assembly)
     assert text != assembly
     as_it_is = outcome(assembly, tmp_path, 1)
     assert [outcome(text, tmp_path, threads) for threads in (1, 4)] == [as_it_is] * 2

@@ -1,4 +1,4 @@
-"""The types of a dictionary without their numbers, by which two are compared that number theirs
+"""The types of a dictionary without their numbers, to compare dictionaries that number types
 differently."""
 from __future__ import annotations
 
@@ -9,19 +9,19 @@ from typing import Iterator, NamedTuple
 HEADER = 36
 LONG_SIZE, LONG_MEMBERS = 0xFFFF, 8192
 INTEGER, FLOAT, ARRAY, FUNCTION, STRUCT, UNION, ENUM, FORWARD = 1, 2, 4, 5, 6, 7, 8, 9
-# A type is told by what is so far from it: further than a program's declarations reach.
+# A type is identified by what is within so many references: further than declarations reach.
 ROUNDS = 24
 
 
 class Type(NamedTuple):
-    """What a record says, and the numbers that it names."""
+    """The content of a record, and the numbers that it refers to."""
 
     said: object
     named: tuple[int, ...]
 
 
 def types(ctf: bytes) -> Iterator[Type]:
-    """The types of a dictionary of CTF version 2 that has no parent."""
+    """The types of a dictionary of CTF version 2 without a parent."""
     at, end, length = struct.unpack_from("<3I", ctf, 24)
     names = ctf[HEADER + end:HEADER + end + length]
     at, end = HEADER + at, HEADER + end
@@ -61,7 +61,7 @@ def types(ctf: bytes) -> Iterator[Type]:
 
 
 def type_set(ctf: bytes) -> Counter[int]:
-    """For each type of a dictionary what it and all that it reaches say."""
+    """For each type of a dictionary, a hash of it and of all that it reaches."""
     found = list(types(ctf))
     own = [hash(repr(one.said)) for one in found]
     told = [0, *own]

@@ -1,4 +1,4 @@
-/* types.c - types, functions and objects of many kinds, for readers of what compilers say of them. */
+/* types.c - types, functions and objects of many kinds, to test readers of debug information. */
 #include <complex.h>
 #include <stdarg.h>
 #include <stdbool.h>

@@ -1,5 +1,5 @@
 #!/usr/bin/env bash
-# Whatever clippy has to say of the Rust workspace, its tests among it, is a failure.
+# Fails if clippy reports anything in the Rust workspace, including its tests.
 # usage: tests/doors/rust/clippy.sh
 set -eu
 cd "$(dirname "$0")/../../.."

@@ -1,10 +1,10 @@
 #!/usr/bin/env bash
-# Runs the tests of the crates for Rust, without network: those in their documentation too.
+# Runs the tests of the Rust crates without network, including those in their documentation.
 # usage: tests/doors/rust/run.sh
-# The archive is the one that CTFD_ARCHIVE names, else crates/ctf_c/out/libctfd.a. Needs cargo and
-# rustc, 1.82 or later, which no package of Debian 12 brings: a machine without them passes this over
-# even where nothing is to be skipped. The crates that these stand on are Debian's packages.
-# Prints what the tests print; the status is 1 where one failed.
+# Uses the archive that CTFD_ARCHIVE names, by default crates/ctf_c/out/libctfd.a. Needs cargo and
+# rustc, 1.82 or later, which no package of Debian 12 has: without them, this is skipped even with
+# STRICT=1. The crates that they depend on are Debian packages.
+# Prints the tests' output; the status is 1 if one failed.
 set -eu
 top=$(realpath "$(dirname "$0")/../../..")
 archive=$("$top/tests/doors/c_library/archive.py" --kept)
@@ -22,13 +22,13 @@ trap 'rm -r "$work"' EXIT
 export CTFD_ARCHIVE=$archive CARGO_TARGET_DIR=$work RUSTFLAGS="-D warnings"
 cargo() { "$top/scripts/rust.py" "$@"; }
 cargo test --quiet
-# The library over libctfd.so, which the loader finds by its so-name.
+# The library through libctfd.so, which the loader finds by its soname.
 shared=$(dirname "$archive")
 CTFD_LIBRARY=$shared/libctfd.so LD_LIBRARY_PATH=$shared cargo test --quiet --package ctfd \
     --features shared --tests
-# As docs.rs makes pages: where there is no library to link.
+# As docs.rs builds the pages, without a library to link.
 env -u CTFD_ARCHIVE DOCS_RS=1 RUSTDOCFLAGS="-D warnings" "$top/scripts/rust.py" doc --quiet --no-deps
-# The example is what the documentation shows.
+# The example prints what the documentation shows.
 cargo run --quiet --package ctfd --example members -- "$top/examples/lua.ctf" "struct luaL_Reg" \
     > "$work/seen"
 diff "$work/seen" - << 'END'

@@ -1,1 +1,1 @@
-"""`ctfd serve`: lines in, a reply to each out."""
+"""Tests of `ctfd serve`: lines in, a reply to each out."""

@@ -1,14 +1,13 @@
 #!/usr/bin/env python3
-"""Compares what each examples/*.jsonl is answered with the .replies of its name.
+"""Compares the replies to each examples/*.jsonl with the .replies file of the same name.
 
 usage: tests/doors/service/examples.py PROGRAM
 
-The service of meeting.jsonl is started with the dictionary of first.jsonl as `base`. Each request
-that docs/PROTOCOL.md shows has to be a line of one of these, and the reply below it the one to that
-line; `..` stands for the middle of long bytes. Prints each example that is answered otherwise, with
-the first reply that differs, and each request of the page that stands in none, or is replied to
-otherwise; the status is 1 then. `make` needs no pytest for that; test_examples.py has a case for
-each example.
+For meeting.jsonl, the service is started with the dictionary of first.jsonl as `base`. Each request
+in docs/PROTOCOL.md must be a line of an example, and the reply below it the reply to that line;
+`..` stands for the middle of long bytes. Prints each example with other replies, with the first
+difference, and each request of the page that is in no example, or has another reply; the status is
+then 1. `make` runs this without pytest; test_examples.py has a test for each example.
 """
 from __future__ import annotations
 
@@ -28,7 +27,7 @@ LONGEST_SECONDS = 600
 
 
 def wrong(program: str, requests: Path, words: list[str]) -> Iterator[str]:
-    """What is wrong with how an example is answered."""
+    """Errors in the replies to an example."""
     wanted = requests.with_suffix(".replies")
     if not wanted.exists():
         yield f"there is no {wanted.name}"
@@ -59,7 +58,7 @@ def not_shown_right() -> Iterator[str]:
 
 @contextlib.contextmanager
 def base() -> Iterator[str]:
-    """A file of the dictionary of first.jsonl."""
+    """A file with the dictionary of first.jsonl."""
     first, *_ = (EXAMPLES / "first.jsonl").read_text(encoding="ascii").splitlines()
     with tempfile.NamedTemporaryFile() as file:
         file.write(bytes.fromhex(json.loads(first)["bytes"]))
@@ -68,7 +67,7 @@ def base() -> Iterator[str]:
 
 
 def wrong_of(program: str, name: str, of_base: str) -> Iterator[str]:
-    """What is wrong with the example of a name."""
+    """Errors in the replies to the example of this name."""
     words = [f"base={of_base}"] if name == "meeting" else []
     yield from wrong(program, EXAMPLES / f"{name}.jsonl", words)
 

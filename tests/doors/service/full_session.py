@@ -1,12 +1,12 @@
 #!/usr/bin/env python3
-"""Writes a run of requests that fills a session to its quota, or the replies that are wanted.
+"""Writes a run of requests that fills a session to its quota, or the expected replies.
 
-usage: session.py requests | replies
+usage: full_session.py requests | replies
 
-A list gets as long as it may be: the integer `int`, and zero bytes behind it. What is opened of it
-is published until four times its bytes are held, which is the quota. Then drafts of other sessions
-get names that come to more bytes than a dictionary may have, a member of a type that is too big,
-and as many enumerators and types as there may be.
+A list gets the greatest allowed length: the integer `int`, followed by zero bytes. It is opened and
+published until four times its bytes are held, which is the quota. Then drafts of other sessions get
+names with more bytes in all than a dictionary may have, a member whose type is too big, and the
+greatest number of enumerators and of types.
 """
 import json
 import sys
@@ -14,7 +14,7 @@ import sys
 INT = bytes.fromhex("f1cf0200" + 24 * "00" + "0c00000005000000" + "01000000000c040020000001"
                     + "00696e7400")
 LONGEST, PIECE = 67_108_864, 262_144
-# A name, and how many of them are too many for the strings of one dictionary.
+# A name, and the number of such names that is too many for the strings of one dictionary.
 NAME, NAMES = 1_000_000, 68
 MOST_ENUMERATORS, MOST_TYPES = 1_023, 32_766
 
@@ -36,7 +36,7 @@ def parts():
 
 
 def named_types():
-    """A draft of types with long names, of which no two are the same."""
+    """A draft of types with long names, all different."""
     yield '{"s":3,"op":"create"}', ok(3, '{"d":1}')
     for number in range(1, NAMES + 1):
         name = str(number).rjust(NAME, "n")
@@ -46,25 +46,25 @@ def named_types():
     yield '{"s":3,"op":"discard","d":1}', ok(3, '{"types":0}')
 
 
-def added(what, **fields):
+def add_request(what, **fields):
     """A request that adds to the draft of session 4."""
     return json.dumps({"s": 4, "op": "add", "d": 1, "what": what, **fields}, separators=(",", ":"))
 
 
 def full_draft():
-    """A draft that gets as many enumerators and types as it may have."""
+    """A draft with the greatest number of enumerators and types."""
     yield '{"s":4,"op":"create"}', ok(4, '{"d":1}')
-    yield added("struct", size=2**63), ok(4, '{"t":1}')
-    yield added("array", contents=1, index=1, count=2), ok(4, '{"t":2}')
-    yield added("struct"), ok(4, '{"t":3}')
-    yield added("member", t=3, type=2), fault(4, 27, "TooBig")
-    yield added("enum"), ok(4, '{"t":4}')
+    yield add_request("struct", size=2**63), ok(4, '{"t":1}')
+    yield add_request("array", contents=1, index=1, count=2), ok(4, '{"t":2}')
+    yield add_request("struct"), ok(4, '{"t":3}')
+    yield add_request("member", t=3, type=2), fault(4, 27, "TooBig")
+    yield add_request("enum"), ok(4, '{"t":4}')
     for value in range(MOST_ENUMERATORS):
-        yield added("enumerator", t=4, name=f"e{value}", value=value), ok(4, "{}")
-    yield added("enumerator", t=4, name="last", value=0), fault(4, 43, "VlenFull")
+        yield add_request("enumerator", t=4, name=f"e{value}", value=value), ok(4, "{}")
+    yield add_request("enumerator", t=4, name="last", value=0), fault(4, 43, "VlenFull")
     for number in range(5, MOST_TYPES + 1):
-        yield added("unknown"), ok(4, '{"t":%d}' % number)
-    yield added("unknown"), fault(4, 40, "Full")
+        yield add_request("unknown"), ok(4, '{"t":%d}' % number)
+    yield add_request("unknown"), fault(4, 40, "Full")
 
 
 def rows():

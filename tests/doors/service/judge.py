@@ -1,8 +1,9 @@
-"""Judges a dictionary by its 19 rules, in the plainest way.
+"""Checks the 19 rules of a dictionary, in the plainest way.
 
-A second judge, from the words of docs/FORMAT.md and docs/FAULTS.md alone, for tests/doors/service/test_damage.py to
-compare ctfd with. Each rule is a function that gives all places where the lists break it, where
-they keep the rules before it. The first fault is the first rule that is broken, at its least place.
+A second implementation, written only from docs/FORMAT.md and docs/FAULTS.md, with which
+tests/doors/service/test_damage.py compares ctfd. Each rule is a function that gives all places
+where the lists break it, provided that they keep the rules before it. The first fault is the first
+broken rule, at its least place.
 """
 from __future__ import annotations
 
@@ -19,7 +20,7 @@ MOST_TYPES = 32_766
 MOST_STEPS = 512
 HEADER_LEN = 36
 SYMBOL_LEN = 24
-OBJECT, CODE = 1, 2  # what a symbol stands for
+OBJECT, CODE = 1, 2  # the sort of a symbol
 NO_SECTION, ABSOLUTE = 0, 0xFFF1
 LAST_SYMBOL = 0xFFFF_FFFF
 MARKS = (b"_START_", b"_END_")
@@ -32,7 +33,7 @@ class Fault(NamedTuple):
 
 
 class Header(NamedTuple):
-    """The numbers behind magic, version and flags. Offsets count from the end of the header."""
+    """The numbers after magic, version and flags. Offsets count from the end of the header."""
 
     parlabel: int
     parname: int
@@ -51,7 +52,7 @@ class Symbol(NamedTuple):
 
 @dataclass(frozen=True)
 class Record:
-    """A whole type record: where it ends, and the types and places of names in it."""
+    """A whole type record: its end, and the types and name offsets in it."""
 
     end: int
     is_long_forward: bool
@@ -74,7 +75,7 @@ def u16s(data: bytes, at: int, count: int) -> tuple[int, ...]:
 
 
 def list_len(kind: int, size: int, vlen: int) -> int:
-    """How many bytes stand behind the head of a record."""
+    """The number of bytes after the head of a record."""
     if kind in (INTEGER, FLOAT):
         return 4
     if kind == ARRAY:
@@ -91,14 +92,14 @@ def member_len(size: int) -> int:
 
 
 def text_at(table: bytes | None, offset: int) -> bytes | None:
-    """The bytes from an offset of a table to before the first zero byte, if there is one."""
+    """The bytes from an offset of a table to the first zero byte, or None."""
     if table is None or offset >= len(table) or 0 not in table[offset:]:
         return None
     return table[offset : table.index(0, offset)]
 
 
 def record_at(data: bytes, at: int, section_end: int) -> Record | None:
-    """The whole record that begins at a place of the type section, if one does."""
+    """The whole record at an offset of the type section, or None."""
     if section_end - at < 8 or u16(data, at + 4) >> 11 not in KNOWN_KINDS:
         return None
     info, field = u16(data, at + 4), u16(data, at + 6)
@@ -115,7 +116,7 @@ def record_at(data: bytes, at: int, section_end: int) -> Record | None:
 def read_record(
     data: bytes, at: int, behind: int, end: int, kind: int, field: int, size: int
 ) -> Record:
-    """What a whole record of a kind names; its list runs from behind its head to its end."""
+    """The references in a record; its list extends from `behind` to `end`."""
     types: tuple[int, ...] = ()
     by_value: tuple[int, ...] = ()
     declarator: tuple[int, ...] = ()
@@ -142,14 +143,14 @@ def read_record(
 
 @dataclass(frozen=True)
 class Lists:
-    """A CTF section, and a symbol table and its strings where they are there."""
+    """A CTF section, optionally with a symbol table and its strings."""
 
     ctf: bytes
     sym: bytes | None = None
     strs: bytes | None = None
 
     def with_ctf(self, ctf: bytes) -> Lists:
-        """The same with another CTF section."""
+        """The same lists with another CTF section."""
         return Lists(ctf, self.sym, self.strs)
 
     @cached_property
@@ -179,37 +180,38 @@ class Lists:
 
     @cached_property
     def rest_of_types(self) -> bytes:
-        """What stands in the type section where no whole record begins."""
+        """The bytes of the type section after the last whole record."""
         begin = HEADER_LEN + self.header.typeoff
         at = self.records[-1].end if self.records else begin
         return self.ctf[at : HEADER_LEN + self.header.stroff]
 
     def is_name(self, reference: int) -> bool:
-        """Whether a reference names something; the offset 0 is the empty name of any table."""
+        """Whether a reference has a name; offset 0 is the empty name of any table."""
         table = self.strs if reference >> 31 else self.strings
         offset = reference & 0x7FFF_FFFF
         return offset == 0 or text_at(table, offset) is not None
 
     def own_index(self, number: int) -> int | None:
-        """The own type that has a number, from 0, whether it is there or not."""
+        """The index of the own type with a number, from 0, whether or not it exists."""
         if self.is_child:
             return number - 0x8001 if number >= 0x8000 else None
         return number - 1
 
     def is_missing(self, number: int) -> bool:
-        """Whether a type is not there; 0 asks for none, and a parent's is judged by the import."""
+        """Whether an own type does not exist; 0 is no type, and the import checks a parent's
+        types."""
         index = self.own_index(number)
         return number != 0 and index is not None and not 0 <= index < len(self.records)
 
     @cached_property
-    def considered(self) -> tuple[Symbol, ...]:
-        """The symbols of which something may be told."""
+    def considered_symbols(self) -> tuple[Symbol, ...]:
+        """The symbols for which the dictionary can have types."""
         whole = range(len(self.sym or b"") // SYMBOL_LEN)
         symbols = (self.symbol(number) for number in whole if number <= LAST_SYMBOL)
         return tuple(symbol for symbol in symbols if symbol)
 
     def symbol(self, number: int) -> Symbol | None:
-        """The symbol of a number, if it is considered."""
+        """The symbol with a number, if it is considered."""
         at = SYMBOL_LEN * number
         name, info, _, section, value, _ = struct.unpack_from("<IBBHQQ", self.sym or b"", at)
         sort, text = info & 15, text_at(self.strs, name) if name else None
@@ -221,26 +223,26 @@ class Lists:
 
     @cached_property
     def function_entries(self) -> tuple[tuple[int, bytes], ...]:
-        """The considered functions, each with what is left of their section for its entry."""
+        """The considered functions, each with the rest of their section, where its entry begins."""
         left, found = self.section(self.header.funcoff, self.header.typeoff), []
-        for symbol in self.considered:
+        for symbol in self.considered_symbols:
             if symbol.sort == CODE:
                 found.append((symbol.number, left))
                 left = left[entry_len(left) :]
         return tuple(found)
 
     @cached_property
-    def told(self) -> tuple[tuple[int, tuple[int, ...]], ...]:
-        """The considered objects, then the functions, each with the types that are told of it."""
+    def entries(self) -> tuple[tuple[int, tuple[int, ...]], ...]:
+        """The considered objects, then the functions, each with the types in its entry."""
         objects = self.section(self.header.objtoff, self.header.funcoff)
-        numbers = [symbol.number for symbol in self.considered if symbol.sort == OBJECT]
+        numbers = [symbol.number for symbol in self.considered_symbols if symbol.sort == OBJECT]
         of_objects = zip(numbers, ((t,) for t in u16s(objects, 0, len(objects) // 2)))
         of_functions = ((number, signature(left)) for number, left in self.function_entries)
         return (*of_objects, *of_functions)
 
 
 def is_silent(entry: bytes) -> bool:
-    """Whether an entry of a function says nothing, as none does: its kind and its length are 0."""
+    """Whether a function's entry has no types: it is empty, or its kind and length are 0."""
     return not entry or u16(entry, 0) >> 11 == 0 and u16(entry, 0) & 0x3FF == 0
 
 
@@ -249,12 +251,12 @@ def entry_len(entry: bytes) -> int:
 
 
 def signature(entry: bytes) -> tuple[int, ...]:
-    """The types that an entry names: what the function returns, and its arguments."""
+    """The types in an entry: the function's return type and arguments."""
     return () if is_silent(entry) else u16s(entry, 2, 1 + (u16(entry, 0) & 0x3FF))
 
 
 def nowhere_or_at_0(is_broken: bool) -> list[int]:
-    """The places of a rule that says none."""
+    """The places of a rule without a place."""
     return [0] if is_broken else []
 
 
@@ -270,7 +272,7 @@ def bad_version(lists: Lists) -> list[int]:
     return nowhere_or_at_0(lists.ctf[2] != 2)
 
 
-def compressed(lists: Lists) -> list[int]:
+def compression(lists: Lists) -> list[int]:
     return nowhere_or_at_0(lists.ctf[3] & 1 == 1)
 
 
@@ -300,7 +302,7 @@ def has_unknown_kind(rest: bytes) -> bool:
     return len(rest) >= 8 and u16(rest, 4) >> 11 not in KNOWN_KINDS
 
 
-def truncated(lists: Lists) -> list[int]:
+def truncation(lists: Lists) -> list[int]:
     is_cut = lists.rest_of_types != b"" and not has_unknown_kind(lists.rest_of_types)
     return [len(lists.records) + 1] if is_cut else []
 
@@ -325,8 +327,8 @@ def bad_reference(lists: Lists) -> list[int]:
             if record.is_long_forward or any(map(lists.is_missing, record.types))]
 
 
-def deep(lists: Lists, steps: list[tuple[int, ...]]) -> list[int]:
-    """The records from which more than 512 of these steps lead on, in a circle perhaps."""
+def deep_records(lists: Lists, steps: list[tuple[int, ...]]) -> list[int]:
+    """The records from which more than 512 of these steps lead on, maybe in a cycle."""
     begins = set(range(len(steps)))
     targets = [{lists.own_index(number) for number in of_record} for of_record in steps]
     for _ in range(MOST_STEPS + 1):
@@ -338,11 +340,11 @@ def deep(lists: Lists, steps: list[tuple[int, ...]]) -> list[int]:
 
 
 def value_deep(lists: Lists) -> list[int]:
-    return deep(lists, [record.by_value for record in lists.records])
+    return deep_records(lists, [record.by_value for record in lists.records])
 
 
 def decl_deep(lists: Lists) -> list[int]:
-    return deep(lists, [record.declarator for record in lists.records])
+    return deep_records(lists, [record.declarator for record in lists.records])
 
 
 def is_bad_entry(entry: bytes) -> bool:
@@ -355,7 +357,7 @@ def bad_funcs(lists: Lists) -> list[int]:
 
 
 def bad_symbol_type(lists: Lists) -> list[int]:
-    return [number for number, types in lists.told if any(map(lists.is_missing, types))]
+    return [number for number, types in lists.entries if any(map(lists.is_missing, types))]
 
 
 def bad_symtab(lists: Lists) -> list[int]:
@@ -366,13 +368,13 @@ RULES: tuple[tuple[str, Callable[[Lists], list[int]]], ...] = (
     ("TooShort", too_short),
     ("BadMagic", bad_magic),
     ("BadVersion", bad_version),
-    ("Compressed", compressed),
+    ("Compressed", compression),
     ("ShortHeader", short_header),
     ("BadOrder", bad_order),
     ("BadAlign", bad_align),
     ("PastEnd", past_end),
     ("BadStrings", bad_strings),
-    ("Truncated", truncated),
+    ("Truncated", truncation),
     ("BadKind", bad_kind),
     ("TooMany", too_many),
     ("BadName", bad_name),
@@ -393,8 +395,8 @@ def first_fault(lists: Lists) -> Fault | None:
     return None
 
 
-def needed(lists: Lists) -> int:
-    """The greatest number of a parent's type that a child without a fault names, or 0."""
+def parent_needs(lists: Lists) -> int:
+    """The greatest number of a parent's type that an accepted child refers to, or 0."""
     named = [number for record in lists.records for number in record.types]
-    named += [number for _, types in lists.told for number in types]
+    named += [number for _, types in lists.entries for number in types]
     return max((n for n in named if n < 0x8000), default=0) if lists.is_child else 0

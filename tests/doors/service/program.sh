@@ -1,10 +1,9 @@
 #!/usr/bin/env bash
-# Checks how a built ctfd ends: its exit status, and what stands on standard output and standard
+# Checks how a built ctfd ends: its exit status, and its output on standard output and standard
 # error.
 # usage: tests/doors/service/program.sh PROGRAM
-# PROGRAM is crates/ctfd/out/ctfd once `rt run` in crates/ctfd has built it. Prints a row for each
-# case, which ends in "yes" or in what was wrong; the status is 1 where one was wrong.
-# Needs /dev/full and Python.
+# PROGRAM is a built ctfd. Prints a row for each case, which ends in "yes" or in what was wrong; the
+# status is 1 if one was wrong. Needs /dev/full and Python.
 set -u
 program=$(realpath "$1")
 examples=$(realpath "$(dirname "$0")/../../../examples")
@@ -13,8 +12,8 @@ work=$(mktemp -d)
 trap 'rm -r "$work"' EXIT
 failed=0
 
-# expect NAME STATUS OUT ERR: the run just made, whose outputs are $work/out and $work/err, ended
-# so. OUT and ERR are patterns that a line must match; an empty one says that nothing was written.
+# expect NAME STATUS OUT ERR: checks the last run, whose outputs are $work/out and $work/err. OUT
+# and ERR are patterns that a line must match; an empty one means that nothing was written.
 expect() {
     local well=yes
     [ "$status" = "$2" ] || well="status $status"
@@ -30,7 +29,7 @@ check() {
     if [ -z "$1" ]; then [ ! -s "$work/$2" ]; else grep -q -- "$1" "$work/$2"; fi
 }
 
-# ends IN WORD..: runs the program on a file.
+# ends IN WORD..: runs the program with a file as input.
 ends() {
     local input=$1
     shift
@@ -38,7 +37,7 @@ ends() {
     status=$?
 }
 
-# fills IN WORD..: runs the program on a file, with a standard output that is full.
+# fills IN WORD..: the same, with a full standard output.
 fills() {
     local input=$1
     shift
@@ -71,7 +70,7 @@ fills /dev/null serve;          expect "no lines, and a full output" 0 '' ''
 fills "$first" serve;           expect "the first run, and a full output" 3 '' '^ctfd: Write$'
 ends . serve;                   expect "a folder as input" 3 '' '^ctfd: Read$'
 
-# One line is written and its reply awaited, for at most ten seconds, before the input ends.
+# Writes one line, and waits at most a minute for its reply before the input ends.
 mkfifo "$work/pipe"
 "$program" serve < "$work/pipe" > "$work/all" 2> "$work/err" &
 service=$!
@@ -89,7 +88,7 @@ yes '{"s":7,"op":"reset"}' | head -n 200000 > "$work/many"
     head -n 1 > "$work/out"
 status=$(cat "$work/status");   expect "a reader that leaves" 3 '^{"ok":{},"s":7}$' '^ctfd: Write$'
 
-# A session that holds as much as it may.
+# A session filled to its quota.
 "$examples/../tests/doors/service/full_session.py" requests > "$work/full"
 "$examples/../tests/doors/service/full_session.py" replies > "$work/full.replies"
 ends "$work/full" serve
@@ -97,7 +96,8 @@ cmp -s "$work/out" "$work/full.replies" || status="$status, other replies"
                                 expect "a session to its quota" 0 \
                                     '^{"ok":{"d":1,"types":1},"s":2}$' ''
 
-# Dumps. A dictionary of an int; a child that names type 3 of its parent; one with two types.
+# Dumps: of an int; of a child that refers to type 3 of its parent; parents with two and three
+# types.
 cd "$work" || exit 1
 section() { # PARNAME TYPES STRINGS LENGTH-OF-TYPES LENGTH-OF-STRINGS, each in printf's escapes
     # shellcheck disable=SC2059 # the words are escapes
@@ -111,7 +111,7 @@ cp int longest; truncate -s 67108864 longest
 cp int long; truncate -s 67108865 long
 mkdir folder
 
-# dumps NAME FILE WORD..: a dump of these files is what FILE holds.
+# dumps NAME FILE WORD..: checks that `ctfd dump WORD..` prints the contents of FILE.
 dumps() {
     local name=$1 file=$2
     shift 2
@@ -128,7 +128,7 @@ ctf types=1 child=yes parname="p" parlabel=""
 type 32769 pointer "" hidden to=3 : "void **" bytes=8 align=8
 EOF
 sed 's/=8/=4/g' child.dump > short.dump
-# A child whose type is a constant of its parent's pointer: the parent goes by the model too.
+# A child whose type is a const of its parent's pointer: the model applies to the parent too.
 section '\x01' '\0\0\0\0\0\x60\x03\0' '\0p\0' '\x08' '\x03' > const
 cat > const.dump << 'EOF'
 ctf types=1 child=yes parname="p" parlabel=""
@@ -195,7 +195,7 @@ ends /dev/null dump child --parent child
                                     '' '^ctfd: child: ParentIsChild at 0$'
 ends /dev/null dump int --parent two
                                 expect "a parent of no child" 1 '' '^ctfd: int: NotChild at 0$'
-# Files are read in the order dictionary, parent, symbols, strings, and judged when all were read.
+# Files are read in the order dictionary, parent, symbols, strings, and checked after all are read.
 ends /dev/null dump long --parent none
                                 expect "a long file before a missing one" 1 \
                                     '' '^ctfd: long: StageFull at 0$'
@@ -214,8 +214,8 @@ status=${PIPESTATUS[0]};        expect "a dump, and a reader that leaves" 141 '^
 (ulimit -v 32768; "$program" dump longest > out 2> err)
 status=$?;                      expect "a dump without memory" 4 '' '^ctfd: Memory$'
 
-# Publications. All words are judged before a file is read, and files one after the other: is it
-# read, how long is it, which rule does it break, is its name taken.
+# Publications. All words are checked before a file is read. Then each file in turn is checked for
+# read errors, its length, the format's rules, and whether its name is taken.
 echo '{"s":1,"op":"take","owner":0,"name":"base"}' > take
 cp int a=b
 section '\0' '\x01\0\0\x80\0\x0c\x04\0\x20\0\0\x01' '' '\x0c' '\0' > outer

@@ -1,11 +1,12 @@
-"""Gives a built ctfd damaged dictionaries, and compares its judgement with a plain one.
+"""Gives a built ctfd damaged dictionaries, and compares its results with those of judge.py.
 
 Eight small dictionaries are handed in, with their symbols and strings, cut at each shorter length,
 and with each byte replaced by others: by each that differs in one bit, and by some of the rest,
-which go by the byte's place; by all 255 with --whole, as the gate does. What `check` answers is
-compared with the first fault that judge.py finds. What is accepted is opened, and every question is asked of it on the numbers 0 to 4 and 32,769 to 32,772, and again after a parent was
-imported, or refused. Each has one reply, by no fault but those of questions, and the same again
-where the import was refused. At last a value that holds 2^512 others is shown.
+depending on the byte's offset; by all 255 with --whole, as in the gate. The answer to `check` is
+compared with the first fault that judge.py finds. Accepted lists are opened, and every question is
+asked about the numbers 0 to 4 and 32,769 to 32,772, and again after a parent was imported, or
+refused. Each question must have one reply, without a fault other than those of questions, and the
+same reply again if the import was refused. Finally, a value that contains 2^512 others is shown.
 """
 from __future__ import annotations
 
@@ -17,31 +18,31 @@ from typing import Iterator, NamedTuple, Sequence
 
 import pytest
 
-from .judge import Fault, Lists, first_fault, needed
-from .runs import ask, joined, serve
+from .judge import Fault, Lists, first_fault, parent_needs
+from .runs import ask, stream_of, serve
 
 BATCH = 400
-# Of the bytes that differ in more than one bit, each such one is tried without --whole.
+# Without --whole, one in so many is tried of the bytes that differ in more than one bit.
 SPARSE = 11
 SESSION = 1
 NUMBERS = (*range(5), *range(32_769, 32_773))
 TYPE_WORDS = ("kind record members enumerators args array encoding reference resolve size align"
               " name pointer").split()
-# The faults of questions on a slot that is there: none of lines, of slots or of memory.
+# The faults of questions about an existing slot: none of lines, of slots or of memory.
 ANSWER = re.compile(rb'\{"(?:ok":\{.*\}|fault":\{"code":(?:2[3-9]|3[0-8]|48),'
                     rb'"name":"\w+","place":\d+\}),"s":1\}')
 OK = b'{"ok":{},"s":1}'
 
 
 def hand_in(lists: Lists) -> list[bytes]:
-    """The parts that stage lists."""
+    """The requests that stage lists."""
     given = {"ctf": lists.ctf, "sym": lists.sym, "str": lists.strs}
     return [ask(SESSION, "part", section=section, bytes=data.hex())
             for section, data in given.items() if data is not None]
 
 
 def questions(d: int) -> Iterator[bytes]:
-    """Every question on a slot."""
+    """Every question about a slot."""
     for t in NUMBERS:
         for word in TYPE_WORDS:
             yield ask(SESSION, word, d=d, t=t)
@@ -71,7 +72,7 @@ def section(types: str = "", strings: str = "", parname: int = 0, labels: str = 
 
 
 def symbol(name: int, info: int, place: int) -> bytes:
-    """A symbol by the offset of its name, what it stands for, and its section."""
+    """A symbol: the offset of its name, its info byte, and its section."""
     return struct.pack("<IBBHQQ", name, info, 0, place, 0, 0)
 
 
@@ -103,15 +104,15 @@ IMPORT = [*hand_in(PARENT), ask(SESSION, "open"), ask(SESSION, "import", d=1, pa
 
 
 def replacements(at: int, byte: int, is_all: bool) -> Iterator[int]:
-    """The other values that a byte at a place is given."""
+    """The other values for a byte at an offset."""
     for other in range(256):
         is_near = bin(byte ^ other).count("1") == 1
         if other != byte and (is_all or is_near or (other + at) % SPARSE == 0):
             yield other
 
 
-def damaged(whole: Lists, is_all: bool) -> Iterator[Lists]:
-    """A dictionary, and all that a cut or another byte makes of its CTF section."""
+def damage(whole: Lists, is_all: bool) -> Iterator[Lists]:
+    """A dictionary, and copies of it with the CTF section cut or with another byte."""
     ctf = whole.ctf
     yield whole
     for length in range(len(ctf)):
@@ -121,14 +122,14 @@ def damaged(whole: Lists, is_all: bool) -> Iterator[Lists]:
             yield whole.with_ctf(ctf[:at] + bytes([other]) + ctf[at + 1 :])
 
 
-def refused(fault: Fault) -> bytes:
-    """The reply that tells a fault."""
+def refusal(fault: Fault) -> bytes:
+    """The reply that reports a fault."""
     said = f'{{"code":{fault.code},"name":"{fault.name}","place":{fault.place}}}'
     return f'{{"fault":{said},"s":{SESSION}}}'.encode()
 
 
 class Answers(NamedTuple):
-    """What is answered about lists: by `check`, and where that accepts them by what follows."""
+    """The answers about lists: to `check`, and if that accepts them, to the rest."""
 
     check: bytes
     opened: bytes = b""
@@ -138,7 +139,7 @@ class Answers(NamedTuple):
 
 
 class Subject:
-    """Lists, what is asked about them, and what is wrong with the answers."""
+    """Lists, the requests about them, and the errors in the replies."""
 
     def __init__(self, lists: Lists) -> None:
         self.lists = lists
@@ -146,13 +147,13 @@ class Subject:
         self.parts = hand_in(lists)
 
     def lines(self) -> list[bytes]:
-        """What is asked of a session in which nothing is; at the end nothing is again."""
+        """The requests for an empty session; at the end it is empty again."""
         judged = [*self.parts, ask(SESSION, "check")]
         asked = [ask(SESSION, "open"), *QUESTIONS, *IMPORT, *QUESTIONS]
         return judged + ([] if self.fault else asked) + [ask(SESSION, "reset")]
 
     def answers(self, replies: Sequence[bytes]) -> Answers:
-        """The replies to these lines, apart."""
+        """The replies to these lines, taken apart."""
         check, *rest = replies[len(self.parts) : -1]
         if self.fault:
             return Answers(check)
@@ -161,16 +162,16 @@ class Subject:
         return Answers(check, opened, first, rest[len(IMPORT) - 1], rest[len(IMPORT) :])
 
     def import_reply(self) -> bytes:
-        """What the import of the parent is answered."""
+        """The expected reply to the import of the parent."""
         if not self.lists.is_child:
-            return refused(Fault(20, "NotChild", 0))
-        least = needed(self.lists)
-        return refused(Fault(22, "ParentShort", least)) if least > PARENT_TYPES else OK
+            return refusal(Fault(20, "NotChild", 0))
+        least = parent_needs(self.lists)
+        return refusal(Fault(22, "ParentShort", least)) if least > PARENT_TYPES else OK
 
     def wrong(self, replies: Sequence[bytes]) -> Iterator[str]:
-        """What is wrong with the replies."""
+        """Errors in the replies."""
         answers = self.answers(replies)
-        wanted = refused(self.fault) if self.fault else OK
+        wanted = refusal(self.fault) if self.fault else OK
         if answers.check != wanted:
             yield f"check is answered {answers.check!r}, and by the judge {wanted!r}"
         elif not self.fault:
@@ -189,7 +190,7 @@ class Subject:
 
 
 class Counts(NamedTuple):
-    """How much was asked, and what was wrong."""
+    """The numbers of lists and requests, and the errors."""
 
     lists: int
     accepted: int
@@ -198,7 +199,7 @@ class Counts(NamedTuple):
 
 
 class Batch(NamedTuple):
-    """Some of what damage makes of a dictionary."""
+    """Some of the damaged copies of a dictionary."""
 
     program: str
     name: str
@@ -206,10 +207,10 @@ class Batch(NamedTuple):
 
 
 def try_batch(batch: Batch) -> Counts:
-    """Asks one service about lists, each in a session in which nothing is."""
+    """Asks one service about lists, each in an empty session."""
     subjects = [Subject(lists) for lists in batch.damaged]
     asked = [subject.lines() for subject in subjects]
-    ended = serve(batch.program, b"".join(map(joined, asked)))
+    ended = serve(batch.program, b"".join(map(stream_of, asked)))
     *replies, rest = ended.out.split(b"\n")
     lines, wrong = sum(map(len, asked)), []
     if ended.status != 0 or rest or len(replies) != lines:
@@ -225,26 +226,26 @@ def try_batch(batch: Batch) -> Counts:
 
 
 def batches(program: str, name: str, is_all: bool) -> Iterator[Batch]:
-    rest = damaged(DICTIONARIES[name], is_all)
+    rest = damage(DICTIONARIES[name], is_all)
     while batch := list(islice(rest, BATCH)):
         yield Batch(program, name, batch)
 
 
 def unions(count: int) -> Lists:
-    """An int and so many unions, each of which holds the type before it twice."""
+    """An int and `count` unions, each of which contains the previous type twice."""
     each = (struct.pack("<IHH IHH IHH", 0, 7 << 11 | 2, 4, 0, t, 0, 0, t, 0)
             for t in range(1, count + 1))
     return Lists(section(INT + b"".join(each).hex(), INT_NAME))
 
 
 def wrong_unions(program: str) -> Iterator[str]:
-    """What is wrong with how a value that holds 2^512 others is shown."""
+    """Errors in how a value that contains 2^512 others is shown."""
     shown = [ask(SESSION, "show", d=1, t=513, bytes=memory, offset=0)
              for memory in ("01000000", "")]
     lines = [*hand_in(unions(512)), ask(SESSION, "open"), *shown]
-    wanted = [b'{"ok":{"d":1,"types":513},"s":1}', refused(Fault(31, "TooLong", 0)),
-              refused(Fault(48, "ShortMemory", 0))]
-    replies = serve(program, joined(lines)).out.splitlines()[1:]
+    wanted = [b'{"ok":{"d":1,"types":513},"s":1}', refusal(Fault(31, "TooLong", 0)),
+              refusal(Fault(48, "ShortMemory", 0))]
+    replies = serve(program, stream_of(lines)).out.splitlines()[1:]
     if replies != wanted:
         yield f"unions of unions are answered {replies}"
 

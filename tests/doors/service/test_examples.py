@@ -1,4 +1,4 @@
-"""Each example of examples/*.jsonl as a case, and the requests that docs/PROTOCOL.md shows."""
+"""A test for each examples/*.jsonl, and one for the requests in docs/PROTOCOL.md."""
 from __future__ import annotations
 
 from typing import Iterator

@@ -1,4 +1,5 @@
-"""Each run of the transcripts as a case, by its file and title: alone, and between others."""
+"""A test for each run of the transcripts, named by its file and title: alone, and between
+others."""
 from __future__ import annotations
 
 import pytest

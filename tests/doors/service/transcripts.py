@@ -1,13 +1,12 @@
 #!/usr/bin/env python3
-"""Compares what a built ctfd replies to the stored transcripts with the replies in them.
+"""Compares a built ctfd's replies to the stored transcripts with the replies in them.
 
 usage: tests/doors/service/transcripts.py PROGRAM
 
-Each run is given to a service of its own twice: alone, and between the lines of other sessions,
-where its replies have to be the same (crates/test_service says how runs are written, and replays
-them too). Prints the title of each run that is replied to otherwise, with the first reply that
-differs; the status is 1 then. `make` needs no pytest for that; test_transcripts.py has a case for
-each run.
+Each run is given to a new service twice: alone, and between the lines of other sessions, where its
+replies must be the same (crates/test_service describes the format of runs, and replays them too).
+Prints the title of each run with other replies, with the first difference; the status is then 1.
+`make` runs this without pytest; test_transcripts.py has a test for each run.
 """
 from __future__ import annotations
 
@@ -20,17 +19,18 @@ from pathlib import Path
 from typing import Iterator
 
 sys.path.insert(0, str(Path(__file__).resolve().parents[2]))
-from doors.service.runs import OTHERS, TRANSCRIPTS, Told, joined, serve, stored  # noqa: E402
+from doors.service.runs import (OTHERS, TRANSCRIPTS, TranscriptLine, serve,  # noqa: E402
+                                stored_runs, stream_of)
 
 
 @dataclass
 class Exchange:
-    """Requests, and the replies that are wanted."""
+    """Requests, and the expected replies."""
 
     requests: list[bytes] = field(default_factory=list)
     replies: list[bytes] = field(default_factory=list)
 
-    def add(self, told: Told) -> None:
+    def add(self, told: TranscriptLine) -> None:
         (self.requests if told.is_request else self.replies).append(told.line)
 
     def extend(self, other: Exchange) -> None:
@@ -40,14 +40,14 @@ class Exchange:
 
 @dataclass(frozen=True)
 class Others:
-    """What other sessions say: at first, and then behind each reply of a first pass."""
+    """Lines of other sessions: at the beginning, and after each reply of a first pass."""
 
     first: Exchange = field(default_factory=Exchange)
     between: Exchange = field(default_factory=Exchange)
 
 
-def exchange(parts: list[list[Told]], others: Others) -> Exchange:
-    """A run, with what others say meanwhile."""
+def exchange(parts: list[list[TranscriptLine]], others: Others) -> Exchange:
+    """A run, with the lines of other sessions in between."""
     made = Exchange()
     made.extend(others.first)
     for part in parts:
@@ -59,11 +59,11 @@ def exchange(parts: list[list[Told]], others: Others) -> Exchange:
 
 
 def wrong(program: str, asked: Exchange) -> Iterator[str]:
-    """What is wrong with how a run is replied to."""
-    ended = serve(program, joined(asked.requests))
+    """Errors in the replies to a run."""
+    ended = serve(program, stream_of(asked.requests))
     if ended.status != 0 or ended.err:
         yield f"status {ended.status}, {ended.err!r}"
-    pairs = zip_longest(ended.out.split(b"\n"), joined(asked.replies).split(b"\n"))
+    pairs = zip_longest(ended.out.split(b"\n"), stream_of(asked.replies).split(b"\n"))
     for number, (seen, wanted) in enumerate(pairs, 1):
         if seen != wanted:
             yield f"reply {number} is {seen!r}, wanted {wanted!r}"
@@ -71,13 +71,13 @@ def wrong(program: str, asked: Exchange) -> Iterator[str]:
 
 
 RUNS = {f"{path.stem}: {title}": parts for path in sorted(TRANSCRIPTS.glob("*.transcript"))
-        if path.name != OTHERS for title, parts in stored(path.name)}
+        if path.name != OTHERS for title, parts in stored_runs(path.name)}
 
 
 @cache
 def others() -> Others:
-    """What other sessions say meanwhile."""
-    return Others(*(exchange(parts, Others()) for _, parts in stored(OTHERS)))
+    """The lines of other sessions."""
+    return Others(*(exchange(parts, Others()) for _, parts in stored_runs(OTHERS)))
 
 
 def main(program: str) -> int:

@@ -1,10 +1,10 @@
-"""Writes what gdb prints of a program's variables and of what is in them.
+"""Writes gdb's values of a program's variables and of their parts.
 
 usage: OUT=FILE gdb -batch -nx -p PID -x ask.py PROGRAM
 
-OUT gets pairs of an expression and gdb's answer, as JSON: each global or static variable of one
-name, its address, what it points to, the first members of a struct and of what it points to, and an
-element of an array.
+OUT gets pairs of an expression and gdb's answer, as JSON: each global or static variable with a
+unique name, its address, what it points to, the first members of a struct and of what it points to,
+and an element of an array.
 """
 import json
 import os
@@ -20,14 +20,14 @@ RECORDS = (gdb.TYPE_CODE_STRUCT, gdb.TYPE_CODE_UNION)
 
 
 def parts(expression, dot):
-    """The first members of what an expression with this dot behind it names."""
+    """Expressions for the first members of an expression, with this operator."""
     found = gdb.parse_and_eval(f"*({expression})" if dot == "->" else expression)
     named = [one.name for one in found.type.strip_typedefs().fields() if one.name]
     return [f"{expression}{dot}{name}" for name in named[:MEMBERS]]
 
 
 def inside(name):
-    """What is asked of a variable beside its value."""
+    """The other expressions for a variable."""
     made = [f"&{name}"]
     t = gdb.parse_and_eval(name).type.strip_typedefs()
     if t.code in RECORDS:

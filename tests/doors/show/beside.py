@@ -1,11 +1,11 @@
 #!/usr/bin/env python3
-"""Compares what ctfd-show prints with what gdb did.
+"""Compares ctfd-show's answers with gdb's.
 
 usage: beside.py COMMAND ASKED WORD..
 
-COMMAND is ctfd-show, and ASKED what ask.py wrote. The words are those of ctfd-show for a process or
-a core file. Its expressions are asked behind each other, also where one is refused. Prints each
-expression whose answers differ, and counts; the status is 1 where an answer is missing.
+COMMAND is ctfd-show, and ASKED the file that ask.py wrote. The WORDs are arguments of ctfd-show for
+a process or a core file. All expressions are asked in one run, also after a refusal. Prints each
+expression whose answers differ, and counts; the status is 1 if an answer is missing.
 """
 from __future__ import annotations
 
@@ -16,12 +16,12 @@ from pathlib import Path
 from typing import List
 
 REFUSED = "ctfd-show: "
-# What is said of a file, by its path, and of no expression.
+# The beginning of a message about a file, not about an expression.
 NOTICE = "ctfd-show: /"
 
 
 def answers(command: str, words: List[str], expressions: List[str]) -> List[str]:
-    """What ctfd-show says of each expression: refusals stand between the answers."""
+    """ctfd-show's answer or refusal for each expression."""
     done = subprocess.run([command, "--keep-going", *words, "--", *expressions], check=False,
                           stdout=subprocess.PIPE, stderr=subprocess.STDOUT, text=True,
                           errors="backslashreplace")

@@ -1,4 +1,4 @@
-/* A program that waits, with values of every kind to be seen meanwhile. */
+/* A program that waits, with values of every kind, for debuggers to read. */
 #include <stdio.h>
 #include <unistd.h>
 #include <complex.h>

@@ -1,16 +1,16 @@
 #!/usr/bin/env bash
-# Compares what ctfd-show prints of a program that others wrote with what gdb prints by the
+# Compares what ctfd-show prints about another project's program with what gdb prints with the
 # compiler's debug information.
 # usage: tests/doors/show/others.sh PROGRAM [WORD]..
-# PROGRAM has debug information, and waits where it is run with the WORDs, for its input or for
-# clients. Its types are converted to CTF and the debug information is taken away; it runs in a
-# folder of its own, and is stopped, so that nothing changes between two answers. gdb is asked for
-# each variable and what is in it (ask.py), and so is ctfd-show, of the process and of a core file
-# (beside.py). With RAW=1 the program runs as it is, and ctfd-show converts it by itself. A server
-# must not end by itself, nor become a daemon:
+# PROGRAM has debug information, and with the WORDs it waits for its input or for clients. Its types
+# are converted to CTF, and the debug information is removed; it runs in a temporary folder, and is
+# stopped, so that nothing changes between two answers. gdb is asked for each variable and its parts
+# (ask.py), and so is ctfd-show, for the process and for a core file (beside.py). With RAW=1 the
+# program keeps its debug information, and ctfd-show converts it. A server must not end by itself,
+# nor become a daemon:
 #   tests/doors/show/others.sh redis-server --port 0 --unixsocket redis.sock
 #   tests/doors/show/others.sh nginx -p . -e stderr -c /tmp/nginx.conf
-# where /tmp/nginx.conf is
+# with this /tmp/nginx.conf:
 #   daemon off; master_process off; pid nginx.pid; error_log stderr;
 #   events {} http { access_log off; server { listen unix:nginx.sock; } }
 set -eu

@@ -1,18 +1,18 @@
 #!/usr/bin/env bash
-# Compares what ctfd-show prints of a process and of its core file with what gdb prints by the
+# Compares what ctfd-show prints about a process and its core file with what gdb prints with the
 # compiler's debug information.
 # usage: tests/doors/show/run.sh
-# Needs gdb with Python, gcc and objcopy, and a machine on which a process may be attached to; says
-# so and ends with status 0 where one is missing.
+# Needs gdb, gcc, objcopy and the compiled commands, and permission to attach to a process; if one
+# is missing, says so and exits with status 0.
 #
 # show/table.c is compiled with debug information, its types are converted to CTF, and the debug
-# information is taken away. It runs, and each line of show/expressions.txt is asked: of gdb, which
-# is attached and has the file with debug information, and of ctfd-show, by the process and by the
-# core file that gdb leaves; so it is for a program of 32 bits, where gcc and the machine have such,
-# and for one with debug information, which ctfd-show converts. show/kinds.c has values of every
-# kind, which show/kinds.txt asks for. Then what can't be read is asked for: one line each, and
-# status 2.
-# Prints what was wrong, and counts; the status is 1 where something was wrong.
+# information is removed. It runs, and each line of show/expressions.txt is evaluated: by gdb, which
+# is attached and has the file with debug information, and by ctfd-show, for the process and for the
+# core file that gdb writes. The same for a 32-bit program, if gcc and the machine support it, and
+# for a program with debug information, which ctfd-show converts. show/kinds.c has values of every
+# kind, for the expressions in show/kinds.txt. Each expression that cannot be evaluated must yield
+# one line and status 2.
+# Prints errors and counts; the status is 1 if there was an error.
 set -eu
 top=$(realpath "$(dirname "$0")/../../..")
 tests=$top/tests/doors/show
@@ -26,7 +26,7 @@ cd "$work"
 export LC_ALL=C
 . "$top/tests/doors/counting.sh"
 
-# client COMMAND WORD..: a compiled command.
+# client COMMAND WORD..: runs a compiled command.
 client() {
     "${CARGO_TARGET_DIR:-$top/clients/rust/target}/release/$1" "${@:2}"
 }
@@ -40,8 +40,8 @@ nobody() {
     setpriv --reuid 65534 --regid 65534 --clear-groups "$@"
 }
 
-# refused TEXT COMMAND WORD..: ctfd-show with these words says a text, in one line, and has status
-# 2. COMMAND is `shows`, or one for it by another user.
+# refused TEXT COMMAND WORD..: checks that the command prints one line that matches TEXT, and has
+# status 2. COMMAND is `shows`, or ctfd-show run by another user.
 refused() {
     local text=$1 status=0
     shift
@@ -52,7 +52,7 @@ refused() {
     return 1
 }
 
-# waits NAME: runs a program until it waits; $pid is its number.
+# waits NAME: starts a program, and returns when it is ready; $pid is its process.
 waits() {
     rm -f "$1.out"
     mkfifo "$1.out"
@@ -61,7 +61,8 @@ waits() {
     read -r _ < "$1.out"
 }
 
-# made NAME WORD..: NAME.g with debug information, by gcc with these words, and NAME without it.
+# made NAME WORD..: compiles NAME.g with debug information, by gcc with the words, and makes NAME,
+# which has CTF instead.
 made() {
     local name=$1
     shift
@@ -70,8 +71,8 @@ made() {
         objcopy --strip-debug "$name.ctf" "$name"
 }
 
-# asks NAME: the answers of gdb by the compiler's debug information, of the process $pid, which
-# leaves a core file.
+# asks NAME: gets gdb's answers about the process $pid, with the compiler's debug information, and
+# writes a core file.
 asks() {
     gdb -batch -nx -iex 'set debug-file-directory /none' -ex 'set width 0' "${questions[@]}" \
         -ex 'generate-core-file core' -p $pid "${1%.g}.g" > seen 2>&1 < /dev/null || true
@@ -90,12 +91,12 @@ if ! asks table; then
     exit 0
 fi
 
-# same WORD..: ctfd-show with these words prints what gdb does.
+# same WORD..: checks that ctfd-show with these words prints gdb's answers.
 same() {
     client ctfd-show "$@" -- "${asked[@]}" > ours && diff gdbs ours
 }
 
-# beside NAME: a program that runs, and its core file, by gdb and by ctfd-show.
+# beside NAME: compares gdb with ctfd-show, for a running program and its core file.
 beside() {
     waits "$1"
     prepare "$1, which gdb reads" asks "$1"
@@ -105,7 +106,7 @@ beside() {
     pid=
 }
 
-# told TEXT WORD..: ctfd-show with these words prints a text, and has status 0.
+# told TEXT WORD..: checks that ctfd-show with these words prints exactly TEXT, with status 0.
 told() {
     local text=$1
     shift
@@ -144,7 +145,7 @@ count "no core file" refused 'table: an ELF file that is no core file$' shows --
 head -c 9000 core > ./cut
 count "a core file that is cut off" refused 'cut' shows --core cut first
 
-# Another user may not read it. The command is a copy that all users may run.
+# Another user may not read the process. The command is a copy that all users may run.
 if [ "$(id -u)" = 0 ] && command -v setpriv > told; then
     mkdir open
     cp "${CARGO_TARGET_DIR:-$top/clients/rust/target}/release/ctfd-show" open
@@ -155,7 +156,7 @@ else
     echo "not possible here: root alone is another user, by setpriv"
 fi
 
-# The program was replaced while it ran: what runs is read, and a core file's program is refused.
+# The program is replaced while it runs: its process is read, but its core file is refused.
 gcc -g -O0 -o other.g "$tests/table.c"
 client ctfd-convert --lossy --section other.g other > said 2>&1
 cp --remove-destination other table
@@ -168,7 +169,7 @@ count "types of another build" refused 'other is of another build than' \
 kill $pid
 pid=
 
-# A program of 32 bits: the service reads no symbols of 32 bits, so the client hands in wider ones.
+# A 32-bit program: the service reads no 32-bit symbols, so the client passes wider ones.
 if ! echo 'int main(void) { return 0; }' | gcc -m32 -x c - -o none 2> told; then
     cat told
     echo "skipped: gcc -m32 makes no program here (Debian: gcc-multilib)"
@@ -187,7 +188,7 @@ else
     pid=
 fi
 
-# A program with debug information, which is converted as it is asked, and values of every kind.
+# A program with debug information, which is converted when it is asked about; values of every kind.
 beside table.g
 mapfile -t asked < "$tests/kinds.txt"
 questions=()
@@ -195,7 +196,7 @@ for one in "${asked[@]}"; do questions+=(-ex "print $one"); done
 gcc -g -w -o kinds.g "$tests/kinds.c"
 beside kinds.g
 
-# Types in a file of their own, beside a program that has none.
+# A separate file of types, for a program that has none.
 strip -o table table.g
 client ctfd-convert --lossy table.g types > said 2>&1
 waits table

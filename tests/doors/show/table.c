@@ -1,4 +1,4 @@
-/* A program that waits, with values of many kinds to be seen meanwhile. */
+/* A program that waits, with values of many kinds, for debuggers to read. */
 #include <stdio.h>
 #include <unistd.h>
 

@@ -1,31 +1,32 @@
 #!/usr/bin/env python3
-"""Runs what README.md and some pages of docs/ show, and compares what comes out with that.
+"""Runs the examples in README.md and some pages of docs/, and compares their output with the pages.
 
 usage: tests/doors/shown/run.py PROGRAM
 
-Run is each block that begins with `$ `, in a copy of the repository in which PROGRAM is the one
-that was built, and the library the one that tests/doors/c_library/archive.py knows; each block begins at its top,
-and files in /tmp/recipe stand in a folder of this run. The program and the commands, compiled ones
-too, are on the path, and `python3` is the Python that runs this. A line that ends in a backslash
-goes on in the next, and one that ends in `<< 'WORD'` up to the line WORD. What a command prints, on
-both outputs, has to be what stands below it up to the next `$ `; a line `...` there stands for any
-number of lines. Where nothing stands below a command, it has to end with status 0. Lines that begin with
-`(gdb) ` are given to the gdb above them, and what it prints for all of them is compared. In a block
-that runs gdb, numbers in hexadecimal and how many types and symbols there are hang on the compiler,
-and are not compared.
+Each block that begins with `$ ` is run, in a copy of the repository in which PROGRAM is the built
+one, and the library the one that tests/doors/c_library/archive.py finds. Each block begins at the
+top folder, and files in /tmp/recipe are put into a folder of this run. The program and the
+commands, compiled ones too, are on the PATH, and `python3` is the Python that runs this. A line
+that ends in a backslash continues in the next, and one that ends in `<< 'WORD'` up to the line
+WORD. The output of a command, on both streams, must be the text below it up to the next `$ `; a
+line `...` there stands for any number of lines. If there is no text below a command, it must end
+with status 0. Lines that begin with `(gdb) ` are given to the gdb above them, and its output for
+all of them is compared. In a block that runs gdb, hexadecimal numbers and the numbers of types and
+symbols depend on the compiler, and are not compared.
 
-Asked are the blocks that begin with `{"s":`, each line a request and the next its reply: all of a
-page in one service, which was given examples/lua.ctf as `lua`. `..` stands for the middle of long
-bytes: in a request for those of a file or an example that are as long as the reply says. Blocks of
-Python are run with the client, and have to end with status 0; they print what their comments say
-that stand behind a `print(..)`. Blocks of C are compiled: a whole program has to be one of
-examples/c, and others stand in a function that has the bytes `ctf`. A picture that a page shows has
-to be the file of its name in /tmp/recipe, as the page's blocks wrote it. Any other block is wrong.
+Blocks that begin with `{"s":` are requests, each line followed by its reply. All of a page are
+given to one service, which has examples/lua.ctf as `lua`. `..` stands for the middle of long bytes:
+in a request, for those of a file or an example with the length in the reply. Blocks of Python are
+run with the client, and must end with status 0 and print the text in the comments after a
+`print(..)`. Blocks of C are compiled: a complete program must be one of examples/c, and others are
+put into a function that has the bytes `ctf`. A picture on a page must equal the file of its name in
+/tmp/recipe, as the page's blocks wrote it. Any other block is an error.
 
-Not run is a block below a line `<!-- not run: REASON -->`, or `<!-- NAME: run by tests/FOLDER -->`,
-where that runs it, and one that needs what is not here, or a file that another such block below the
-same heading would have made: a line that begins with `skipped: ` says so, or with `not possible here: ` where no package would bring it. Prints each that
-comes out otherwise, and counts; the status is 1 where one does.
+A block is not run below a line `<!-- not run: REASON -->`, or `<!-- NAME: run by tests/FOLDER -->`,
+if that folder runs it. It is skipped if it needs something that is not installed, or a file that
+another skipped block below the same heading would have made: a line that begins with `skipped: `
+says so, or with `not possible here: ` if no package would provide it. Prints each difference, and
+counts; the status is 1 if there is one.
 """
 from __future__ import annotations
 
@@ -57,7 +58,7 @@ ARCHIVE = "crates/ctf_c/out/libctfd.a"
 COMPILED = "clients/rust/target/release"
 COMPILED_ALONE = ("ctfd-convert", "ctfd-diff", "ctfd-explore", "ctfd-types")
 TOOLS = ("cc", "gcc", "gdb", "objcopy", "llvm-objcopy", "jq", "man", "rt")
-# What of the client takes which package of Python.
+# The Python package that a part of the client needs.
 LIBRARIES = {"build.declare": "pycparser"}
 LONGEST_SECONDS = 900
 GDB = "(gdb) "
@@ -74,7 +75,7 @@ PICTURE = re.compile(r"!\[[^\]]*\]\(([\w./-]+)\)")
 
 @dataclass(frozen=True)
 class Block:
-    """A block of a page, where it begins, below which heading, and what language it says."""
+    """A block of a page: its place, the heading above it, its language, and its lines."""
 
     place: str
     heading: str
@@ -106,7 +107,7 @@ def blocks(page: str) -> Iterator[Block]:
 
 
 def commands(block: Block) -> list[tuple[str, list[str]]]:
-    """Each command of a block with the lines below it."""
+    """Each command of a block, with the lines below it."""
     found: list[tuple[str, list[str]]] = []
     goes_on, last = False, ""
     for line in block.lines:
@@ -130,13 +131,13 @@ def commands(block: Block) -> list[tuple[str, list[str]]]:
 
 
 def told_gdb(command: str, line: str) -> str:
-    """A command that starts gdb, with one more line to give it; it runs by itself then."""
+    """A command that starts gdb, with one more line for gdb, run in batch mode."""
     batch = command if " -batch " in command else command.replace("gdb ", "gdb -batch -nx ", 1)
     return f"{batch} -ex {shlex.quote(line)}"
 
 
 def lacking(text: str) -> str:
-    """What a block needs that is not here, or nothing."""
+    """What a block needs that is not installed, or ""."""
     for tool in TOOLS:
         named = re.search(rf"(?<![\w./-]){re.escape(tool)} ", text) is not None
         named = named or tool in ("gdb", "objcopy") and "with_ctf.sh" in text
@@ -160,7 +161,7 @@ def lacking(text: str) -> str:
 
 
 def archive() -> str:
-    """The library for C that was built, or a line which says that there is none."""
+    """The built library for C, or a line which says that there is none."""
     return subprocess.run([TOP / "tests/doors/c_library/archive.py", "--kept"], check=True, text=True,
                           stdout=subprocess.PIPE).stdout.strip()
 
@@ -172,7 +173,7 @@ def gdb_runs() -> bool:
     return "exited normally" in said
 
 
-def masked(line: str, has_gdb: bool) -> str:
+def mask(line: str, has_gdb: bool) -> str:
     if has_gdb:
         line = re.sub(r"0x[0-9a-f]{4,}", "0x..", line)
         line = re.sub(r"[0-9]+ types, [0-9]+ symbols", ".. types, .. symbols", line)
@@ -180,7 +181,7 @@ def masked(line: str, has_gdb: bool) -> str:
 
 
 def matches(shown: list[str], seen: list[str]) -> bool:
-    """Whether lines are those that are shown."""
+    """Whether the seen lines match the shown ones."""
     if not shown or not seen:
         return all(line == "..." for line in shown) and not seen
     if shown[0] == "...":
@@ -189,12 +190,12 @@ def matches(shown: list[str], seen: list[str]) -> bool:
 
 
 class Page:
-    """What a page shows, run in a folder of its own."""
+    """The examples of a page, run in their own folder."""
 
     def __init__(self, page: str, top: Path, recipe: Path) -> None:
         self.page, self.top, self.recipe = page, top, recipe
         self.compared = self.wrong = 0
-        self.lacks: dict[str, str] = {}  # by heading, how a block below it was told to be left out
+        self.lacks: dict[str, str] = {}  # by heading, how a skipped block below it was reported
         path = f"{top}/crates/ctfd/out:{top}/clients/python:{top}/{COMPILED}:{os.environ['PATH']}"
         self.environment = {**os.environ, "LC_ALL": "C", "PATH": path,
                             "CTFD": f"{top}/crates/ctfd/out/ctfd"}
@@ -223,7 +224,7 @@ class Page:
         print(place, *(line[:400] for line in difference), sep="\n", flush=True)
 
     def run_shell(self, block: Block) -> None:
-        """Runs a block, and compares what each of its commands prints."""
+        """Runs a block, and compares the output of each command."""
         why = lacking(block.text)
         if not why and block.heading in self.lacks and RECIPE in block.text:
             why = f"{self.lacks[block.heading]}: its files were not made"
@@ -234,7 +235,7 @@ class Page:
         steps = commands(block)
         for (command, shown), (status, seen) in zip(steps, self.outputs(steps)):
             has_gdb = re.search(r"(?<![\w./-])gdb ", block.text) is not None
-            shown, seen = ([masked(line, has_gdb) for line in lines] for lines in (shown, seen))
+            shown, seen = ([mask(line, has_gdb) for line in lines] for lines in (shown, seen))
             self.compared += 1
             if not (matches(shown, seen) if shown else status == 0):
                 self.report(f"{block.place}: $ {command}", shown, [*seen, f"status {status}"])
@@ -251,7 +252,7 @@ class Page:
             self.report(block.place, shown, [*seen, *ended.stderr.splitlines()])
 
     def compile_c(self, block: Block) -> None:
-        """Compiles a block of C, and compares a whole program with those of the examples."""
+        """Compiles a block of C, and compares a complete program with those of the examples."""
         if not shutil.which("cc"):
             print(f"skipped: no cc here, for {block.place}")
             return
@@ -268,7 +269,7 @@ class Page:
             self.report(block.place, [], ended.stderr.splitlines())
 
     def compare_picture(self, picture: Path) -> None:
-        """Compares a picture that the page shows with the one that a block wrote."""
+        """Compares a picture on the page with the one that a block wrote."""
         written = self.recipe / picture.name
         self.compared += 1
         if not written.exists() or written.read_bytes() != picture.read_bytes():
@@ -293,11 +294,11 @@ class Page:
         return int(status.read_text()), said.splitlines()
 
     def ask(self, lines: list[str]) -> None:
-        """Asks all requests of a page, and compares the replies."""
+        """Gives all requests of a page to a service, and compares the replies."""
         requests, wanted = lines[0::2], lines[1::2]
         given, gone = [], set()
         for number, (request, reply) in enumerate(zip(requests, wanted)):
-            whole = self.whole(request, reply)
+            whole = self.in_full(request, reply)
             if whole is None:
                 gone.add(json.loads(request)["s"])
                 print(f"skipped: no such bytes here: {request}")
@@ -314,8 +315,8 @@ class Page:
             if not re.fullmatch(pattern, reply):
                 self.report(f"{self.page}: {request[:200]}", [shown], [reply])
 
-    def whole(self, request: str, reply: str) -> str | None:
-        """A request with its bytes in full."""
+    def in_full(self, request: str, reply: str) -> str | None:
+        """A request with its bytes in full, or None if they are unknown."""
         cut = re.search(r'"bytes":"([0-9a-f]+)\.\.([0-9a-f]+)"', request)
         if not cut:
             return request
@@ -326,7 +327,7 @@ class Page:
         return None
 
     def known_bytes(self) -> Iterator[str]:
-        """The bytes of all files and of all examples, as digits."""
+        """The bytes of all files and of all examples, in hexadecimal digits."""
         for folder in (self.top / "examples", self.recipe):
             for file in sorted(folder.glob("*")):
                 if file.suffix in (".ctf", ".sym", ".str"):
@@ -335,8 +336,8 @@ class Page:
             yield from re.findall(r'"bytes":"([0-9a-f]+)"', file.read_text(encoding="ascii"))
 
 
-def copied(program: str, top: Path) -> None:
-    """A copy of the repository, without what was built but the program and the archive."""
+def copy_repository(program: str, top: Path) -> None:
+    """A copy of the repository; of the build output, it has only the program and the archive."""
     for name in COPIED:
         if (TOP / name).is_dir():
             shutil.copytree(TOP / name, top / name, symlinks=True,
@@ -353,7 +354,7 @@ def copied(program: str, top: Path) -> None:
     for command in rust.COMMANDS:
         if (rust.folder() / command).exists() and command not in os.listdir(top / "clients/python"):
             (top / COMPILED / command).symlink_to(rust.folder() / command)
-    python = out / "python3"  # no link: where it stands tells a Python its packages
+    python = out / "python3"  # not a link: a Python finds its packages by its own path
     python.write_text(f'#!/bin/sh\nexec "{sys.executable}" "$@"\n')
     python.chmod(0o755)
 
@@ -365,7 +366,7 @@ def main(program: str) -> int:
             top, recipe = Path(work) / "top", Path(work) / "recipe"
             top.mkdir()
             recipe.mkdir()
-            copied(program, top)
+            copy_repository(program, top)
             page = Page(name, top, recipe)
             page.run()
             compared, wrong = compared + page.compared, wrong + page.wrong

@@ -11,13 +11,13 @@ from pathlib import Path
 from typing import Mapping, Optional, Sequence
 
 HOST = "127.0.0.1"
-# After so long a server hangs: no test measures how long one takes.
+# A server that takes longer hangs; no test measures the time of one.
 SECONDS = 600
 PAGE = Path(__file__).resolve().parents[3] / "docs" / "STORE.md"
 
 
 def free_port() -> int:
-    """A port that nobody listens at."""
+    """A port without a listener."""
     with socket.socket() as probe:
         probe.bind((HOST, 0))
         port: int = probe.getsockname()[1]
@@ -25,7 +25,7 @@ def free_port() -> int:
 
 
 def wait_for(port: int) -> None:
-    """Waits until somebody listens at a port."""
+    """Waits until a server listens at a port."""
     last = time.monotonic() + SECONDS
     while True:
         with socket.socket() as probe:
@@ -37,7 +37,7 @@ def wait_for(port: int) -> None:
 
 
 class Server:
-    """A program that serves at a port, until it is left."""
+    """A program that serves at a port inside a `with` block."""
 
     def __init__(self, words: Sequence[object], port: int, folder: Path,
                  environment: Optional[Mapping[str, str]] = None) -> None:
@@ -70,7 +70,7 @@ def python(store: Path, folder: Path) -> Server:
 
 
 def nginx(store: Path, folder: Path, distribution: str) -> Server:
-    """nginx by the lines of the page, with another server in place of a distribution's."""
+    """nginx configured as on the page, with `distribution` as the server of a distribution."""
     port = free_port()
     lines = re.search(r"```\n(server \{.*?)```", PAGE.read_text("utf-8"), re.DOTALL)
     assert lines is not None
@@ -93,7 +93,7 @@ def nginx(store: Path, folder: Path, distribution: str) -> Server:
 
 
 def debuginfod(folder: Path, store: Optional[Path], upstream: str = "") -> Server:
-    """elfutils' server: of a store, or of what another server has."""
+    """elfutils' server for a store, or for another server."""
     port = free_port()
     words = ["debuginfod", "-p", port, "-d", ":memory:", *(["-F", store] if store else [])]
     kept = folder / f"cache.{port}"

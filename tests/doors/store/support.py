@@ -1,4 +1,4 @@
-"""What the tests of stores share: programs with their debug files, packages, and a store."""
+"""Helpers for the tests of stores: programs with their debug files, packages, and a store."""
 from __future__ import annotations
 
 import io
@@ -23,9 +23,9 @@ int main(void) { return weigh(&first, shade); }
 BUILD_IDS, INDEX = "buildid", "SHA256SUMS"
 DEBUG = "usr/lib/debug"
 TYPES = Path(__file__).with_name("types.c")
-# The headers of libctf's calls, each by what a compiler is told for it.
+# The headers of libctf's calls, with the compiler options for each.
 HEADERS = {"illumos": (), "gnu": ("-DGNU", "-I", CLIENTS / "c/gnu")}
-# A package of some files, which stand in a folder.
+# The spec of a package of some files in a folder.
 SPEC = """
 Name: {name}
 Version: 1
@@ -40,19 +40,19 @@ cp -a {root}/. %{{buildroot}}
 %files
 {files}
 """
-# rpmbuild changes nothing of the files, and writes below one folder alone.
+# Keeps rpmbuild from changing files, and from writing outside one folder.
 UNCHANGED = ("debug_package %{nil}", "__os_install_post %{nil}", "_build_id_links none")
-# After so long a command hangs: no test measures how long one takes.
+# A command that takes longer hangs; no test measures the time of one.
 SECONDS = 600
 
 
 def run(*words: Word, **others: Any) -> Outcome:
-    """A command's outcome, however long it takes on a busy machine."""
+    """Runs a command, however long it takes on a busy machine."""
     return doors.run(*words, **{"seconds": SECONDS, **others})
 
 
 class StoreCase(Case):
-    """A case with a folder for a store."""
+    """A test case with a folder for a store."""
 
     def setUp(self) -> None:
         super().setUp()
@@ -60,7 +60,7 @@ class StoreCase(Case):
         self.store = self.folder / "store"
 
     def command(self, *words: Word, **others: Any) -> Outcome:
-        """What `ctfd-store` does; it never ends by a signal."""
+        """Runs `ctfd-store`, and asserts that no signal ended it."""
         done = run(tool("store"), *words, **others)
         self.assert_tame(done, words, seconds=SECONDS, megabytes=2000)
         return done
@@ -71,7 +71,7 @@ class StoreCase(Case):
         return done
 
     def assert_sound(self, store: Optional[Path] = None) -> None:
-        """All that is in the store is as it should be, and sha256sum finds that too."""
+        """Asserts that `ctfd-store check` and sha256sum find no fault in the store."""
         done = self.command("check", store or self.store)
         self.assertEqual((done.status, done.errors), (0, ""), done.text)
         if ((store or self.store) / INDEX).read_bytes():
@@ -80,10 +80,10 @@ class StoreCase(Case):
 
     def program(self, name: str = "program", source: str = SOURCE, *options: str) -> Path:
         """A program with debug information and a build-id."""
-        return self.compiled(source, "-g", "-Wl,--build-id", *options, name=f"{name}.exe")
+        return self.compile(source, "-g", "-Wl,--build-id", *options, name=f"{name}.exe")
 
-    def parted(self, program: Path) -> tuple[Path, Path]:
-        """A stripped copy of a program, and its debug file, as packages have them."""
+    def split(self, program: Path) -> tuple[Path, Path]:
+        """A stripped copy of a program, and its debug file, as in packages."""
         debug, stripped = program.with_suffix(".debug"), program.with_suffix(".stripped")
         subprocess.run(["objcopy", "--only-keep-debug", "--compress-debug-sections", program,
                         debug], check=True)
@@ -94,12 +94,12 @@ class StoreCase(Case):
         """The folder of a program's build in a store."""
         return (store or self.store) / BUILD_IDS / build_id(program)
 
-    def listed(self) -> list[dict[str, Any]]:
+    def listing(self) -> list[dict[str, Any]]:
         done = self.command("list", "--json", self.store)
         return [json.loads(line) for line in done.output.splitlines()]
 
     def package(self, name: str, files: dict[str, bytes]) -> Path:
-        """A package of Debian with files of some names, whatever these are."""
+        """A Debian package of files with any names."""
         members = [tarfile.TarInfo(path) for path in files]
         for member in members:
             member.size = len(files[member.name])
@@ -107,7 +107,7 @@ class StoreCase(Case):
 
     def package_of(self, name: str, members: Iterable[tarfile.TarInfo],
                    files: dict[str, bytes]) -> Path:
-        """A package of Debian with the members of an archive."""
+        """A Debian package with these archive members."""
         self.needs("dpkg-deb", "ar")
         made = self.folder / name
         control = b"Package: x\nVersion: 1\nArchitecture: all\nMaintainer: x\nDescription: x\n"
@@ -122,7 +122,7 @@ class StoreCase(Case):
         return made
 
     def package_of_rpm(self, name: str, files: dict[str, bytes], *defined: str) -> Path:
-        """A package of RPM with files of some names."""
+        """An RPM package of files with these names."""
         self.needs("rpmbuild", "rpm2cpio")
         top = self.folder / f"{name}.rpmbuild"
         root, spec = top / "root", top / f"{name}.spec"
@@ -154,7 +154,7 @@ class StoreCase(Case):
         return made
 
     def libctf(self, header: str) -> Path:
-        """A program that opens files by libctf's calls, of one of the headers."""
+        """A program that opens files through libctf's calls, by one of the headers."""
         self.needs("gcc")
         made, libraries = self.folder / f"types.{header}", self.prefix() / "lib"
         words = ["gcc", "-std=gnu11", "-I", CLIENTS / "c", *HEADERS[header], TYPES, "-o", made,
@@ -164,7 +164,7 @@ class StoreCase(Case):
 
 
 def archive(members: Iterable[tarfile.TarInfo], files: dict[str, bytes]) -> bytes:
-    """An archive of members, with the bytes of those that are files."""
+    """A tar archive of members, with the bytes of those that are files."""
     made = io.BytesIO()
     with tarfile.open(fileobj=made, mode="w:gz") as out:
         for member in members:
@@ -175,13 +175,13 @@ def archive(members: Iterable[tarfile.TarInfo], files: dict[str, bytes]) -> byte
 
 
 def build_id(program: Path) -> str:
-    """The build-id that readelf tells of a file."""
+    """The build-id of a file, according to readelf."""
     said = subprocess.run(["readelf", "-n", program], capture_output=True, text=True, check=True)
     return said.stdout.split("Build ID: ")[1].split()[0]
 
 
 def sections(program: Path) -> dict[str, tuple[int, str]]:
-    """The sections of a file as readelf has them: how long each is, and its flags."""
+    """The sections of a file according to readelf: the size and flags of each."""
     said = subprocess.run(["readelf", "-SW", program], capture_output=True, text=True, check=True)
     made = {}
     for line in said.stdout.splitlines():
@@ -192,7 +192,7 @@ def sections(program: Path) -> dict[str, tuple[int, str]]:
 
 
 def section_bytes(program: Path, name: str) -> bytes:
-    """The bytes of a section, from where readelf says that it is."""
+    """The bytes of a section, at readelf's offset."""
     said = subprocess.run(["readelf", "-SW", program], capture_output=True, text=True, check=True)
     words = next(line.split("]", 1)[1].split() for line in said.stdout.splitlines()
                  if f"] {name} " in line)
@@ -201,6 +201,6 @@ def section_bytes(program: Path, name: str) -> bytes:
 
 
 def contents(folder: Path) -> dict[str, bytes]:
-    """All files below a folder, but for the one that is locked."""
+    """All files below a folder, except for the lock."""
     return {str(path.relative_to(folder)): path.read_bytes()
             for path in sorted(folder.rglob("*")) if path.is_file() and path.name != ".lock"}

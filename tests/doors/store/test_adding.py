@@ -1,4 +1,4 @@
-"""What `ctfd-store add` makes of programs, debug files, folders and packages."""
+"""Tests of `ctfd-store add` with programs, debug files, folders and packages."""
 from __future__ import annotations
 
 import shutil
@@ -15,7 +15,7 @@ SECTIONS = (".SUNW_ctf", ".symtab", ".strtab")
 class Layout(StoreCase):
     def test_files_of_a_build(self) -> None:
         program = self.program()
-        stripped, debug = self.parted(program)
+        stripped, debug = self.split(program)
         done = self.add(debug)
         self.assertEqual(done.text, f"{self.store}: 1 added, 0 replaced, 0 the same, 0 refused\n")
         self.assert_sound()
@@ -35,7 +35,7 @@ class Layout(StoreCase):
 
     def test_types_are_those_of_the_program(self) -> None:
         program = self.program()
-        stripped, debug = self.parted(program)
+        stripped, debug = self.split(program)
         self.add(debug)
         build = self.build(program)
         for words in (["struct packet"], ["weigh"], ["shade"], ["--sizes"]):
@@ -49,7 +49,7 @@ class Layout(StoreCase):
     def test_gdb_reads_it(self) -> None:
         self.needs("gdb")
         program = self.program()
-        stripped, debug = self.parted(program)
+        stripped, debug = self.split(program)
         self.add(debug)
         shutil.copy(self.build(program) / "debuginfo", self.folder / "own.debug")
         done = run("gdb", "-batch", "-nx", "-ex", "ptype struct packet", "-ex", "print first",
@@ -62,13 +62,13 @@ class Layout(StoreCase):
         members = "\n".join(f"  unsigned long quantity_of_kind_{n};" for n in range(300))
         source = SOURCE + f"struct large {{ {members} }} large;\n"
         program = self.program("large", source)
-        stripped, debug = self.parted(program)
+        stripped, debug = self.split(program)
         self.add(debug, program)
         made = self.build(program) / "debuginfo"
         self.assertLessEqual(made.stat().st_size, debug.stat().st_size)
         self.assert_sound()
         other = self.folder / "other"
-        self.add(program, store=other)  # which is larger than its debug file
+        self.add(program, store=other)  # larger than its debug file
         self.assertIn(".SUNW_ctf", sections(self.build(program, other) / "debuginfo"))
         self.assert_sound(other)
 
@@ -94,18 +94,18 @@ class Layout(StoreCase):
         self.assertIn("/* size: 12,", told)
 
     def test_shared_libraries_and_types_by_ctf(self) -> None:
-        library = self.compiled(SOURCE, "-g", "-shared", "-fPIC", "-Wl,--build-id", name="libx.so")
+        library = self.compile(SOURCE, "-g", "-shared", "-fPIC", "-Wl,--build-id", name="libx.so")
         done = run(tool("convert"), "--section", library, self.folder / "with.so")
         self.assertEqual(done.status, 0, done.text)
         subprocess.run(["strip", "-g", self.folder / "with.so"], check=True)
         self.add(self.folder / "with.so")
         self.assert_sound()
-        self.assertEqual([(one["name"], one["functions"] >= 1) for one in self.listed()],
+        self.assertEqual([(one["name"], one["functions"] >= 1) for one in self.listing()],
                          [("with.so", True)])
 
 
-class Same(StoreCase):
-    """The same files give the same bytes, however they are added."""
+class SameBytes(StoreCase):
+    """The same files give the same bytes, in whatever order they are added."""
 
     def test_bytes_are_the_same(self) -> None:
         programs = [self.program(f"program{n}", SOURCE + f"int number{n};") for n in range(4)]
@@ -134,25 +134,25 @@ class Same(StoreCase):
         done = self.add(other)
         self.assertIn("1 replaced", done.output)
         self.assert_sound()
-        self.assertEqual([row["name"] for row in self.listed()], ["other.exe"])
+        self.assertEqual([row["name"] for row in self.listing()], ["other.exe"])
 
     def test_programs_are_kept_where_that_is_asked(self) -> None:
         program = self.program()
-        stripped, debug = self.parted(program)
+        stripped, debug = self.split(program)
         self.add("--executables", stripped, debug)
         kept = self.build(program) / "executable"
         self.assertEqual(kept.read_bytes(), stripped.read_bytes())
         self.add(stripped, debug)
         self.assertEqual(kept.read_bytes(), stripped.read_bytes())
         self.assert_sound()
-        self.assertEqual([one["name"] for one in self.listed()], ["program.stripped"])
+        self.assertEqual([one["name"] for one in self.listing()], ["program.stripped"])
 
 
 class Places(StoreCase):
     """Folders and packages."""
 
     def debug_files(self) -> dict[str, bytes]:
-        """Two debug files with a file that dwz made of what they share, by their paths."""
+        """Two debug files, and the common file that dwz made from them, by their paths."""
         self.needs("dwz")
         shared = "\n".join(f"struct common{n} {{ long value; struct common{n} *next; }} c{n};"
                            for n in range(40))
@@ -176,7 +176,7 @@ class Places(StoreCase):
         package = self.package("x-dbg_1_amd64.deb", self.debug_files())
         self.add(package)
         self.assert_sound()
-        self.assertEqual([(one["name"], one["types"] > 80) for one in self.listed()],
+        self.assertEqual([(one["name"], one["types"] > 80) for one in self.listing()],
                          [("x-dbg_1_amd64", True)] * 2)
 
     def test_a_folder_with_what_dwz_made(self) -> None:
@@ -187,11 +187,11 @@ class Places(StoreCase):
             place.write_bytes(data)
         self.add(folder)
         self.assert_sound()
-        self.assertEqual(len(self.listed()), 2)
+        self.assertEqual(len(self.listing()), 2)
 
     def test_a_package_of_programs_and_one_of_debug_files(self) -> None:
         program = self.program()
-        stripped, debug = self.parted(program)
+        stripped, debug = self.split(program)
         first, rest = build_id(program)[:2], build_id(program)[2:]
         packages = [self.package("x_1.deb", {"./usr/bin/x": stripped.read_bytes(),
                                              "./usr/share/doc/x": b"no program"}),
@@ -199,12 +199,12 @@ class Places(StoreCase):
                                  {f"./{DEBUG}/.build-id/{first}/{rest}.debug": debug.read_bytes()})]
         self.add("--executables", *packages)
         self.assert_sound()
-        self.assertEqual([(one["name"], one["executable"] > 0) for one in self.listed()],
+        self.assertEqual([(one["name"], one["executable"] > 0) for one in self.listing()],
                          [("x", True)])
 
     def test_debug_files_elsewhere(self) -> None:
         program = self.program()
-        stripped, debug = self.parted(program)
+        stripped, debug = self.split(program)
         first, rest = build_id(program)[:2], build_id(program)[2:]
         place = self.folder / "debug/.build-id" / first / f"{rest}.debug"
         place.parent.mkdir(parents=True)
@@ -215,7 +215,7 @@ class Places(StoreCase):
     def test_packages_of_rpm(self) -> None:
         """A program and its debug file in two packages, compressed in several ways."""
         program = self.program()
-        stripped, debug = self.parted(program)
+        stripped, debug = self.split(program)
         first, rest = build_id(program)[:2], build_id(program)[2:]
         for number, payload in enumerate(("w9.gzdio", "w2.xzdio", "w3.zstdio")):
             defined = f"_binary_payload {payload}"
@@ -236,13 +236,13 @@ class Places(StoreCase):
         self.assertRegex(done.errors, r"x2-1-1\.x86_64\.rpm: it (is damaged|can't be unpacked)")
 
 
-class Refused(StoreCase):
-    """What is refused is named and counted, and the rest is added."""
+class Refusals(StoreCase):
+    """Each refusal is named and counted, and the rest is added."""
 
     def test_each_by_its_name(self) -> None:
         sound = self.program()
-        bare = self.compiled(SOURCE, "-g", "-Wl,--build-id=none", name="bare.exe")
-        untyped = self.compiled(SOURCE, "-Wl,--build-id", name="untyped.exe")
+        bare = self.compile(SOURCE, "-g", "-Wl,--build-id=none", name="bare.exe")
+        untyped = self.compile(SOURCE, "-Wl,--build-id", name="untyped.exe")
         text = self.folder / "text"
         text.write_text("no program\n")
         done = self.add(sound, bare, untyped, text, self.folder / "gone", status=1)
@@ -256,8 +256,9 @@ class Refused(StoreCase):
         self.assert_sound()
 
     def test_packages_are_named(self) -> None:
-        """A refusal names no folder that went with the command, however many packages there are."""
-        untyped = self.compiled(SOURCE, "-Wl,--build-id", name="untyped.exe")
+        """A refusal does not name the command's temporary folder, however many packages there
+        are."""
+        untyped = self.compile(SOURCE, "-Wl,--build-id", name="untyped.exe")
         files = [{f"./usr/bin/x{n}": untyped.read_bytes()} for n in range(12)]
         packages = [self.package(f"x{n}.deb", one) for n, one in enumerate(files)]
         done = self.add(*packages, status=2)
@@ -271,7 +272,7 @@ class Refused(StoreCase):
         text = self.folder / "text"
         text.write_text("no program\n")
         self.add(text, status=2)
-        self.assertEqual(self.listed(), [])
+        self.assertEqual(self.listing(), [])
 
     def test_lengths_of_build_ids(self) -> None:
         for length in (1, 2, 3, 7, 64, 65, 200):

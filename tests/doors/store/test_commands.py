@@ -1,4 +1,5 @@
-"""The commands beside ctfd-types, and the package in Python, take a store for debug information."""
+"""The commands besides ctfd-types, and the Python package, use a store in place of debug
+information."""
 from __future__ import annotations
 
 import os
@@ -19,12 +20,12 @@ with ctfd.open(sys.argv[1]) as types:
     print(*(f"{member.name} {member.offset}" for member in types.find("struct packet").members))
 """
 
-# What gdb says once it knows a program well enough to look for its threads.
+# gdb's messages when it begins to look for a program's threads.
 THREADS = re.compile(r"^(\[Thread debugging|Using host libthread_db).*\n", re.MULTILINE)
 
 
-def parted(output: str) -> Tuple[str, str]:
-    """What gdb printed before a line of three dashes, and behind it."""
+def split_output(output: str) -> Tuple[str, str]:
+    """gdb's output before a line of three dashes, and after it."""
     before, _, behind = output.partition("---\n")
     return before, THREADS.sub("", behind)
 
@@ -34,7 +35,7 @@ class Commands(StoreCase):
         super().setUp()
         changed = SOURCE.replace("short port;", "int port; short more;")
         programs = [self.program("old"), self.program("new", changed)]
-        self.old, self.new = (self.parted(program)[0] for program in programs)
+        self.old, self.new = (self.split(program)[0] for program in programs)
         self.add(*programs)
 
     def test_diff(self) -> None:
@@ -49,7 +50,7 @@ class Commands(StoreCase):
         self.assertIn("packet", page.read_text(encoding="utf-8"))
 
     def gdb(self, *lines: str, **environment: str) -> Outcome:
-        """What gdb prints of the stripped program with the plug-in."""
+        """gdb's output about the stripped program, with the plug-in."""
         self.needs("gdb")
         lines = (f"source {TOP / 'clients/gdb/ctfgdb.py'}", *lines)
         return run("gdb", "-batch", "-nx", *(word for line in lines for word in ("-ex", line)),
@@ -62,16 +63,16 @@ class Commands(StoreCase):
         self.assertNotIn("GREEN", self.gdb(*lines).output)
 
     def test_gdbs_own_commands(self) -> None:
-        """gdb's own commands know the types as with the debug file that the store has."""
+        """gdb's own commands show the same types as with the debug file in the store."""
         lines = ("echo ---\\n", "ptype struct packet", "print shade", "whatis weigh", "print sizeof(first)",
                  "info line weigh", "break weigh if arg1 == 5", "run", "print arg1",
                  "print *arg0", "bt 1")
         there = self.store / BUILD_IDS / build_id(self.new) / "debuginfo"
         told = self.gdb(f"symbol-file {there}", *lines)
-        _, wanted = parted(told.output)
+        _, wanted = split_output(told.output)
         self.assertIn("$1 = GREEN", wanted, told.errors)
         told = self.gdb("ctf load", *lines, CTFD_STORE=str(self.store))
-        said, printed = parted(told.output)
+        said, printed = split_output(told.output)
         self.assertIn("gdb's own commands know these types too: ", said, told.errors)
         self.assertRegex(printed, r"short(?: int)? more;")
         self.assertEqual(printed, wanted)
@@ -94,7 +95,8 @@ class Commands(StoreCase):
         self.assertIn("short more", done.output)
 
     def test_a_debug_file_is_made_here(self) -> None:
-        """What debuggers are given is written here, of a dictionary that the library accepted."""
+        """Debug files for debuggers are written here, from a dictionary that the library
+        accepted."""
         made = self.folder / "made.debug"
         for words in (("--store", self.store), ()):
             done = run(tool("debuginfo"), *words, self.new, made,
@@ -119,7 +121,7 @@ class Commands(StoreCase):
                 ((self.folder / "new.c", made), 2, "neither a build-id nor an ELF file"),
                 ((self.folder / "gone", made), 2, "No such file"),
                 ((self.new, self.new), 2, "it is an input"),
-                ((self.new, self.folder), 2, "it is a folder")):
+                ((self.new, self.folder), 2, "is a directory")):
             done = self.command("fetch", "--store", self.store, *words)
             self.assertEqual(done.status, status, done.text)
             self.assertIn(why, done.errors)

@@ -1,7 +1,7 @@
-"""An `add` or a `remove` that is ended at any of its steps: each build is whole or not there.
+"""An `add` or `remove` that is ended at any of its steps leaves each build complete or absent.
 
-A step is a system call by which the store is changed. strace ends the command at the first of them,
-in another run at the second, and so on until one runs to its end.
+A step is a system call that changes the store. strace ends the command at the first of them, in
+another run at the second, and so on until a run completes.
 """
 from __future__ import annotations
 
@@ -23,8 +23,8 @@ SAME = "12345678" * 5
 MENDED = "the next add"
 
 
-class Ended(StoreCase):
-    """A store has two builds. Of the one another file is added, and a new build with it."""
+class EndedAdds(StoreCase):
+    """A store has two builds. Another file is added for one of them, together with a new build."""
 
     def setUp(self) -> None:
         super().setUp()
@@ -48,7 +48,7 @@ class Ended(StoreCase):
         return {one.name: contents(one) for one in sorted((store / BUILD_IDS).iterdir())}
 
     def endings(self, signal: str, *words: Word) -> Iterator[str]:
-        """Ends a command at each of its steps in turn, every time over the store as it was."""
+        """Ends a command at each of its steps in turn, each time on a copy of the first store."""
         count = 0
         for call in CALLS:
             for step in itertools.count(1):
@@ -59,7 +59,7 @@ class Ended(StoreCase):
         self.assertGreater(count, len(CALLS))
 
     def is_ended(self, signal: str, injected: str, *words: Word) -> bool:
-        """Whether a command gets a signal at a step; it may end before that has come."""
+        """Whether a command gets a signal at a step; it may end before that step."""
         shutil.rmtree(self.store, ignore_errors=True)
         shutil.copytree(self.before, self.store)
         trace = self.folder / "trace"
@@ -73,19 +73,19 @@ class Ended(StoreCase):
         return is_there
 
     def assert_each_is_whole(self, step: str) -> None:
-        """Each build is one that was there before, or one that is to be there."""
+        """Asserts that each build is as before or as it should be afterwards."""
         known = [self.builds(store) for store in (self.before, self.after)]
         for name, files in self.builds(self.store).items():
             self.assertIn(files, [one[name] for one in known if name in one], (step, name))
 
     def assert_mended(self, step: str) -> None:
-        """The next add, of something else, leaves the store as it should be."""
+        """Asserts that the next add, of something else, repairs the store."""
         self.add(self.later)
         self.assertEqual(list(self.store.glob(STAGES)), [], step)
         self.assert_sound()
 
     def test_add_is_ended(self) -> None:
-        """Nothing stays behind, and the index tells of what is there."""
+        """Nothing is left behind, and the index lists what is there."""
         for step in self.endings("SIGTERM", "add", self.store, self.second, self.new):
             self.assertEqual(list(self.store.glob(STAGES)), [], step)
             self.assert_each_is_whole(step)
@@ -132,7 +132,7 @@ class Ended(StoreCase):
         self.assert_sound()
 
     def test_what_runs_is_left_alone(self) -> None:
-        """The folder of a command that runs is neither removed nor told of."""
+        """The folder of a running command is neither removed nor reported."""
         shutil.copytree(self.before, self.store)
         stage = self.store / ".ctfd-1-0"
         stage.mkdir()

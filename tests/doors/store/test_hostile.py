@@ -1,4 +1,4 @@
-"""Stores and packages that others may have written, disks that are full, and several at once."""
+"""Stores and packages that others may have written, full disks, and several commands at once."""
 from __future__ import annotations
 
 import gzip
@@ -81,7 +81,7 @@ class Packages(StoreCase):
 class Stores(StoreCase):
     """Links and files that others put into a store."""
 
-    def planted(self, place: str) -> Path:
+    def plant(self, place: str) -> Path:
         outside = self.folder / "outside"
         outside.mkdir(exist_ok=True)
         link = self.store / place
@@ -95,7 +95,7 @@ class Stores(StoreCase):
                                    f"{BUILD_IDS}/{build_id(program)}/section")):
             with self.subTest(place):
                 self.store = self.folder / f"store{n}"
-                outside = self.planted(place)
+                outside = self.plant(place)
                 done = self.command("add", self.store, program)
                 self.assertEqual(done.status, 2, done.text)
                 self.assertIn("it is a link or another kind of file", done.errors)
@@ -182,7 +182,7 @@ class Stores(StoreCase):
         self.assert_sound()
 
     def test_files_that_belong_elsewhere(self) -> None:
-        """Sums that fit do not make a file of another build that of this one."""
+        """A file of another build does not become this one's because its hash fits."""
         one, other = self.program("one"), self.program("other", SOURCE + "int more;")
         self.add(one, other)
         first, second = build_id(one), build_id(other)
@@ -204,12 +204,13 @@ class Trouble(StoreCase):
         self.add(first)
         before = contents(self.store)
 
-        def small() -> None:
+        def limit_file_size() -> None:
             signal.signal(signal.SIGXFSZ, signal.SIG_IGN)
             resource.setrlimit(resource.RLIMIT_FSIZE, (1000, 1000))
 
-        done = subprocess.run([tool("store"), "add", self.store, program], preexec_fn=small,
-                              env=clean(), capture_output=True, text=True)
+        done = subprocess.run([tool("store"), "add", self.store, program],
+                              preexec_fn=limit_file_size, env=clean(), capture_output=True,
+                              text=True)
         self.assertEqual(done.returncode, 2, done)
         self.assertIn("File too large", done.stderr)
         self.assertEqual(contents(self.store), before)
@@ -225,7 +226,7 @@ class Trouble(StoreCase):
             output, errors = door.communicate(timeout=SECONDS)
             self.assertEqual((door.returncode, errors), (0, b""), output)
         self.assert_sound()
-        self.assertEqual(len(self.listed()), 6)
+        self.assertEqual(len(self.listing()), 6)
 
     def test_a_file_that_changes(self) -> None:
         one, other = self.program("one"), self.program("two", SOURCE + "int x[999] = {1};")

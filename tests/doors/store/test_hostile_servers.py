@@ -1,7 +1,7 @@
-"""Servers that are broken, or mean harm: each is refused in a line, within its limits.
+"""Broken and hostile servers: each is refused with a line, within limits.
 
-What is counted is what a server could send, and the memory that its client took. Those that would
-never end are left by their clients.
+The tests count the bytes that a server could send, and the memory of its client. Clients leave
+servers that would never end.
 """
 from __future__ import annotations
 
@@ -23,19 +23,19 @@ from .support import HEADERS, SOURCE, StoreCase, build_id, run
 
 SECTION = "section/.SUNW_ctf"
 PIECE = bytes(1 << 20)
-# What is in the buffers of two sockets comes beside the 64 MB that a client takes.
+# The buffers of two sockets come on top of the 64 MB that a client accepts.
 MOST_BYTES, MOST_MEGABYTES = (64 + 16) << 20, 300
-# Those that wait; the others are asked one after the other.
+# The servers that wait; all others are asked one after the other.
 WAITING = ("drip", "silent", "stalled")
-# Those that libctf's calls ask too, which run the same command, and those of which debuginfod-find
-# says that they have nothing.
+# The servers that libctf's calls are tested with too (they run the same command), and those of
+# which debuginfod-find reports that they have nothing.
 BY_LIBCTF = ("a_page", "too_long", "endless", "bomb", "bomb_of_a_few_bytes", "a_program", "damaged",
              "short", "mixed", "other_build", "a_debug_file_of_nothing")
 AS_ABSENT = ("absent", "empty", "cut", "broken")
 
 
 class Handler(BaseHTTPRequestHandler):
-    """Answers by the first word of the path."""
+    """Answers according to the first part of the path."""
 
     protocol_version = "HTTP/1.0"
     server: "Harm"
@@ -81,7 +81,7 @@ def endless(door: Handler, kind: str, length: int = 0) -> None:
 
 
 def redirects(door: Handler, last: int) -> None:
-    """As many redirects as a number, or without an end."""
+    """A number of redirects, or endless ones."""
     _, _, count = door.path.partition("?")
     number = int(count or 0)
     if last and number >= last:
@@ -100,7 +100,7 @@ def drip(door: Handler) -> None:
 
 
 def stall(door: Handler, is_begun: bool) -> None:
-    """Nothing more, until the client has left."""
+    """No data, at most a status and headers, until the client has left."""
     if is_begun:
         door.send_response(200)
         door.send_header("Content-Length", "1000")
@@ -109,7 +109,7 @@ def stall(door: Handler, is_begun: bool) -> None:
 
 
 def bomb(told: int, megabytes: int) -> bytes:
-    """A dictionary that says how many bytes it inflates to, and inflates to so many megabytes."""
+    """A dictionary that states the inflated size `told`, and inflates to `megabytes` MiB."""
     header = bytes([0xf1, 0xcf, 2, 1]) + struct.pack("<8I", 0, 0, 0, 0, 0, 0, told, 0)
     packer = zlib.compressobj(1)
     return header + b"".join(packer.compress(PIECE) for _ in range(megabytes)) + packer.flush()
@@ -130,8 +130,8 @@ class Servers(StoreCase):
         def section(data: bytes) -> Callable[[Handler, str], None]:
             return lambda door, name: door.say(data) if name == SECTION else door.absent()
 
-        def mixed(door: Handler, name: str) -> None:
-            """The dictionary, and symbols that are not its own."""
+        def serve_other_symbols(door: Handler, name: str) -> None:
+            """The dictionary, with the symbols of another build."""
             own = name.rpartition("/")[2]
             door.say(ctf if name == SECTION else mine[own][:len(mine[own]) // 48 * 24]
                      if own == ".symtab" else mine.get(own, b"x"))
@@ -167,7 +167,7 @@ class Servers(StoreCase):
             "bomb_of_a_few_bytes": section(bomb(1000, 2)),
             "damaged": section(bytes(damaged)),
             "short": section(ctf[:-20]),
-            "mixed": mixed,
+            "mixed": serve_other_symbols,
             "other_build": other_build,
             "a_debug_file_of_nothing": lambda door, name: door.say(b"\x7fELF" + bytes(2000))
             if name == "debuginfo" else door.absent(),
@@ -179,15 +179,15 @@ class Servers(StoreCase):
         threading.Thread(target=self.server.serve_forever, daemon=True).start()
 
     def url(self, kind: str) -> str:
-        """The store that a server of some kind is."""
+        """The address of the store on this kind of server."""
         return f"http://127.0.0.1:{self.server.server_address[1]}/{kind}"
 
     def environment(self, kept: Path) -> Dict[str, str]:
         return clean({"XDG_CACHE_HOME": str(kept), "HOME": str(kept), "DEBUGINFOD_URLS": "",
                       "no_proxy": "*"})
 
-    def asked(self, kind: str) -> str:
-        """What is wrong with how a server of some kind is answered; empty where it is refused."""
+    def ask(self, kind: str) -> str:
+        """Errors in how this kind of server is handled; "" if it is refused."""
         kept = self.folder / f"kept.{kind}"
         done = run(tool("types"), "--store", self.url(kind), self.id, "struct packet",
                    environment=self.environment(kept))
@@ -203,12 +203,12 @@ class Servers(StoreCase):
         self.assertGreaterEqual(len(self.kinds), 20)
         others = [kind for kind in self.kinds if kind not in WAITING]
         with ThreadPoolExecutor(len(WAITING)) as pool:
-            waiting = [pool.submit(self.asked, kind) for kind in WAITING]
-            wrong = [*map(self.asked, others), *(one.result() for one in waiting)]
+            waiting = [pool.submit(self.ask, kind) for kind in WAITING]
+            wrong = [*map(self.ask, others), *(one.result() for one in waiting)]
         self.assertEqual([one for one in wrong if one], [])
 
     def test_libctfs_calls_refuse_them(self) -> None:
-        stripped, _ = self.parted(self.built)
+        stripped, _ = self.split(self.built)
         for header in HEADERS:
             door = self.libctf(header)
             for kind in (*BY_LIBCTF, *AS_ABSENT) if header == "gnu" else BY_LIBCTF[:2]:

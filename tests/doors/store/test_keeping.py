@@ -1,4 +1,4 @@
-"""What else is done with a store: `list`, `stats`, `missing`, `remove`."""
+"""Tests of `list`, `stats`, `missing` and `remove`."""
 from __future__ import annotations
 
 import os
@@ -17,7 +17,7 @@ class Keeping(StoreCase):
         self.add(*self.programs)
 
     def test_list(self) -> None:
-        rows = self.listed()
+        rows = self.listing()
         self.assertEqual([row["id"] for row in rows], sorted(self.ids))
         self.assertEqual({row["name"] for row in rows}, {one.name for one in self.programs})
         for row in rows:
@@ -59,18 +59,18 @@ class Keeping(StoreCase):
         done = self.command("remove", self.store, self.ids[1], self.ids[0])
         self.assertEqual(done.status, 2)
         self.assertIn(f"has no build {self.ids[0]}", done.errors)
-        self.assertEqual(len(self.listed()), 2)
+        self.assertEqual(len(self.listing()), 2)
 
     def test_remove_what_is_old(self) -> None:
         old = time.time() - 30 * DAY - 100
         for one in self.ids[:2]:
             os.utime(self.store / BUILD_IDS / one / "about", (old, old))
-        self.add(self.programs[0])  # which says that it is in use
+        self.add(self.programs[0])  # marks it as in use
         self.assertEqual(self.command("remove", self.store, "--older", "30").output,
                          f"{self.store}: 0 removed\n")
         self.assertEqual(self.command("remove", self.store, "--older=29").output,
                          f"{self.store}: 1 removed\n")
-        self.assertEqual({row["id"] for row in self.listed()}, {self.ids[0], self.ids[2]})
+        self.assertEqual({row["id"] for row in self.listing()}, {self.ids[0], self.ids[2]})
         self.assert_sound()
 
     def test_words(self) -> None:

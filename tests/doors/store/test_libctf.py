@@ -1,4 +1,4 @@
-"""libctf's calls take the types of a stripped program from the stores that CTFD_STORE names."""
+"""libctf's calls find the types of a stripped program in the stores that CTFD_STORE names."""
 from __future__ import annotations
 
 import errno
@@ -13,7 +13,7 @@ from ..support import Outcome, tool
 from . import servers
 from .support import BUILD_IDS, HEADERS, SOURCE, StoreCase, build_id, run
 
-# Errors by their numbers, and what is said of each.
+# Error numbers, with a part of the message for each.
 NO_TYPES = "1008: ", "no section .SUNW_ctf or .ctf"
 IN_VAIN = f"{errno.EREMOTEIO}: ", "CTFD_STORE was asked, in vain: `ctfd-store fetch FILE -` says why"
 NOBODY = 65534
@@ -23,13 +23,13 @@ class Libctf(StoreCase):
     def setUp(self) -> None:
         super().setUp()
         self.doors = {header: self.libctf(header) for header in HEADERS}
-        self.built = self.program("exports", SOURCE, "-rdynamic")  # GNU's calls tell of exports
-        self.stripped, _ = self.parted(self.built)
+        self.built = self.program("exports", SOURCE, "-rdynamic")  # GNU's calls only list exports
+        self.stripped, _ = self.split(self.built)
         self.add(self.built)
 
-    def opened(self, header: str, program: Path, stores: object = "", *words: str,
-               **environment: str) -> Outcome:
-        """What is told of a program by the calls of a header."""
+    def open_program(self, header: str, program: Path, stores: object = "", *words: str,
+                     **environment: str) -> Outcome:
+        """The output about a program, through the calls of a header."""
         kept = str(self.folder / "kept")
         asked = {"CTFD_STORE": str(stores), "DEBUGINFOD_URLS": "", "CTFD": "", "no_proxy": "*",
                  "XDG_CACHE_HOME": kept, "HOME": kept, "PATH": "/usr/bin:/bin", **environment}
@@ -39,22 +39,23 @@ class Libctf(StoreCase):
         return done
 
     def assert_types(self, stores: object, *words: str, **environment: str) -> None:
-        """A stripped program has the types and symbols that it has with a section of its own."""
+        """Asserts that a stripped program has the same types and symbols as with a section of its
+        own."""
         whole = self.folder / "whole"
         if not whole.exists():
             run(tool("convert"), "--section", self.built, whole)
         for header in HEADERS:
-            wanted = self.opened(header, whole)
+            wanted = self.open_program(header, whole)
             self.assertIn("struct packet: 24 bytes\n", wanted.output)
             self.assertIn("shade: enum color\n", wanted.output)
             self.assertIn("\nweigh", wanted.output)
-            told = self.opened(header, self.stripped, stores, *words, **environment)
+            told = self.open_program(header, self.stripped, stores, *words, **environment)
             self.assertEqual((told.status, told.output), (0, wanted.output))
 
     def assert_refused(self, why: Tuple[str, str], stores: object,
                        program: Optional[Path] = None, **environment: str) -> None:
         for header in HEADERS:
-            told = self.opened(header, program or self.stripped, stores, **environment)
+            told = self.open_program(header, program or self.stripped, stores, **environment)
             self.assertEqual(told.status, 1, told.text)
             self.assertTrue(told.output.startswith(why[0]) and why[1] in told.output, told.text)
 
@@ -72,7 +73,7 @@ class Libctf(StoreCase):
         self.needs("debuginfod-find")
         with servers.python(self.store, self.folder) as server:
             self.assert_types(server.url)
-        self.assert_types(server.url)  # it was kept
+        self.assert_types(server.url)  # from the cache
         shutil.rmtree(self.folder / "kept")
         self.assert_refused(IN_VAIN, server.url)
 
@@ -82,10 +83,10 @@ class Libctf(StoreCase):
         if probe.returncode != 0:
             self.skipTest("gcc -m32 makes no program here")
         short = self.program("short", SOURCE, "-m32")
-        stripped, _ = self.parted(short)
+        stripped, _ = self.split(short)
         self.add(short)
         for header in HEADERS:
-            told = self.opened(header, stripped, self.store).output
+            told = self.open_program(header, stripped, self.store).output
             self.assertIn("struct packet: 12 bytes\n", told)
             self.assertIn("shade: enum color\n", told)
 
@@ -93,7 +94,7 @@ class Libctf(StoreCase):
         other = self.program("other", SOURCE.replace("short port;", "short port; long more;"))
         with_types = self.folder / "with_types"
         run(tool("convert"), "--section", other, with_types)
-        told = self.opened("illumos", with_types, self.store).output
+        told = self.open_program("illumos", with_types, self.store).output
         self.assertIn("struct packet: 32 bytes", told)
 
     def test_without_a_store_or_a_build(self) -> None:
@@ -101,7 +102,7 @@ class Libctf(StoreCase):
         (empty / BUILD_IDS).mkdir(parents=True)
         for stores in ("", " \n", empty):
             self.assert_refused(NO_TYPES, stores)
-        bare = self.compiled(SOURCE, "-s", "-Wl,--build-id=none", name="bare.exe")
+        bare = self.compile(SOURCE, "-s", "-Wl,--build-id=none", name="bare.exe")
         self.assert_refused(NO_TYPES, self.store, bare)
 
     def test_damage_in_a_folder(self) -> None:
@@ -112,7 +113,8 @@ class Libctf(StoreCase):
         self.assert_refused(IN_VAIN, self.store)
 
     def test_whose_command_is_run(self) -> None:
-        """None that another user could have put there: beside the library, or on the PATH."""
+        """No command is run that another user could have put there: beside the library, or on the
+        PATH."""
         there, elsewhere = self.prefix() / "bin", self.folder / "elsewhere"
         elsewhere.mkdir()
         shutil.copy(there / "ctfd-store", elsewhere)

@@ -1,4 +1,4 @@
-"""The recipes of the page: each server, asked by debuginfod-find, by gdb and by our own tools."""
+"""The page's recipes for servers, each asked by debuginfod-find, gdb and our own commands."""
 from __future__ import annotations
 
 import os
@@ -21,10 +21,10 @@ class Recipes(StoreCase):
         super().setUp()
         self.needs("debuginfod-find", "gdb")
         self.built = self.program()
-        self.stripped, self.debug = self.parted(self.built)
+        self.stripped, self.debug = self.split(self.built)
         self.add("--executables", self.stripped, self.debug)
         self.id = build_id(self.built)
-        # Where nothing of the machine's own is found.
+        # A place where nothing of the machine's own is found.
         self.away = self.folder / "away"
         self.away.mkdir()
         shutil.move(self.stripped, self.away / "program")
@@ -36,6 +36,14 @@ class Recipes(StoreCase):
         return clean({"DEBUGINFOD_URLS": url, "DEBUGINFOD_CACHE_PATH": str(kept),
                       "XDG_CACHE_HOME": str(kept), "HOME": str(kept)})
 
+    def log_with(self, text: str) -> bytes:
+        """nginx's log once it has a text: nginx writes a line after it has sent the reply."""
+        end = time.monotonic() + SECONDS
+        while text.encode() not in (log := (self.folder / "access.log").read_bytes()):
+            self.assertLess(time.monotonic(), end, log)
+            time.sleep(0.05)
+        return log
+
     def find(self, url: str, *words: str) -> Path:
         done = subprocess.run(["debuginfod-find", *words], env=self.environment(url),
                               capture_output=True, text=True, timeout=SECONDS)
@@ -43,7 +51,7 @@ class Recipes(StoreCase):
         return Path(done.stdout.strip())
 
     def assert_serves(self, url: str, has_sections: bool = True) -> None:
-        """A server has the types of the build for all who ask."""
+        """Asserts that all clients get the build's types from a server."""
         build = self.store / BUILD_IDS / self.id
         found = self.find(url, "debuginfo", self.id)
         self.assertEqual(found.read_bytes(), (build / "debuginfo").read_bytes())
@@ -69,7 +77,7 @@ class Recipes(StoreCase):
         self.assert_serves(server.url)
 
     def test_pahole_and_drgn(self) -> None:
-        """Others that ask by themselves: pahole of a program, drgn of a core."""
+        """Programs that ask by themselves: pahole for a program, drgn for a core file."""
         self.needs("pahole", "drgn")
         server = self.opened.enter_context(servers.python(self.store, self.folder))
         program, asking = self.away / "program", self.environment(server.url)
@@ -102,7 +110,7 @@ class Recipes(StoreCase):
         done = subprocess.run(["debuginfod-find", "debuginfo", ABSENT], capture_output=True,
                               env=self.environment(server.url), timeout=SECONDS)
         self.assertNotEqual(done.returncode, 0)
-        log = (self.folder / "access.log").read_bytes()
+        log = self.log_with(ABSENT)
         self.assertIn(ABSENT, self.command("missing", self.store, stdin=log).output)
 
     def test_debuginfod_and_one_behind_it(self) -> None:
@@ -150,7 +158,7 @@ class Recipes(StoreCase):
         self.assertEqual(server.log.read_text().count("section/.SUNW_ctf"), 1)
         kept = Path(environment["XDG_CACHE_HOME"]) / "ctfd/store"
         self.assertEqual(kept.stat().st_mode & 0o777, 0o700)
-        kept.chmod(0o755)  # which is not used: it is asked again
+        kept.chmod(0o755)  # an unsafe folder is not used: the server is asked again
         told = run(tool("types"), "--store", server.url, self.id, "struct packet",
                    environment=environment)
         self.assertEqual(told.status, 0, told.text)

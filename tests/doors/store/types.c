@@ -1,5 +1,5 @@
-/* types.c - opens a file by ctf_open of illumos' header, or with -DGNU of GNU's, and prints the size
- * of a type and what is told of symbols; else the number of the error and its text. */
+/* types.c - opens a file by ctf_open of illumos' header, or with -DGNU of GNU's, and prints the
+ * size of a type and the types of symbols; on failure, the number of the error and its text. */
 #ifdef GNU
 #include <ctf-api.h>
 typedef ctf_dict_t types_t;
@@ -73,7 +73,7 @@ static void print(types_t *types)
     print_symbols(types);
 }
 
-/* With a second word, no child of this program is ever waited for. */
+/* With a second argument, it ignores SIGCHLD, so that no child process can be waited for. */
 int main(int count, char **words)
 {
     int error = 0;

@@ -1,4 +1,4 @@
-"""Types of C that no compiler saw, laid out as gcc lays them out: `Types`, and `declare`."""
+"""C types without a compiler, laid out as by gcc: `Types`, and `declare`."""
 from .types import CType, Member, Types, VOID, declare
 
 __all__ = ["CType", "Member", "Types", "VOID", "declare"]

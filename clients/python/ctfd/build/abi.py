@@ -1,7 +1,7 @@
-"""How gcc lays out C's types on x86: the rules of the System V interface, and its own attributes.
+"""gcc's layout of C types on x86: the rules of the System V ABI, and gcc's attributes.
 
-Of a type the layout needs its size, its alignment, and how it is placed within a struct, which on
-i386 is not by its alignment. All is in bytes but where bits are told.
+For the layout, a type has a size, an alignment, and flags, because on i386 the alignment within a
+struct may differ from the alignment of the type. Units are bytes, except where bits are named.
 """
 from __future__ import annotations
 
@@ -11,14 +11,14 @@ from typing import Dict, List, NamedTuple, Optional, Sequence, Tuple
 from ..client.model import Model, POINTER_SIZES
 from ..layout.records import BOOLEAN, CHARACTER, SIGNED
 
-BIGGEST = 16  # what `aligned` without a number says
-EASED = 32  # bits: what i386 aligns numbers to within structs
+BIGGEST = 16  # the alignment of `aligned` without a number
+EASED = 32  # bits: i386 aligns numbers within structs to no more
 WHOLE = (1, 2, 4, 8)
 
 
 class Shape(NamedTuple):
-    """The size and alignment of a type. `by_user` is that an attribute has said the alignment, and
-    `is_number` that the machine handles it as an integer or a double."""
+    """The size and alignment of a type. `by_user` is set if an attribute gave the alignment,
+    `is_number` if the machine handles the type as an integer or a double."""
 
     size: int
     align: int
@@ -29,7 +29,7 @@ class Shape(NamedTuple):
 
 
 class Basic(NamedTuple):
-    """A type that has no parts: what its encoding's flags are, or None for a float."""
+    """A type without parts, and the flags of its encoding; None for a float."""
 
     shape: Shape
     flags: Optional[int]
@@ -50,7 +50,7 @@ def _integers(model: Model) -> Dict[str, Tuple[int, int]]:
 
 
 def _floats(model: Model) -> Dict[str, Shape]:
-    """The floats; on i386 a double is placed as an integer of its size is."""
+    """The float types. On i386, a double is placed as an integer of its size is."""
     longest = (16, 16) if model == "lp64" else (12, 4)
     plain = {"float": (4, 4), "double": (8, 8), "long double": longest}
     known = {name: Shape(*sizes, is_number=name == "double") for name, sizes in plain.items()}
@@ -61,13 +61,13 @@ def _floats(model: Model) -> Dict[str, Shape]:
     known.update({name: known[other] for name, other in same.items()})
     known.update({name: Shape(16, 16) for name in ("_Float128", "__float128")})
     known.update({f"_Decimal{8 * size}": Shape(size, size) for size in (4, 8, 16)})
-    if model == "lp64":  # else gcc has it by an option alone
+    if model == "lp64":  # on i386 gcc has it only with an option
         known["_Float16"] = Shape(2, 2)
     return known
 
 
 def basics(model: Model) -> Dict[str, Basic]:
-    """The types without parts, by the names that the compiler has for them."""
+    """The types without parts, by the compiler's names."""
     made = {name: Basic(Shape(size, size, is_number=True, is_integer=True), flags)
             for name, (size, flags) in _integers(model).items()}
     made.update({name: Basic(shape, None) for name, shape in _floats(model).items()})
@@ -80,18 +80,20 @@ def pointer(model: Model) -> Shape:
 
 
 def atomic(shape: Shape) -> Shape:
-    """An atomic type is aligned to its size, where the machine has such an access."""
+    """The shape of an `_Atomic` type: aligned to its size, if the machine has an access of that
+    size."""
     align = shape.size if shape.size in (*WHOLE, 16) else 1
     return shape._replace(align=max(shape.align, align), is_atomic=True)
 
 
 def array(element: Shape, count: int) -> Shape:
-    """An array is aligned as its elements are, and placed as they are."""
+    """The shape of an array, which has the alignment and flags of its elements."""
     return element._replace(size=element.size * count)
 
 
 def enum(values: Sequence[int], packed: bool, model: Model) -> Shape:
-    """An enum is an int, or as short as can be where it is packed, or as long as is needed."""
+    """The shape of an enum: as large as an int, larger if a value needs it, and as small as
+    possible if packed."""
     sizes = (1, 2, 4, 8) if packed else (4, 8)
     low, high = min(values, default=0), max(values, default=0)
     for size in sizes:
@@ -103,7 +105,7 @@ def enum(values: Sequence[int], packed: bool, model: Model) -> Shape:
 
 @dataclass
 class Field:
-    """A member to place: with a width it is a bit-field, and of width 0 it has no name."""
+    """A member to place. With a width it is a bit-field; a bit-field of width 0 has no name."""
 
     name: str
     shape: Shape
@@ -114,8 +116,8 @@ class Field:
 
 
 class Laid(NamedTuple):
-    """The places of members in bits, and the shape of the whole; `is_block` where the machine has
-    no number of its size for it."""
+    """The offsets of members in bits, and the shape of the whole. `is_block` is set if the machine
+    has no number of this size for it."""
 
     places: List[int]
     shape: Shape
@@ -123,7 +125,7 @@ class Laid(NamedTuple):
 
 
 class _Layout:
-    """A struct or union as it grows. All numbers are bits."""
+    """The layout of a struct or union while members are added. All numbers are bits."""
 
     def __init__(self, model: Model, is_union: bool, packed: bool, aligned: Optional[int]) -> None:
         self.model = model
@@ -136,14 +138,14 @@ class _Layout:
         self.end = 0
 
     def place(self, field: Field) -> int:
-        """Where a member begins."""
+        """Places a member, and returns its offset."""
         self.at = 0 if self.is_union else self.at
         packed = field.packed or self.packed
         align, by_user, is_bits = self._alignment(field, packed)
         self.by_user = self.by_user or by_user
         self._round(align)
         if is_bits and not packed and field.width:
-            unit = self._eased(field.shape, field.shape.by_user)
+            unit = self._member_alignment(field.shape, field.shape.by_user)
             if _spans(self.at, field.width, unit) > 8 * field.shape.size // unit:
                 self._round_within(unit)
         placed = self.at
@@ -156,14 +158,15 @@ class _Layout:
         self.at = (self.at + align - 1) // align * align
 
     def _round_within(self, align: int) -> None:
-        """Goes on to the next unit of a bit-field. gcc counts units from the last multiple of the
-        greatest alignment that it knows for offsets, which differs where a type says more."""
+        """Advances to the next unit of a bit-field. gcc counts units from the last multiple of the
+        greatest alignment that it knows for offsets; this matters if a type has a greater one."""
         begins = self.at - self.at % self.known
         self.at = begins + (self.at - begins + align - 1) // align * align
 
     def _alignment(self, field: Field, packed: bool) -> Tuple[int, bool, bool]:
-        """What a member is aligned to, whether an attribute said so, and whether it is placed as
-        bits: one of just the size of an integer that is aligned for it is placed as that."""
+        """A member's alignment, whether an attribute gave it, and whether the member is placed as
+        bits. A bit-field that has the size of an integer, at an offset aligned for it, is placed as
+        that integer."""
         shape = field.shape
         said = field.aligned is not None
         align, by_user, is_bits = 8 * (field.aligned or 0) or 1, said, False
@@ -185,25 +188,26 @@ class _Layout:
         return align, by_user, is_bits
 
     def _raise(self, field: Field, align: int, packed: bool) -> None:
-        """A member raises the alignment of the whole; a bit-field only where it has a name, and
-        then by its type."""
+        """Raises the alignment of the whole to a member's. A bit-field counts only if it has a
+        name, and then with the alignment of its type."""
         if field.width is None:
             self.align = max(self.align, align)
         elif field.name:
-            unit = self._eased(field.shape, field.shape.by_user)
+            unit = self._member_alignment(field.shape, field.shape.by_user)
             self.align = max(self.align, align, min(unit, 8) if packed else unit)
             self.by_user = self.by_user or field.shape.by_user
 
-    def _eased(self, shape: Shape, by_user: bool) -> int:
+    def _member_alignment(self, shape: Shape, by_user: bool) -> int:
         align = 8 * shape.align
         return align if by_user else self._ease(shape, align)
 
     def _ease(self, shape: Shape, align: int) -> int:
-        """i386 aligns numbers to no more than 4 bytes within structs, but for atomic ones."""
+        """The alignment within a struct: on i386 at most 4 bytes for numbers, except atomic
+        ones."""
         eases = self.model == "ilp32" and shape.is_number and not shape.is_atomic
         return min(align, EASED) if eases else align
 
-    def done(self, fields: Sequence[Field]) -> Shape:
+    def finish(self, fields: Sequence[Field]) -> Shape:
         align = self.align // 8
         size = (self.end + 7) // 8
         size = (size + align - 1) // align * align
@@ -214,14 +218,14 @@ class _Layout:
 
 
 def _spans(at: int, width: int, unit: int) -> int:
-    """How many units some bits lie in."""
+    """The number of units that a bit range touches."""
     return (at % unit + width + unit - 1) // unit
 
 
 def lay(fields: Sequence[Field], model: Model, is_union: bool = False, packed: bool = False,
         aligned: Optional[int] = None) -> Laid:
-    """Lays out a struct or union; `aligned` is what an attribute says of the whole."""
+    """Lays out a struct or union; `aligned` is the value of its attribute."""
     layout = _Layout(model, is_union, packed, aligned)
     places = [layout.place(field) for field in fields]
-    shape = layout.done(fields)
+    shape = layout.finish(fields)
     return Laid(places, shape, not shape.is_number)

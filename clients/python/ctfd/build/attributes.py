@@ -1,8 +1,8 @@
-"""C's declarations as the parser of plain C takes them, with gcc's attributes set apart.
+"""Splits C declarations into plain C, which the parser can read, and gcc's attributes.
 
-The parser knows no `__attribute__`. Those that change a layout are written as marks that it takes:
-a member of a name of its own stands for those of a struct, an enumerator for those of an enum, and
-the width of a member for those of that member. All others are left out.
+The parser knows no `__attribute__`. Attributes that change a layout are written as marks that it
+accepts: a member with a mark's name for those of a struct, an enumerator for those of an enum, and
+a call as the width of a member for those of the member. All others are dropped.
 """
 from __future__ import annotations
 
@@ -34,19 +34,19 @@ _ATTRIBUTE = re.compile(r"(\w+)\s*(?:\((.*)\))?\s*\Z", re.DOTALL)
 
 
 class Attributes(NamedTuple):
-    """What changes a layout: `aligned` has an expression for each time that an alignment was said,
-    or "" for the greatest one that there is."""
+    """Attributes that change a layout. `aligned` has one expression for each alignment that was
+    given, or "" for the greatest one of the machine."""
 
     packed: bool = False
     aligned: Tuple[str, ...] = ()
 
-    def joined(self, other: Attributes) -> Attributes:
-        """Both of these."""
+    def join(self, other: Attributes) -> Attributes:
+        """The attributes of both."""
         return Attributes(self.packed or other.packed, self.aligned + other.aligned)
 
 
-class Plain(NamedTuple):
-    """Text without attributes; each mark, and each name of a typedef, with those that it has."""
+class PlainText(NamedTuple):
+    """C text without attributes, with the attributes of each mark and of each typedef, by name."""
 
     text: str
     marks: Dict[str, Attributes]
@@ -54,14 +54,14 @@ class Plain(NamedTuple):
 
 
 class _Body(NamedTuple):
-    """What stands between two braces: where it opens in what was written, and the word before."""
+    """A body in braces: the word in front of it, and the index of its brace in the output."""
 
     word: str
     opens: int
 
 
 class _Writer:
-    """Reads tokens one after the other, and writes those that are left."""
+    """Copies tokens to the output, without attributes."""
 
     def __init__(self, tokens: List[str]) -> None:
         self.tokens = tokens
@@ -70,17 +70,17 @@ class _Writer:
         self.bodies: List[_Body] = []
         self.marks: Dict[str, Attributes] = {}
         self.typedefs: Dict[str, Attributes] = {}
-        self.of_body = Attributes()       # said before the body opens
-        self.of_all = Attributes()        # said before the declarators
-        self.of_one = Attributes()        # said behind a declarator
+        self.of_body = Attributes()       # given before the body opens
+        self.of_all = Attributes()        # given before the declarators
+        self.of_one = Attributes()        # given after a declarator
         self.head = ""                    # struct, union or enum, until its body opens
-        self.starts = 0                   # where the declaration begins in what was written
+        self.starts = 0                   # index in the output at which the declaration begins
         self.closed: Optional[_Body] = None
 
-    def run(self) -> Plain:
+    def run(self) -> PlainText:
         while self.at < len(self.tokens):
             self._token()
-        return Plain(" ".join(self.out), self.marks, self.typedefs)
+        return PlainText(" ".join(self.out), self.marks, self.typedefs)
 
     def _token(self) -> None:
         token = self.tokens[self.at]
@@ -91,7 +91,7 @@ class _Writer:
         if token in DROPPED:
             self._skip()
         elif token == "_Alignas":
-            self.of_all = self.of_all.joined(_alignas(self._skip()))
+            self.of_all = self.of_all.join(_alignas(self._skip()))
         elif token == "{":
             self._open()
         elif token == "}":
@@ -130,7 +130,7 @@ class _Writer:
         raise Error("a bracket is not closed")
 
     def _skip(self) -> List[str]:
-        """The tokens of a bracket that follows, left out."""
+        """Skips a bracket, if one follows, and returns its tokens."""
         while self.at < len(self.tokens) and self.tokens[self.at] in ("\n", "volatile"):
             self.at += 1
         if self.at == len(self.tokens) or self.tokens[self.at] != "(":
@@ -164,7 +164,7 @@ class _Writer:
             raise Error("a brace is closed that was not opened")
         self.closed = self.bodies.pop()
         self.out.append("}")
-        self.starts = len(self.out)  # of what is behind it, which is of its own declaration
+        self.starts = len(self.out)  # what follows has its own attributes
 
     def _mark_body(self, body: _Body, said: Attributes) -> None:
         if said == Attributes():
@@ -188,14 +188,14 @@ class _Writer:
         if self.closed is not None:
             self._mark_body(self.closed, said)
         elif self.head and self._last() == self.head:
-            self.of_body = self.of_body.joined(said)
+            self.of_body = self.of_body.join(said)
         elif self._is_behind():
-            self.of_one = self.of_one.joined(said)
+            self.of_one = self.of_one.join(said)
         else:
-            self.of_all = self.of_all.joined(said)
+            self.of_all = self.of_all.join(said)
 
     def _is_behind(self) -> bool:
-        """Whether what follows ends a declarator."""
+        """Whether the attribute follows a declarator, at its end."""
         following = self.at
         while following < len(self.tokens):
             token = self.tokens[following]
@@ -221,8 +221,8 @@ class _Writer:
     # Declarators.
 
     def _end(self, token: str) -> None:
-        """The end of a declarator: what was said of it is put down."""
-        said = self.of_all.joined(self.of_one)
+        """Ends a declarator: writes its attributes as a mark, or saves them for a typedef."""
+        said = self.of_all.join(self.of_one)
         self.of_one = Attributes()
         if said != Attributes():
             if self.bodies and self.bodies[-1].word != "enum":
@@ -241,7 +241,8 @@ class _Writer:
         self.closed = None
 
     def _mark_member(self, said: Attributes) -> None:
-        """A member's width becomes a call of its mark, with the width in it where it has one."""
+        """Writes a member's attributes as its width: a call of the mark, with the width if it has
+        one."""
         mark = self._mark(said)
         begins = len(self.out)
         while begins > self.starts and self.out[begins - 1] not in (",", ":", "?"):
@@ -252,7 +253,7 @@ class _Writer:
             self.out += [":", mark, "(", ")"]
 
     def _mark_typedef(self, said: Attributes) -> None:
-        """The name of a typedef is the last that stands outside of brackets."""
+        """Saves the attributes of a typedef, whose name is the last one outside brackets."""
         depth = 0
         for token in reversed(self.out):
             depth += (token in CLOSE) - (token in OPEN) if len(token) == 1 else 0
@@ -262,7 +263,7 @@ class _Writer:
 
 
 def _read(text: str) -> Attributes:
-    """What the text between an attribute's brackets says of layouts. Raises Error."""
+    """The attributes in the text between the brackets that change layouts. Raises Error."""
     found = Attributes()
     inner = text.strip()
     inner = inner[1:-1] if inner.startswith("(") else inner
@@ -274,21 +275,21 @@ def _read(text: str) -> Attributes:
         if name == "packed":
             found = found._replace(packed=True)
         elif name == "aligned":
-            found = found.joined(Attributes(aligned=((word[2] or "").strip(),)))
+            found = found.join(Attributes(aligned=((word[2] or "").strip(),)))
         elif name in UNKNOWN:
             raise Error(f"the attribute {name} is not known here: state the type by ctfd.build")
     return found
 
 
 def _alignas(inside: List[str]) -> Attributes:
-    """What `_Alignas` says: a number, or a type, whose alignment it is."""
+    """The alignment that `_Alignas` gives: a number, or that of a type."""
     text = " ".join(inside)
     is_type = all(re.match(r"[A-Za-z_*\n]", token) for token in inside)
     return Attributes(aligned=(f"_Alignof ( {text} )" if is_type else text,))
 
 
 def _split(text: str) -> List[str]:
-    """The parts between the commas that stand in no bracket."""
+    """The parts of a text between commas that are not inside brackets."""
     parts, depth = [""], 0
     for character in text:
         depth += (character in OPEN) - (character in CLOSE)
@@ -299,8 +300,8 @@ def _split(text: str) -> List[str]:
     return parts
 
 
-def plain(text: str) -> Plain:
-    """A text without its attributes. Raises Error."""
+def without_attributes(text: str) -> PlainText:
+    """Splits a text into plain C and attributes. Raises Error."""
     tokens = [token for token in _TOKEN.findall(text) if not token.startswith(("/*", "//"))]
     for token in tokens:
         line = token.strip()

@@ -1,4 +1,4 @@
-"""C's declarations, read by pycparser, as types of `ctfd.build`."""
+"""Types of `ctfd.build` from C declarations, parsed by pycparser."""
 from __future__ import annotations
 
 import sys
@@ -7,7 +7,7 @@ from typing import Any, Callable, Dict, List, Optional, Sequence, Tuple
 from ..client.faults import Error
 from ..client.startup import AbsoluteFolders
 from . import abi
-from .attributes import Attributes, MARK, Plain, plain
+from .attributes import Attributes, MARK, PlainText, without_attributes
 from .types import CType, Member, Types, VOID
 
 FLOATS = ("_Float16", "_Float32", "_Float64", "_Float32x", "_Float64x", "_Float128", "__float128",
@@ -31,14 +31,14 @@ ESCAPES = {"n": 10, "t": 9, "r": 13, "0": 0, "\\": 92, "'": 39, '"': 34, "a": 7,
 
 
 def read(text: str, into: Types) -> Types:
-    """The types of some declarations, added to others. Raises Error."""
+    """Adds the types of some declarations to `into`, and returns it. Raises Error."""
     try:
         with AbsoluteFolders():
             from pycparser import CParser
     except ImportError as error:
         raise Error(f"reading declarations needs pycparser, which {sys.executable} has not: install"
                     " Debian's python3-pycparser, or by pip pycparser") from error
-    written = plain(text)
+    written = without_attributes(text)
     before = _before(into)
     try:
         parsed = CParser().parse(f"{before} {written.text}", FILE)
@@ -47,21 +47,21 @@ def read(text: str, into: Types) -> Types:
         raise
     except RecursionError as error:
         raise Error(f"{FILE}: they are nested too deep") from error
-    except Exception as error:  # the parser's own, which is another class in each of its versions
+    except Exception as error:  # the parser's own; its class depends on the version
         raise Error(f"{FILE}: {' '.join(str(error).split())}") from error
     return into
 
 
 def _before(types: Types) -> str:
-    """What tells the parser which names are those of types."""
+    """Declarations that tell the parser which names are types."""
     known = [*FLOATS, *(name for name in types.names() if " " not in name)]
     return "".join(f"typedef int {name};" for name in dict.fromkeys(known))
 
 
 class _Walker:
-    """Makes types of the parser's nodes, by the names of their classes."""
+    """Creates types from the parser's nodes, which it tells apart by class name."""
 
-    def __init__(self, types: Types, written: Plain) -> None:
+    def __init__(self, types: Types, written: PlainText) -> None:
         self.types = types
         self.marks = written.marks
         self.typedefs = written.typedefs
@@ -82,9 +82,9 @@ class _Walker:
         """The type of a declarator or a specifier."""
         kind = type(node).__name__
         if kind in ("TypeDecl", "Typename"):
-            return self._qualified(self.type(node.type), node.quals)
+            return self._with_qualifiers(self.type(node.type), node.quals)
         if kind == "PtrDecl":
-            return self._qualified(self.types.pointer(self.type(node.type)), node.quals)
+            return self._with_qualifiers(self.types.pointer(self.type(node.type)), node.quals)
         if kind == "ArrayDecl":
             count = self.number(node.dim) if node.dim is not None else 0
             return self.types.array(self.type(node.type), count)
@@ -94,17 +94,17 @@ class _Walker:
             return self._aggregate(node, kind.lower())
         if kind == "Enum":
             return self._enum(node)
-        return self._named(list(node.names))
+        return self._type_of_words(list(node.names))
 
-    def _qualified(self, made: CType, qualifiers: Optional[Sequence[str]]) -> CType:
+    def _with_qualifiers(self, made: CType, qualifiers: Optional[Sequence[str]]) -> CType:
         makers = {"const": self.types.const, "volatile": self.types.volatile,
                   "restrict": self.types.restrict, "_Atomic": self.types.atomic}
         for word in ("_Atomic", "restrict", "volatile", "const"):
             made = makers[word](made) if word in (qualifiers or ()) else made
         return made
 
-    def _named(self, words: List[str]) -> CType:
-        """A type by the words of its name."""
+    def _type_of_words(self, words: List[str]) -> CType:
+        """The type that the words of a specifier name."""
         if words == ["void"]:
             return VOID
         if len(words) == 1 and words[0] in self.types and words[0] not in FLOATS:
@@ -121,7 +121,8 @@ class _Walker:
         return self.types.function(self.type(node.type), arguments, varargs)
 
     def _argument(self, node: Any) -> CType:
-        """What is passed: an array or a function as a pointer, and nothing of its qualifiers."""
+        """The type of an argument: arrays and functions become pointers, and qualifiers are
+        dropped."""
         held = node.type
         kind = type(held).__name__
         if kind == "ArrayDecl":
@@ -142,7 +143,7 @@ class _Walker:
         said = Attributes()
         for one in node.decls:
             if (getattr(one, "name", None) or "").startswith(MARK):
-                said = said.joined(self.marks[one.name])
+                said = said.join(self.marks[one.name])
             elif type(one).__name__ == "Decl":
                 members.append(self._member(one))
         return self.types.define(made, members, said.packed, self._last_aligned(said))
@@ -155,18 +156,18 @@ class _Walker:
             width = width.args.exprs[0] if width.args else None
         bits = self.number(width) if width is not None else None
         return Member(node.name or "", self.type(node.type), bits, said.packed,
-                      self._aligned(said))
+                      self._greatest_alignment(said))
 
-    def _aligned(self, said: Attributes) -> Optional[int]:
-        """What was said of a member, the greatest where there are several; 0 says none."""
+    def _greatest_alignment(self, said: Attributes) -> Optional[int]:
+        """The greatest alignment given for a member; None if there is none or it is 0."""
         return max(map(self._alignment, said.aligned), default=0) or None
 
     def _last_aligned(self, said: Attributes) -> Optional[int]:
-        """What was said of a type: gcc takes the last."""
+        """The last alignment given for a type, which gcc uses."""
         return self._alignment(said.aligned[-1]) if said.aligned else None
 
     def _alignment(self, text: str) -> int:
-        """The number of bytes that an attribute says."""
+        """The number of bytes of an alignment."""
         if not text:
             return abi.BIGGEST
         from pycparser import CParser
@@ -185,7 +186,7 @@ class _Walker:
         follows = 0
         for one in node.values.enumerators:
             if one.name.startswith(MARK):
-                said = said.joined(self.marks[one.name])
+                said = said.join(self.marks[one.name])
                 continue
             value = self.number(one.value) if one.value is not None else follows
             self.constants[one.name] = value
@@ -203,7 +204,7 @@ class _Walker:
         if kind == "ID" and node.name in self.constants:
             return self.constants[node.name]
         if kind == "UnaryOp" and node.op in ("sizeof", "_Alignof"):
-            return self._measured(node)
+            return self._size_or_alignment(node)
         if kind == "UnaryOp" and node.op in UNARY:
             return UNARY[node.op](self.number(node.expr))
         if kind == "BinaryOp" and node.op in BINARY:
@@ -215,7 +216,7 @@ class _Walker:
         raise Error(f"{FILE}: {getattr(node, 'name', None) or kind} is no constant"
                     " that can be computed here")
 
-    def _measured(self, node: Any) -> int:
+    def _size_or_alignment(self, node: Any) -> int:
         if type(node.expr).__name__ != "Typename":
             raise Error(f"{FILE}: {node.op} takes a type here, no expression")
         made = self.type(node.expr.type)
@@ -223,7 +224,7 @@ class _Walker:
 
 
 def _canonical(words: List[str]) -> str:
-    """The name that the compiler has for a type of several words."""
+    """The compiler's name of a type written in several words."""
     left = [word for word in words if word not in ("signed", "unsigned", "int", "_Complex")]
     is_unsigned = "unsigned" in words
     if left == ["char"]:
@@ -240,7 +241,7 @@ def _canonical(words: List[str]) -> str:
 
 
 def _constant(text: str) -> int:
-    """An integer or a character as C writes it."""
+    """The value of an integer or character constant."""
     if text.startswith("'"):
         return _character(text[1:-1])
     digits = text.rstrip("uUlL")

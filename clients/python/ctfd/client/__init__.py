@@ -1,1 +1,1 @@
-"""The service, in this process or behind pipes or a socket, and its dictionaries as objects."""
+"""Sessions, dictionaries and types, answered by the library in this process or by a service."""

@@ -1,4 +1,4 @@
-"""What the word `add` adds to a draft, as calls of the library in this process."""
+"""The word `add`, as calls of the library in this process."""
 from __future__ import annotations
 
 import ctypes
@@ -16,7 +16,7 @@ NUMBERS = ("integer", "float")
 
 
 class Additions:
-    """The words behind `what`, for one slot."""
+    """One request to add something to the draft of a slot."""
 
     def __init__(self, slot: Slot, fields: Fields) -> None:
         self._slot = slot
@@ -25,7 +25,8 @@ class Additions:
         self._name: Tuple[bytes, int] = (name, len(name))
 
     def answer(self) -> Dict[str, int]:
-        """What is answered: the number of a type, the offset of a member, or nothing."""
+        """Adds it. Returns the fields of the reply: a type number, a member's offset, or
+        nothing."""
         what = self._fields.get("what")
         parts: Dict[Any, Callable[[], Dict[str, int]]] = {
             "member": self._member, "enumerator": self._enumerator, "label": self._label}
@@ -34,13 +35,13 @@ class Additions:
         if what not in KINDS:
             self._slot.refuse("add", BAD_REQUEST, **self._fields)
         number = U16()
-        given = self._described(str(what))
-        self._made(f"add_{what}", *self._name, bool(self._fields.get("root", True)), *given,
-                   ctypes.byref(number))
+        given = self._description(str(what))
+        self._add(f"add_{what}", *self._name, bool(self._fields.get("root", True)), *given,
+                  ctypes.byref(number))
         return {"t": int(number.value)}
 
-    def _described(self, what: str) -> Tuple[Any, ...]:
-        """What a kind has beside its name."""
+    def _description(self, what: str) -> Tuple[Any, ...]:
+        """The arguments for a kind, without the name."""
         field = self._fields.__getitem__
         if what in NUMBERS:
             return (self._number("encoding", 8), self._number("offset", 8),
@@ -58,7 +59,7 @@ class Additions:
         return (KINDS.index(field("tag")),) if what == "forward" else ()
 
     def _number(self, name: str, bits: int, usual: int = 0) -> int:
-        """A field that is no number of so many bits is refused, as a service refuses it."""
+        """A numeric field. Refused as by a service if it does not fit into `bits` bits."""
         value = self._fields.get(name, usual)
         if not 0 <= value < 1 << bits:
             self._slot.refuse("add", BAD_REQUEST, **self._fields)
@@ -66,23 +67,23 @@ class Additions:
 
     def _member(self) -> Dict[str, int]:
         at, offset = U64(), self._fields.get("offset")
-        self._made("add_member", self._number("t", 16), *self._name, self._number("type", 16),
-                   offset is not None, self._number("offset", 64), ctypes.byref(at))
+        self._add("add_member", self._number("t", 16), *self._name, self._number("type", 16),
+                  offset is not None, self._number("offset", 64), ctypes.byref(at))
         return {"offset": int(at.value)}
 
     def _enumerator(self) -> Dict[str, int]:
         value = self._fields["value"]
         if not -1 << 31 <= value < 1 << 31:
             self._slot.refuse("add", BAD_REQUEST, **self._fields)
-        self._made("add_enumerator", self._number("t", 16), *self._name, value)
+        self._add("add_enumerator", self._number("t", 16), *self._name, value)
         return {}
 
     def _label(self) -> Dict[str, int]:
-        self._made("add_label", *self._name, self._number("last", 32))
+        self._add("add_label", *self._name, self._number("last", 32))
         return {}
 
-    def _made(self, word: str, *given: Any) -> None:
+    def _add(self, word: str, *given: Any) -> None:
         status = self._slot.call(word, *given)
         if status:
             self._slot.refuse("add", status, **self._fields)
-        self._slot.added(word not in ("add_member", "add_enumerator"))
+        self._slot.note_addition(word not in ("add_member", "add_enumerator"))

@@ -1,11 +1,11 @@
-"""What a service behind pipes or a socket says of types: each question is asked once, and many of
-them in one round."""
+"""The answers of a service about types. Each question is asked once, and many share a round
+trip."""
 from __future__ import annotations
 
 from typing import TYPE_CHECKING, Any, Dict, Iterable, List, Optional, Tuple
 
 from .. import text
-from .faults import NoMemory, Refused, refused
+from .faults import NoMemory, Refused, exception_for
 from .session import Answer, Outcome
 
 if TYPE_CHECKING:
@@ -18,8 +18,8 @@ REFERRING = ("pointer", "typedef", "volatile", "const", "restrict")
 LISTS = {"members": "members", "enumerators": "enumerators"}
 
 
-class Asked:
-    """The answers for a dictionary. Those on types of its parent are kept by the parent's."""
+class AnswersByWord:
+    """The answers for one dictionary. Those on types of its parent are in the parent's object."""
 
     def __init__(self, types: Dictionary) -> None:
         self._types = types
@@ -47,12 +47,12 @@ class Asked:
         said = self.answer("record", t)
         if said["kind"] in REFERRING:
             return int(said["type"])
-        return int(self.answer("reference", t)["t"])  # which is refused
+        return int(self.answer("reference", t)["t"])  # raises the refusal
 
     def tag(self, t: int) -> str:
         said = self.answer("record", t)
         if "tag" not in said:
-            raise refused(NOT_ASKED, "tag", {"d": self._types.slot, "t": t})
+            raise exception_for(NOT_ASKED, "tag", {"d": self._types.slot, "t": t})
         return str(said["tag"])
 
     def members(self, t: int) -> List[Tuple[str, int, int]]:
@@ -92,7 +92,7 @@ class Asked:
             if isinstance(outcome, Refused):
                 if outcome.code == LONG_REPLY and one[0] in LISTS:
                     outcome = home._by_pages(*one)
-                if isinstance(outcome, NoMemory):  # that may be answered another time
+                if isinstance(outcome, NoMemory):  # another attempt may succeed
                     continue
             home._answers[one] = outcome
 
@@ -113,14 +113,14 @@ class Asked:
 
         Gathering(self).run(numbers, named)
 
-    def _of(self, t: int) -> Asked:
-        """The answers that one on a type is kept by."""
+    def _of(self, t: int) -> AnswersByWord:
+        """The object that keeps the answers on type `t`."""
         told = self._types.home(t).told
-        assert isinstance(told, Asked)
+        assert isinstance(told, AnswersByWord)
         return told
 
     def _by_pages(self, op: str, t: int) -> Outcome:
-        """A list that is too long for one reply."""
+        """A list that is too long for one reply, fetched in pages."""
         items: List[Any] = []
         total = 1
         while len(items) < total:

@@ -1,7 +1,7 @@
-"""The calls of libctfd.so, as ctfd.h declares them, by ctypes.
+"""The functions of libctfd.so, as ctfd.h declares them, called through ctypes.
 
-They hold the interpreter's lock while they run: so threads take turns, and an exception comes
-before a call or after it.
+A call holds the interpreter lock, so threads take turns, and an exception such as Ctrl-C comes
+before or after a call.
 """
 from __future__ import annotations
 
@@ -17,7 +17,7 @@ Call = Callable[..., int]
 
 
 class Handle(ctypes.Structure):
-    """struct ctfd: what is open."""
+    """struct ctfd: a handle."""
 
     _fields_ = [("full", FLAG), ("at", ctypes.c_void_p)]
 
@@ -40,15 +40,15 @@ class Function(ctypes.Structure):
     _fields_ = [("arguments", U64), ("varargs", U32), ("ret", U16)]
 
 
-# Kinds by their numbers.
+# The kinds, by number.
 KINDS = ("unknown", "integer", "float", "pointer", "array", "function", "struct", "union", "enum",
          "forward", "typedef", "volatile", "const", "restrict")
 
-# Rows as they lie in memory.
+# Layouts of rows in memory.
 TYPE_ROW = 72
-MEMBER_ROW = struct.Struct("<QQIH2x")  # offset, where the name stands, its list, type
-ENUMERATOR_ROW = struct.Struct("<QIi")  # where the name stands, its list, value
-LABEL_ROW = struct.Struct("<QII")  # where the name stands, its list, last type
+MEMBER_ROW = struct.Struct("<QQIH2x")  # offset, name offset, name's list, type
+ENUMERATOR_ROW = struct.Struct("<QIi")  # name offset, name's list, value
+LABEL_ROW = struct.Struct("<QII")  # name offset, name's list, last type
 
 _HANDLE = ctypes.POINTER(Handle)
 _ROWS = ctypes.POINTER(ctypes.c_char)
@@ -57,7 +57,7 @@ _SAID = [_ROWS, SIZE, ctypes.POINTER(U64)]
 _NAME = [TEXT, SIZE]
 _ADDED = [_HANDLE, *_NAME, FLAG]
 
-# What each call takes. The last are pointers to what it answers.
+# The parameters of each function. The last ones are pointers to results.
 _DECLARED: Dict[str, List[Any]] = {
     "open": [_HANDLE, *_LIST, *_LIST, *_LIST, FLAG, FLAG, FLAG, ctypes.POINTER(U64)],
     "import": [_HANDLE, _HANDLE, ctypes.POINTER(U64)],
@@ -114,22 +114,22 @@ _DECLARED: Dict[str, List[Any]] = {
 
 
 class Calls:
-    """A library that was loaded: `calls["size"]` is its ctfd_size. Raises Gone for a file that is
-    none of this version."""
+    """A loaded library: `calls["size"]` is its `ctfd_size`. Raises Gone if the file is not a
+    library of this version."""
 
     def __init__(self, path: str) -> None:
         self.path = path
         try:
             self._library = ctypes.PyDLL(path)
             self._close: Any = self._library.ctfd_close
-            self._calls = {word: self._declared(word, takes)
+            self._calls = {word: self._declare(word, takes)
                            for word, takes in _DECLARED.items()}
         except (OSError, AttributeError) as error:
             raise Gone(f"{path} is no libctfd of this client: name the libctfd.so that `make`"
                        " builds, or none") from error
         self._close.argtypes, self._close.restype = [_HANDLE], None
 
-    def _declared(self, word: str, takes: List[Any]) -> Call:
+    def _declare(self, word: str, takes: List[Any]) -> Call:
         call = getattr(self._library, f"ctfd_{word}")
         call.argtypes, call.restype = takes, ctypes.c_uint
         found: Call = call
@@ -139,10 +139,10 @@ class Calls:
         return self._calls[word]
 
     def close(self, handle: Handle) -> None:
-        """Closes what a handle has open."""
+        """Closes a handle."""
         self._close(handle)
 
 
 def room(length: int) -> Any:
-    """Bytes for a call to write to."""
+    """A buffer of at least one byte, for a call to write to."""
     return (ctypes.c_char * max(1, length))()

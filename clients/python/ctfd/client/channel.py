@@ -1,4 +1,4 @@
-"""The way to a service: the pipes of a process that is started here, or a socket of a front."""
+"""Channels to a service: the pipes of a process started here, or a socket of a front."""
 from __future__ import annotations
 
 import contextlib
@@ -16,7 +16,7 @@ ROOM = re.compile(r"[A-Za-z0-9._-]{1,64}\Z")
 
 
 class Channel(Protocol):
-    """Two files that do not block. `number` is the session that the other end has given, or 0."""
+    """Two non-blocking files. `number` is the session that the front has assigned, or 0."""
 
     requests: int
     replies: int
@@ -32,7 +32,7 @@ class Channel(Protocol):
 
 
 class Pipes:
-    """A service, started here. It ends by itself where its input does."""
+    """A service started here. It ends when its input is closed."""
 
     number = 0
 
@@ -72,7 +72,7 @@ class Pipes:
 
 
 class Socket:
-    """A connection to a front, or to a service that systemd has started for it."""
+    """A connection to a front, or to a service that systemd started for this connection."""
 
     pid: Optional[int] = None
 
@@ -84,7 +84,7 @@ class Socket:
             self._channel.connect(path)
             if room is not None:
                 self._enter(room)
-            self.number = self._asked()
+            self.number = self._session_number()
         except OSError as error:
             self._channel.close()
             why = error.strerror or "it does not answer"
@@ -92,31 +92,32 @@ class Socket:
                        " CTFD_SOCKET") from error
         self._channel.setblocking(False)
         self.replies = self._channel.fileno()
-        self.requests = os.dup(self.replies)  # a selector takes a file once
+        self.requests = os.dup(self.replies)  # a selector accepts a file descriptor only once
 
     def _enter(self, room: str) -> None:
-        """Goes to the service where a room lives; where there is no front, all are in one."""
-        said = self._told({"s": 1, "op": "room", "name": room})
+        """Enters a room, which decides the service. Without a front there is one room for all."""
+        said = self._reply({"s": 1, "op": "room", "name": room})
         if "ok" not in said and said["fault"]["name"] == "BadRequest" and not ROOM.match(room):
             self._channel.close()
             raise Gone(f"the socket {self.path}: {room!r} is no name of a room: it has 1 to 64"
                        " letters, digits, '.', '_' or '-'")
 
-    def _asked(self) -> int:
-        """The session of this connection: that of a line that names none."""
-        number = self._told({})["s"]
+    def _session_number(self) -> int:
+        """The session of this connection, which the front names in its reply to an empty
+        request."""
+        number = self._reply({})["s"]
         if not isinstance(number, int):
             raise self._no_service()
         return number
 
-    def _told(self, request: Dict[str, Any]) -> Dict[str, Any]:
-        """The reply to a request. Raises Gone where the connection is refused, with the reason."""
+    def _reply(self, request: Dict[str, Any]) -> Dict[str, Any]:
+        """The reply to a request. Raises Gone with the reason if the connection is refused."""
         said = b""
         with contextlib.suppress(BrokenPipeError, ConnectionResetError):
             try:
                 self._channel.sendall(json.dumps(request).encode("ascii") + b"\n")
             except (BrokenPipeError, ConnectionResetError):
-                pass  # why may still be there to read
+                pass  # the reason may still be there to read
             while not said.endswith(b"\n"):
                 data = self._channel.recv(READ)
                 if not data:

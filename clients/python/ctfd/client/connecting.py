@@ -1,4 +1,4 @@
-"""What answers: the library in this process, where it is found, else a service."""
+"""The choice of library or service: `connect`."""
 from __future__ import annotations
 
 from typing import Optional
@@ -9,22 +9,25 @@ from .session import Service
 
 
 def connect() -> Service:
-    """Who answers where nobody is named: behind the socket that CTFD_SOCKET names, else the library
-    that CTFD_LIBRARY names, else the program that CTFD names, else the library or the program that
-    is found (library.py, service.py). It is a context that ends it. Raises Error."""
+    """The library or service to use, chosen by the environment.
+
+    The first of: the socket that CTFD_SOCKET names, the library that CTFD_LIBRARY names, the
+    program that CTFD names, a library or a program that is found (library.py, service.py). Use it
+    in a `with` block to close it. Raises Error.
+    """
     if service.socket() is None:
         found = in_process()
         if found is not None:
             return found
-    from .wire import Client  # which takes longer to import than most questions
+    from .wire import Client  # which is slow to import
 
     return Client()
 
 
 def in_process() -> Optional[Inside]:
-    """The library in place of a program: where CTFD_LIBRARY names it, or where CTFD names no
-    program and it is found."""
-    if library.named() is None and service.named() is not None:
+    """The library in this process, or None. It is used if CTFD_LIBRARY names it, or if it is found
+    and CTFD names no program."""
+    if library.library_path() is None and service.program_path() is not None:
         return None
     found = library.find()
     return None if found is None else Inside(found)

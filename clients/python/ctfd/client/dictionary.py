@@ -1,4 +1,4 @@
-"""An open dictionary: its types, names and symbols, with what was answered kept."""
+"""An open dictionary: its types, names and symbols, with a cache of the answers."""
 from __future__ import annotations
 
 from typing import Any, Callable, Dict, Iterable, Iterator, List, Optional, Tuple, Union
@@ -9,7 +9,7 @@ from .. import text
 from . import aliases
 from .faults import BadSymbols, NoSuchType, NotFound, Refused, Unreadable
 from .model import Model, POINTER_SIZES
-from .nearest import offered
+from .nearest import suggestion
 from ..text import Name
 from .types import PointerTo, QUALIFIERS, Signature, Type
 from .session import Answer, Session
@@ -17,7 +17,7 @@ from .told import Told
 
 OWN_OF_CHILD = 0x8000
 
-# What C allows to be written, and what compilers call it in a dictionary.
+# Spellings that C allows, with the names that compilers write to a dictionary.
 WORDS = {
     "unsigned": "unsigned int", "signed": "int", "signed int": "int",
     "long": "long int", "signed long": "long int",
@@ -33,15 +33,16 @@ WORDS = {
 def open_file(session: Session, path: str, sym: Optional[bytes] = None,
               strings: Optional[bytes] = None, model: Optional[Model] = None,
               number: Optional[int] = None) -> Dictionary:
-    """Opens the dictionary of a file, converted where it needs that (see `ctfd.files.source`).
+    """Opens the dictionary of a file, converting the file if needed (see `ctfd.files.source`).
 
-    Where symbols or strings are given, they stand in place of the file's symbols, and a model in
-    place of the file's. `number` chooses one of several dictionaries that stand behind each other.
-    Raises Unreadable where the dictionary says another model.
+    `sym`, `strings` and `model` replace the symbol table, strings and data model of the file.
+    `number` chooses one of several dictionaries in the file. Raises Unreadable, also if the
+    dictionary's labels name another model.
     """
-    from ..files.anyfile import Asked, read  # here: who has lists of his own needs none of these
+    # imported here: a caller that has the lists does not need them
+    from ..files.anyfile import FileOptions, read
 
-    found = read(path, Asked(model=model, number=number)).sources[0]
+    found = read(path, FileOptions(model=model, number=number)).sources[0]
     if sym is not None or strings is not None:
         beside = found.strings if strings is None else strings
         found = found._replace(sym=sym, strings=beside, how="given")
@@ -49,7 +50,10 @@ def open_file(session: Session, path: str, sym: Optional[bytes] = None,
 
 
 def open_source(session: Session, found: Source) -> Dictionary:
-    """Opens a dictionary. If guessed symbols do not fit it is opened without, and `how` says so."""
+    """Opens a dictionary that was read from a file. Raises BadDictionary and BadSymbols.
+
+    If guessed symbols do not fit, it is opened without symbols, and `how` is "refused".
+    """
     try:
         opened = session.open(found.ctf, found.sym, found.strings, found.model)
     except BadSymbols:
@@ -61,22 +65,23 @@ def open_source(session: Session, found: Source) -> Dictionary:
 
 
 def taken(session: Session, owner: int, name: str) -> Dictionary:
-    """The dictionary that another session published; owner 0 is the operator."""
+    """The dictionary that another session published under `name`; owner 0 is the operator."""
     return Dictionary(session, session.ask("take", owner=owner, name=name)["d"])
 
 
 def withdraw(session: Session, name: str) -> None:
-    """Takes back what the session has published by a name. Who took it keeps it."""
+    """Withdraws what the session published under `name`. Sessions that took it keep it."""
     session.ask("withdraw", name=name)
 
 
 class Dictionary:
-    """Slot `slot` of a session.
+    """An open dictionary, in slot `slot` of a session.
 
-    `how` tells where its symbols come from, as in `Source`, or "refused" where guessed ones did
-    not fit; `handed_in` are its lists, where they are known. `model` is the data model by which the
-    service sizes and shows pointers. A child shares what its parent
-    was answered, so the parent's slot stays open.
+    `how` says where the symbols come from (see `Source`), or is "refused" if guessed symbols did
+    not fit. `handed_in` is the `Source` that it was opened from, or None. `model` is the data
+    model, which gives the size of pointers. `len` gives the number of types, iteration yields them,
+    and `d["struct x"]` finds one by name. Keep the parent of a child open: the child uses the
+    parent's slot.
     """
 
     def __init__(self, session: Session, slot: int, how: str = "none",
@@ -97,8 +102,8 @@ class Dictionary:
         self.model: Model = session.ask("model", d=slot)["model"]
 
     def import_parent(self, parent: Dictionary) -> None:
-        """Gives a child its parent, a dictionary of the same session. Raises Unreadable where the
-        child says that its parent is another."""
+        """Gives a child its parent, a dictionary of the same session. Raises Unreadable if the
+        child's label names another parent."""
         if self.is_child and parent.handed_in:
             source.judge_parent(self.parent_label, parent.handed_in)
         self.session.ask("import", d=self.slot, parent=parent.slot)
@@ -107,19 +112,19 @@ class Dictionary:
 
     @property
     def pointer_size(self) -> int:
-        """How many bytes a pointer of the program has."""
+        """The size of a pointer in bytes."""
         return POINTER_SIZES[self.model]
 
     def address(self, number: int) -> int:
-        """A number as an address of the program, which has no more bits than a pointer."""
+        """A number as an address: cut to the width of a pointer."""
         return number & (1 << 8 * self.pointer_size) - 1
 
     def publish(self, name: str) -> None:
-        """Publishes the dictionary, without its parent, for every session to take."""
+        """Publishes the dictionary, without its parent, for all sessions to take."""
         self.session.ask("publish", d=self.slot, name=name)
 
     def close(self) -> None:
-        """Gives the slot back, and ends a service that was started for this dictionary alone."""
+        """Closes the slot. For a dictionary of `ctfd.open`, closes its service too."""
         if self.ends is None:
             self.session.ask("close", d=self.slot)
         else:
@@ -145,8 +150,8 @@ class Dictionary:
         return iter(self.types())
 
     def __getitem__(self, name: Union[Name, int]) -> Type:
-        """The type that C's name says, or that of a number. Raises NoSuchType, which is a KeyError
-        too, and says which names are near."""
+        """The type with a name as C writes it, or with a number. Raises NoSuchType, a KeyError
+        whose text suggests similar names."""
         if isinstance(name, int):
             if name not in self.numbers and not self._is_parents(name):
                 raise NoSuchType(f"no type has the number {name}")
@@ -156,7 +161,7 @@ class Dictionary:
         except NotFound as fault:
             told = text.name(text.escape(name))
             raise NoSuchType(text.printable(
-                f"no type is called {told}{offered(told, self.names())}")) from fault
+                f"no type is called {told}{suggestion(told, self.names())}")) from fault
 
     def __contains__(self, name: Name) -> bool:
         try:
@@ -167,48 +172,48 @@ class Dictionary:
 
     @property
     def first(self) -> int:
-        """The number of its first type."""
+        """The number of the first type."""
         return OWN_OF_CHILD + 1 if self.is_child else 1
 
     @property
     def numbers(self) -> range:
-        """The numbers of its own types."""
+        """The numbers of the dictionary's own types."""
         return range(self.first, self.first + self.own)
 
     def _is_parents(self, number: int) -> bool:
         return self.parent is not None and 0 < number <= self.parent.own
 
-    # Questions.
+    # Answers about types.
 
     @property
     def told(self) -> Told:
-        """Its types, with what is known of each, by number."""
+        """The answers on the types of this dictionary and its parent, by type number."""
         if self._told is None:
             self._told = self.session.told(self)
         return self._told
 
     def home(self, t: int) -> Dictionary:
-        """The dictionary, this or its parent, whose type a number is."""
+        """The dictionary that has type `t`: this one or its parent."""
         return self.parent if self.parent is not None and 0 < t < OWN_OF_CHILD else self
 
     def fetch(self, questions: Iterable[Tuple[str, int]]) -> None:
-        """Asks words of types in one round, where a question takes one."""
+        """Asks `(word, type number)` questions in one round trip, if they need one."""
         self.told.fetch(questions)
 
     def answer(self, op: str, t: int) -> Answer:
-        """What a word answers of a type; raises its refusal."""
+        """The service's answer to a word for type `t`. Raises Refused."""
         said: Answer = self.home(t).told.answer(op, t)
         return said
 
     def gather(self, numbers: Iterable[int], named: Iterable[int] = ()) -> None:
-        """Asks in few rounds for all that declarations and layouts of these types need, and that
-        declarations alone of the `named` ones need."""
+        """Fetches all that the declarations and layouts of these types need, in a few round trips;
+        for `named` types, only what their declarations need."""
         self.told.gather(numbers, named)
 
     # Types, by number and by name.
 
     def type(self, t: int) -> Type:
-        """The type of a number; 0 is void."""
+        """The type with a number; 0 is void."""
         return Type(self.home(t), t)
 
     def types(self) -> List[Type]:
@@ -216,52 +221,52 @@ class Dictionary:
         return [self.type(t) for t in self.numbers]
 
     def find(self, name: Name) -> Type:
-        """The type that C's name says, as "struct x **"; the least, where several have the name.
+        """The type with a name as C writes it, such as "struct x **". Raises NotFound.
 
-        Qualifiers are left out, and pointers that the dictionary has not are made here. Another
-        one of the name is found by that and its number, as "struct x__17".
+        If several types have the name, it is the one with the least number; `struct x__17` is the
+        `struct x` that is type 17. Qualifiers are ignored. Pointer types that the dictionary does
+        not have are created here.
         """
         base, stars = normal(name)
-        found = self.type(0) if base == "void" else self._found(base)
+        found = self.type(0) if base == "void" else self._find(base)
         for _ in range(stars):
             found = PointerTo(found)
         return found
 
-    def _found(self, base: str) -> Type:
-        """The type of a name, in whichever of its spellings the dictionary has it."""
+    def _find(self, base: str) -> Type:
+        """The type of a name, trying each spelling that C allows."""
         asked = [{"d": self.slot, "text": text.escape(one)} for one in spellings(base)]
         outcomes = self.session.ask_all([("find", fields) for fields in asked])
         found = next((one for one in outcomes if not isinstance(one, Refused)), outcomes[0])
         if isinstance(found, Refused):
-            other = self._other(base)
+            other = self._numbered_type(base)
             if other is None:
                 raise found
             return other
         return self.type(found["t"])
 
-    def _other(self, base: str) -> Optional[Type]:
-        """A type that is named by its name and its number, since the name alone leads to none or
-        to another."""
-        name, number = aliases.parsed(base) or ("", 0)
+    def _numbered_type(self, base: str) -> Optional[Type]:
+        """The type of a name followed by two underscores and a number, or None."""
+        name, number = aliases.parse_alias(base) or ("", 0)
         if not name or number not in self.numbers and not self._is_parents(number):
             return None
         found = self.type(number)
-        return found if _called(found) in spellings(WORDS.get(name, name)) else None
+        return found if _tag_and_name(found) in spellings(WORDS.get(name, name)) else None
 
     def find_all(self, name: Name) -> List[Type]:
-        """All own types with a name, hidden ones among them: one name may stand for several.
+        """All of the dictionary's own types with a name, also hidden ones.
 
-        A name with stars is that of none.
+        A name with `*` has none.
         """
         base, stars = normal(name)
         if stars:
             return []
         types = self.types()
         self.fetch([("record", t.number) for t in types])
-        return [t for t in types if _called(t) in spellings(base)]
+        return [t for t in types if _tag_and_name(t) in spellings(base)]
 
     def is_copy(self, integer: Type) -> bool:
-        """Whether an integer is a hidden copy of one that is seen."""
+        """Whether an integer is a hidden copy of one that look-ups find."""
         known = self._copies.get(integer.number)
         if known is None:
             known = self._copies[integer.number] = self._is_copy(integer)
@@ -278,17 +283,17 @@ class Dictionary:
                 and (seen.size, seen.encoding) == (integer.size, integer.encoding))
 
     def names(self) -> List[str]:
-        """The names by which types are found, those of the parent too."""
+        """The names by which types can be found, also those of the parent."""
         own = self.types() + (self.parent.types() if self.parent else [])
         self.fetch([("record", t.number) for t in own])
-        return list(dict.fromkeys(_called(t) for t in own if t.name and t.is_root))
+        return list(dict.fromkeys(_tag_and_name(t) for t in own if t.name and t.is_root))
 
     # Symbols.
 
     def symbol(self, name: Name) -> Union[Type, Signature]:
-        """What is told of the first symbol of a name: an object's type, a function's signature.
+        """The type of the first symbol with a name: an object's type, or a function's signature.
 
-        Raises Unreadable where the file's symbols are none that the service reads.
+        Raises Unreadable if the service cannot read the symbols of the file.
         """
         found = self._ask_symbols("symbol", name=text.escape(name))
         if found["class"] == "object":
@@ -296,11 +301,11 @@ class Dictionary:
         return self.function(found["sym"])
 
     def object(self, number: int) -> Type:
-        """The type of the object with a number in the symbol table."""
+        """The type of an object, by its number in the symbol table."""
         return self.type(self._ask_symbols("object", sym=number)["t"])
 
     def function(self, number: int) -> Signature:
-        """The signature of the function with a number in the symbol table."""
+        """The signature of a function, by its number in the symbol table."""
         return self.signature(self._ask_symbols("function", sym=number))
 
     def _ask_symbols(self, op: str, **fields: Any) -> Answer:
@@ -310,11 +315,11 @@ class Dictionary:
         return said
 
     def signature(self, said: Answer) -> Signature:
-        """What `args` or `function` answered, with types."""
+        """The signature in a reply to `args` or `function`."""
         return self.signed(said["return"], said["args"], said["varargs"])
 
     def signed(self, returns: int, taken: List[int], varargs: bool) -> Signature:
-        """A signature by the numbers of its types."""
+        """A signature from the numbers of its types."""
         return Signature(self.type(returns), [self.type(t) for t in taken], varargs)
 
     def labels(self) -> List[Tuple[str, int]]:
@@ -324,7 +329,7 @@ class Dictionary:
 
 
 def normal(name: Name) -> Tuple[str, int]:
-    """A written name as a dictionary has it, without qualifiers, and its stars."""
+    """A name without qualifiers and stars, spelled as in a dictionary, and the number of stars."""
     words = text.raw(name).decode("utf-8", "surrogateescape")
     kept = [word for word in words.replace("*", " ").split() if word not in QUALIFIERS]
     base = " ".join(kept)
@@ -332,10 +337,10 @@ def normal(name: Name) -> Tuple[str, int]:
 
 
 def spellings(base: str) -> List[str]:
-    """A name without qualifiers, and what else C allows to be written for it."""
+    """A name and its other spellings in C."""
     return [base, *(other for other, usual in WORDS.items() if usual == base)]
 
 
-def _called(t: Type) -> str:
+def _tag_and_name(t: Type) -> str:
     word = t.tag if t.kind == "forward" else t.kind
     return f"{word} {t.name}" if word in ("struct", "union", "enum") else t.name

@@ -1,5 +1,5 @@
-"""States the types of a table to the service as a draft: each with its size, each member with its
-offset, since the service's own places for them are not a compiler's."""
+"""Sends the types of a table to the service as a draft. Sizes and member offsets are given, since
+those that the service would compute are not a compiler's."""
 from __future__ import annotations
 
 from typing import Any, Dict, List, Set
@@ -13,8 +13,8 @@ from .session import Session
 FIRST = (*AGGREGATES, "enum", "forward", "integer", "float", "unknown")
 
 
-def stated(session: Session, table: Table) -> Dictionary:
-    """A dictionary of a table's types. Raises Error where the service refuses one."""
+def open_table(session: Session, table: Table) -> Dictionary:
+    """A dictionary with the types of a table. Raises Error if the service refuses one."""
     slot = session.create(model=table.model)["d"]
     numbers = _numbers(table)
     requests = [_adds(table[n], numbers) for n in numbers]
@@ -28,8 +28,9 @@ def stated(session: Session, table: Table) -> Dictionary:
 
 
 def _numbers(table: Table) -> Dict[int, int]:
-    """The order in which types are added, as the number that each gets: what they name comes first,
-    but that structs and unions, whose members come later, can be named by all."""
+    """The types in the order in which they are added, each with its new number. A type comes after
+    those that it refers to. Structs and unions come first, with types that refer to none, since
+    members are added later."""
     order: Dict[int, int] = {0: 0}
     for number in table.numbers():
         if table[number].kind in FIRST:
@@ -41,7 +42,8 @@ def _numbers(table: Table) -> Dict[int, int]:
 
 
 def _add_with_named(table: Table, root: int, order: Dict[int, int]) -> None:
-    """Adds a type behind those that it names. Raises Error if these form a cycle."""
+    """Adds a type to the order, after those that it refers to. Raises Error if these form a
+    cycle."""
     open_ones: Set[int] = set()
     todo = [root]
     while todo:
@@ -49,7 +51,8 @@ def _add_with_named(table: Table, root: int, order: Dict[int, int]) -> None:
         missing = [n for n in table[number].references if n not in order] if number not in order \
             else []
         if missing and number in open_ones:
-            raise Error(f"{table[number].tagged or table[number].kind}: it is made of itself")
+            record = table[number]
+            raise Error(f"{record.name_with_tag or record.kind}: it is made of itself")
         open_ones.add(number)
         if missing:
             todo += missing
@@ -59,7 +62,7 @@ def _add_with_named(table: Table, root: int, order: Dict[int, int]) -> None:
 
 
 def _adds(record: Record, numbers: Dict[int, int]) -> Dict[str, Any]:
-    """The fields that add a type."""
+    """The fields of the request that adds a type."""
     fields: Dict[str, Any] = {"what": record.kind, "name": escape(record.name),
                               "root": record.root}
     to = {**numbers, 0: 0}
@@ -82,16 +85,16 @@ def _adds(record: Record, numbers: Dict[int, int]) -> Dict[str, Any]:
 
 
 def _parts(record: Record, number: int, numbers: Dict[int, int]) -> List[Dict[str, Any]]:
-    """The fields that add the members or enumerators of a type."""
+    """The fields of the requests that add the members or enumerators of a type."""
     members = [{"what": "member", "t": number, "name": escape(part.name),
                 "type": numbers[part.type] if part.type else 0, "offset": part.offset}
                for part in record.members]
     return members + [{"what": "enumerator", "t": number, "name": escape(one.name),
-                       "value": _signed(one.value)} for one in record.enumerators]
+                       "value": _as_signed(one.value)} for one in record.enumerators]
 
 
-def _signed(value: int) -> int:
-    """An enumerator as its 32 bits are read with a sign."""
+def _as_signed(value: int) -> int:
+    """An enumerator's 32 bits as a signed number."""
     return value - (1 << 32) if value >> 31 and value > 0 else value
 
 

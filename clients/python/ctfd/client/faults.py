@@ -1,26 +1,26 @@
-"""What can go wrong, as exceptions that say what was asked and what to do about it."""
+"""The exceptions of the package, with the request that failed and advice on what to do."""
 from __future__ import annotations
 
 from typing import Any, Dict, Mapping, Type
 
 
 class Error(Exception):
-    """All exceptions of this package."""
+    """The base class of all exceptions of this package."""
 
 
 class Gone(Error):
-    """The service has ended, or has not answered in time; the client is of no use any more."""
+    """The service has ended, or did not answer in time; its client cannot be used any more."""
 
 
 class Unreadable(Error):
-    """A file or its symbol table is nothing that can be handed in; the text says what it is."""
+    """A file or its symbol table cannot be read; the text says what it is."""
 
 
 class Refused(Error):
     """The service answered with a fault.
 
-    `code`, `name` and `place` are the fault's; `op` and `fields` the request's. For a refused
-    dictionary the place is the number of a record or the offset of a byte, as the rule has it.
+    `code`, `name` and `place` are those of the fault, `op` and `fields` those of the request. For a
+    refused dictionary, `place` is the number of a record or a byte offset; the rule says which.
     """
 
     def __init__(self, fault: Mapping[str, Any], op: str, fields: Mapping[str, Any]) -> None:
@@ -33,30 +33,30 @@ class Refused(Error):
 
     @property
     def advice(self) -> str:
-        """What to do about it, or "" for a fault that this package does not know."""
+        """What to do about it, or "" for an unknown fault."""
         return ADVICE.get(self.name, "")
 
     def _text(self) -> str:
         place = f" at {self.place}" if self.place else ""
-        fields = [f"{key} {_short(value)}" for key, value in self.fields.items()]
+        fields = [f"{key} {_shorten(value)}" for key, value in self.fields.items()]
         asked = ", ".join([self.op, *fields])
         return f"{self.name}{place} ({asked})" + (f": {self.advice}" if self.advice else "")
 
 
 class BadDictionary(Refused):
-    """The dictionary that was handed in breaks a rule of the format."""
+    """The dictionary breaks a rule of the format."""
 
 
 class BadSymbols(BadDictionary):
-    """The dictionary and the symbol table do not fit each other; it may be opened without."""
+    """The dictionary does not fit its symbol table; it may be opened without the table."""
 
 
 class NotFound(Refused):
-    """Nothing has the name, or nothing is told of the symbol."""
+    """No type or symbol has the name, or the dictionary has no type for the symbol."""
 
 
 class NoSuchType(Error, KeyError):
-    """No type has the name, or no member; the text says which are near."""
+    """No type or member has the name; the text suggests similar names."""
 
     def __str__(self) -> str:
         return str(self.args[0]) if self.args else ""
@@ -67,14 +67,14 @@ class Incomplete(Refused):
 
 
 class NoParent(Refused):
-    """The type is one of a parent that was not imported."""
+    """The type belongs to a parent that was not imported."""
 
 
 class NoMemory(Refused):
-    """The service was refused memory; the same question may be answered another time."""
+    """The service ran out of memory; another attempt may succeed."""
 
 
-def refused(fault: Mapping[str, Any], op: str, fields: Mapping[str, Any]) -> Refused:
+def exception_for(fault: Mapping[str, Any], op: str, fields: Mapping[str, Any]) -> Refused:
     """The exception for a fault."""
     code = fault["code"]
     if 1 <= code <= 16:
@@ -82,7 +82,7 @@ def refused(fault: Mapping[str, Any], op: str, fields: Mapping[str, Any]) -> Ref
     return _BY_CODE.get(code, Refused)(fault, op, fields)
 
 
-def _short(value: Any) -> str:
+def _shorten(value: Any) -> str:
     text = str(value)
     return text if len(text) < 60 else text[:57] + "..."
 
@@ -182,5 +182,5 @@ ADVICE: Dict[str, str] = {
     " or raise --memory and --user-memory",
 }
 
-# What a front says by itself before it closes a connection.
+# The faults that a front reports before it closes a connection.
 FRONT_REFUSES = ("ConnectionsFull", "SessionsFull", "HeldFull")

@@ -1,4 +1,5 @@
-"""What a declaration and a layout need, asked breadth first: a round costs more than a request."""
+"""Breadth-first fetching of what declarations and layouts need: round trips cost more than
+requests."""
 from __future__ import annotations
 
 from typing import TYPE_CHECKING, Iterable, List, Optional, Set, Tuple
@@ -13,17 +14,17 @@ DETAIL = {
     "struct": "members", "union": "members", "enum": "enumerators", "function": "args",
     "array": "array", "integer": "encoding", "float": "encoding",
 }
-# What tools ask that look at all types: of the layout, and all.
+# The lists that layouts of all types need, and all lists.
 LISTS = ("members", "array", "encoding")
 ALL_LISTS = (*LISTS, "enumerators", "args")
 ONLY_HELD = ("members", "enumerators", "encoding")
 
 
 class Gathering:
-    """Two sets of types grow level by level.
+    """A search by levels over two sets of types.
 
-    Of those that are held by value all is asked; of those that are only named in a declaration
-    (behind a pointer, in arguments) no more than it takes to spell them.
+    For types that are contained by value, everything is fetched. For types that a declaration only
+    names (behind a pointer, or as arguments), only what their spelling needs.
     """
 
     def __init__(self, told: Told) -> None:
@@ -32,10 +33,10 @@ class Gathering:
         self.named: Set[int] = set()
 
     def run(self, start: Iterable[int], names: Iterable[int] = ()) -> None:
-        """Asks for what `start` and all below it need, and for what it takes to spell `names`.
+        """Fetches what `start` and all types below it need, and the spelling of `names`.
 
-        A round has the records of the types that the last one led to, and the lists of those
-        whose records it told.
+        Each round has the records of the types that the last round led to, and the lists of the
+        types whose records it fetched.
         """
         held: List[int] = list(start)
         named: List[int] = list(names)
@@ -52,10 +53,10 @@ class Gathering:
             held, named = self._next(told)
 
     def _details(self, told: List[int]) -> List[Tuple[str, int]]:
-        """The lists that are to be asked of types whose records are known."""
+        """The lists to fetch for types whose records are known."""
         details: List[Tuple[str, int]] = []
         for t in told:
-            record = self._known("record", t)
+            record = self._known_answer("record", t)
             op = DETAIL.get(record["kind"]) if record else None
             if op and (t in self.held or op not in ONLY_HELD):
                 details.append((op, t))
@@ -70,10 +71,10 @@ class Gathering:
         return more
 
     def _parts(self, t: int, held: bool) -> Tuple[List[int], List[int]]:
-        """The types that a type holds by value, and those that it only names."""
-        record = self._known("record", t)
+        """The types that a type contains by value, and those that it only names."""
+        record = self._known_answer("record", t)
         kind = record["kind"] if record else ""
-        detail = self._known(DETAIL[kind], t) if kind in DETAIL else None
+        detail = self._known_answer(DETAIL[kind], t) if kind in DETAIL else None
         if record and kind == "pointer":
             return [], [record["type"]]
         if record and kind in (*QUALIFIERS, "typedef"):
@@ -87,5 +88,5 @@ class Gathering:
             return [member["type"] for member in detail["members"]], []
         return [], []
 
-    def _known(self, op: str, t: int) -> Optional[Answer]:
+    def _known_answer(self, op: str, t: int) -> Optional[Answer]:
         return self.told.known(op, t)

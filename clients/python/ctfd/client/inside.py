@@ -1,7 +1,7 @@
-"""The library in this process, asked by its calls: no lines are written, and none are read.
+"""The library in this process as a service, without lines to write or parse.
 
-Its sessions answer the words of the protocol as a service does, and nothing of one is seen by
-another but what it publishes.
+Its sessions answer the words of the protocol. They are separate from each other, except for
+dictionaries that they publish.
 """
 from __future__ import annotations
 
@@ -24,8 +24,8 @@ if TYPE_CHECKING:
 SLOTS = 1023
 
 
-class Published:
-    """A dictionary as it was when it was published."""
+class Publication:
+    """A copy of a dictionary at the time of `publish`."""
 
     def __init__(self, slot: Slot) -> None:
         self.ctf, self.sym, self.strings = slot.handed_in
@@ -33,18 +33,18 @@ class Published:
 
 
 class Inside(Service):
-    """A service in this process: the sessions of one library."""
+    """A service in this process, with sessions in one library."""
 
     def __init__(self, calls: Calls) -> None:
         self.calls = calls
-        self.published: Dict[Tuple[int, bytes], Published] = {}
+        self.published: Dict[Tuple[int, bytes], Publication] = {}
         self._sessions: List[InsideSession] = []
         self.is_closed = False
         self.requests = self.rounds = 0
 
     @property
     def where(self) -> str:
-        """Where the service is, in words."""
+        """Where the service is, as text."""
         return f"in this process, by {self.calls.path}"
 
     @property
@@ -52,14 +52,14 @@ class Inside(Service):
         """None: there is no other process."""
 
     def session(self) -> InsideSession:
-        """A session that nobody has used yet."""
+        """A new session."""
         if self.is_closed:
             raise Gone("the service in this process was closed")
         self._sessions.append(InsideSession(self, len(self._sessions) + 1))
         return self._sessions[-1]
 
     def close(self) -> None:
-        """Closes what the sessions have open."""
+        """Closes all sessions."""
         self.is_closed = True
         for session in self._sessions:
             session.end()
@@ -92,7 +92,7 @@ class InsideSession(Session):
         return made
 
     def answer(self, op: str, fields: Answer) -> Answer:
-        """What a word answers. Raises Refused."""
+        """The answer to a word. Raises Refused."""
         if self.client.is_closed:
             raise Gone("the client was closed")
         change = self._words.get(op)
@@ -105,13 +105,13 @@ class InsideSession(Session):
              model: Optional[Model] = None) -> replies.Opened:
         slot = self._new("open")
         slot.open(ctf, sym, strings, model or "lp64")
-        return {"d": self._kept(slot), "types": slot.count}
+        return {"d": self._keep(slot), "types": slot.count}
 
     def told(self, types: Dictionary) -> Told:
         return self.slots[types.slot].rows
 
     def end(self) -> None:
-        """Closes all that is open."""
+        """Closes all slots."""
         for slot in self.slots.values():
             slot.close()
         self.slots.clear()
@@ -121,8 +121,8 @@ class InsideSession(Session):
             raise fault_of("SlotsFull", op, {})
         return Slot(self.client.calls, self._last + 1)
 
-    def _kept(self, slot: Slot) -> int:
-        """The number of a slot in which something was opened."""
+    def _keep(self, slot: Slot) -> int:
+        """Registers a slot in which something was opened, and returns its number."""
         self._last = slot.d
         self.slots[slot.d] = slot
         return slot.d
@@ -133,14 +133,14 @@ class InsideSession(Session):
             raise fault_of("NoSlot", op, fields)
         return found
 
-    # Words that change what is open.
+    # Words that change a slot.
 
     def _create(self, fields: Answer) -> Answer:
         over = self._slot("create", fields, "parent") if "parent" in fields else None
         slot = self._new("create")
         slot.create(over, unescape(fields.get("parname", "")),
                     unescape(fields.get("parlabel", "")), fields.get("model"))
-        return {"d": self._kept(slot)}
+        return {"d": self._keep(slot)}
 
     def _close(self, fields: Answer) -> Answer:
         self._slot("close", fields).close()
@@ -167,7 +167,7 @@ class InsideSession(Session):
         self._last = 0
         return {}
 
-    # What sessions give each other.
+    # Publications.
 
     def _publish(self, fields: Answer) -> Answer:
         slot, key = self._slot("publish", fields), (self.number, unescape(fields["name"]))
@@ -175,7 +175,7 @@ class InsideSession(Session):
             raise fault_of("NotUpdated", "publish", fields)
         if key in self.client.published:
             raise fault_of("NameTaken", "publish", fields)
-        self.client.published[key] = Published(slot)
+        self.client.published[key] = Publication(slot)
         return {}
 
     def _withdraw(self, fields: Answer) -> Answer:

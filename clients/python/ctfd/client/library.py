@@ -1,9 +1,9 @@
-"""Where the library is whose calls answer in this process: libctfd.so.
+"""Where to find the library libctfd.so, which answers in this process.
 
-Where it is found no process is started, and what is asked is answered the same. It is the one that
-CTFD_LIBRARY in the environment names, else the one beside this package, beside the ctfd command
-that runs, or of the clone that this package stands in, else the one that the system's loader or
-pkg-config knows. One that another user could have put there does not count (trust.py).
+With a library no service is started; the answers are the same. It is the file that CTFD_LIBRARY
+names. Otherwise it is the first of: beside this package, beside the running ctfd command, in the
+clone that contains this package, known to the system's loader or to pkg-config. A file that another
+user could have put there is skipped (trust.py).
 """
 from __future__ import annotations
 
@@ -20,14 +20,14 @@ BUILT = "crates/ctf_c/out/libctfd.so"
 PATIENCE = 10
 
 
-def named() -> Optional[str]:
-    """The library that CTFD_LIBRARY in the environment names; "" there stands for none."""
+def library_path() -> Optional[str]:
+    """The value of CTFD_LIBRARY, or None; "" means that no library is used."""
     return os.environ.get("CTFD_LIBRARY")
 
 
 def find() -> Optional[Calls]:
-    """The library to ask, or None where there is none. Raises Gone where what is named is none."""
-    path = named()
+    """The library to use, or None. Raises Gone if CTFD_LIBRARY names a file that is not one."""
+    path = library_path()
     if path is not None:
         return Calls(path) if path else None
     for place in _places():
@@ -39,7 +39,7 @@ def find() -> Optional[Calls]:
 
 
 def _places() -> Iterator[str]:
-    """Where a library may be, the nearest first."""
+    """Possible paths of the library, in order."""
     package = os.path.dirname(os.path.dirname(trust.HERE))
     found = [os.path.join(package, NAME), os.path.join(package, "libctfd.so")]
     command, clone = trust.folder_of_command(), trust.folder_of_clone()
@@ -48,7 +48,7 @@ def _places() -> Iterator[str]:
     if clone:
         found.append(os.path.join(clone, BUILT))
     yield from filter(_is_there, found)
-    yield NAME  # of the system's loader, which looks in no current folder
+    yield NAME  # for the system's loader, which does not search the current folder
     path = os.path.join(_of_pkg_config(), NAME)
     if _is_there(path):
         yield path
@@ -59,8 +59,8 @@ def _is_there(path: str) -> bool:
 
 
 def _of_pkg_config() -> str:
-    """The folder of the library that pkg-config knows, or ""."""
-    import subprocess  # which takes longer than most questions
+    """The folder of the library according to pkg-config, or ""."""
+    import subprocess  # imported here: it is slow, and seldom needed
 
     asked = trust.program("pkg-config")
     if asked is None:

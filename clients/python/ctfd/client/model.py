@@ -1,6 +1,6 @@
-"""The data model of a program: how many bytes its pointers have.
+"""The data model of a program: the number of bytes of its pointers.
 
-All other sizes, that of a `long` too, stand in the dictionary itself.
+All other sizes, such as that of a `long`, are in the dictionary.
 """
 from __future__ import annotations
 
@@ -12,5 +12,5 @@ POINTER_SIZES: Dict[Model, int] = {"lp64": 8, "ilp32": 4}
 
 
 def of_pointers(size: int) -> Optional[Model]:
-    """The model whose pointers have so many bytes; None where there is none."""
+    """The model whose pointers have `size` bytes, or None."""
     return next((model for model, known in POINTER_SIZES.items() if known == size), None)

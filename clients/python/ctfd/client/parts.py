@@ -1,7 +1,7 @@
-"""A program with more types than a dictionary holds: a parent and its children, asked as one.
+"""Programs with more types than one dictionary can have: a parent and its children, used as one.
 
-`ctfd-convert` writes them into one file, an archive as `ar` makes it, whose first member is the
-parent. A type that several children need stands in each of these, under a number of its own.
+`ctfd-convert` writes them into one `ar` archive, whose first member is the parent. A type that
+several children need is in each of them, under a different number.
 """
 from __future__ import annotations
 
@@ -12,12 +12,12 @@ from ..text import Name
 from .dictionary import OWN_OF_CHILD, Dictionary
 from .faults import NoSuchType, NotFound, Refused
 from .model import Model
-from .nearest import offered
+from .nearest import suggestion
 from .types import Signature, Type
 
 
 class Parts:
-    """The dictionaries of one program: `parts` has them, the parent first."""
+    """The dictionaries of one program; `parts` lists them, the parent first."""
 
     def __init__(self, parts: Sequence[Dictionary]) -> None:
         self.parts = list(parts)
@@ -41,8 +41,8 @@ class Parts:
         return iter(self.types())
 
     def __getitem__(self, name: Name) -> Type:
-        """The type that C's name says. Raises NoSuchType, which says which names are near. A number
-        names none: each dictionary has its own."""
+        """The type with a name as C writes it. Raises NoSuchType, whose text suggests similar
+        names; also for a number, since each dictionary has its own."""
         if isinstance(name, int):
             raise NoSuchType("a program in parts has types of one number in each: ask by name")
         try:
@@ -50,7 +50,7 @@ class Parts:
         except NotFound as fault:
             told = text.name(text.escape(name))
             raise NoSuchType(text.printable(
-                f"no type is called {told}{offered(told, self.names())}")) from fault
+                f"no type is called {told}{suggestion(told, self.names())}")) from fault
 
     def __contains__(self, name: Name) -> bool:
         try:
@@ -60,7 +60,7 @@ class Parts:
         return True
 
     def find(self, name: Name) -> Type:
-        """The type of a name, of the first part that has it. Raises NotFound."""
+        """The type of a name, from the first part that has it. Raises NotFound."""
         for part in self.parts[:-1]:
             try:
                 return part.find(name)
@@ -69,12 +69,12 @@ class Parts:
         return self.parts[-1].find(name)
 
     def find_all(self, name: Name) -> List[Type]:
-        """All types of a name, those of the parent once."""
+        """All types of a name; those of the parent once."""
         return [one for place, part in enumerate(self.parts) for one in part.find_all(name)
                 if place == 0 or one.number > OWN_OF_CHILD]
 
     def symbol(self, name: Name) -> Union[Type, Signature]:
-        """The type of a function or variable, of the first part that tells it. Raises NotFound."""
+        """The type of a function or variable, from the first part that has it. Raises NotFound."""
         for part in self.parts[:-1]:
             try:
                 return part.symbol(name)
@@ -83,15 +83,16 @@ class Parts:
         return self.parts[-1].symbol(name)
 
     def types(self) -> List[Type]:
-        """The types of all parts; one that several children need once for each of them."""
+        """The types of all parts. A type that several children need occurs once for each of
+        them."""
         return [one for part in self.parts for one in part.types()]
 
     def names(self) -> List[str]:
-        """The names of all types, each once."""
+        """The names of all types, without duplicates."""
         return list(dict.fromkeys(name for part in self.parts for name in part.names()))
 
     def close(self) -> None:
-        """Closes all of them, and the service that was started for them."""
+        """Closes all parts, and the service that was started for them."""
         for part in reversed(self.parts):
             part.close()
         if callable(self.ends):

@@ -1,9 +1,9 @@
-"""In which module each public name of the package is."""
+"""The modules that the public names of the package are imported from."""
 import sys
 
 from . import startup
 
-# Modules, and the names that are asked of them.
+# The modules, each with the public names that it defines.
 _NAMES = {
     "client.connecting": ("connect",),
     "client.dictionary": ("Dictionary", "open_file", "open_source", "taken", "withdraw"),
@@ -26,7 +26,8 @@ _PUBLIC_MODULES = ("build", "expressions", "formats", "replies", "text", "values
 
 
 class _Package(type(sys)):  # type: ignore[misc]
-    """The package, in which `layout` is a function, though a folder of modules has that name."""
+    """The class of the package. It keeps `layout` the function: importing the folder of that name
+    would otherwise replace it by a module."""
 
     def __setattr__(self, name: str, value: object) -> None:
         if name != "layout" or not isinstance(value, type(sys)):
@@ -34,11 +35,12 @@ class _Package(type(sys)):  # type: ignore[misc]
 
 
 def begin(package):  # type: ignore[no-untyped-def]
-    """What finds the public names of the package. All are found at once where modules may come from
-    the current folder, in which others could put some."""
+    """Gives the package's `__getattr__`, which imports a public name at its first use. If modules
+    may come from the current folder, in which other users may put files, all names are imported at
+    once."""
     package.__class__ = _Package
 
-    def found(name: str) -> object:
+    def find_public(name: str) -> object:
         module = _MODULES.get(name)
         if module is None and name not in _PUBLIC_MODULES:
             raise AttributeError(f"module {package.__name__!r} has no attribute {name!r}")
@@ -53,5 +55,5 @@ def begin(package):  # type: ignore[no-untyped-def]
 
     if startup.has_current_folder():
         for name in (*_MODULES, *_PUBLIC_MODULES):
-            found(name)
-    return found
+            find_public(name)
+    return find_public

@@ -1,10 +1,10 @@
-"""Where the service is, and whether it speaks the protocol of this client.
+"""Where to find the service, and whether it speaks this client's protocol.
 
-It is the program that the caller names, else the one that CTFD in the environment names, else the
-one beside the ctfd command that runs, else the one that this package carries, else `ctfd` on the
-path, else the one that the clone with this package in it has built. Where none is named, one that another user could have put there does
-not count (trust.py). CTFD_SOCKET in the environment names a socket in place of a program, where
-none is named by the caller; behind a socket, CTFD_ROOM names the room.
+It is the program that the caller names, else the one that CTFD names. Otherwise it is the first of:
+beside the running ctfd command, in this package, `ctfd` on the PATH, built in the clone that
+contains this package. Of these, a program that another user could have put there is skipped
+(trust.py). If the caller names no program, CTFD_SOCKET may name a socket in its place; CTFD_ROOM
+then names the room.
 """
 from __future__ import annotations
 
@@ -20,29 +20,29 @@ from .faults import Error, Gone
 BUILT = "crates/ctfd/out/ctfd"
 PATIENCE = 10
 
-# The first line; a second one says which build it is.
+# The first line; a second one names the build.
 _SAYS = re.compile(r"ctfd (\d+)\.(\d+)\.(\d+)(?:\n|\Z)")
 
 
 def find(name: Optional[str] = None) -> str:
-    """The program to start, once it has told a version that this client speaks. Raises Error."""
-    program = name or named()
+    """The program to start, after checking that it speaks this client's version. Raises Error."""
+    program = name or program_path()
     if program:
         why = "named by --service" if name else "named by CTFD in the environment"
         found = path_of(os.path.expanduser(program))
         if found is None:
             raise Gone(f"{program}, {why}, is no program: name the built ctfd")
-        return _judged(found)
-    found = _beside() or _carried() or trust.program("ctfd") or _built()
+        return _check_protocol(found)
+    found = _beside() or _program_in_package() or trust.program("ctfd") or _program_of_clone()
     if found is None:
         raise Gone("the service ctfd is not found: name it by --service or by CTFD in the"
                    " environment, put it on the PATH, or build it (`make`); one that another user"
                    " could have put there is not run")
-    return _judged(found)
+    return _check_protocol(found)
 
 
 def to_start(name: str) -> str:
-    """The program of a client; one that is named is not judged, and "" stands for none."""
+    """The program that a client starts. A named one is not checked; "" stands for none."""
     if not name:
         return find()
     found = path_of(name)
@@ -52,45 +52,46 @@ def to_start(name: str) -> str:
 
 
 def path_of(program: str) -> Optional[str]:
-    """A program that somebody names: by a path, or by a name that is looked for on the PATH."""
+    """The path of a program; a name without a folder is searched for on the PATH. None if not
+    found."""
     if not os.path.dirname(program):
         return trust.program(program)
     return program if _runs(program) else None
 
 
-def named() -> Optional[str]:
-    """The program that CTFD in the environment names."""
+def program_path() -> Optional[str]:
+    """The program that CTFD names."""
     return os.environ.get("CTFD") or None
 
 
 def socket() -> Optional[str]:
-    """The socket that CTFD_SOCKET in the environment names, where a service is that others use."""
+    """The socket that CTFD_SOCKET names."""
     return os.environ.get("CTFD_SOCKET") or None
 
 
 def room() -> Optional[str]:
-    """The room that CTFD_ROOM in the environment names: clients that meet are in one."""
+    """The room that CTFD_ROOM names; clients in one room use the same service."""
     return os.environ.get("CTFD_ROOM") or None
 
 
 def _beside() -> Optional[str]:
-    """The program that was installed with the command that runs, or None."""
+    """The program beside the running command, or None."""
     folder = trust.folder_of_command()
-    return _trusted(os.path.join(folder, "ctfd")) if folder else None
+    return _if_trusted(os.path.join(folder, "ctfd")) if folder else None
 
 
-def _carried() -> Optional[str]:
-    """The program that this package carries, or None."""
-    return _trusted(os.path.join(commands.FOLDER, "ctfd"))
+def _program_in_package() -> Optional[str]:
+    """The program in this package, or None."""
+    return _if_trusted(os.path.join(commands.FOLDER, "ctfd"))
 
 
-def _built() -> Optional[str]:
-    """The program of the clone that this file stands in, or None."""
+def _program_of_clone() -> Optional[str]:
+    """The program of the clone that contains this file, or None."""
     clone = trust.folder_of_clone()
-    return _trusted(os.path.join(clone, BUILT)) if clone else None
+    return _if_trusted(os.path.join(clone, BUILT)) if clone else None
 
 
-def _trusted(path: str) -> Optional[str]:
+def _if_trusted(path: str) -> Optional[str]:
     return path if _runs(path) and trust.is_trusted(path) else None
 
 
@@ -98,8 +99,8 @@ def _runs(path: str) -> bool:
     return os.path.isfile(path) and os.access(path, os.X_OK)
 
 
-def _judged(program: str) -> str:
-    """A program that is a service of this client's protocol."""
+def _check_protocol(program: str) -> str:
+    """Returns a program after checking that it is a service of this client's version."""
     found = _SAYS.match(_version(program))
     if found is None:
         raise Gone(f"{program} is no ctfd: it does not print a version as ctfd does")

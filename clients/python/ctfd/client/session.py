@@ -1,5 +1,5 @@
-"""A session: what it opens and stages is its own. It is asked by words, as the protocol has them,
-whether what answers is in this process or behind pipes or a socket."""
+"""Sessions, which are asked by the words of the protocol. The library in this process and a service
+behind pipes or a socket have the same interface."""
 from __future__ import annotations
 
 import abc
@@ -24,25 +24,26 @@ Self = TypeVar("Self", bound="Service")
 
 
 class Service(abc.ABC):
-    """What has sessions: a Client, or the library in this process. As a context it is closed."""
+    """An object that has sessions: a Client, or the library in this process. A `with` block closes
+    it."""
 
     @property
     @abc.abstractmethod
     def where(self) -> str:
-        """Where it is, in words."""
+        """Where the service is, as text."""
 
     @property
     @abc.abstractmethod
     def pid(self) -> Optional[int]:
-        """Its process; None where it was not started here."""
+        """The process ID of the service, or None if it was not started here."""
 
     @abc.abstractmethod
     def session(self) -> Session:
-        """A session that nobody has used yet."""
+        """A new session."""
 
     @abc.abstractmethod
     def close(self) -> None:
-        """Ends it, and what its sessions have open."""
+        """Closes the service and all that its sessions have open."""
 
     def __enter__(self: Self) -> Self:
         return self
@@ -53,7 +54,7 @@ class Service(abc.ABC):
 
 
 class Session(abc.ABC):
-    """Session `number` of a service."""
+    """A session of a service, by its number. Its slots are its own."""
 
     def __init__(self, client: Service, number: int) -> None:
         self.client = client
@@ -69,12 +70,12 @@ class Session(abc.ABC):
     @abc.abstractmethod
     def open(self, ctf: bytes, sym: Optional[bytes] = None, strings: Optional[bytes] = None,
              model: Optional[Model] = None) -> replies.Opened:
-        """Hands in the lists of a dictionary and opens it: `d` and `types`. Without a model it is
-        "lp64"."""
+        """Hands in the lists of a dictionary and opens it. Returns `d` and `types`. The default
+        model is "lp64"."""
 
     @abc.abstractmethod
     def told(self, types: Dictionary) -> Told:
-        """What is told of the types of a dictionary that is open in this session."""
+        """The answers about the types of a dictionary that is open in this session."""
 
     @overload
     def ask(self, op: Literal["open", "take"], **fields: Any) -> replies.Opened: ...
@@ -144,7 +145,7 @@ class Session(abc.ABC):
     def ask(self, op: str, **fields: Any) -> Any: ...
 
     def ask(self, op: str, **fields: Any) -> Any:
-        """What one request is answered; raises its refusal."""
+        """The reply to one request. Raises Refused."""
         outcome = self.ask_all([(op, fields)])[0]
         if isinstance(outcome, Refused):
             raise outcome
@@ -152,15 +153,15 @@ class Session(abc.ABC):
 
     def create(self, parent: Optional[int] = None, parname: Name = "", parlabel: Name = "",
                model: Optional[Model] = None) -> replies.Made:
-        """Makes a slot of a new draft: `d`.
+        """Creates a draft in a new slot, `d`.
 
-        A draft over the dictionary of a slot `parent` needs a `parname`. Without a model it is
-        of its parent's, and without a parent of "lp64".
+        A draft over the dictionary in slot `parent` needs a `parname`. The default model is the
+        parent's, or "lp64" without a parent.
         """
         named = {"parname": text.escape(parname), "parlabel": text.escape(parlabel)}
-        return self.ask("create", **named, **_given(parent=parent, model=model))
+        return self.ask("create", **named, **_without_none(parent=parent, model=model))
 
 
-def _given(**fields: Any) -> Answer:
-    """The fields that are not None: in a request null is not the same as absent."""
+def _without_none(**fields: Any) -> Answer:
+    """The fields that are not None: a request must omit them, since null is refused."""
     return {name: value for name, value in fields.items() if value is not None}

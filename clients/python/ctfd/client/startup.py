@@ -1,13 +1,13 @@
-"""What comes before the package's other modules are imported, so that those are Python's and ours.
+"""Keeps modules of the current folder from replacing Python's or this package's.
 
-Python run with `-c`, with `-`, or interactively looks for modules in the current folder first, and
-a debugger may too. Whoever could put a `json.py` there would have it run here. This module imports
-nothing that Python has not imported yet.
+Python looks for modules in the current folder first if it runs with `-c`, with `-`, or
+interactively, and some debuggers do too. A `json.py` that another user put there would then be run.
+This module imports nothing that Python has not imported before.
 """
 import os
 import sys
 
-# What is imported when it is first needed, by this package or by what it imports.
+# Modules that this package, or what it imports, imports later.
 LATE = ("argparse", "bisect", "copy", "ctypes", "dataclasses", "decimal", "difflib", "enum",
         "errno", "fcntl", "gc", "grp", "gzip", "hashlib", "html", "importlib", "io", "logging",
         "lzma", "operator", "pathlib", "platform", "pwd", "random", "re", "resource", "selectors",
@@ -16,7 +16,7 @@ LATE = ("argparse", "bisect", "copy", "ctypes", "dataclasses", "decimal", "diffl
 
 
 class AbsoluteFolders:
-    """Within it modules come from folders alone that are named from the root on."""
+    """A context in which modules are imported only from absolute folders."""
 
     def __enter__(self) -> None:
         self.before = sys.path[:]
@@ -34,5 +34,5 @@ class AbsoluteFolders:
 
 
 def has_current_folder() -> bool:
-    """Whether modules may come from a folder that is not named from the root on."""
+    """Whether modules may come from a relative folder, such as the current one."""
     return not all(map(os.path.isabs, sys.path))

@@ -1,35 +1,36 @@
-"""What is told of the types of a dictionary, by their numbers."""
+"""The interface that answers questions about the types of a dictionary."""
 from __future__ import annotations
 
 from typing import Any, Iterable, List, Optional, Protocol, Tuple
 
 
 class Told(Protocol):
-    """Each call raises Refused where the service refuses the question. 0 is no type here."""
+    """Answers by type number. Each method raises Refused if the service refuses; 0 is no type
+    here."""
 
     def kind(self, t: int) -> str:
-        """The service's word for its kind."""
+        """The kind, in the service's words."""
 
     def name(self, t: int) -> str:
-        """Its own name, "" where it has none."""
+        """The name, "" if it has none."""
 
     def is_root(self, t: int) -> bool:
-        """Whether look-ups by name see it."""
+        """Whether look-ups by name find the type."""
 
     def spelled(self, t: int) -> str:
-        """Its name as C spells it in a cast."""
+        """The type as C writes it in a cast."""
 
     def size(self, t: int) -> int:
-        """The bytes of a value."""
+        """The size in bytes."""
 
     def align(self, t: int) -> int:
-        """Its alignment in bytes."""
+        """The alignment in bytes."""
 
     def reference(self, t: int) -> int:
-        """What a pointer points to, a typedef renames, a qualifier qualifies."""
+        """The type that a pointer points to, or that a typedef or qualifier applies to."""
 
     def tag(self, t: int) -> str:
-        """What a forward declares."""
+        """What a forward declares: `struct`, `union` or `enum`."""
 
     def members(self, t: int) -> List[Tuple[str, int, int]]:
         """The name, type and offset in bits of each member."""
@@ -38,23 +39,23 @@ class Told(Protocol):
         """The name and value of each enumerator."""
 
     def arguments(self, t: int) -> Tuple[int, List[int], bool]:
-        """What a function returns and takes, and whether more may follow."""
+        """The return type and argument types of a function, and whether it is variadic."""
 
     def array(self, t: int) -> Tuple[int, int, int]:
-        """The types of an array's elements and of its index, and how many elements it has."""
+        """The types of an array's elements and index, and the number of elements."""
 
     def encoding(self, t: int) -> Tuple[int, int, int]:
-        """The flags of an integer or a float, the bits behind its start, and how many it has."""
+        """The flags, offset in bits and width in bits of an integer or float."""
 
     def fetch(self, questions: Iterable[Tuple[str, int]]) -> None:
-        """Asks words of types in one round, where each question would take one."""
+        """Asks `(word, type number)` questions in one round trip, if they need one."""
 
     def gather(self, numbers: Iterable[int], named: Iterable[int]) -> None:
-        """Asks in few rounds for all that declarations and layouts of types need, and that
-        declarations alone of the `named` ones need."""
+        """Fetches all that the declarations and layouts of types need, in a few round trips; for
+        `named` types, only what their declarations need."""
 
     def answer(self, op: str, t: int) -> Any:
-        """What the service replies to a word."""
+        """The reply of the service to a word."""
 
     def known(self, op: str, t: int) -> Optional[Any]:
-        """As `answer`, of what was asked already; None where nothing was, or it was refused."""
+        """As `answer`, but only if it was asked before; None otherwise, and if it was refused."""

@@ -1,9 +1,8 @@
-"""Which files may be loaded or run: none that another user could have put where they are.
+"""Which files are safe to load or run: those that no other user could have put there.
 
-A path counts from the root on: the folder in which a process runs says nothing of whose files are
-there. On the way each folder and link is root's, this user's, or of the user whose this package
-is, and no other user may write to it. What leads to this package is believed in any case, since
-who can change that can change this code.
+Only an absolute path can be trusted. Each folder and link on it must belong to root, to this user,
+or to the owner of this package, and no other user may write to it. The folders that lead to this
+package are trusted in any case: whoever can change them can change this code.
 """
 from __future__ import annotations
 
@@ -13,12 +12,12 @@ import sys
 from typing import Iterator, Optional
 
 HERE = os.path.realpath(__file__)
-MOST_LINKS = 40  # as Linux has it
+MOST_LINKS = 40  # as in Linux
 COMMAND = "ctfd-"
 
 
 def is_trusted(path: str) -> bool:
-    """Whether no other user could have put a file there."""
+    """Whether no other user could have put this file there."""
     if not os.path.isabs(path):
         return False
     try:
@@ -28,7 +27,7 @@ def is_trusted(path: str) -> bool:
 
 
 def program(name: str) -> Optional[str]:
-    """A program on the PATH, of whose folders those count that are named from the root on."""
+    """The path of a program on the PATH, or None. Relative folders on the PATH are skipped."""
     for folder in os.environ.get("PATH", os.defpath).split(os.pathsep):
         path = os.path.join(folder, name)
         if os.path.isfile(path) and os.access(path, os.X_OK) and is_trusted(path):
@@ -37,8 +36,8 @@ def program(name: str) -> Optional[str]:
 
 
 def folder_of_command() -> Optional[str]:
-    """The folder of the command that runs, links followed; None where it is none of ours, as in a
-    debugger or an interactive Python."""
+    """The folder of the running command, links followed; None if the command is not one of ours, as
+    in a debugger or an interactive Python."""
     path = getattr(sys.modules.get("__main__"), "__file__", None) or ""
     if not os.path.isabs(path):
         return None
@@ -48,14 +47,14 @@ def folder_of_command() -> Optional[str]:
 
 
 def folder_of_clone() -> Optional[str]:
-    """The clone that this package stands in, or None."""
+    """The clone that contains this package, or None."""
     package = os.path.dirname(os.path.dirname(HERE))
     clone = os.path.dirname(os.path.dirname(os.path.dirname(package)))
     return clone if package == os.path.join(clone, "clients", "python", "ctfd") else None
 
 
 def _way(path: str) -> Iterator[str]:
-    """Each folder and link that a path leads through, and its file. Raises OSError."""
+    """Each folder and link on a path, and the file at its end. Raises OSError."""
     names = path.split("/")[::-1]
     place, links = "/", 0
     yield place
@@ -84,8 +83,8 @@ def _leads_here(place: str) -> bool:
 
 
 def _is_closed(place: str) -> bool:
-    """Whether other users can't put another file in the place of one, nor anything into it. In a
-    folder such as /tmp they can't rename what is not theirs."""
+    """Whether other users cannot replace a file, link or folder, nor write to it. In a sticky
+    folder such as /tmp, users cannot rename the files of others."""
     found = os.lstat(place)
     if found.st_uid not in (0, os.geteuid(), os.stat(HERE).st_uid):
         return False
@@ -97,8 +96,9 @@ def _is_closed(place: str) -> bool:
 
 
 def _is_own_group(found: os.stat_result) -> bool:
-    """Whether a group has the owner alone in it, as Debian gives each user one of his name."""
-    import grp  # here: few folders have a group that may write to them
+    """Whether a group has only the owner in it, as on Debian, where each user has a group of the
+    same name."""
+    import grp  # imported here: few folders are writable by a group
     import pwd
 
     try:

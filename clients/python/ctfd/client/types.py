@@ -1,11 +1,11 @@
-"""Types as objects. What one says of itself is asked once and kept by its dictionary."""
+"""Types as objects. The dictionary caches the answers about each type."""
 from __future__ import annotations
 
 from typing import TYPE_CHECKING, Any, List, NamedTuple, Optional, Tuple
 
 from .. import text
 from .faults import Error, Incomplete, NoSuchType, Refused
-from .nearest import offered
+from .nearest import suggestion
 
 if TYPE_CHECKING:
     from .dictionary import Dictionary
@@ -15,7 +15,8 @@ QUALIFIERS = ("const", "volatile", "restrict")
 
 
 class Member(NamedTuple):
-    """A member of a struct or union; `offset` is in bits, without that of a bit-field's type."""
+    """A member of a struct or union. `offset` is in bits, without the offset in a bit-field's
+    type."""
 
     name: str
     type: Type
@@ -28,7 +29,7 @@ class Enumerator(NamedTuple):
 
 
 class Signature(NamedTuple):
-    """What a function takes and returns; `varargs` where more may follow."""
+    """The return type and the arguments of a function. `varargs` is true for a variadic one."""
 
     returns: Type
     arguments: List[Type]
@@ -36,10 +37,10 @@ class Signature(NamedTuple):
 
 
 class Encoding(NamedTuple):
-    """How an integer or a float lies in its storage: `bits` wide, `offset` bits behind its start.
+    """How an integer or float is stored: `bits` bits, `offset` bits from the start of its storage.
 
-    For an integer `flags` adds 1 signed, 2 character, 4 boolean; for a float it is the number of
-    its format (1 single, 2 double, 6 long double).
+    `flags` of an integer is a sum of 1 (signed), 2 (character) and 4 (boolean). For a float it is
+    the number of the format: 1 single, 2 double, 6 long double.
     """
 
     flags: int
@@ -48,10 +49,10 @@ class Encoding(NamedTuple):
 
 
 class Type:
-    """Type `number` of a dictionary; 0 is none, `void`.
+    """A type of a dictionary, by its number; type 0 is `void`.
 
-    Questions that are none for its kind (the members of an int) raise Refused. To ask for much
-    of a type at once, `gather` it first: then all below is answered without another round.
+    A question that does not suit the kind, such as for the members of an int, raises Refused. Call
+    `gather` first if you need much of a type: it asks for all of it in a few round trips.
     """
 
     __slots__ = ("dictionary", "number", "__weakref__")
@@ -73,43 +74,44 @@ class Type:
     def _identity(self) -> Tuple[Any, ...]:
         return id(self.dictionary), self.number
 
-    def _told(self, op: str) -> Told:
-        """Who tells of it what a word asks."""
+    def _teller(self, op: str) -> Told:
+        """The object that answers `op` for this type."""
         return self.dictionary.told
 
     def gather(self) -> Type:
-        """Asks in few rounds for all that a declaration and a layout of it need."""
+        """Fetches all that the declaration and the layout of this type need, in a few round
+        trips."""
         self.dictionary.gather([self.number])
         return self
 
     @property
     def kind(self) -> str:
-        """`void`, or the service's word: integer, struct, typedef, .."""
+        """The kind of the type, in the service's words (`integer`, `struct`, ..), or `void`."""
         return self.dictionary.told.kind(self.number) if self.number else "void"
 
     @property
     def name(self) -> str:
-        """Its own name, "" where it has none."""
+        """The name of the type, without `struct`, `union` or `enum`; "" if it has none."""
         return self.dictionary.told.name(self.number) if self.number else ""
 
     @property
     def raw_name(self) -> bytes:
-        """The bytes of its name."""
+        """The name as bytes."""
         return text.raw(self.name)
 
     @property
     def spelled(self) -> str:
-        """As C spells it in a cast, the arguments of functions left out."""
+        """The type as C writes it in a cast, but without the arguments of functions."""
         return self.dictionary.told.spelled(self.number) if self.number else "void"
 
     @property
     def is_root(self) -> bool:
-        """Whether look-ups by name see it."""
+        """Whether look-ups by name find this type."""
         return bool(self.number) and self.dictionary.told.is_root(self.number)
 
     @property
     def size(self) -> Optional[int]:
-        """Bytes of a value, or None where it has none, as a forward."""
+        """The size of a value in bytes, or None if the type has no size, such as a forward."""
         try:
             return self.dictionary.told.size(self.number) if self.number else None
         except Incomplete:
@@ -117,15 +119,15 @@ class Type:
 
     @property
     def sizeof(self) -> int:
-        """Bytes of a value, as C's sizeof. Raises Error where it has none."""
+        """The size of a value in bytes, as C's sizeof. Raises Error if the type has none."""
         size = self.size
         if size is None:
             raise Error(f"{self.spelled} has no size: it is only declared, or is void")
         return size
 
     def offsetof(self, path: str) -> int:
-        """Where a member, or a member of members as `a.b`, begins in bytes, as C's offsetof.
-        Raises NoSuchType for one that is not there, and Error for a bit-field."""
+        """The offset in bytes of a member, as C's offsetof; `a.b` is a member of a member. Raises
+        NoSuchType if there is no such member, and Error for a bit-field."""
         here, bits = self, 0
         for name in path.split("."):
             whole = here.resolved
@@ -136,7 +138,7 @@ class Type:
             except KeyError:
                 named = [member.name for member in whole.members if member.name]
                 raise NoSuchType(f"{here.spelled} has no member {text.printable(name)}"
-                                 f"{offered(name, named)}") from None
+                                 f"{suggestion(name, named)}") from None
             here, bits = found.type, bits + found.offset
         if here.bit_field is not None or bits % 8:
             raise Error(f"{text.printable(path)} of {self.spelled} is a bit-field, which has no"
@@ -145,7 +147,8 @@ class Type:
 
     @property
     def align(self) -> Optional[int]:
-        """The alignment in bytes that the format tells (that of a struct's first member)."""
+        """The alignment in bytes, or None if the type has no size. By the rule of the format, a
+        struct has that of its first member."""
         try:
             return self.dictionary.told.align(self.number) if self.number else None
         except Incomplete:
@@ -153,47 +156,47 @@ class Type:
 
     @property
     def reference(self) -> Type:
-        """What a pointer points to, a typedef renames, a qualifier qualifies."""
-        return self.dictionary.type(self._told("reference").reference(self.number))
+        """The type that a pointer points to, or that a typedef or qualifier applies to."""
+        return self.dictionary.type(self._teller("reference").reference(self.number))
 
     @property
     def tag(self) -> str:
-        """What a forward declares: struct, union or enum."""
-        return self._told("tag").tag(self.number)
+        """What a forward declares: `struct`, `union` or `enum`."""
+        return self._teller("tag").tag(self.number)
 
     @property
     def members(self) -> List[Member]:
         type_of = self.dictionary.type
         return [Member(name, type_of(t), offset)
-                for name, t, offset in self._told("members").members(self.number)]
+                for name, t, offset in self._teller("members").members(self.number)]
 
     @property
     def enumerators(self) -> List[Enumerator]:
         return [Enumerator(name, value)
-                for name, value in self._told("enumerators").enumerators(self.number)]
+                for name, value in self._teller("enumerators").enumerators(self.number)]
 
     @property
     def signature(self) -> Signature:
-        """What a function takes and returns."""
-        return self.dictionary.signed(*self._told("args").arguments(self.number))
+        """The return type and arguments of a function."""
+        return self.dictionary.signed(*self._teller("args").arguments(self.number))
 
     @property
     def contents(self) -> Type:
         """The type of an array's elements."""
-        return self.dictionary.type(self._told("array").array(self.number)[0])
+        return self.dictionary.type(self._teller("array").array(self.number)[0])
 
     @property
     def count(self) -> int:
-        """How many elements an array has."""
-        return self._told("array").array(self.number)[2]
+        """The number of elements of an array."""
+        return self._teller("array").array(self.number)[2]
 
     @property
     def encoding(self) -> Encoding:
-        return Encoding(*self._told("encoding").encoding(self.number))
+        return Encoding(*self._teller("encoding").encoding(self.number))
 
     @property
     def stripped(self) -> Type:
-        """Without its qualifiers."""
+        """This type without its qualifiers."""
         stripped = self
         while stripped.kind in QUALIFIERS:
             stripped = stripped.reference
@@ -201,7 +204,7 @@ class Type:
 
     @property
     def resolved(self) -> Type:
-        """Without qualifiers and typedefs: what it stands for."""
+        """This type without its qualifiers and typedefs."""
         resolved = self
         while resolved.kind in QUALIFIERS or resolved.kind == "typedef":
             resolved = resolved.reference
@@ -209,8 +212,9 @@ class Type:
 
     @property
     def bit_field(self) -> Optional[Encoding]:
-        """Where its value lies, if it is an integer that is narrower than its storage, or a hidden
-        copy of one that is not: that of a bit-field which is as wide as its type."""
+        """The encoding of a bit-field's type, or None for any other type. An integer is a
+        bit-field's if it is narrower than its storage, or if it is a hidden copy of another
+        integer, as for a bit-field as wide as its declared type."""
         integer = self.resolved
         if integer.kind != "integer":
             return None
@@ -221,9 +225,9 @@ class Type:
         return lies
 
     def member(self, name: str) -> Member:
-        """The member of a name, as C reaches it: through members without a name too.
+        """The member of a name, also if it is in an unnamed struct or union, as in C.
 
-        Its offset counts from the start of this type. Raises KeyError where there is none.
+        Its offset is from the start of this type. Raises KeyError if there is none.
         """
         todo = [(m, m.offset) for m in self.resolved.members]
         searched = {self.resolved}
@@ -234,7 +238,7 @@ class Type:
                     return Member(name, member.type, offset)
                 part = member.type.resolved
                 is_open = not member.name and part.kind in ("struct", "union")
-                if is_open and part not in searched:  # a hostile type doubles at each level
+                if is_open and part not in searched:  # a hostile type would double at each level
                     searched.add(part)
                     inner += [(m, offset + m.offset) for m in part.members]
             todo = inner
@@ -242,7 +246,7 @@ class Type:
 
 
 class PointerTo(Type):
-    """A pointer that the dictionary has no type for, made here."""
+    """A pointer type that the dictionary does not have, created here."""
 
     kind, name, tag = "pointer", "", ""
     is_root = False
@@ -262,8 +266,8 @@ class PointerTo(Type):
     def align(self) -> int:
         return self.dictionary.pointer_size
 
-    def _told(self, op: str) -> Told:
-        fault = {"code": 30, "name": "WrongKind", "place": 0}  # as the service says of a pointer
+    def _teller(self, op: str) -> Told:
+        fault = {"code": 30, "name": "WrongKind", "place": 0}  # the service's fault for a pointer
         raise Refused(fault, op, {"type": self.spelled})
 
     def gather(self) -> Type:
@@ -282,7 +286,7 @@ class PointerTo(Type):
 
 
 class FunctionOf(Type):
-    """The type of a function by a symbol's signature, made here."""
+    """The type of a function, created here from the signature of a symbol."""
 
     kind, name, tag = "function", "", ""
     size = 0
@@ -297,7 +301,7 @@ class FunctionOf(Type):
 
     @property
     def align(self) -> int:
-        """That of a pointer, as the service says of any function."""
+        """The size of a pointer, which the service answers for any function."""
         return self.dictionary.pointer_size
 
     def gather(self) -> Type:

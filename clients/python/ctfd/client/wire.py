@@ -1,8 +1,8 @@
-"""A service, and the sessions in it.
+"""A client of a service, and its sessions.
 
-Requests are written and replies read in one loop over files that do not block: a client that
-writes all before it reads stops both sides for good once the pipes are full. No threads are used,
-so this runs inside a debugger too.
+One loop writes requests and reads replies, with non-blocking files: a client that wrote everything
+before it reads would block both sides as soon as the pipes are full. It uses no threads, so it also
+runs inside a debugger.
 """
 from __future__ import annotations
 
@@ -13,8 +13,8 @@ import os
 from typing import TYPE_CHECKING, Deque, Iterable, List, NoReturn, Optional, Sequence
 
 from . import service
-from .asked import Asked
-from .faults import Error, Gone, Refused, refused
+from .asked import AnswersByWord
+from .faults import Error, Gone, Refused, exception_for
 from .model import Model
 from .session import Answer, Outcome, Request, Service, Session
 from .told import Told
@@ -32,24 +32,23 @@ SERVE = ("serve",)
 _DECODED = json.JSONDecoder().decode
 
 
-class Owed:
-    """A reply that is still to come. It stays owed where a call is interrupted."""
+class PendingReply:
+    """A reply that is still to come, also after its call was interrupted."""
 
     def __init__(self) -> None:
         self.reply: Optional[Answer] = None
 
 
 class Client(Service):
-    """One service. Where none is named the program is looked for, and started.
+    """A connection to a service, which is searched for and started if none is named.
 
-    With `socket` it is one that others use too: the path of a socket where ctfd-front listens, in
-    which each session is a connection. Where neither is named, CTFD_SOCKET in the environment may
-    name such a path. `room` is a name that clients agree on who take from each other: behind a
-    front that has several services they need it (CTFD_ROOM in the environment names one too).
-    `patience` is how many seconds it may be silent before it counts as gone; None is for ever.
-    An exception amid a call (Ctrl-C, say) leaves its replies owed, and the next call reads past
-    them; where it came amid one of the few steps that belong together, the next call says Gone.
-    The service is in a process session of its own, so a terminal's Ctrl-C does not end it.
+    `socket` is the path of a ctfd-front's socket; each session is then a connection of its own. If
+    neither `program` nor `socket` is given, CTFD_SOCKET may name the socket. `room` (default:
+    CTFD_ROOM) is a name that clients choose in common to take from each other, if the front has
+    several services. `patience` is how many seconds the service may be silent before Gone is
+    raised; None waits for ever. After an exception in the middle of a call, such as Ctrl-C, the
+    next call skips the replies that are still to come; in rare cases it raises Gone. A service that
+    is started here has a process session of its own, so Ctrl-C in a terminal does not end it.
     """
 
     def __init__(self, program: Optional[str] = None, arguments: Sequence[str] = SERVE,
@@ -59,7 +58,7 @@ class Client(Service):
         if program is None and socket is None and arguments == SERVE:
             socket = service.socket()
         self._socket, self._room = socket, service.room() if room is None else room
-        self._channel = self._opened([program or "", *arguments])
+        self._channel = self._open_channel([program or "", *arguments])
         self._requests, self._replies = self._channel.requests, self._channel.replies
         self._others: List[Client] = []
         self._unsent = bytearray()
@@ -67,15 +66,15 @@ class Client(Service):
         self._lines: Deque[bytearray] = collections.deque()
         self._pieces: Deque[bytes] = collections.deque()
         self._written: Deque[int] = collections.deque()
-        self._owed: Deque[Owed] = collections.deque()
+        self._owed: Deque[PendingReply] = collections.deque()
         self._gone: Optional[str] = None
-        self._torn = False  # amid the few steps that an interrupt must not part
+        self._torn = False  # true during steps that an interrupt must not separate
         self._last_session = self._channel.number - 1 if self._channel.number else 0
         self._has_session = self._is_closed = False
         self.requests = self.rounds = 0
 
-    def _opened(self, command: List[str]) -> Channel:
-        """The way to the service; what starts processes is imported where one is started."""
+    def _open_channel(self, command: List[str]) -> Channel:
+        """Opens the channel. A module that starts processes is imported only if one is started."""
         from .channel import Pipes, Socket
 
         if self._socket is None:
@@ -84,16 +83,16 @@ class Client(Service):
 
     @property
     def pid(self) -> Optional[int]:
-        """The service's process; None where it was not started here."""
+        """The process ID of the service, or None if it was not started here."""
         return self._channel.pid
 
     @property
     def where(self) -> str:
-        """Where the service is, in words."""
+        """Where the service is, as text."""
         return self._channel.where
 
     def session(self) -> Session:
-        """A session that this client has not used yet. Behind a front it is a connection more."""
+        """A new session; behind a front, a further connection."""
         if self._channel.number and self._has_session:
             self._others.append(Client(patience=self.patience, socket=self._socket,
                                        room=self._room))
@@ -103,13 +102,14 @@ class Client(Service):
         return LineSession(self, self._last_session)
 
     def replies(self, session: int, requests: Iterable[Request]) -> List[Answer]:
-        """The whole reply to each request, in order: all are written while replies are read."""
+        """The whole reply to each request, in order. Requests are written while replies are
+        read."""
         if self._torn and not self._gone:
             self._gone = "interrupted in the middle of a request; replies are out of step: create a new Client"
         if self._gone:
             raise Gone(self._gone)
         lines = [request_line(session, op, fields) for op, fields in requests]
-        mine = [Owed() for _ in lines]
+        mine = [PendingReply() for _ in lines]
         written = b"".join(lines)
         self._torn = True
         self._owed += mine
@@ -121,7 +121,7 @@ class Client(Service):
         return [owed.reply for owed in mine if owed.reply is not None]
 
     def close(self) -> None:
-        """Ends the service that was started here, or the connections to one."""
+        """Ends the service if this client started it; otherwise closes the connections to it."""
         self._gone = self._gone or "the client was closed"
         if not self._is_closed:
             self._is_closed = True
@@ -129,10 +129,10 @@ class Client(Service):
                 other.close()
             self._channel.close()
 
-    def _run(self, mine: List[Owed]) -> None:
+    def _run(self, mine: List[PendingReply]) -> None:
         import selectors
 
-        self._forget()  # what an interrupted call has written and read already
+        self._forget()  # drops what an interrupted call has written already
         self._answer()
         with selectors.DefaultSelector() as ready:
             ready.register(self._replies, selectors.EVENT_READ)
@@ -149,11 +149,11 @@ class Client(Service):
                     elif not self._write():
                         ready.unregister(self._requests)
 
-    # What an interrupt must not part has no call in it, since Python takes signals behind calls;
-    # and what the system did is kept by `map`, which is one call with its `extend`.
+    # Python handles signals only between calls, so steps that must not be separated contain no
+    # call. For the system's results, `extend` with `map` is one call: no result is lost.
 
     def _write(self) -> bool:
-        """Writes some of what is unsent; whether any is left."""
+        """Writes some of the unsent bytes. Returns whether any are left."""
         try:
             self._written.extend(map(os.write, [self._requests], [self._unsent[:WRITE]]))
         except BlockingIOError:
@@ -164,7 +164,7 @@ class Client(Service):
         return bool(self._unsent)
 
     def _forget(self) -> None:
-        """Drops what was written."""
+        """Drops the bytes that were written."""
         while self._written:
             self._torn = True
             del self._unsent[:self._written[0]]
@@ -181,7 +181,7 @@ class Client(Service):
         self._answer()
 
     def _answer(self) -> None:
-        """Gives the lines that were read to those whom they are owed."""
+        """Gives the lines that were read to the replies that are owed, in order."""
         while self._pieces:
             if not self._pieces[0]:
                 self._end(self._channel.how_it_ended())
@@ -211,7 +211,7 @@ class Client(Service):
 
 
 class LineSession(Session):
-    """A session that is asked by lines."""
+    """A session of a service, asked by lines."""
 
     client: Client
 
@@ -221,10 +221,11 @@ class LineSession(Session):
 
     def open(self, ctf: bytes, sym: Optional[bytes] = None, strings: Optional[bytes] = None,
              model: Optional[Model] = None) -> replies.Opened:
-        """Hands in the lists of a dictionary and opens it, in one round: `d` and `types`.
+        """Hands in the lists of a dictionary and opens it, in one round trip. Returns `d` and
+        `types`.
 
-        Without a model it is "lp64". The stage is cleared first, and once more where the
-        dictionary is refused.
+        The default model is "lp64". The stage is cleared first, and again if the dictionary is
+        refused.
         """
         requests: List[Request] = [("clear", {})]
         for section, data in (("ctf", ctf), ("sym", sym), ("str", strings)):
@@ -240,12 +241,12 @@ class LineSession(Session):
         return {"d": opened["d"], "types": opened["types"]}
 
     def told(self, types: Dictionary) -> Told:
-        return Asked(types)
+        return AnswersByWord(types)
 
 
 def request_line(session: int, op: str, fields: Answer) -> bytes:
-    """A request as the service reads it."""
-    if len(fields) == 2 and "d" in fields and "t" in fields:  # most of them: a question on a type
+    """A request as a line for the service."""
+    if len(fields) == 2 and "d" in fields and "t" in fields:  # most are questions on a type
         return b'{"s":%d,"op":"%b","d":%d,"t":%d}\n' % (session, op.encode("ascii"), fields["d"],
                                                       fields["t"])
     if op == "part" and isinstance(fields.get("bytes"), memoryview):  # megabytes
@@ -256,12 +257,11 @@ def request_line(session: int, op: str, fields: Answer) -> bytes:
 
 
 def _outcome(reply: Answer, op: str, fields: Answer) -> Outcome:
-    return refused(reply["fault"], op, fields) if "fault" in reply else reply["ok"]
+    return exception_for(reply["fault"], op, fields) if "fault" in reply else reply["ok"]
 
 
 def _parts(section: str, data: Optional[bytes]) -> List[Request]:
-    """The requests that stage a list; none for a list that there is not. Their lines have its bytes
-    as digits."""
+    """The requests that stage a list, with its bytes in hexadecimal; none if `data` is None."""
     if data is None:
         return []
     whole = memoryview(data)

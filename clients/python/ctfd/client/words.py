@@ -1,6 +1,6 @@
-"""What the protocol's words answer of a slot in this process, as a service would.
+"""The words of the protocol, answered for a slot in this process as a service would.
 
-Objects of the package read rows; these are for who asks a session by words.
+The package's objects read rows instead; these are for sessions that are asked by words.
 """
 from __future__ import annotations
 
@@ -34,7 +34,7 @@ def _record(slot: Slot, fields: Answer) -> Answer:
 
 
 def _some(items: List[Answer], word: str, fields: Answer) -> Answer:
-    """Those of a list that are asked for, and how many there are."""
+    """The requested part of a list, and its total length."""
     start = fields.get("from", 0)
     return {word: items[start:start + fields.get("count", len(items))], "total": len(items)}
 
@@ -75,16 +75,16 @@ def _path(slot: Slot, fields: Answer) -> Answer:
 
 def _show(slot: Slot, fields: Answer) -> Answer:
     memory = bytes.fromhex(fields["bytes"])
-    said = slot.said("show", fields["t"], memory, len(memory), fields["offset"])
+    said = slot.text_answer("show", fields["t"], memory, len(memory), fields["offset"])
     return {"text": escape(said)}
 
 
 def _find(slot: Slot, fields: Answer) -> Answer:
-    return {"t": slot.found("find", unescape(fields["text"]), U16, text=fields["text"])}
+    return {"t": slot.look_up("find", unescape(fields["text"]), U16, text=fields["text"])}
 
 
 def _symbol(slot: Slot, fields: Answer) -> Answer:
-    number = slot.found("symbol", unescape(fields["name"]), U32, name=fields["name"])
+    number = slot.look_up("symbol", unescape(fields["name"]), U32, name=fields["name"])
     return {"class": slot.symbol_class(number), "sym": number}
 
 
@@ -94,22 +94,22 @@ def _labels(slot: Slot, fields: Answer) -> Answer:
 
 
 def _label(slot: Slot, fields: Answer) -> Answer:
-    return {"last": slot.found("label_last", unescape(fields["name"]), U32,
-                               name=fields["name"])}
+    return {"last": slot.look_up("label_last", unescape(fields["name"]), U32,
+                                 name=fields["name"])}
 
 
 def _info(slot: Slot, fields: Answer) -> Answer:
     return {"child": slot.is_child, "draft": slot.is_draft, "imported": slot.parent is not None,
-            "labels": len(slot.labels()), "parlabel": escape(slot.said("parent_label")),
-            "parname": escape(slot.said("parent_name")), "pending": slot.pending,
+            "labels": len(slot.labels()), "parlabel": escape(slot.text_answer("parent_label")),
+            "parname": escape(slot.text_answer("parent_name")), "pending": slot.pending,
             "types": slot.count}
 
 
 def _bytes(slot: Slot, fields: Answer) -> Answer:
     whole = U64()
-    slot.made("bytes", 0, room(0), 0, ctypes.byref(whole))
+    slot.call_checked("bytes", 0, room(0), 0, ctypes.byref(whole))
     wanted = min(fields.get("count", MOST_BYTES), MOST_BYTES)
-    return {"bytes": slot.written(fields["from"], wanted).hex(), "length": whole.value}
+    return {"bytes": slot.read_bytes(fields["from"], wanted).hex(), "length": whole.value}
 
 
 def _number(word: str, name: str) -> Callable[[Slot, Answer], Answer]:
@@ -133,11 +133,11 @@ ANSWERS: Dict[str, Callable[[Slot, Answer], Answer]] = {
 
 
 def answer(slot: Slot, word: str, fields: Answer) -> Answer:
-    """What a word answers of a slot. Raises Refused."""
+    """The answer to a word for a slot. Raises Refused."""
     made = ANSWERS.get(word)
     if made is None:
         slot.refuse(word, BAD_REQUEST, **fields)
     try:
         return made(slot, fields)
-    except KeyError:  # a field that is not there
+    except KeyError:  # a missing field
         slot.refuse(word, BAD_REQUEST, **fields)

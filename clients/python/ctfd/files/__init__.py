@@ -1,1 +1,1 @@
-"""Files that have types: ELF files and archives, sections in them, symbols, and a cache."""
+"""Reading the types of files through `ctfd-convert`, with a cache."""

@@ -1,7 +1,6 @@
-"""What is handed in for any file that `ctfd-convert` takes.
+"""Reads any file that `ctfd-convert` can read.
 
-What that has converted is kept in the user's cache, so that the next question on the same file is
-answered at once.
+The results of conversions are kept in the user's cache, so the file is converted once.
 """
 from __future__ import annotations
 
@@ -18,11 +17,13 @@ from .cache import Cache, key
 FEW = 3
 
 
-class Asked(NamedTuple):
-    """What a user says of the files, as `ctfd-convert` takes it. `warn` is told what was lost;
-    `cache` finds where to keep what was made, None where that is not wanted. Who `takes_parts` gets
-    a program of more types than a dictionary holds as several. `with_addresses` asks for those of
-    functions and variables."""
+class FileOptions(NamedTuple):
+    """The user's choices for reading files, as `ctfd-convert` has them.
+
+    `warn` is called with each loss. `cache` gives the cache, or is None. With `takes_parts`, a
+    program with more types than one dictionary can have becomes several. `with_addresses` asks for
+    the addresses of functions and variables.
+    """
 
     model: Optional[Model] = None
     form: Optional[str] = None
@@ -36,23 +37,23 @@ class Asked(NamedTuple):
     with_addresses: bool = False
 
 
-def read(path: str, asked: Asked) -> Bundle:
-    """What is handed in for a file. Raises Unreadable for what is none that is read."""
+def read(path: str, asked: FileOptions) -> Bundle:
+    """The dictionaries of a file. Raises Unreadable."""
     named = _key(path, asked)
     cache = asked.cache() if asked.cache and named else None
     data = cache.get(named) if cache else None
     if data is not None:
-        found = bundles.parsed(data)
+        found = bundles.parse_bundle(data)
     else:
         try:
             data = compiled.bundle(path, asked)
         except compiled.Missing:
             is_plain = (asked.number, asked.form, asked.base) == (None, None, None)
-            plain = bundles.plain(path) if is_plain else None
+            plain = bundles.plain_bundle(path) if is_plain else None
             if plain is None:
                 raise
             return plain
-        found = bundles.parsed(data)
+        found = bundles.parse_bundle(data)
         if cache and found.is_made and found.is_alone:
             cache.put(named, data)
     if asked.tells_losses:
@@ -60,21 +61,22 @@ def read(path: str, asked: Asked) -> Bundle:
     return found
 
 
-def _key(path: str, asked: Asked) -> str:
-    """By what a file's bundle is kept; "" of what comes from a pipe, which is read once."""
+def _key(path: str, asked: FileOptions) -> str:
+    """The key of a file's bundle in the cache; "" without a cache, and for a pipe, which can be
+    read only once."""
     try:
         if asked.cache is None or not stat.S_ISREG(os.stat(path).st_mode):
             return ""
         base = key(asked.base) if asked.base else ""
         return key(path, (asked.model, asked.form, list(asked.folders), asked.number,
                           asked.takes_parts, asked.with_addresses, base))
-    except (OSError, ValueError) as error:  # ValueError: a name with a zero byte
+    except (OSError, ValueError) as error:  # ValueError: a zero byte in the name
         why = error.strerror if isinstance(error, OSError) else error
         raise Unreadable(f"{path}: {why}") from error
 
 
-def _tell(path: str, losses: Sequence[str], asked: Asked) -> None:
-    """What CTF can't hold of a file: each where it is little."""
+def _tell(path: str, losses: Sequence[str], asked: FileOptions) -> None:
+    """Warns of what CTF cannot represent of a file: each construct, if there are few."""
     if not losses:
         return
     from .losses import notice

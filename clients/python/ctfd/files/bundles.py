@@ -1,5 +1,5 @@
-"""What the compiled `ctfd-convert` hands over: a line of JSON, and behind it the lists that it
-counts, as its manual page describes them."""
+"""The output of `ctfd-convert --bundle`: a line of JSON, followed by the lists whose lengths it
+gives. The manual page describes it."""
 from __future__ import annotations
 
 import json
@@ -10,7 +10,8 @@ from ..client.model import Model
 from .source import Source
 
 
-# How CTF of version 2 begins, its flags, and what its labels say that it is handed in with.
+# The first bytes of CTF version 2, the flags of an uncompressed section, and the beginnings of
+# labels that name a data model or a symbol table.
 PLAIN, UNCOMPRESSED = b"\xf1\xcf\2", (b"\0",)
 NAMED = (b"ctfd.model=", b"ctfd.symbols=names,")
 
@@ -25,9 +26,12 @@ class Symbol(NamedTuple):
 
 
 class Bundle(NamedTuple):
-    """The dictionaries of a file, the parent first where there are several, and the symbols of the
-    first. `is_made` says whether they were converted, `losses` what CTF does not hold of the file,
-    and `is_alone` that no other file has a part of it."""
+    """The dictionaries of a file, the parent first if there are several, and the symbols of the
+    first.
+
+    `is_made` is true if they were converted. `losses` lists what CTF cannot represent, and
+    `is_alone` is true if no other file contributed.
+    """
 
     sources: Sequence[Source]
     symbols: Sequence[Symbol] = ()
@@ -37,8 +41,8 @@ class Bundle(NamedTuple):
 
 
 class Description(NamedTuple):
-    """An ELF file: `kind` is object, program, library, core or other. `entry` is the address at
-    which the program begins, and `text` that of its code."""
+    """An ELF file. `kind` is object, program, library, core or other. `entry` is the entry point,
+    and `text` the address of the code."""
 
     kind: str
     model: Model
@@ -50,33 +54,33 @@ class Description(NamedTuple):
 
     @property
     def is_fixed(self) -> bool:
-        """Whether it is a program that runs at the addresses in the file."""
+        """Whether the file is a program that runs at the addresses in the file."""
         return self.kind == "program"
 
 
-def parsed(data: bytes) -> Bundle:
-    """A bundle of its bytes."""
+def parse_bundle(data: bytes) -> Bundle:
+    """The bundle in the command's output."""
     end = data.index(b"\n") + 1
     head = json.loads(data[:end])
     places = list(accumulate(head["lists"], initial=end))
 
-    def listed(place: Optional[int]) -> Optional[bytes]:
+    def list_at(place: Optional[int]) -> Optional[bytes]:
         return None if place is None else data[places[place]:places[place + 1]]
 
     sources: List[Source] = []
     symbols: List[Symbol] = []
     for one in head["dictionaries"]:
-        sources.append(Source(listed(one["ctf"]) or b"", listed(one["symbols"]),
-                              listed(one["strings"]), one["how"], one["model"], one["label"]))
-        addresses = listed(one.get("addresses"))
+        sources.append(Source(list_at(one["ctf"]) or b"", list_at(one["symbols"]),
+                              list_at(one["strings"]), one["how"], one["model"], one["label"]))
+        addresses = list_at(one.get("addresses"))
         if addresses is not None and len(sources) == 1:
             symbols = [Symbol(*symbol) for symbol in json.loads(addresses)]
     return Bundle(sources, symbols, head["made"], head["losses"], head["alone"])
 
 
-def plain(path: str) -> Optional[Bundle]:
-    """A dictionary that is handed in as it is, without the command: it is not compressed, and names
-    neither a data model nor symbols of its own. None of any other file."""
+def plain_bundle(path: str) -> Optional[Bundle]:
+    """A dictionary that can be opened without the command: not compressed, and no label names a
+    data model or a symbol table. None for any other file."""
     try:
         with open(path, "rb") as file:
             data = file.read()
@@ -87,7 +91,7 @@ def plain(path: str) -> Optional[Bundle]:
     return Bundle([Source(data)])
 
 
-def described(data: bytes) -> Optional[Description]:
-    """The description of an ELF file; None of another."""
+def parse_description(data: bytes) -> Optional[Description]:
+    """The description of an ELF file, or None for other files."""
     found = json.loads(data)
     return found and Description(**found)

@@ -1,8 +1,8 @@
-"""What was made of programs, kept for the next time.
+"""The cache of converted dictionaries.
 
-They stand in `$XDG_CACHE_HOME/ctfd`, or `~/.cache/ctfd`, a file for each, and the oldest go when
-there are too many bytes. A folder that others can write to is not used, and a file that was changed
-counts as none. Nothing is ever refused since it can't be kept.
+The folder is `$XDG_CACHE_HOME/ctfd`, or `~/.cache/ctfd`, with one file for each dictionary. If it
+grows too large, the files that were unused longest are removed. A folder that others can write to
+is not used, and a damaged file is ignored. A failure of the cache is never an error.
 """
 from __future__ import annotations
 
@@ -17,20 +17,20 @@ from ..version import VERSION
 
 MOST_BYTES = 512 << 20
 SUFFIX = ".ctf"
-FORMAT = 4  # of the kept files and of what is made of a program; another number is another name
+FORMAT = 4  # of the cached files and of conversions; a new number changes all keys
 PIECE = 1 << 20
 LARGE = 256 << 20
 
 
 class Cache:
-    """What is kept in a folder, `most` bytes at most."""
+    """The cached files in a folder, at most `most` bytes in all."""
 
     def __init__(self, folder: Path, most: int = MOST_BYTES) -> None:
         self.folder = folder
         self.most = most
 
     def get(self, name: str) -> Optional[bytes]:
-        """What was kept by a name; None where there is nothing that holds."""
+        """The bytes stored under a name, or None if there are none, or they are damaged."""
         path = self._path(name)
         try:
             if not self._is_mine():
@@ -45,7 +45,7 @@ class Cache:
             return None
 
     def put(self, name: str, data: bytes) -> None:
-        """Keeps what was made, and lets the oldest go."""
+        """Stores bytes under a name, and removes the files that were unused longest if needed."""
         kept = _sum(data).encode("ascii") + b"\n" + data
         if len(kept) > self.most:
             return
@@ -53,7 +53,7 @@ class Cache:
             self.folder.mkdir(mode=0o700, parents=True, exist_ok=True)
             if self._is_mine():
                 self._write(self._path(name), kept)
-                self._bound()
+                self._trim()
         except OSError as error:
             _log(self.folder, error)
 
@@ -61,7 +61,7 @@ class Cache:
         return self.folder / f"{name}{SUFFIX}"
 
     def _is_mine(self) -> bool:
-        """Whether nobody else can have put a file there."""
+        """Whether the folder is this user's, and nobody else can write to it."""
         found = os.lstat(self.folder)
         return (stat.S_ISDIR(found.st_mode) and found.st_uid == os.geteuid()
                 and not found.st_mode & 0o022)
@@ -79,8 +79,8 @@ class Cache:
                 os.unlink(made)
             raise
 
-    def _bound(self) -> None:
-        """Takes the files away that were not asked for longest, what a crash has left too."""
+    def _trim(self) -> None:
+        """Removes the files that were unused longest, and files that a crash has left."""
         found: List[Tuple[float, int, Path]] = []
         for path in self.folder.iterdir():
             with contextlib.suppress(OSError):
@@ -95,7 +95,7 @@ class Cache:
 
 
 def user_cache() -> Optional[Cache]:
-    """The cache of the user who runs this; None where there is no home."""
+    """The cache of the user who runs this, or None if there is no home folder."""
     named = os.environ.get("XDG_CACHE_HOME", "")
     home = os.path.expanduser("~")
     if os.path.isabs(named):
@@ -104,8 +104,9 @@ def user_cache() -> Optional[Cache]:
 
 
 def key(path: str, words: Iterable[object] = ()) -> str:
-    """By what a file's types are kept: its bytes, what was asked of it, and what made them. Of a
-    large file its place and times stand for its bytes. Raises OSError."""
+    """The key of a file's types: a hash of its bytes, the options, and the version of the
+    converter. For a large file, its inode and times are used in place of the bytes. Raises
+    OSError."""
     found = hashlib.blake2b(repr((FORMAT, VERSION, *words)).encode(), digest_size=24)
     with open(path, "rb") as file:
         told = os.fstat(file.fileno())
@@ -119,7 +120,7 @@ def key(path: str, words: Iterable[object] = ()) -> str:
 
 
 def _log(path: Path, error: Exception) -> None:
-    """Nothing is refused since it can't be kept, and who wonders may see why."""
+    """Logs an error of the cache at debug level."""
     import logging
 
     logging.getLogger(__name__).debug("%s: %s", path, error)

@@ -1,9 +1,9 @@
-"""The compiled commands that this package runs: `ctfd-convert`, which reads programs for it.
+"""Runs compiled commands such as `ctfd-convert`, which reads programs for this package.
 
-A command is the one beside the command that runs, of the clone that this package stands in, beside
-the program that CTFD names, the one that this package carries, in `bin` beside the `lib` that this
-package is in, or on the PATH. One of another version does not count, nor one that another user
-could have put there (trust.py).
+A command is searched for in this order: beside the running command, in the clone that contains this
+package, beside the program that CTFD names, in this package, in `bin` beside the `lib` that
+contains this package, on the PATH. It must have the package's version, and no other user may have
+been able to put it there (trust.py).
 """
 from __future__ import annotations
 
@@ -20,44 +20,43 @@ from . import bundles
 from .bundles import Description
 
 if TYPE_CHECKING:
-    from .anyfile import Asked
+    from .anyfile import FileOptions
 
 NAME = "ctfd-convert"
 BUILT = "clients/rust/target/release"
-ELF = b"\x7fELF"  # how a compiled program begins
+ELF = b"\x7fELF"  # the first bytes of a compiled program
 
 
-def bundle(path: str, asked: Asked) -> bytes:
-    """What the command hands over for a file, as `bundles` reads it. Raises Unreadable where that is
-    nothing."""
+def bundle(path: str, asked: FileOptions) -> bytes:
+    """The output of `ctfd-convert --bundle` for a file. Raises Unreadable."""
     words = [*_words(asked), "--bundle"]
-    return _written(path, [*words, "--addresses"] if asked.with_addresses else words)
+    return _run_command(path, [*words, "--addresses"] if asked.with_addresses else words)
 
 
 def description(path: str) -> Optional[Description]:
-    """What an ELF file is; None of any other file. Raises Unreadable."""
-    return bundles.described(_written(path, ["--describe"]))
+    """The description of an ELF file, or None for other files. Raises Unreadable."""
+    return bundles.parse_description(_run_command(path, ["--describe"]))
 
 
 def label(ctf: bytes) -> Optional[str]:
-    """By what a child names a dictionary as its parent. Raises Unreadable."""
-    written = _written("/dev/stdin", ["--bundle"], ctf)
-    return bundles.parsed(written).sources[0].label
+    """The label by which children name a dictionary as their parent. Raises Unreadable."""
+    written = _run_command("/dev/stdin", ["--bundle"], ctf)
+    return bundles.parse_bundle(written).sources[0].label
 
 
 class Missing(Unreadable):
-    """There is no such command."""
+    """The command was not found."""
 
 
-def _written(path: str, words: List[str], data: bytes = b"") -> bytes:
-    """What the command writes of a file, or of what it reads from a pipe. Raises Unreadable."""
+def _run_command(path: str, words: List[str], data: bytes = b"") -> bytes:
+    """The output of the command for a file, or for `data` on standard input. Raises Unreadable."""
     command = find()
     if command is None:
         raise Missing(f"{path}: {missing(NAME, 'its types are read')}")
     try:
         done = subprocess.run([NAME, *words, "--", path, "-"], executable=command, input=data,
                               capture_output=True, check=False)
-    except (OSError, ValueError) as error:  # ValueError: a name with a zero byte
+    except (OSError, ValueError) as error:  # ValueError: a zero byte in the name
         why = error.strerror if isinstance(error, OSError) else error
         raise Unreadable(f"{path}: {command}: {why}") from error
     if done.returncode != 0:
@@ -66,13 +65,13 @@ def _written(path: str, words: List[str], data: bytes = b"") -> bytes:
 
 
 def missing(name: str, what: str) -> str:
-    """That there is no such command, and what that means."""
+    """The error text for a command that was not found."""
     return (f"{what} by the compiled command {name} of version {VERSION}, and there is none here that"
             " no other user could have put there: install it, or build it in the clone by `make`")
 
 
 def reason(path: str, done: "subprocess.CompletedProcess[bytes]", name: str) -> str:
-    """Why a command has made nothing of a file: what it says last."""
+    """Why a command failed for a file: the last line of its standard error."""
     lines = done.stderr.decode("utf-8", "replace").splitlines()
     said = lines[-1] if lines else ""
     if said.startswith(f"{name}: "):
@@ -80,8 +79,8 @@ def reason(path: str, done: "subprocess.CompletedProcess[bytes]", name: str) -> 
     return f"{path}: {name} ended with status {done.returncode}{': ' + said if said else ''}"
 
 
-def _words(asked: Asked) -> Iterator[str]:
-    """The options of the command, each a word."""
+def _words(asked: FileOptions) -> Iterator[str]:
+    """The command-line options for `asked`."""
     if not asked.takes_parts:
         yield "--one"
     if asked.model:
@@ -96,7 +95,7 @@ def _words(asked: Asked) -> Iterator[str]:
 
 
 def find(name: str = NAME) -> Optional[str]:
-    """The program that is a compiled command, or None. It is to be started by the command's name."""
+    """The path of a compiled command, or None. Start it with `name` as `argv[0]`."""
     for path in _places(name):
         if os.access(path, os.X_OK) and trust.is_trusted(path) and _is_ours(path, name):
             return path
@@ -109,7 +108,7 @@ def _places(name: str) -> Iterator[str]:
         yield os.path.join(folder, name)
     if clone:
         yield os.path.join(clone, BUILT, name)
-    program = service.named()
+    program = service.program_path()
     if program and os.path.isabs(program):
         yield os.path.join(os.path.dirname(program), name)
     yield commands.path_of(name)
@@ -124,7 +123,7 @@ def _places(name: str) -> Iterator[str]:
 
 @functools.lru_cache(maxsize=8)
 def _is_ours(path: str, name: str) -> bool:
-    """Whether it is the compiled command of a name, of this package's version."""
+    """Whether a file is the compiled command of this name, of this package's version."""
     try:
         with open(path, "rb") as file:
             if file.read(len(ELF)) != ELF:

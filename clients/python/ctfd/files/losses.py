@@ -1,4 +1,4 @@
-"""What CTF does not hold of a file, as lines for a user."""
+"""Messages about what CTF cannot represent of a file."""
 from __future__ import annotations
 
 import re
@@ -9,14 +9,15 @@ _GRAVE = re.compile(r"\d+ (types|functions|units?) |.*: symbols are left out")
 
 
 def told_once(losses: Sequence[str]) -> List[str]:
-    """Each line once, with how often it was told."""
+    """Each line once, with its count if it occurs more often."""
     return [line if count == 1 else f"{line} ({count} times)"
             for line, count in Counter(losses).items()]
 
 
 def notice(losses: Sequence[str], most: int, how: str) -> List[str]:
-    """What a user is told: that types, symbols or files are left out comes first, and of what else
-    is many, how many there are, and how to see them."""
+    """The lines to show a user. Lines about left-out types, symbols or files come first. If
+    there are more than `most` others, the rest becomes one line with their number and `how` to
+    list them."""
     lines = told_once(losses)
     first = [line for line in lines if _GRAVE.match(line)]
     others = [line for line in lines if not _GRAVE.match(line)]

@@ -1,4 +1,4 @@
-"""The dictionaries of files, with their parents."""
+"""Opens the dictionaries of files, with their parents."""
 from __future__ import annotations
 
 import contextlib
@@ -8,7 +8,7 @@ from ..client.dictionary import Dictionary, open_file, open_source
 from ..client.faults import BadSymbols, Error, Refused, Unreadable
 from ..client.session import Session
 from . import anyfile
-from .anyfile import Asked
+from .anyfile import FileOptions
 from .bundles import Bundle
 from .source import Source
 
@@ -17,21 +17,21 @@ ALONE = ("a parent goes with a dictionary, and this file's types are converted f
 
 
 class Opener:
-    """Opens files in one session, as a user asked for them; a parent of several files is opened
+    """Opens files in one session with the user's options. A parent of several files is opened
     once."""
 
-    def __init__(self, session: Session, asked: Asked = Asked()) -> None:
+    def __init__(self, session: Session, asked: FileOptions = FileOptions()) -> None:
         self.session = session
         self.asked = asked
         self._parents: Dict[str, Dictionary] = {}
 
     def open(self, path: str, parent: Optional[str] = None) -> Dictionary:
-        """The dictionary of a file, over its parent where one is named."""
+        """The dictionary of a file, with its parent if one is named."""
         with told_of(path):
             found = anyfile.read(path, self.asked)
             if found.is_made and parent is not None:
                 raise Unreadable(f"{path}: {ALONE}")
-            types = self._opened(found, found.sources[0], path)
+            types = self._open_bundle(found, found.sources[0], path)
         if parent is not None:
             if parent not in self._parents:
                 with told_of(parent):
@@ -41,19 +41,20 @@ class Opener:
         return types
 
     def open_all(self, path: str) -> List[Dictionary]:
-        """The dictionaries of a file: one, or a parent and its children where it is in parts."""
+        """The dictionaries of a file: one, or a parent and its children."""
         with told_of(path):
             found = anyfile.read(path, self.asked)
             made: List[Dictionary] = []
             for one in found.sources:
-                part = self._opened(found, one, path)
+                part = self._open_bundle(found, one, path)
                 if made:
                     part.import_parent(made[0])
                 made.append(part)
             return made
 
-    def _opened(self, found: Bundle, one: Source, path: str) -> Dictionary:
-        """A dictionary of a file; one that was converted without what does not fit its symbols."""
+    def _open_bundle(self, found: Bundle, one: Source, path: str) -> Dictionary:
+        """Opens a dictionary of a file. A converted one whose symbols do not fit is opened without
+        them."""
         try:
             return open_source(self.session, one)
         except BadSymbols:
@@ -66,7 +67,8 @@ class Opener:
 
 @contextlib.contextmanager
 def told_of(what: str) -> Iterator[None]:
-    """Refusals of a file are told with its name, and without the request."""
+    """A context that raises refusals of a file again, with the file's name and without the
+    request."""
     try:
         yield
     except Unreadable as error:

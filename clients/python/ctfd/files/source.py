@@ -1,6 +1,7 @@
-"""What is handed in for a file: its dictionary, inflated, and the symbols and strings beside it.
+"""The lists of a dictionary, as they are opened: the inflated section, the symbol table and the
+strings.
 
-The compiled `ctfd-convert` reads the file (compiled.py); what is not CTF of version 2 it converts.
+The compiled `ctfd-convert` reads the file (compiled.py), and converts what is not CTF of version 2.
 """
 from __future__ import annotations
 
@@ -9,7 +10,7 @@ from typing import NamedTuple, Optional
 from ..client.faults import Unreadable
 from ..client.model import Model
 
-# What is to be known of the symbols of a file, by how they were found.
+# Warnings about the symbols of a file, by `Source.how`.
 WARNINGS = {
     "guessed": "the section names no symbol table: if the types were not written for the file's"
                " .symtab, the types of symbols are wrong",
@@ -28,14 +29,14 @@ TYPES = "ctfd.types="
 class Source(NamedTuple):
     """The lists of a dictionary, and the data model of its program.
 
-    `how` tells where `sym` and `strings` come from: "named", the table that the dictionary says
-    that it was written for; "linked", that which the section names; "guessed", the file's .symtab,
-    which may not be the one that the section was written for; "given", handed in by the caller; or
-    "none". It is "differs" where the table is not the one that the dictionary says, "stripped"
-    where the file has none, and "unread" where it is one of 32 bits: the service does not read it,
-    and only the strings are there.
-    `model` is None where nothing tells it, as with a section by itself of which the dictionary says
-    nothing. A child names the dictionary by `label`, where it was made over this one.
+    `how` says where `sym` and `strings` come from: "named", the table that a label names; "linked",
+    the table that the section header names; "guessed", the file's .symtab, which may be another one
+    than the types were written for; "given", from the caller; or "none". It is "differs" if the
+    table is not the one that the label names, "stripped" if the file has none, and "unread" for a
+    table of 32 bits: the service does not read it, and only the strings are given.
+
+    `model` is None if it is unknown, as for a section by itself without a label for it. `label` is
+    the name that a child made over this dictionary gives its parent.
     """
 
     ctf: bytes
@@ -47,16 +48,18 @@ class Source(NamedTuple):
 
 
 def read(path: str, number: Optional[int] = None) -> Source:
-    """What is handed in for a file. `number` chooses one of several dictionaries that stand behind
-    each other. Raises Unreadable."""
-    from .anyfile import Asked, read as read_file  # here: they stand on this
+    """The CTF section, symbol table and strings of a dictionary in a file.
 
-    return read_file(path, Asked(number=number)).sources[0]
+    `number` chooses one of several dictionaries in the file. Raises Unreadable.
+    """
+    from .anyfile import FileOptions, read as read_file  # here: that module imports this
+
+    return read_file(path, FileOptions(number=number)).sources[0]
 
 
 def judge_parent(label: str, of: Source) -> None:
-    """Raises Unreadable where a dictionary is not the parent that a child names by a label."""
-    from . import compiled  # here: it stands on this
+    """Raises Unreadable if a dictionary is not the parent that a child's label names."""
+    from . import compiled  # imported here: that module imports this one
 
     if label.startswith(TYPES) and label != (of.label or compiled.label(of.ctf)):
         raise Unreadable("its types are not those that the child was made over: name the parent's"

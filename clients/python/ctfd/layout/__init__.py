@@ -1,4 +1,4 @@
-"""Where members lie: layouts of structs and unions, figures of all of them, and who holds whom."""
+"""Layouts: offsets and holes of members, and the table of types that `ctfd.build` fills."""
 from .places import Layout, Place, layout
 
 __all__ = ["Layout", "Place", "layout"]

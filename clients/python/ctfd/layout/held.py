@@ -1,6 +1,6 @@
-"""What CTF of version 2 holds of a table, and what is told of the rest.
+"""Reduces a table to what CTF of version 2 can represent.
 
-All that stands in place of what can't be held is told by a line in the losses of the table.
+The table's `losses` get one line for each construct that was replaced or left out.
 """
 from __future__ import annotations
 
@@ -21,9 +21,9 @@ FLOATS = {
 }
 
 
-def held(table: Table) -> Table:
-    """The same types as far as CTF holds them, with the losses told."""
-    made = table.kept(table.numbers())
+def fit_to_ctf(table: Table) -> Table:
+    """A copy of a table, reduced to what CTF can represent, with a line for each loss."""
+    made = table.subset(table.numbers())
     widths = _Widths(made)
     for number in table.numbers():
         record = made[number]
@@ -47,8 +47,8 @@ def _float(table: Table, record: Record) -> Record:
 
 
 def _atomic(table: Table, record: Record) -> Record:
-    """C spells an atomic type like a name: `_Atomic(int)`."""
-    return record._replace(kind="typedef", name=f"_Atomic({spelled(table, record.type)})")
+    """An atomic type as a typedef, with C's spelling as its name: `_Atomic(int)`."""
+    return record._replace(kind="typedef", name=f"_Atomic({spelling(table, record.type)})")
 
 
 def _array(table: Table, record: Record) -> Record:
@@ -75,16 +75,16 @@ def _enum(table: Table, record: Record) -> Record:
         if _fits(one.value, record.size):
             kept.append(one)
         else:
-            table.losses.append(f"{record.tagged}: its enumerator {one.name} is {one.value}, and"
-                                " CTF holds 32 bits; it is left out")
+            table.losses.append(f"{record.name_with_tag}: its enumerator {one.name} is {one.value},"
+                                " and CTF holds 32 bits; it is left out")
     if len(kept) > MOST_PARTS:
-        table.losses.append(f"{record.tagged}: it has {len(kept)} enumerators, and CTF holds"
+        table.losses.append(f"{record.name_with_tag}: it has {len(kept)} enumerators, and CTF holds"
                             f" {MOST_PARTS}; those from {kept[MOST_PARTS].name} on are left out")
     return record._replace(enumerators=tuple(kept[:MOST_PARTS]))
 
 
 def _fits(value: int, size: int) -> bool:
-    """Whether 32 bits hold an enumerator; of an enum of 4 bytes they are all that there is."""
+    """Whether an enumerator fits into 32 bits; for an enum of 4 bytes also if unsigned."""
     return -1 << 31 <= value < (1 << 32 if size == 4 else 1 << 31)
 
 
@@ -93,24 +93,25 @@ def _aggregate(table: Table, record: Record, widths: _Widths) -> Record:
     record = record._replace(members=members)
     if len(members) <= MOST_PARTS:
         return record
-    table.losses.append(f"{record.tagged}: it has {len(members)} members, and CTF holds"
+    table.losses.append(f"{record.name_with_tag}: it has {len(members)} members, and CTF holds"
                         f" {MOST_PARTS}; they stand in unnamed {record.kind}s within it")
-    return _nested(table, record)
+    return _nest_members(table, record)
 
 
-def _nested(table: Table, record: Record) -> Record:
-    """Members that are too many, in unnamed structs or unions of which each is as large."""
+def _nest_members(table: Table, record: Record) -> Record:
+    """Groups members, if there are too many, into unnamed structs or unions of the same size."""
     groups: List[Part] = []
     for start in range(0, len(record.members), MOST_PARTS):
         inner = Record(record.kind, size=record.size,
                        members=record.members[start:start + MOST_PARTS], root=False)
         groups.append(Part("", table.add(inner), 0))
     record = record._replace(members=tuple(groups))
-    return record if len(groups) <= MOST_PARTS else _nested(table, record)
+    return record if len(groups) <= MOST_PARTS else _nest_members(table, record)
 
 
 class _Widths:
-    """The types of bit-fields, each made once: typedefs may lie deep, and members are many."""
+    """The integer types of bit-fields, each created once: members are many, and typedefs may be
+    deep."""
 
     def __init__(self, table: Table) -> None:
         self.table = table
@@ -118,8 +119,8 @@ class _Widths:
         self._narrowed: Dict[Tuple[int, int], int] = {}
 
     def member(self, whole: Record, part: Part) -> Part:
-        """A bit-field gets a type of its width, all others stay. One as wide as its type gets a
-        hidden copy of that, by which it is known."""
+        """A bit-field with a type of its width; other members are unchanged. A bit-field as wide as
+        its type gets a hidden copy of the type, which marks it as one."""
         if part.width is None:
             return part
         base = self._base(part.type)
@@ -128,20 +129,21 @@ class _Widths:
             return part._replace(width=None)
         if base.kind == "enum":
             self.table.losses.append(
-                f"{whole.tagged}: its bit-field {part.name} is one of {base.tagged}, and CTF has"
-                f" widths of integers alone; an integer of {part.width} bits with the enum's name"
-                " stands there")
+                f"{whole.name_with_tag}: its bit-field {part.name} is one of {base.name_with_tag},"
+                f" and CTF has widths of integers alone; an integer of {part.width} bits with the"
+                " enum's name stands there")
         return part._replace(type=self._narrow(part.type, part.width), width=None)
 
     def _base(self, number: int) -> Optional[Record]:
-        """What stands behind typedefs and qualifiers."""
+        """The type behind typedefs and qualifiers, or None."""
         if number not in self._bases:
-            end = self.table.resolved(number)
+            end = self.table.resolve(number)
             self._bases[number] = self.table[end] if end else None
         return self._bases[number]
 
     def _narrow(self, number: int, width: int) -> int:
-        """A type, its typedefs and qualifiers kept, with an integer of fewer bits at their end."""
+        """A copy of a type with its typedefs and qualifiers, ending in an integer of `width`
+        bits."""
         known = self._narrowed.get((number, width))
         if known is None:
             known = self._narrowed[number, width] = self._new_narrow(number, width)
@@ -151,7 +153,7 @@ class _Widths:
         record = self.table[number]
         if record.kind == "enum":
             flags = 1 if any(one.value < 0 for one in record.enumerators) else 0
-            return self.table.once(Record("integer", record.tagged, record.size,
+            return self.table.once(Record("integer", record.name_with_tag, record.size,
                                           encoding=Encoding(flags, 0, width), root=False))
         if record.kind == "integer":
             lies = record.encoding
@@ -167,10 +169,10 @@ _HOLD = {"float": _float, "atomic": _atomic, "array": _array, "function": _funct
 
 
 def size_of(table: Table, number: int) -> Optional[int]:
-    """The bytes of a type; None where it has no size."""
+    """The size of a type in bytes, or None if it has none."""
     count = 1
     for _ in range(len(table) + 1):
-        number = table.resolved(number)
+        number = table.resolve(number)
         record = table[number] if number else Record("unknown")
         if record.kind == "pointer":
             return count * POINTER_SIZES[table.model]
@@ -183,8 +185,8 @@ def size_of(table: Table, number: int) -> Optional[int]:
     return None
 
 
-def spelled(table: Table, number: int) -> str:
-    """A type as C spells it in a cast, the arguments of functions left out."""
+def spelling(table: Table, number: int) -> str:
+    """A type as C writes it in a cast, but without the arguments of functions."""
     left, right = "", ""
     before: List[str] = []
     for _ in range(DEEPEST):
@@ -206,4 +208,4 @@ def spelled(table: Table, number: int) -> str:
         else:
             break
         number = record.type
-    return " ".join(filter(None, [*before, record.tagged, left + right]))
+    return " ".join(filter(None, [*before, record.name_with_tag, left + right]))

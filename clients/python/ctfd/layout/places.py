@@ -1,4 +1,4 @@
-"""Where the members of a struct or union lie, and the holes between them."""
+"""The offsets of a struct's or union's members, and the holes between them."""
 from __future__ import annotations
 
 from typing import Iterable, List, NamedTuple, Optional, Tuple
@@ -10,10 +10,10 @@ Span = Tuple[int, int, Optional[int]]
 
 
 class Place(NamedTuple):
-    """Where a member lies: `start` in bits from the start of its struct, and `bits` wide.
+    """The position of a member: `start` is its offset in bits in its struct, and `bits` its size.
 
-    `gap` is how many bits lie unused in front of it, `width` its bits where it is a bit-field.
-    A member without a size, as an array of no elements of a forward, has 0 bits.
+    `gap` is the number of unused bits before it, and `width` its width if it is a bit-field. A
+    member without a size, such as an array of a forward, has 0 bits.
     """
 
     member: Member
@@ -24,19 +24,21 @@ class Place(NamedTuple):
 
     @property
     def hole(self) -> int:
-        """Whole bytes unused in front of it."""
+        """The number of whole unused bytes before the member."""
         return (self.gap - self.bit_hole) // 8
 
     @property
     def bit_hole(self) -> int:
-        """Bits unused in front of it that are no whole byte: behind a bit-field, or before one."""
+        """The number of unused bits before the member that do not fill a byte, next to a
+        bit-field."""
         if self.width is not None and self.gap < 8:
             return self.gap
         return self.gap % 8
 
 
 class Layout(NamedTuple):
-    """All of a struct or union; `padding` is how many bits lie unused behind the last member."""
+    """The layout of a struct or union. `size` is in bytes, and `padding` is the number of unused
+    bits after the last member."""
 
     size: int
     places: List[Place]
@@ -44,28 +46,28 @@ class Layout(NamedTuple):
 
     @property
     def holes(self) -> List[int]:
-        """The lengths in bytes of the holes between members."""
+        """The lengths of the holes between members, in bytes."""
         return [place.hole for place in self.places if place.hole]
 
     @property
     def bit_holes(self) -> List[int]:
-        """The lengths of the holes that are no whole byte."""
+        """The lengths of holes that do not fill a byte, in bits."""
         return [place.bit_hole for place in self.places if place.bit_hole]
 
 
 def layout(aggregate: Type) -> Layout:
-    """The layout of a struct or union, typedefs and qualifiers followed."""
-    return gathered(aggregate.gather())
+    """The layout of a struct or union, through typedefs and qualifiers."""
+    return gathered_layout(aggregate.gather())
 
 
-def gathered(aggregate: Type) -> Layout:
-    """The same of one that was gathered, or that is held by one that was."""
+def gathered_layout(aggregate: Type) -> Layout:
+    """The layout of a type that was gathered, or is contained in one that was."""
     whole = aggregate.resolved
     return laid(whole.kind, whole.size or 0, [(m, _span(m)) for m in whole.members])
 
 
 def laid(kind: str, size: int, spans: Iterable[Tuple[Member, Span]]) -> Layout:
-    """The layout of a struct or union of some bytes, of which each member's span is told."""
+    """The layout of a struct or union of `size` bytes, from the spans of its members."""
     places: List[Place] = []
     end = 0
     for member, (start, bits, width) in spans:
@@ -78,7 +80,7 @@ def laid(kind: str, size: int, spans: Iterable[Tuple[Member, Span]]) -> Layout:
 
 
 def _span(member: Member) -> Span:
-    """Where a member begins, how many bits it takes, and its width as a bit-field."""
+    """The offset and size of a member in bits, and its width if it is a bit-field."""
     lies = member.type.bit_field
     if lies is not None:
         return member.offset + lies.offset, lies.bits, lies.bits

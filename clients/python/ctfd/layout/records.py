@@ -1,7 +1,7 @@
-"""Types of C as a table of records that name each other by number, before they are a dictionary.
+"""A table of C types: records that refer to each other by number, not yet a dictionary.
 
-What reads a dictionary makes such a table, and so does `ctfd.build`. A table may say more than CTF of
-version 2 holds: `held` makes one of it that says no more.
+`ctfd.build` makes such a table. It can contain more than CTF of version 2 can represent; `held`
+reduces it.
 """
 from __future__ import annotations
 
@@ -19,7 +19,7 @@ NAMES = ("struct", "union", "enum", "typedef", "integer", "float")
 
 
 class Part(NamedTuple):
-    """A member; `offset` is in bits, and `width` that of a bit-field."""
+    """A member. `offset` is in bits; `width` is set for a bit-field."""
 
     name: str
     type: int
@@ -28,10 +28,10 @@ class Part(NamedTuple):
 
 
 class Record(NamedTuple):
-    """A type. `kind` is the service's word, or `atomic`, which CTF has not.
+    """A type. `kind` is the service's word, or `atomic`, which CTF does not have.
 
-    `type` is what it points to, renames, qualifies, returns or holds; 0 is none. A forward's `tag`
-    is what it declares. `root` says whether look-ups by name see it.
+    `type` is the type that it points to, renames, qualifies, returns or contains; 0 is none. `tag`
+    says what a forward declares. `root` is true if look-ups by name find the type.
     """
 
     kind: str
@@ -50,11 +50,11 @@ class Record(NamedTuple):
 
     @property
     def references(self) -> List[int]:
-        """The numbers of the types that it names, in the order of `renumbered`."""
+        """The numbers of the types that it refers to, in the order of `renumber`."""
         return [self.type, self.indexed_by, *self.arguments, *[part[1] for part in self.members]]
 
-    def renumbered(self, number: Callable[[int], int]) -> Record:
-        """The same with another number for each type that it names."""
+    def renumber(self, number: Callable[[int], int]) -> Record:
+        """A copy with each reference mapped by `number`."""
         (kind, name, size, held, encoding, indexed_by, elements, arguments, varargs, members,
          enumerators, tag, root) = self  # hundreds of thousands: no call more than it takes
         return Record(kind, name, size, number(held), encoding, number(indexed_by), elements,
@@ -64,8 +64,8 @@ class Record(NamedTuple):
                       enumerators, tag, root)
 
     @property
-    def tagged(self) -> str:
-        """Its name as C has it, with the word in front."""
+    def name_with_tag(self) -> str:
+        """The name with `struct`, `union` or `enum` in front if it has one of these."""
         word = self.tag if self.kind == "forward" else self.kind
         return f"{word} {self.name or '(anon)'}" if self.kind in TAGGED else self.name
 
@@ -74,13 +74,13 @@ UNKNOWN = Record("unknown")
 
 
 class Table:
-    """Records with numbers from 1 on; `losses` tells what of their source they do not say.
+    """Records, numbered from 1. `losses` lists what they do not say of their source.
 
-    `objects` and `functions` are what is told of the symbols of which a dictionary can tell
-    something, in their order: an object's type or 0, a function's record or None. `labels` are
-    those of a dictionary, each with the last number that it covers. It may have a parent, whose
-    types are the first `bases`, and are unknown where it lacks that; `has_outer_names` says that
-    names of it stand in the strings of its ELF file.
+    `objects` and `functions` are the types of the considered symbols, in their order: the type of
+    an object or 0, the record of a function or None. `labels` are the labels of a dictionary, each
+    with the last number that it covers. A table may have a parent, whose types are the first
+    `bases` (unknown if `lacks_parent`). `has_outer_names` is set if names are in the strings of the
+    ELF file.
     """
 
     def __init__(self, model: Model = "lp64") -> None:
@@ -102,29 +102,29 @@ class Table:
         return len(self.records)
 
     def add(self, record: Record) -> int:
-        """A new type."""
+        """Adds a type, and returns its number."""
         self.records.append(record)
         return len(self.records)
 
     def once(self, record: Record) -> int:
-        """The type of a record, added where no call of this has added it."""
+        """The number of a record, which is added unless a call of `once` has added it before."""
         number = self._known.get(record)
         if number is None:
             number = self._known[record] = self.add(record)
         return number
 
     def put(self, number: int, record: Record) -> None:
-        """Replaces the record of a number."""
+        """Replaces a record."""
         self.records[number - 1] = record
 
     def numbers(self) -> range:
         return range(1, len(self.records) + 1)
 
     def signatures(self) -> Iterator[Record]:
-        """The records of functions of which something is told."""
+        """The records of functions, where they are known."""
         return (one for one in self.functions if one is not None)
 
-    def resolved(self, number: int) -> int:
+    def resolve(self, number: int) -> int:
         """Follows typedefs and qualifiers; 0 if they form a cycle."""
         for _ in range(len(self.records)):
             if not number or self[number].kind not in ("typedef", *QUALIFIERS):
@@ -132,8 +132,8 @@ class Table:
             number = self[number].type
         return 0
 
-    def reached(self, roots: Iterable[int]) -> List[bool]:
-        """For each number, 0 too, whether one of these leads to it."""
+    def reachable(self, roots: Iterable[int]) -> List[bool]:
+        """For each number, 0 included, whether one of the roots leads to it."""
         seen = [False] * (len(self.records) + 1)
         todo = [root for root in roots if root]
         while todo:
@@ -144,28 +144,29 @@ class Table:
         return seen
 
     def symbol_roots(self) -> List[int]:
-        """The types that are told of symbols."""
+        """The types that symbols refer to."""
         told = [n for one in self.signatures() for n in one.references]
         return [n for n in (*self.objects, *told) if n]
 
     def chosen(self, numbers: Iterable[int], to: Callable[[int], int]) -> Table:
-        """A table of these types in this order, each reference, symbols' too, made by `to`."""
+        """A table of these types in this order, with each reference mapped by `to`, also those of
+        symbols."""
         made = Table(self.model)
-        made.records = [self[n].renumbered(to) for n in numbers]
+        made.records = [self[n].renumber(to) for n in numbers]
         made.objects = [to(n) for n in self.objects]
-        made.functions = [_told(one, to) for one in self.functions]
+        made.functions = [_renumbered_function(one, to) for one in self.functions]
         made.losses = list(self.losses)
         return made
 
-    def kept(self, numbers: Iterable[int]) -> Table:
-        """A table of these types alone; what named another names 0."""
+    def subset(self, numbers: Iterable[int]) -> Table:
+        """A table of only these types; references to others become 0."""
         order = list(numbers)
         to = {number: place for place, number in enumerate(order, 1)}
         return self.chosen(order, lambda n: to.get(n, 0))
 
 
-def _told(function: Optional[Record], to: Callable[[int], int]) -> Optional[Record]:
-    """What is told of a function, or None where a type in it is left out."""
+def _renumbered_function(function: Optional[Record], to: Callable[[int], int]) -> Optional[Record]:
+    """The record of a function, or None if one of its types is left out."""
     if function is None or any(n and not to(n) for n in function.references):
         return None
-    return function.renumbered(to)
+    return function.renumber(to)

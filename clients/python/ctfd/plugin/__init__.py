@@ -1,2 +1,2 @@
-"""The commands of the plug-in for gdb. Of its modules `debug_files` runs without gdb, for lldb too;
-all else that does is in the package around it."""
+"""The commands of the plug-in for gdb. The module `debug_files` does not need gdb; the plug-in for
+lldb uses it too."""

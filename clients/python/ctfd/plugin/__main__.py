@@ -1,4 +1,4 @@
-"""Prints the line for `.gdbinit` that gives gdb the commands: `python3 -m ctfd.plugin`."""
+"""Prints the line for `.gdbinit` that loads the commands into gdb: `python3 -m ctfd.plugin`."""
 from pathlib import Path
 
 print(f"source {Path(__file__).resolve().with_name('ctfgdb.py')}")

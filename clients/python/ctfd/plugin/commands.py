@@ -1,4 +1,4 @@
-"""The commands: each is a class whose documentation is its help."""
+"""The commands of the plug-in: each is a class, whose docstring is its help in gdb."""
 from __future__ import annotations
 
 from typing import Optional, Union
@@ -6,27 +6,28 @@ from typing import Optional, Union
 import gdb
 
 import ctfd
-from ..client.nearest import offered
+from ..client.nearest import suggestion
 from ..text import printable
 from ..values import expressions, formats, linked, spelling
 from ..values.operands import BadExpression, Code, Located, Number, Operand, Steps, Untold
 from ..view.declare import declaration, declarator, function
 
 from . import native
-from .debug_files import described
+from .debug_files import description_of
 from .inferior import Inferior, has_program
-from .loaded import Loaded
+from .loaded import LoadedFile
 from .state import STATE, bounds, style
 
 LINES = 500
-GIVEN = native.Given()
+GIVEN = native.GiveTypes()
 UNTYPED = "<text variable, no type>"
 
 
-def shown(target: Inferior, operand: Operand, hexadecimal: bool = False) -> str:
-    """An operand as gdb prints it."""
+def print_text(target: Inferior, operand: Operand, hexadecimal: bool = False) -> str:
+    """The text of an operand, as gdb prints it."""
     if isinstance(operand, Code):
-        return f"{{{spelling.spelled(declared(operand))}}} {gdb.format_address(operand.address)}"
+        said = spelling.gdb_spelling(declaration_of(operand))
+        return f"{{{said}}} {gdb.format_address(operand.address)}"
     if isinstance(operand, Untold):
         raise untold(operand)
     if operand.type is None:
@@ -44,13 +45,13 @@ def shown(target: Inferior, operand: Operand, hexadecimal: bool = False) -> str:
 
 
 def untold(symbol: Untold) -> BadExpression:
-    """What is said where a symbol's type is needed."""
+    """The error for a symbol whose type is needed and not known."""
     return BadExpression(f"{symbol.name}: {symbol.why}; cast its address, as"
                          f" *(TYPE *) &{symbol.name}")
 
 
 def missing(error: ctfd.NotFound) -> str:
-    """What gdb would say of a type that is not there, with the names that are near."""
+    """gdb's message for a type that was not found, with similar names."""
     name = str(error.fields.get("text", ""))
     if not name:
         return str(error)
@@ -58,11 +59,11 @@ def missing(error: ctfd.NotFound) -> str:
     said = (f"No {word} type named {rest}." if word in expressions.TAGS
             else f"No symbol \"{name}\" in current context.")
     known = [known for one in STATE.loaded for known in one.program.types.names()]
-    return said + offered(name, known).replace("; the", "  The") + ("." if known else "")
+    return said + suggestion(name, known).replace("; the", "  The") + ("." if known else "")
 
 
-def declared(found: Union[ctfd.Type, Operand]) -> str:
-    """How C declares what was found."""
+def declaration_of(found: Union[ctfd.Type, Operand]) -> str:
+    """The C declaration of a type or an operand."""
     if isinstance(found, Untold):
         raise untold(found)
     if isinstance(found, Code):
@@ -72,8 +73,8 @@ def declared(found: Union[ctfd.Type, Operand]) -> str:
     return declaration(found)
 
 
-def typed(target: Inferior, text: str) -> Union[ctfd.Type, Operand]:
-    """The type that a text names, else the expression that it is."""
+def type_or_operand(target: Inferior, text: str) -> Union[ctfd.Type, Operand]:
+    """The type with a name, or else the value of the expression."""
     words = text.split()
     if not words:
         raise BadExpression("a type or an expression is wanted")
@@ -86,7 +87,7 @@ def typed(target: Inferior, text: str) -> Union[ctfd.Type, Operand]:
 
 
 class Command(gdb.Command):
-    """A command of this file: what the package raises is told by gdb."""
+    """A command of the plug-in; exceptions of the package become errors of gdb."""
 
     word = ""
 
@@ -112,25 +113,24 @@ class Command(gdb.Command):
 
 
 class Ctf(gdb.Command):
-    """Types and values by a program's CTF: ctf load FILE first."""
+    """Types and values from a program's CTF: ctf load FILE first."""
 
     def __init__(self) -> None:
         super().__init__("ctf", gdb.COMMAND_DATA, prefix=True)
 
 
 class Load(Command):
-    """ctf load [--auto] [FILE [PARENT]]: takes the types of a file, that of the program if none is
-    named.
+    """ctf load [--auto] [FILE [PARENT]]: loads the types of a file; without FILE, of the program.
 
-    FILE is an ELF file with a section .SUNW_ctf or .ctf, or the bytes of such a section; of an ELF
-    file without one the types are made of its debug information, where that is in it or in a debug
-    file of its own. If there is none, the stores that CTFD_STORE in the environment names are asked
-    for its build-id. PARENT is the file of the dictionary of which FILE's is a child. A file that is
-    loaded already is read anew.
+    FILE is an ELF file with a section .SUNW_ctf or .ctf, or such a section by itself. If an ELF
+    file has neither section, its debug information is converted, also from a separate debug file.
+    If there is none, the stores that CTFD_STORE names are asked for its build-id. PARENT is the
+    file with the parent of FILE's dictionary. A file that is already loaded is read again.
 
-    Of a program or library that gdb has read, gdb itself is given the types too, so that print,
-    ptype/o, conditions, finish and call work, unless "set ctf-debuginfo off" was said. With --auto
-    so is each file with CTF that gdb reads from then on; stores are not asked for these."""
+    For a program or library that gdb has read, gdb itself gets the types too, so that print,
+    ptype/o, conditions, finish and call work, unless you have said "set ctf-debuginfo off". With
+    --auto, gdb also gets the types of each file with CTF that it reads later; stores are not asked
+    for these."""
 
     word = "load"
 
@@ -147,7 +147,7 @@ class Load(Command):
                                 " \"ctf load FILE\".")
         found = STATE.open(words[0])
         parent = STATE.open(words[1], found.types.model) if len(words) > 1 else None
-        one = Loaded(found, parent, found.image is None and not has_program())
+        one = LoadedFile(found, parent, found.image is None and not has_program())
         try:
             if parent:
                 found.types.import_parent(parent.types)
@@ -156,12 +156,12 @@ class Load(Command):
             raise
         STATE.forget([old for old in STATE.loaded if old.program.path == found.path])
         STATE.loaded.insert(0, one)
-        print("\n".join([one.told(), *one.warnings()]))
+        print("\n".join([one.summary(), *one.warnings()]))
         if GIVEN.value:
             self.give(found.path, parent.path if parent else None)
 
     def give(self, path: str, parent: Optional[str] = None) -> None:
-        """Gives gdb the types of a file, and says so, or why it has none."""
+        """Gives gdb the types of a file, and prints the result or the error."""
         try:
             told = native.give(path, parent)
         except ctfd.Error as error:
@@ -170,7 +170,8 @@ class Load(Command):
             print(printable(told))
 
     def follow(self) -> None:
-        """Gives gdb the types of the files that it has read, and of each that it reads later."""
+        """Gives gdb the types of the files that it has read, and of each file that it reads
+        later."""
         for one in gdb.objfiles():
             self.follow_one(one)
         if not STATE.follows:
@@ -180,13 +181,13 @@ class Load(Command):
     def follow_one(self, one: gdb.Objfile) -> None:
         if one.owner is not None or not one.filename:
             return
-        image = described(one.filename)
+        image = description_of(one.filename)
         if image and image.has_ctf:
             self.give(one.filename)
 
 
 class Unload(Command):
-    """ctf unload [FILE]: forgets the types of a file, or of all."""
+    """ctf unload [FILE]: forgets the types of a file, or of all files."""
 
     word = "unload"
 
@@ -201,13 +202,13 @@ class Unload(Command):
 
 
 class Info(Command):
-    """ctf info: what is loaded, where it is in memory, and what the service was asked."""
+    """ctf info: the loaded files, their addresses in memory, and the number of requests."""
 
     word = "info"
 
     def run(self, arguments: str) -> None:
         for one in STATE.loaded:
-            print(one.told())
+            print(one.summary())
         if STATE.service is None:
             print("No types are loaded.")
             return
@@ -217,38 +218,38 @@ class Info(Command):
 
 
 class Ptype(Command):
-    """ctf ptype TYPE: a type in full, with the places and sizes of its members and the holes.
+    """ctf ptype TYPE: the definition of a type, with offsets, sizes and holes.
 
-    In place of a type it takes an expression, and prints its type."""
+    Also takes an expression, whose type it prints."""
 
     word = "ptype"
 
     def run(self, arguments: str) -> None:
-        found = typed(STATE.target(), arguments)
+        found = type_or_operand(STATE.target(), arguments)
         t = found.type if isinstance(found, (Located, Number)) else found
         if t is None or isinstance(t, (Code, Untold)):
-            print(f"type = {declared(found)}")
+            print(f"type = {declaration_of(found)}")
             return
         base = declarator(t.gather()).base.resolved
         print(ctfd.listing(base if base.kind in ("struct", "union", "enum") else t))
 
 
 class Whatis(Command):
-    """ctf whatis EXPR: the type of an expression; of a typedef what it stands for."""
+    """ctf whatis EXPR: the type of an expression; for a typedef, the type that it names."""
 
     word = "whatis"
 
     def run(self, arguments: str) -> None:
-        found = typed(STATE.target(), arguments)
+        found = type_or_operand(STATE.target(), arguments)
         if isinstance(found, ctfd.Type) and found.kind == "typedef":
             found = found.reference
-        print(f"type = {declared(found)}")
+        print(f"type = {declaration_of(found)}")
 
 
 class Print(Command):
     """ctf print[/x] EXPR: the value of an expression, as gdb prints it.
 
-    Names, numbers, $registers, *, &, casts (TYPE) EXPR, ., ->, [N], + and - are taken."""
+    An expression has names, numbers, $registers, *, &, casts (TYPE) EXPR, ., ->, [N], + and -."""
 
     word = "print"
 
@@ -258,7 +259,7 @@ class Print(Command):
             raise BadExpression("the one format is /x")
         target = STATE.target()
         expression = arguments[2:] if hexadecimal else arguments
-        print(shown(target, expressions.evaluate(expression, target), hexadecimal))
+        print(print_text(target, expressions.evaluate(expression, target), hexadecimal))
         if not STATE.is_hinted and native.knows(expression):
             STATE.is_hinted = True
             print("(gdb's own print knows this type too)")
@@ -268,8 +269,8 @@ class List(Command):
     """ctf list HEAD MEMBER [TYPE]: the nodes of a linked list.
 
     HEAD is a node or a pointer to one, and MEMBER its pointer to the next. With TYPE, MEMBER is a
-    link inside of TYPE that points to the next link, and HEAD is the list's own link. Quote what
-    has blanks: ctf list "(struct node *) $rdi" next"""
+    link inside TYPE that points to the next link, and HEAD is the list's own link. Quote an
+    argument that has blanks: ctf list "(struct node *) $rdi" next"""
 
     word = "list"
 
@@ -286,7 +287,7 @@ class List(Command):
 
 
 class Find(Command):
-    """ctf find TEXT: the types and symbols whose names have a text in them."""
+    """ctf find TEXT: the types and symbols whose names contain TEXT."""
 
     word = "find"
 
@@ -294,14 +295,14 @@ class Find(Command):
         if not arguments:
             raise BadExpression("ctf find TEXT")
         STATE.target()
-        told = [line for one in STATE.loaded for line in one.named(arguments)]
+        told = [line for one in STATE.loaded for line in one.lines_naming(arguments)]
         print("\n".join(told[:LINES]) or f"nothing has {arguments} in its name")
         if len(told) > LINES:
             print(f"... and {len(told) - LINES} more")
 
 
 def register() -> None:
-    """Gives the commands to gdb."""
+    """Registers the commands with gdb."""
     Ctf()
     for command in (Load, Unload, Info, Ptype, Whatis, Print, List, Find):
         command()

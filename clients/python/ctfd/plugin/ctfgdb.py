@@ -1,4 +1,5 @@
-"""The plug-in of an installed package: `python3 -m ctfd.plugin` tells the line that sources it."""
+"""The script that an installed package gives gdb; `python3 -m ctfd.plugin` prints the line to
+source it."""
 import pathlib
 import sys
 

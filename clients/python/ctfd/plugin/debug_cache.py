@@ -1,9 +1,9 @@
-"""Debug files that were written before, in a folder of the user.
+"""A cache of debug files, in a folder of the user.
 
-It is `ctfd` in the user's cache (XDG_CACHE_HOME, else ~/.cache). Whoever could write there could
-give a debugger any symbols, so a folder that others may write to, or that is another's, is not
-used. Of many files those that were used last stay. Each ends with the sum of what is before it,
-which no reader of ELF files looks at: one that is not as it was written is made anew.
+The folder is `ctfd` in the user's cache (XDG_CACHE_HOME, else ~/.cache). Whoever can write there
+could give a debugger any symbols, so a folder that others may write to, or that another user owns,
+is not used. The files used last are kept. Each ends with a checksum, which readers of ELF files
+ignore; a file with a wrong one is written again.
 """
 from __future__ import annotations
 
@@ -21,14 +21,14 @@ from ..version import VERSION
 
 MOST_FILES, MOST_BYTES = 64, 1 << 30
 SUFFIX, UNFINISHED = ".debug", ".new-"
-FORMAT = 3  # of the files; another number is another name
+FORMAT = 3  # of the cached files; a new number changes all names
 MARK, SUM = b"\nctfd sum", 32
 PIECE = 1 << 20
-SECONDS = 3600  # after which nobody is still writing a file
+SECONDS = 3600  # the age at which an unfinished file is removed
 
 
 def folder() -> Path:
-    """The folder, which is made where it is not there. Raises Error where it can't be used."""
+    """The folder, created if needed. Raises Error if it cannot be used."""
     base = os.environ.get("XDG_CACHE_HOME") or os.path.expanduser("~/.cache")
     place = Path(base, "ctfd")
     try:
@@ -44,7 +44,7 @@ def folder() -> Path:
 
 
 def key(build_id: str, paths: Iterable[str]) -> str:
-    """The name of the file that is made of some files: of the build's, where one is told. Raises
+    """The name of the debug file for some files: the build-id, if there is one, and a hash. Raises
     Error."""
     found = hashlib.sha256(f"{FORMAT} {VERSION}".encode())
     for path in paths:
@@ -59,8 +59,8 @@ def key(build_id: str, paths: Iterable[str]) -> str:
 
 
 def keep(place: Path, name: str, data: bytes) -> Path:
-    """Writes a file whole, and lets the oldest go until there is room. Raises Error, and then
-    leaves nothing behind."""
+    """Writes a file as a whole, and removes the files used longest ago until there is room. Raises
+    Error, and then leaves no file behind."""
     kept = place / name
     try:
         handle, made = tempfile.mkstemp(dir=place, prefix=UNFINISHED)
@@ -79,8 +79,8 @@ def keep(place: Path, name: str, data: bytes) -> Path:
     return kept
 
 
-def known(place: Path, name: str) -> bool:
-    """Whether a file is there as it was written, which is then the one that was used last."""
+def is_known(place: Path, name: str) -> bool:
+    """Whether an intact file is there; it then counts as used last."""
     try:
         is_whole = _is_whole(place / name)
         if is_whole:
@@ -91,7 +91,7 @@ def known(place: Path, name: str) -> bool:
 
 
 def _is_whole(path: Path) -> bool:
-    """Whether a file has the sum that it ends with."""
+    """Whether a file ends with its checksum."""
     found = hashlib.blake2b(digest_size=SUM)
     with open(path, "rb") as file:
         left = os.fstat(file.fileno()).st_size - len(MARK) - SUM
@@ -105,7 +105,7 @@ def _is_whole(path: Path) -> bool:
 
 
 def _shrink(place: Path, newest: Path) -> None:
-    """Takes the files away that were not used longest, and what was never written to its end."""
+    """Removes the files that were used longest ago, and old unfinished ones."""
     for path in place.glob(f"{UNFINISHED}*"):
         with contextlib.suppress(OSError):
             if path.lstat().st_mtime < time.time() - SECONDS:

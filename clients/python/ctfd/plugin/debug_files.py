@@ -1,5 +1,5 @@
-"""Debug files for a debugger that runs: those that are kept, and new ones, which the compiled
-`ctfd-debuginfo` writes."""
+"""Debug files for a running debugger: cached ones, and new ones from the compiled
+`ctfd-debuginfo`."""
 from __future__ import annotations
 
 import os
@@ -15,34 +15,34 @@ from ..text import printable
 from . import debug_cache
 
 NAME = "ctfd-debuginfo"
-STORES = "CTFD_STORE"  # the variable that names those which the command asks
+STORES = "CTFD_STORE"  # the variable that names the stores to ask
 
 
 class Writer:
-    """Writes debug files into the user's cache, else into a folder that goes with the debugger.
-    `say` prints a line."""
+    """Writes debug files into the user's cache, or into a temporary folder until the debugger
+    exits. `say` prints a line."""
 
     def __init__(self, say: Callable[[str], None]) -> None:
         self.say = say
         self._folder: Optional[tempfile.TemporaryDirectory[str]] = None
 
     def debug_file(self, path: str, parent: Optional[str] = None) -> Path:
-        """The debug file of a program. What is to be known of a new one is said. What a store has
-        may be another the next time, so it is asked again. Raises Error."""
+        """The debug file of a program. Notes on a new one are printed. For a file whose types come
+        from a store the cache is skipped, since the store may have others by now. Raises Error."""
         image = compiled.description(path)
         name = debug_cache.key(image.build_id if image else "",
                                [one for one in (path, parent) if one])
         place = self._place()
-        if not (image and is_elsewhere(image)) and debug_cache.known(place, name):
+        if not (image and is_elsewhere(image)) and debug_cache.is_known(place, name):
             return place / name
         data = self._new(path, parent)
         try:
             return debug_cache.keep(place, name, data)
-        except Error as error:  # as where the disk is full
+        except Error as error:  # as for a full disk
             return debug_cache.keep(self._temporary(error), name, data)
 
     def _new(self, path: str, parent: Optional[str]) -> bytes:
-        """What the command writes for a program; its notes are said. Raises Unreadable."""
+        """The output of the command for a program; prints its notes. Raises Unreadable."""
         command = compiled.find(NAME)
         if command is None:
             raise Unreadable(f"{path}: {compiled.missing(NAME, 'its debug file is written')}")
@@ -65,7 +65,7 @@ class Writer:
             return self._temporary(error)
 
     def _temporary(self, why: Error) -> Path:
-        """A folder that goes with the debugger, and why it is not the user's."""
+        """A temporary folder, which lasts until the debugger exits. Prints why it is used."""
         if self._folder is None:
             self.say(printable(str(why)))
             self._folder = tempfile.TemporaryDirectory(prefix="ctfd-")
@@ -73,14 +73,14 @@ class Writer:
 
 
 def _notes(errors: bytes) -> List[str]:
-    """The lines that the command says, without its name in front."""
+    """The lines on the command's standard error, without its name in front."""
     front = f"{NAME}: "
     lines = errors.decode("utf-8", "replace").splitlines()
     return [line[len(front):] if line.startswith(front) else line for line in lines]
 
 
-def described(path: str) -> Optional[Description]:
-    """An ELF file; None where a file is none, or can't be read."""
+def description_of(path: str) -> Optional[Description]:
+    """The description of an ELF file; None for other files and unreadable ones."""
     try:
         return compiled.description(path)
     except Unreadable:
@@ -88,7 +88,7 @@ def described(path: str) -> Optional[Description]:
 
 
 def is_elsewhere(image: Description) -> bool:
-    """Whether the types of a file are asked for by its build-id: it has none, and a store is
-    named."""
+    """Whether a store is to be asked for a file's types: it has none, but a build-id, and a store
+    is named."""
     has_stores = bool(os.environ.get(STORES, "").strip())
     return has_stores and bool(image.build_id) and not image.has_ctf and not image.has_debug

@@ -1,4 +1,4 @@
-"""The program that gdb looks at, as the package asks for it: memory, registers, names."""
+"""The memory, registers and names of the program that gdb debugs."""
 from __future__ import annotations
 
 import contextlib
@@ -10,29 +10,29 @@ import ctfd
 from ..client.model import Model, of_pointers
 from ..files import source
 from ..values import characters
-from ..values.characters import Wanted
+from ..values.characters import TextStyle
 from ..values.operands import BadExpression, Operand, Untold
 
-from .loaded import Loaded
+from .loaded import LoadedFile
 
 NO_TYPES = "No types are loaded.  Use the \"ctf load\" command."
 PAGE = 4096
 
 
 def pointer_size() -> int:
-    """How many bytes a pointer has in the program, or in gdb's architecture where it has none."""
+    """The size of a pointer in bytes, in the program or else in gdb's current architecture."""
     return int(gdb.lookup_type("void").pointer().sizeof)
 
 
 def has_program() -> bool:
-    """Whether gdb's architecture is a program's, or one that the user has set: else it is that of
-    gdb's own default, of 32 bits on some machines of 64."""
+    """Whether gdb's architecture is that of a program, or one that the user has set. Otherwise it
+    is gdb's default, which has 32 bits on some machines of 64."""
     return bool(gdb.current_progspace().filename or gdb.selected_inferior().pid
                 or gdb.parameter("architecture") != "auto")
 
 
 def model_of_program() -> Model:
-    """The data model of the program; without one a section by itself is taken for lp64."""
+    """The data model of the program, or lp64 without one."""
     if not has_program():
         return "lp64"
     size = pointer_size()
@@ -43,13 +43,13 @@ def model_of_program() -> Model:
 
 
 class Inferior:
-    """gdb's selected inferior; look-ups go through the loaded files in turn."""
+    """gdb's selected inferior. Look-ups search the loaded files in order."""
 
-    def __init__(self, loaded: Sequence[Loaded]) -> None:
+    def __init__(self, loaded: Sequence[LoadedFile]) -> None:
         self.loaded = loaded
 
     def read(self, address: int, length: int) -> bytes:
-        """As many of the bytes as can be read."""
+        """The bytes at an address, as many as can be read."""
         if not length:
             return b""
         data = _memory(address, length)
@@ -60,7 +60,7 @@ class Inferior:
         return data
 
     def register(self, name: str) -> int:
-        """A register or another of gdb's variables, as a number."""
+        """The value of a register or another of gdb's variables, as a number."""
         try:
             value = gdb.parse_and_eval(f"${name}")
             if value.type.code == gdb.TYPE_CODE_VOID:
@@ -70,7 +70,7 @@ class Inferior:
             raise BadExpression(str(error)) from None
 
     def symbol(self, name: str) -> Operand:
-        """What a name stands for; one whose type no file tells is at gdb's address."""
+        """The operand that a name stands for; if no file has its type, with gdb's address."""
         for one in self.loaded:
             if name in one.program.symbols:
                 with contextlib.suppress(ctfd.NotFound):
@@ -83,7 +83,7 @@ class Inferior:
         return Untold(name, address, self._why_untold())
 
     def _why_untold(self) -> str:
-        """Why there is no type of a name that gdb knows."""
+        """Why a name that gdb knows has no type."""
         for one in self.loaded:
             how, path = one.program.types.how, one.program.path
             if how == "unread":
@@ -93,7 +93,7 @@ class Inferior:
         return "no dictionary has its type"
 
     def find(self, name: str) -> ctfd.Type:
-        """The type of a name, in the first file that has it."""
+        """The type of a name, from the first file that has it."""
         refused: Optional[ctfd.Refused] = None
         for one in self.loaded:
             try:
@@ -103,19 +103,20 @@ class Inferior:
         raise refused or BadExpression(NO_TYPES)
 
     def label(self, address: int, is_code: bool = False) -> str:
-        """The symbol at an address as `<main+4>`, or ""; `print symbol` leaves out that of data."""
+        """The symbol at an address as `<main+4>`, or ""; also "" for data if `print symbol` is
+        off."""
         if not is_code and not gdb.parameter("print symbol"):
             return ""
         return gdb.format_address(address).partition(" ")[2]
 
     def string(self, address: int, limit: int, size: int = 1, before: str = "") -> str:
-        """The text at an address, as gdb prints it; its characters have `size` bytes."""
-        wanted = Wanted(limit, gdb.parameter("print repeats") or 0, size, before)
+        """The text at an address, as gdb prints it. Its characters have `size` bytes."""
+        wanted = TextStyle(limit, gdb.parameter("print repeats") or 0, size, before)
         return characters.string(_memory, address, wanted)
 
 
 def _memory(address: int, length: int) -> Optional[bytes]:
-    """Some bytes; None where one of them can't be read."""
+    """The bytes at an address, or None if one of them cannot be read."""
     try:
         return bytes(gdb.selected_inferior().read_memory(address, length))
     except (gdb.MemoryError, OverflowError):
@@ -125,7 +126,7 @@ def _memory(address: int, length: int) -> Optional[bytes]:
 
 
 def _pages(address: int, length: int) -> bytes:
-    """The bytes before the first page that can't be read."""
+    """The bytes before the first page that cannot be read."""
     data = b""
     while len(data) < length:
         at = address + len(data)

@@ -1,4 +1,4 @@
-"""Files whose types were loaded, and where gdb has them in memory."""
+"""Files whose types were loaded, with their addresses in gdb's program."""
 from __future__ import annotations
 
 import os
@@ -28,9 +28,9 @@ _ENTRY = re.compile(r"AT_ENTRY.*?(0x[0-9a-f]+)")
 _PLACED = re.compile(r"Entry point: (0x[0-9a-f]+)")
 
 
-class Loaded:
-    """A file whose types were loaded; `parent` was loaded for it, if it is a child. Alone is a
-    section by itself where gdb has no program."""
+class LoadedFile:
+    """A file whose types were loaded, and its parent if it is a child. `is_alone` is set for a
+    section by itself if gdb has no program."""
 
     def __init__(self, program: Program, parent: Optional[Program], is_alone: bool = False
                  ) -> None:
@@ -41,7 +41,7 @@ class Loaded:
         self.names = aliases.of_dictionary(program.types)
 
     def slide(self) -> int:
-        """How far from its file's addresses it is in memory."""
+        """The offset from the file's addresses to those in memory."""
         image = self.program.image
         if image is None:
             raise BadExpression(f"{self.program.path} is a section alone: it has no addresses")
@@ -53,7 +53,7 @@ class Loaded:
         return found
 
     def symbol(self, name: str) -> Operand:
-        """What a name stands for, where that is in memory. Raises NotFound."""
+        """The operand that a name stands for, at its address in memory. Raises NotFound."""
         if self.program.image is None or self.program.image.kind != "object":
             return self.program.symbol(name, self.slide())
         if len(self.program.symbols.get(name, [])) > 1:
@@ -62,12 +62,13 @@ class Loaded:
                                 " program stands")
         found = self.program.symbol(name, 0)
         assert isinstance(found, (Code, Located))
-        return found._replace(address=self._placed(name))
+        return found._replace(address=self._address_in_gdb(name))
 
-    def _placed(self, name: str) -> int:
-        """Where gdb has put a name of an object file, which it knows by the debug file of it."""
+    def _address_in_gdb(self, name: str) -> int:
+        """The address that gdb has for a name of an object file, by the file's debug file."""
         for one in gdb.objfiles():
-            if one.owner is None and one.filename and _same(one.filename, self.program.path):
+            if one.owner is None and one.filename and \
+                    _is_same_file(one.filename, self.program.path):
                 found = one.lookup_global_symbol(name) or one.lookup_static_symbol(name)
                 if found is not None:
                     return int(found.value().address)
@@ -76,16 +77,17 @@ class Loaded:
                             f" that of {name}; or cast an address, as *(TYPE *) ADDRESS")
 
     def _slide_of_library(self) -> Optional[int]:
-        """By where gdb says that its section .text is."""
+        """The offset of a library, by gdb's address of its section .text; None if it is not
+        loaded."""
         for line in gdb.execute("info sharedlibrary", to_string=True).splitlines():
             found = _LIBRARY.match(line)
             text = self.program.image.text if self.program.image else None
-            if found and text is not None and _same(found[2], self.program.path):
+            if found and text is not None and _is_same_file(found[2], self.program.path):
                 return int(found[1], 16) - text
         return None
 
-    def told(self) -> str:
-        """A line on what this is and where it runs."""
+    def summary(self) -> str:
+        """One line with the file, the number of its types, and its address."""
         types = self.program.types
         said = f"{self.program.path}: {types.own} types, {len(self.program.symbols)} symbols"
         if types.model != "lp64":
@@ -101,12 +103,12 @@ class Loaded:
         return printable(said) + (f", at 0x{slide:x}" if slide else "")
 
     def warnings(self) -> List[str]:
-        """What is to be known of its symbols, and of names that stand for several types."""
-        known = (WARNINGS.get(self.program.types.how, ""), printable(self.names.told()))
+        """Warnings about its symbols, and about names that several types have."""
+        known = (WARNINGS.get(self.program.types.how, ""), printable(self.names.ambiguities()))
         return [one for one in known if one]
 
-    def named(self, part: str) -> Iterator[str]:
-        """Lines on the types and symbols that have a text in their names."""
+    def lines_naming(self, part: str) -> Iterator[str]:
+        """One line for each type and symbol whose name contains `part`."""
         types = self.program.types
         own = types.types() + (self.parent.types.types() if self.parent else [])
         types.fetch([("record", t.number) for t in own])
@@ -136,18 +138,18 @@ class Loaded:
         return f"{printable(name)}: its type is not known"
 
     def close(self) -> None:
-        """Gives the dictionaries back."""
+        """Closes the dictionaries."""
         self.program.types.close()
         if self.parent:
             self.parent.types.close()
 
 
 def _is_main(program: Program) -> bool:
-    """Whether a file is gdb's program: that very file, or one that begins at the same address."""
+    """Whether a file is gdb's program: the same file, or one with the same entry point."""
     main = gdb.current_progspace().filename
     if not main or program.image is None:
         return False
-    if _same(main, program.path):
+    if _is_same_file(main, program.path):
         return True
     try:
         image = compiled.description(main)
@@ -157,13 +159,14 @@ def _is_main(program: Program) -> bool:
 
 
 def _slide_of_main(image: Description) -> int:
-    """By the auxiliary vector of a process or a core file, else by where gdb has put the file."""
+    """The offset of the program, by the auxiliary vector of a process or core file, else by gdb's
+    entry point."""
     try:
         found = _ENTRY.search(gdb.execute("info auxv", to_string=True))
-    except gdb.error:  # it does not run, or not any more
+    except gdb.error:  # not running, or not any more
         found = _PLACED.search(gdb.execute("info files", to_string=True))
     return int(found[1], 16) - image.entry if found else 0
 
 
-def _same(one: str, other: str) -> bool:
+def _is_same_file(one: str, other: str) -> bool:
     return os.path.realpath(one) == os.path.realpath(other)

@@ -1,6 +1,6 @@
-"""gdb's own commands by a program's CTF: its debug file, handed over as a separate one.
+"""Gives gdb's own commands a program's CTF, as a separate debug file.
 
-gdb then moves it where the program or library is, now and whenever the program is run again.
+gdb relocates it with the program or library, also when the program is run again.
 """
 from __future__ import annotations
 
@@ -10,11 +10,11 @@ from typing import Optional
 import gdb
 
 import ctfd
-from .debug_files import Writer, described, is_elsewhere
+from .debug_files import Writer, description_of, is_elsewhere
 
 
-class Given(gdb.Parameter):
-    """Whether `ctf load` gives gdb itself the types of a program."""
+class GiveTypes(gdb.Parameter):
+    """The setting `ctf-debuginfo`: whether `ctf load` gives gdb itself the types of a program."""
 
     set_doc = "Set whether `ctf load` gives gdb itself the types of a program."
     show_doc = "Show whether `ctf load` gives gdb itself the types of a program."
@@ -32,7 +32,7 @@ WRITER = Writer(print)
 
 
 def objfile_of(path: str) -> Optional[gdb.Objfile]:
-    """gdb's file of a path, if it has no separate debug file yet."""
+    """gdb's file at a path, if it has no separate debug file yet; else None."""
     for one in gdb.objfiles():
         if one.owner is None and one.filename and (
                 os.path.realpath(one.filename) == os.path.realpath(path)):
@@ -42,8 +42,8 @@ def objfile_of(path: str) -> Optional[gdb.Objfile]:
 
 
 def knows(expression: str) -> bool:
-    """Whether gdb itself can print an expression by a debug file that it was given. No expression
-    that the plug-in takes changes anything."""
+    """Whether gdb itself can print an expression with a debug file that it was given. Expressions
+    of the plug-in have no side effects, so trying is safe."""
     if all(one.owner is None for one in gdb.objfiles()):
         return False
     try:
@@ -54,12 +54,12 @@ def knows(expression: str) -> bool:
 
 
 def give(path: str, parent: Optional[str] = None) -> str:
-    """Gives gdb the types of a file that it has read; a line on what it has of them, "" where it
-    has no such file, or the file has no CTF and no store is asked for it. gdb reads none of what a
-    store sends: the debug file is made here, of the dictionary that the library has accepted.
-    Raises Error."""
+    """Gives gdb the types of a file that it has read. Returns a line for the user, or "" if gdb has
+    no such file, or the file has no CTF and no store is to be asked. gdb reads nothing that a store
+    sends: the debug file is written here, from a dictionary that the library has accepted. Raises
+    Error."""
     one = objfile_of(path)
-    image = described(path) if one else None
+    image = description_of(path) if one else None
     if one is None or image is None or not (image.has_ctf or is_elsewhere(image)):
         return ""
     made = WRITER.debug_file(path, parent)

@@ -1,4 +1,4 @@
-"""What lasts from command to command: the service and the files whose types were loaded."""
+"""The state between commands: the service, and the files whose types were loaded."""
 from __future__ import annotations
 
 import atexit
@@ -11,7 +11,7 @@ import ctfd
 from ..client.model import Model
 from ..text import printable
 from ..files import anyfile
-from ..files.anyfile import Asked
+from ..files.anyfile import FileOptions
 from ..files.bundles import Bundle, Description
 from ..files.cache import user_cache
 from ..values import formats, program, reading
@@ -20,7 +20,7 @@ from ..values.program import Program
 
 from .debug_files import is_elsewhere
 from .inferior import Inferior, NO_TYPES, model_of_program
-from .loaded import Loaded
+from .loaded import LoadedFile
 
 REMOTE = "target:"
 MOST = 65_536
@@ -32,23 +32,23 @@ class State:
 
     def __init__(self) -> None:
         self.service: Optional[Tuple[ctfd.Service, ctfd.Session]] = None
-        self.loaded: List[Loaded] = []
+        self.loaded: List[LoadedFile] = []
         self.follows = False
         self.is_hinted = False
 
     def client(self) -> ctfd.Service:
-        """The service, which is started where it does not run."""
+        """The service, started if needed."""
         if self.service is None:
             client = ctfd.connect()
             self.service = client, client.session()
         return self.service[0]
 
     def open(self, path: str, model: Optional[Model] = None) -> Program:
-        """A file's dictionary; a section by itself is taken to be of that model, else of gdb's
+        """Opens the dictionary of a file. A section by itself has this model, else that of gdb's
         program.
 
-        The service is the program that CTFD in the environment names, else it is looked for. Of a
-        program without CTF it is made of its debug information.
+        The service is found as by `ctfd.connect`. Without CTF, the program's debug information is
+        used.
         """
         if path.startswith(REMOTE):
             local = os.path.basename(path)
@@ -60,35 +60,36 @@ class State:
         return program.open_program(self.service[1], path, model or model_of_program(), _read)
 
     def close(self) -> None:
-        """Ends the service, and with it all that was loaded."""
+        """Ends the service, and forgets all loaded files."""
         if self.service is not None:
             self.service[0].close()
         self.service = None
         self.loaded = []
 
-    def forget(self, gone: List[Loaded]) -> None:
-        """Gives some files back."""
+    def forget(self, gone: List[LoadedFile]) -> None:
+        """Closes some files."""
         for one in gone:
             self.loaded.remove(one)
             one.close()
 
     def target(self) -> Inferior:
-        """The program that gdb looks at, with the types that were loaded."""
+        """The program that gdb debugs, with the loaded types."""
         if not self.loaded:
             raise BadExpression(NO_TYPES)
         return Inferior(self.loaded)
 
 
 def _read(path: str, image: Optional[Description]) -> Bundle:
-    """What is handed in for a file; where its types are made of debug information, that is said."""
+    """The dictionaries of a file; prints a line if its debug information is used."""
     if image is not None and not image.has_ctf:
         place = " or from CTFD_STORE" if is_elsewhere(image) else ""
         print(f"Reading types from the debug information of {printable(path)}{place}...")
         gdb.flush()
-    found = anyfile.read(path, Asked(cache=user_cache, tells_losses=False, with_addresses=True))
+    options = FileOptions(cache=user_cache, tells_losses=False, with_addresses=True)
+    found = anyfile.read(path, options)
     if found.losses:
-        print(f"(CTF can't hold all of them: \"ctfd-convert {printable(path)} OUT\" tells the"
-              f" {len(found.losses)} that it can't)")
+        print(f"(CTF cannot represent all of them: \"ctfd-convert {printable(path)} OUT\" lists the"
+              f" {len(found.losses)} that are lost)")
     return found
 
 
@@ -97,7 +98,7 @@ atexit.register(STATE.close)
 
 
 def style(hexadecimal: bool = False) -> formats.Style:
-    """gdb's settings for printing, within bounds."""
+    """gdb's print settings, within bounds."""
     deepest = gdb.parameter("print max-depth")
     return formats.Style(
         elements=min(gdb.parameter("print elements") or MOST, MOST),
@@ -107,5 +108,5 @@ def style(hexadecimal: bool = False) -> formats.Style:
 
 
 def bounds() -> reading.Bounds:
-    """What a value may cost."""
+    """The limits for reading a value."""
     return reading.Bounds(elements=style().elements)

@@ -1,4 +1,4 @@
-"""Values in a program's memory: read, printed as gdb prints them, and asked for by expressions."""
+"""Values in a program's memory: reading them, and their parts as Python objects."""
 from .parse import Characters, Leaf, Lost, Parts, Unclear, Value
 from .reading import Bounds, Wanted, value, values
 

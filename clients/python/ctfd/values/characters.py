@@ -1,19 +1,19 @@
-"""Texts in a program's memory, as gdb prints them."""
+"""Text in a program's memory, as gdb prints it."""
 from __future__ import annotations
 
 from typing import Callable, List, NamedTuple, Optional, Tuple
 
-from .quoting import quoted
+from .quoting import quote
 
 STEP = 64
 
-# Some bytes at an address; None where one of them can't be read.
+# The bytes at an address, or None if one of them cannot be read.
 ReadAll = Callable[[int, int], Optional[bytes]]
 
 
-class Wanted(NamedTuple):
-    """How a text is printed: so many characters of `size` bytes at most, those that repeat more
-    often than `repeats` counted, and `before` in front of the quotes."""
+class TextStyle(NamedTuple):
+    """How a text is printed: at most `limit` characters of `size` bytes, with more than `repeats`
+    equal ones counted, and `before` in front of the quotes."""
 
     limit: int
     repeats: int
@@ -21,8 +21,8 @@ class Wanted(NamedTuple):
     before: str = ""
 
 
-def string(read: ReadAll, address: int, wanted: Wanted) -> str:
-    """The text at an address in quotes, or why it can't be read."""
+def string(read: ReadAll, address: int, wanted: TextStyle) -> str:
+    """The text at an address in quotes, or an error text as gdb's."""
     codes, lost = _codes(read, address, wanted)
     if lost is not None and not codes:
         return f"<error: Cannot access memory at address 0x{lost:x}>"
@@ -30,14 +30,14 @@ def string(read: ReadAll, address: int, wanted: Wanted) -> str:
     ends = 0 in codes
     text = codes[:codes.index(0)] if ends else codes
     more = len(text) > limit or (not ends and lost is None)
-    told = quoted(text[:limit], limit, wanted.repeats, more, wanted.before)
+    told = quote(text[:limit], limit, wanted.repeats, more, wanted.before)
     if lost is None or ends or len(text) >= limit:
         return told
     return f"{told}<error: Cannot access memory at address 0x{lost:x}>"
 
 
-def _codes(read: ReadAll, address: int, wanted: Wanted) -> Tuple[List[int], Optional[int]]:
-    """Characters up to a zero or one past the limit, and the address that can't be read."""
+def _codes(read: ReadAll, address: int, wanted: TextStyle) -> Tuple[List[int], Optional[int]]:
+    """Characters up to a zero or one past the limit, and the first address that cannot be read."""
     data = b""
     codes: List[int] = []
     size = wanted.size

@@ -1,4 +1,4 @@
-"""C's expressions over a stopped program, as far as one asks for values with them.
+"""C expressions over a stopped program, as far as they are needed to ask for values.
 
     EXPR    = UNARY { ('+' | '-') UNARY }
     UNARY   = ('*' | '&' | '-') UNARY | '(' TYPE ')' UNARY | POSTFIX
@@ -25,12 +25,12 @@ _NAME = re.compile(r"[A-Za-z_]\w*\Z")
 
 
 def evaluate(expression: str, target: Target) -> Operand:
-    """What an expression comes to. Raises BadExpression, or what the target raises."""
-    return Evaluation(expression, target).whole()
+    """The value of an expression. Raises BadExpression, and what the target raises."""
+    return Evaluation(expression, target).evaluate()
 
 
 def tokens(expression: str) -> List[str]:
-    """The words and signs of an expression."""
+    """The tokens of an expression."""
     found: List[str] = []
     at = 0
     rest = expression.rstrip()
@@ -44,7 +44,7 @@ def tokens(expression: str) -> List[str]:
 
 
 class Evaluation:
-    """Reads an expression from left to right, and does what it says."""
+    """Parses an expression from left to right, and evaluates it on the way."""
 
     def __init__(self, expression: str, target: Target) -> None:
         self.tokens = tokens(expression)
@@ -53,8 +53,8 @@ class Evaluation:
         self.target = target
         self.steps = Steps(target)
 
-    def whole(self) -> Operand:
-        """All of the expression."""
+    def evaluate(self) -> Operand:
+        """The value of the whole expression."""
         if not self.tokens:
             raise BadExpression("there is no expression")
         found = self._sum()
@@ -63,7 +63,7 @@ class Evaluation:
         return found
 
     def _next(self) -> str:
-        """The next token, "" at the end."""
+        """The next token, or "" at the end."""
         return self.tokens[self.at] if self.at < len(self.tokens) else ""
 
     def _take(self) -> str:
@@ -87,21 +87,21 @@ class Evaluation:
         found = self._unary()
         while self._next() in ("+", "-"):
             sign = 1 if self._take() == "+" else -1
-            found = self.steps.moved(found, sign * self.steps.number(self._unary()))
+            found = self.steps.move(found, sign * self.steps.number(self._unary()))
         self.depth -= 1
         return found
 
     def _unary(self) -> Operand:
-        """Prefixes are gathered first, and then done from the innermost outwards."""
+        """The value of an operand with its prefixes, applied from the innermost outwards."""
         prefixes: List[str] = []
         while self._next() in ("*", "&", "-") or self._is_cast():
             prefixes.append(self._type() if self._next() == "(" else self._take())
         found = self._postfix()
         for prefix in reversed(prefixes):
-            found = self._prefixed(prefix, found)
+            found = self._apply_prefix(prefix, found)
         return found
 
-    def _prefixed(self, prefix: str, operand: Operand) -> Operand:
+    def _apply_prefix(self, prefix: str, operand: Operand) -> Operand:
         if prefix == "*":
             return operand if isinstance(operand, Code) else self.steps.behind(operand)
         if prefix == "&":
@@ -111,7 +111,7 @@ class Evaluation:
         return self.steps.cast(self.target.find(prefix), operand)
 
     def _inside(self) -> List[str]:
-        """The tokens up to the next parenthesis that closes, behind one that opens."""
+        """The tokens between an opening parenthesis, which is next, and the first closing one."""
         if self._next() != "(" or ")" not in self.tokens[self.at:]:
             return []
         return self.tokens[self.at + 1:self.tokens.index(")", self.at)]
@@ -119,8 +119,8 @@ class Evaluation:
     def _is_cast(self) -> bool:
         """Whether a type in parentheses is next.
 
-        A name alone is one where an operand follows; before a sign, as in `(x) - 1`, where a type
-        has that name.
+        A name alone is a cast if an operand follows. If a sign follows, as in `(x) - 1`, it is a
+        cast only if a type has that name.
         """
         inside = self._inside()
         if not inside or not all(word == "*" or _NAME.match(word) for word in inside):

@@ -1,4 +1,4 @@
-"""Floating-point numbers from their raw bits, with as many digits as gdb shows."""
+"""Floating-point numbers from their bits, with as many digits as gdb prints."""
 from __future__ import annotations
 
 import decimal
@@ -11,7 +11,8 @@ LONG_DOUBLE = (10, 12, 16)
 
 
 class Format(NamedTuple):
-    """A binary format of IEEE 754: its bits, and the digits that tell its numbers apart."""
+    """A binary format of IEEE 754: its bits, and the number of digits that distinguish its
+    numbers."""
 
     packed: str
     fraction: int
@@ -27,7 +28,7 @@ EXTENDED = 6
 
 
 def number(raw: bytes, lies: Encoding) -> str:
-    """The number that some bytes hold, the lowest first; in hexadecimal where none is known."""
+    """The number in some bytes, lowest byte first; in hexadecimal if the format is unknown."""
     kind = BY_ENCODING.get(lies.flags)
     if kind and len(raw) == struct.calcsize(kind.packed):
         return _ieee(raw, kind)
@@ -36,7 +37,7 @@ def number(raw: bytes, lies: Encoding) -> str:
         half = len(raw) // 2
         return f"{_ieee(raw[:half], parts)} + {_ieee(raw[half:], parts)}i"
     if lies.flags == EXTENDED and len(raw) in LONG_DOUBLE:
-        return _extended(raw)
+        return _of_x87(raw)
     return f"0x{raw[::-1].hex()}"
 
 
@@ -49,8 +50,9 @@ def _ieee(raw: bytes, kind: Format) -> str:
     return format(struct.unpack(kind.packed, raw)[0], f".{kind.digits}g")
 
 
-def _extended(raw: bytes) -> str:
-    """The x87's 80 bits: an explicit first digit, and a value that no float of Python holds."""
+def _of_x87(raw: bytes) -> str:
+    """A number of the x87's 80 bits, which has an explicit first bit and does not fit a Python
+    float."""
     significand = int.from_bytes(raw[:8], "little")
     high = int.from_bytes(raw[8:10], "little")
     sign, exponent = _sign(high >> 15), high & 0x7FFF
@@ -64,7 +66,7 @@ def _extended(raw: bytes) -> str:
 
 
 def _general(value: decimal.Decimal, digits: int) -> str:
-    """As `%.*g` of C prints it."""
+    """A number as C's `%.*g` prints it."""
     if not value:
         return "0"
     mantissa, _, exponent = f"{value:.{digits - 1}e}".partition("e")

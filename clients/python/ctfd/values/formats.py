@@ -1,4 +1,4 @@
-"""Values as gdb prints them: texts in quotes, flags of enums by name, symbols behind pointers."""
+"""Values as gdb prints them: text in quotes, flags of enums by name, symbols after pointers."""
 from __future__ import annotations
 
 from dataclasses import dataclass
@@ -8,7 +8,7 @@ from ..text import printable
 from ..client.types import Enumerator, Type
 from . import floats, spelling
 from .parse import CHARACTER, Characters, Leaf, Lost, Parts, Value, is_character
-from .quoting import DOTS, one, prefix, quoted
+from .quoting import DOTS, one, prefix, quote
 
 SIGNED, BOOLEAN = 1, 4
 EXTENDED_BITS = 80
@@ -16,15 +16,16 @@ LOST = {"Incomplete": "incomplete type", "ShortMemory": "not read", "cut": "cut"
 
 
 class Texts(Protocol):
-    """What stands behind addresses."""
+    """Symbols and text at addresses, which a formatter asks for."""
 
     def label(self, address: int, is_code: bool = False) -> str:
-        """The symbol at an address as `<main+4>`, or "". It may be left out where it is data."""
+        """The symbol at an address as `<main+4>`, or "". An implementation may omit data
+        symbols."""
 
     def string(self, address: int, limit: int, size: int = 1, before: str = "") -> str:
-        """The text at an address in quotes, or why it can't be read.
+        """The text at an address in quotes, or an error text.
 
-        Its characters have `size` bytes, and `before` stands in front of the quotes.
+        Its characters have `size` bytes, and `before` is put in front of the quotes.
         """
 
 
@@ -32,7 +33,7 @@ class Texts(Protocol):
 class Style:
     """gdb's settings: `print elements`, `print repeats`, `print max-depth` and the format /x.
 
-    No repeats are counted where `repeats` is 0.
+    With `repeats` 0, no repetitions are counted.
     """
 
     elements: int = 200
@@ -43,13 +44,13 @@ class Style:
 
 @dataclass(frozen=True)
 class Formatter:
-    """Prints values in one style."""
+    """Formats values in one style."""
 
     texts: Texts
     style: Style = Style()
 
     def top(self, t: Type, value: Value, at: Optional[int] = None) -> str:
-        """A value by itself, which lies at an address: a pointer's type stands in front of it."""
+        """A value by itself, at address `at`; a pointer has its type in front."""
         pointer = t.stripped
         plain = pointer.kind == "pointer" and is_text(pointer.reference)
         if t.resolved.kind == "pointer" and not plain and not self.style.hexadecimal:
@@ -57,7 +58,7 @@ class Formatter:
         return self.value(t, value, at)
 
     def value(self, t: Type, value: Value, at: Optional[int] = None, depth: int = 0) -> str:
-        """A value of a type, which stands in `depth` others."""
+        """A value of type `t`, inside `depth` other values."""
         resolved = t.resolved
         if isinstance(value, Lost):
             return f"<{LOST.get(value.why, value.why)}>"
@@ -71,13 +72,13 @@ class Formatter:
         return (self._aggregate if aggregate else self._array)(resolved, value, at, depth)
 
     def _is_string(self, t: Type, value: Value) -> bool:
-        """Whether a value is printed as a text, which is cut at no depth."""
+        """Whether a value is printed as text, which the depth does not limit."""
         if isinstance(value, Characters):
             return value.total > 0
         return t.kind == "array" and prefix(t.contents) is not None and t.count > 0
 
     def _aggregate(self, t: Type, value: Parts, at: Optional[int], depth: int) -> str:
-        """All members; one without a name is no deeper than those beside it."""
+        """All members. Those of an unnamed member have the same depth."""
         told: List[str] = []
         for member, held in zip(t.members, value.items):
             place = None if at is None else at + member.offset // 8
@@ -97,16 +98,16 @@ class Formatter:
             return "{}" if at is None else self._address(at)
         if wide is not None and not self.style.hexadecimal:
             codes = [_code(item, size) for item in value.items]
-            return self._quoted(codes, value.total, wide)
+            return self._quote(codes, value.total, wide)
 
-        def told(number: int) -> str:
+        def text_of(number: int) -> str:
             place = None if at is None else at + number * size
             return self.value(t.contents, value.items[number], place, depth + 1)
 
-        return self._elements(value.items, value.total, told)
+        return self._elements(value.items, value.total, text_of)
 
     def _elements(self, items: Sequence[object], total: int, told: Callable[[int], str]) -> str:
-        """The elements up to the limit; those that repeat are told once and counted."""
+        """The elements up to the limit; repeated ones once, with a count."""
         repeats = self.style.repeats
         listed: List[str] = []
         at = printed = 0
@@ -125,14 +126,14 @@ class Formatter:
             return self._address(at) if self.style.hexadecimal else self._text(at)
         if self.style.hexadecimal:
             return self._elements(value.data, value.total, lambda n: f"0x{value.data[n]:x}")
-        return self._quoted(value.data, value.total, "")
+        return self._quote(value.data, value.total, "")
 
-    def _quoted(self, codes: Sequence[int], total: int, before: str) -> str:
-        """A text; one that is here whole loses the zero behind it."""
+    def _quote(self, codes: Sequence[int], total: int, before: str) -> str:
+        """A text; if it is complete, without the zero at its end."""
         whole = len(codes) == total
         if whole and codes and codes[-1] == 0:
             codes = codes[:-1]
-        return quoted(codes, self.style.elements, self.style.repeats, not whole, before)
+        return quote(codes, self.style.elements, self.style.repeats, not whole, before)
 
     def _leaf(self, t: Type, resolved: Type, value: Leaf) -> str:
         kind = resolved.kind
@@ -164,12 +165,12 @@ class Formatter:
         return self._address(address, target.kind == "function")
 
     def _text(self, address: int, size: int = 1, before: str = "") -> str:
-        """An address and the text there."""
+        """An address, and the text there."""
         text = self.texts.string(address, self.style.elements, size, before)
         return f"{self._address(address)} {text}"
 
     def _address(self, address: int, is_code: bool = False) -> str:
-        """An address with the symbol that it lies in."""
+        """An address, with the symbol that it is in."""
         return f"0x{address:x} {self.texts.label(address, is_code)}".rstrip()
 
     def _integer(self, t: Type, resolved: Type, shown: str) -> str:
@@ -201,20 +202,20 @@ class Formatter:
 
 
 def _code(value: Value, size: int) -> int:
-    """The bits of a wide character as a number; 0 where it can't be read."""
+    """The bits of a wide character as a number; 0 if it cannot be read."""
     shown = value.text if isinstance(value, Leaf) else "0"
     return int(shown) & (1 << 8 * size) - 1 if shown != "void" else 0
 
 
 def is_text(t: Type) -> bool:
-    """Whether a pointer to this type is a text by itself, which is shown without its type."""
+    """Whether a pointer to this type is printed as text, without its type."""
     return t.stripped.name == "char" or prefix(t) is not None
 
 
 def flags_of(enumerators: List[Enumerator], number: int) -> str:
-    """A number that is none of an enum's, as the flags that it is made of.
+    """A number that is no enumerator, as the flags that it consists of.
 
-    That holds for an enum each of whose values is one bit, or 0.
+    Only for an enum whose values are single bits or 0; otherwise, the number.
     """
     told: List[str] = []
     left = number

@@ -1,4 +1,4 @@
-"""Linked lists, followed from a head: the links first, a pointer each, then all nodes at once."""
+"""Linked lists: first the links are followed one by one, then all nodes are read at once."""
 from __future__ import annotations
 
 from dataclasses import dataclass
@@ -19,11 +19,11 @@ class Node(NamedTuple):
     value: Value
 
 
-class Followed(NamedTuple):
+class ListNodes(NamedTuple):
     """The nodes of a list, and how it ended.
 
-    `back` is the number of the node that the last one leads to again, and `more` says that the
-    limit ended it; `lost` is the address of a link that can't be read, in a node after the last.
+    `back` is the number of the node that the last one leads back to. `more` is set if the limit was
+    reached. `lost` is the address of a link that cannot be read, in the node after the last.
     """
 
     type: Type
@@ -34,7 +34,7 @@ class Followed(NamedTuple):
 
 
     def lines(self, printer: Formatter) -> Iterator[str]:
-        """A line for each node, and one on how it ended where that is not its end."""
+        """One line for each node, and one if the list did not end as usual."""
         for number, (address, value) in enumerate(self.nodes):
             yield f"[{number}] 0x{address:x} {printer.value(self.type, value, address)}"
         if self.back is not None:
@@ -47,10 +47,10 @@ class Followed(NamedTuple):
 
 @dataclass(frozen=True)
 class Chain:
-    """How one goes from node to node.
+    """The layout of a list.
 
-    A link is found `link` bytes behind what the last one pointed to, and a node begins `back`
-    bytes before what a link points to. `end` is where the list ends beside a link of 0.
+    A link is `link` bytes after the address in the last link, and a node begins `back` bytes before
+    the address in a link. `end` is an address that ends the list, as 0 does.
     """
 
     type: Type
@@ -61,13 +61,14 @@ class Chain:
 
 
 def follow(steps: Steps, head: Operand, member: str, inside: Optional[Type],
-           bounds: Bounds) -> Followed:
-    """The list from `head`, a node or a pointer to one, by its pointer `member`.
+           bounds: Bounds) -> ListNodes:
+    """Follows a list from `head`, a node or a pointer to one, by the pointer `member`.
 
-    With a type `inside`, the member is a link within that type that points to the next link, as
-    the kernel's list_head, and `head` is the list's own link, which is no node.
+    With a type `inside`, the member is a link within that type that points to the next link, as the
+    kernel's list_head; `head` is then the list's own link, which is no node.
     """
-    chain = _embedded(steps, head, member, inside) if inside else _plain(steps, head, member)
+    chain = (_embedded_chain(steps, head, member, inside) if inside else
+             _plain_chain(steps, head, member))
     seen: Dict[int, int] = {}
     at, lost = chain.first, None
     while at and at != chain.end and at not in seen and len(seen) < bounds.elements:
@@ -81,12 +82,12 @@ def follow(steps: Steps, head: Operand, member: str, inside: Optional[Type],
     told = values([Wanted(chain.type, address) for address in addresses], steps.target.read, bounds)
     nodes = [Node(address, value) for address, value in zip(addresses, told)]
     ended = not at or at == chain.end or lost is not None
-    return Followed(chain.type, nodes, None if ended else seen.get(at),
-                    not ended and at not in seen, lost)
+    return ListNodes(chain.type, nodes, None if ended else seen.get(at),
+                     not ended and at not in seen, lost)
 
 
-def _plain(steps: Steps, head: Operand, member: str) -> Chain:
-    """A list whose nodes point to each other."""
+def _plain_chain(steps: Steps, head: Operand, member: str) -> Chain:
+    """The chain of a list whose nodes point to each other."""
     if isinstance(head, Located) and head.type.resolved.kind in AGGREGATES:
         t, first = head.type, head.address
     else:
@@ -98,8 +99,8 @@ def _plain(steps: Steps, head: Operand, member: str) -> Chain:
     return Chain(t, first, link.address, 0, 0)
 
 
-def _embedded(steps: Steps, head: Operand, member: str, inside: Type) -> Chain:
-    """A list of links within the nodes, which comes back to its head."""
+def _embedded_chain(steps: Steps, head: Operand, member: str, inside: Type) -> Chain:
+    """The chain of a list of links inside nodes, which returns to its head."""
     is_link = isinstance(head, Located) and head.type.resolved.kind in AGGREGATES
     end = head.address if is_link and isinstance(head, Located) else steps.number(head)
     link = steps.member(Located(inside.gather(), 0), member)
@@ -113,7 +114,8 @@ def _embedded(steps: Steps, head: Operand, member: str, inside: Type) -> Chain:
 
 
 def _pointer(steps: Steps, node: Type, address: int) -> Optional[int]:
-    """The pointer at an address, as those of a node's program are; None where none can be read."""
+    """The pointer at an address, in the width of the node's program, or None if it cannot be
+    read."""
     size = node.dictionary.pointer_size
     try:
         data = steps.target.read(address, size)

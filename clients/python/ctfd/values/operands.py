@@ -1,4 +1,5 @@
-"""What an expression comes to: a place in memory, a number or a function, and C's steps on them."""
+"""The operands of expressions (values in memory, numbers, functions), and C's operations on
+them."""
 from __future__ import annotations
 
 from dataclasses import dataclass
@@ -12,11 +13,11 @@ from .reading import AGGREGATES, Bounds, Wanted, value, values
 
 
 class BadExpression(Error):
-    """An expression that is not C, or asks for what its types do not allow."""
+    """An expression that is not C, or an operation that its types do not allow."""
 
 
 class Located(NamedTuple):
-    """A value in memory, `bit` bits behind the start of a byte."""
+    """A value in memory, `bit` bits after the start of a byte."""
 
     type: Type
     address: int
@@ -24,21 +25,21 @@ class Located(NamedTuple):
 
 
 class Number(NamedTuple):
-    """A value that is nowhere in memory; without a type it is a plain number."""
+    """A value that is not in memory. Without a type it is a plain number."""
 
     type: Optional[Type]
     number: int
 
 
 class Code(NamedTuple):
-    """A function; without a signature if the types do not have it."""
+    """A function. `signature` is None if the types do not have it."""
 
     signature: Optional[Signature]
     address: int
 
 
 class Untold(NamedTuple):
-    """A symbol whose address is known, and not its type; `why` says what hinders that."""
+    """A symbol with an address but no type; `why` is the reason."""
 
     name: str
     address: int
@@ -49,24 +50,24 @@ Operand = Union[Located, Number, Code, Untold]
 
 
 class Target(Protocol):
-    """A program that was stopped: its memory, its registers, and what its names stand for."""
+    """A stopped program: its memory, registers, symbols and types."""
 
     def read(self, address: int, length: int) -> bytes:
-        """As many of the bytes as can be read; raises Error where none can."""
+        """As many of the bytes as can be read. Raises Error if there are none."""
 
     def register(self, name: str) -> int:
-        """The number in a register; raises Error where there is none of the name."""
+        """The number in a register. Raises Error if there is no such register."""
 
     def symbol(self, name: str) -> Operand:
-        """What a name of the program stands for; raises Error where it is none."""
+        """The operand that a name stands for. Raises Error if there is none."""
 
     def find(self, name: str) -> Type:
-        """The type of a name; raises Error where there is none."""
+        """The type of a name. Raises Error if there is none."""
 
 
 @dataclass(frozen=True)
 class Steps:
-    """C's steps from operand to operand, over one target."""
+    """C's operations on operands, for one target."""
 
     target: Target
 
@@ -81,8 +82,8 @@ class Steps:
         memory = (operand.number & (1 << 8 * size) - 1).to_bytes(size, "little")
         return value(operand.type, memory, bounds)
 
-    def loaded(self, operand: Operand) -> Number:
-        """A pointer or number, out of memory; an array or function as a pointer to it."""
+    def load(self, operand: Operand) -> Number:
+        """A pointer or number, read from memory; for an array or function, a pointer to it."""
         if isinstance(operand, Number):
             return operand
         if isinstance(operand, (Code, Untold)):
@@ -95,18 +96,18 @@ class Steps:
         return Number(operand.type, _number(operand.type, self.read(operand)))
 
     def number(self, operand: Operand) -> int:
-        return self.loaded(operand).number
+        return self.load(operand).number
 
     def behind(self, operand: Operand) -> Located:
-        """What a pointer points to."""
-        pointer = self.loaded(operand)
+        """The operand that a pointer points to."""
+        pointer = self.load(operand)
         target = pointer.type.resolved if pointer.type else None
         if target is None or target.kind != "pointer":
             raise BadExpression("only a pointer can be followed: cast it, as (TYPE *) EXPR")
         return Located(target.reference.gather(), target.dictionary.address(pointer.number))
 
     def address(self, operand: Operand) -> Number:
-        """A pointer to a place."""
+        """A pointer to an operand in memory."""
         if isinstance(operand, Code):
             told = operand.signature
             return Number(PointerTo(FunctionOf(told)) if told else None, operand.address)
@@ -133,9 +134,9 @@ class Steps:
         address = whole.type.dictionary.address(whole.address + bits // 8)
         return Located(found.type, address, bits % 8)
 
-    def moved(self, operand: Operand, steps: int) -> Number:
-        """A pointer moved by elements, a number by ones."""
-        start = self.loaded(operand)
+    def move(self, operand: Operand, steps: int) -> Number:
+        """A pointer moved by `steps` elements, or a number increased by `steps`."""
+        start = self.load(operand)
         pointer = start.type.resolved if start.type else None
         if pointer is None or pointer.kind != "pointer":
             return start._replace(number=start.number + steps)
@@ -146,11 +147,11 @@ class Steps:
         return start._replace(number=address)
 
     def element(self, operand: Operand, number: int) -> Located:
-        """An element of an array, or behind a pointer."""
-        return self.behind(self.moved(operand, number))
+        """An element of an array, or of the array that a pointer points to."""
+        return self.behind(self.move(operand, number))
 
     def cast(self, t: Type, operand: Operand) -> Number:
-        """A pointer or number as another type."""
+        """A pointer or number, converted to another type."""
         resolved = t.gather().resolved
         if resolved.kind not in ("integer", "enum", "pointer"):
             raise BadExpression(f"there is no cast to {declaration(t)}: cast to a pointer to it")
@@ -160,7 +161,7 @@ class Steps:
 
 
 def _number(t: Type, read: Value) -> int:
-    """The number that was read of an integer, an enum or a pointer."""
+    """The number that was read for an integer, an enum or a pointer."""
     if not isinstance(read, Leaf):
         raise BadExpression("its memory can't be read")
     enumerators: List[int] = []

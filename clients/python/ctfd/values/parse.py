@@ -1,4 +1,4 @@
-"""The text that `show` answers, taken apart along the type of the value."""
+"""Parses the text that `show` answers, guided by the type of the value."""
 from __future__ import annotations
 
 import re
@@ -21,21 +21,22 @@ class Leaf(NamedTuple):
 
 
 class Characters(NamedTuple):
-    """The bytes of an array of characters; `total` says how many it has, if not all are here."""
+    """The bytes of an array of characters. `total` is the length of the array; `data` may be
+    shorter."""
 
     data: bytes
     total: int
 
 
 class Parts(NamedTuple):
-    """The members of a struct or union, or the elements of an array: the first of `total`."""
+    """The members of a struct or union, or the first elements of an array, which has `total`."""
 
     items: List["Value"]
     total: int
 
 
 class Lost(NamedTuple):
-    """A value that was not told: the refusal's name, or "cut" where too much was asked."""
+    """A value that could not be read: the name of the refusal, or "cut" if a bound was reached."""
 
     why: str
 
@@ -44,7 +45,7 @@ Value = Union[Leaf, Characters, Parts, Lost]
 
 
 class Unclear(Error):
-    """A text that is not one of its type's values; then the parts of the value are asked for."""
+    """A text that cannot be parsed as a value of its type; its parts are then asked for."""
 
 
 def is_character(t: Type) -> bool:
@@ -56,23 +57,24 @@ def is_character(t: Type) -> bool:
 
 
 def parse(t: Type, shown: str) -> Value:
-    """The value of a type that has a text."""
+    """The value of type `t` in a text."""
     resolved = t.resolved
     if resolved.kind in ("struct", "union", "array"):
-        return Parser(text.name(shown)).whole(resolved)
+        return Parser(text.name(shown)).parse(resolved)
     return Leaf(text.name(shown))
 
 
 class Parser:
-    """Reads one text from left to right. Text that goes deeper than DEEPEST is Unclear."""
+    """Parses one text from left to right. Raises Unclear if values are nested more than DEEPEST
+    deep."""
 
     def __init__(self, shown: str) -> None:
         self.shown = shown
         self.at = 0
         self.members: Dict[Type, List[Tuple[str, Type]]] = {}
 
-    def whole(self, t: Type) -> Value:
-        """All of the text."""
+    def parse(self, t: Type) -> Value:
+        """The value of the whole text."""
         read = self._value(t, 0)
         if self.at != len(self.shown):
             raise Unclear(f"more follows at {self.at}")
@@ -101,7 +103,7 @@ class Parser:
         return Parts(items, len(items))
 
     def _members(self, t: Type) -> List[Tuple[str, Type]]:
-        """What stands in front of each member, and its type."""
+        """The text before each member, and the member's type."""
         if t not in self.members:
             named = [(f"{m.name} = " if m.name else "", m.type.resolved) for m in t.members]
             self.members[t] = [(f", {prefix}" if number else prefix, inner)
@@ -125,7 +127,7 @@ class Parser:
 
 
 def _characters(items: List[Value]) -> Value:
-    """The bytes that were shown as numbers."""
+    """The bytes of characters that were shown as numbers."""
     try:
         shown = bytes(int(one.text) & 255 for one in items if isinstance(one, Leaf))
     except ValueError as error:

@@ -1,4 +1,5 @@
-"""A program beside its dictionary: what its names stand for, once it is known where it runs."""
+"""A program with its dictionary, which turns names into operands once the program's offset in
+memory is known."""
 from __future__ import annotations
 
 from dataclasses import dataclass, field
@@ -9,7 +10,7 @@ from ..client.faults import Error, NotFound
 from ..client.model import Model
 from ..client.session import Session
 from ..files import anyfile, compiled
-from ..files.anyfile import Asked
+from ..files.anyfile import FileOptions
 from ..files.bundles import Bundle, Description, Symbol
 from .operands import Code, Located, Operand
 
@@ -18,10 +19,10 @@ Reader = Callable[[str, Optional[Description]], Bundle]
 
 @dataclass
 class Program:
-    """A file, its types and its symbols by their names.
+    """A file, its types, and its symbols by name.
 
-    `image` describes the ELF file, None where the file is a section by itself: then no name has an
-    address.
+    `image` describes the ELF file. It is None for a section by itself, whose names have no
+    addresses.
     """
 
     path: str
@@ -30,9 +31,10 @@ class Program:
     symbols: Dict[str, List[Symbol]] = field(default_factory=dict)
 
     def symbol(self, name: str, slide: int) -> Operand:
-        """What a name stands for in a program that runs `slide` bytes behind its addresses.
+        """The operand that a name stands for in a program that runs `slide` bytes after its
+        addresses.
 
-        Of several symbols of a name it is the first of which something is told. Raises NotFound.
+        If several symbols have the name, it is the first with a type. Raises NotFound.
         """
         refused: Error = Error(f"{self.path} has no symbol {name}")
         for symbol in self.symbols.get(name, []):
@@ -47,8 +49,8 @@ class Program:
 
 
 def read_program(path: str, _: Optional[Description] = None) -> Bundle:
-    """What is handed in for a file, with the addresses of its symbols. Raises Unreadable."""
-    return anyfile.read(path, Asked(with_addresses=True))
+    """The dictionaries of a file, with the addresses of its symbols. Raises Unreadable."""
+    return anyfile.read(path, FileOptions(with_addresses=True))
 
 
 def open_program(session: Session, path: str, model: Optional[Model] = None,

@@ -1,4 +1,4 @@
-"""Characters and texts in quotes, as gdb prints them where its charset is ASCII."""
+"""Characters and text in quotes, as gdb prints them if its charset is ASCII."""
 from __future__ import annotations
 
 from itertools import groupby
@@ -15,7 +15,8 @@ _NAMED = {7: "\\a", 8: "\\b", 9: "\\t", 10: "\\n", 11: "\\v", 12: "\\f", 13: "\\
 
 
 def prefix(t: Type) -> Optional[str]:
-    """What stands in front of texts of a wide character's type, which goes by its name."""
+    """The letter in front of text of a wide character type, which the typedef's name decides, or
+    None."""
     if t.resolved.kind != "integer" or (t.resolved.size or 0) not in WIDTHS:
         return None
     while t.kind == "typedef" or t.kind in QUALIFIERS:
@@ -26,17 +27,16 @@ def prefix(t: Type) -> Optional[str]:
 
 
 def character(code: int, quote: str) -> str:
-    """One character, by its bits as a number, escaped where it is not plain."""
+    """One character, by its code, escaped if needed."""
     if code in _NAMED:
         return _NAMED[code]
     if not 0x20 <= code < 0x7F:
-        return _escaped(code)
+        return _escape(code)
     return ("\\" if chr(code) in ("\\", quote) else "") + chr(code)
 
 
 def _characters(codes: Sequence[int], is_behind_number: bool) -> str:
-    """Characters in a text, behind each other: one that could belong to the number in front of it
-    is escaped."""
+    """The characters of a text. A digit after a numeric escape is escaped too."""
     made = ""
     for code in codes:
         is_digit = code < 0x7F and chr(code) in hexdigits
@@ -46,21 +46,22 @@ def _characters(codes: Sequence[int], is_behind_number: bool) -> str:
     return made
 
 
-def _escaped(code: int) -> str:
+def _escape(code: int) -> str:
     return f"\\{code:03o}" if code <= 0o777 else f"\\x{code:x}"
 
 
 def one(code: int, before: str = "") -> str:
-    """A character in its quotes."""
+    """A character in quotes."""
     return f"{before}'{character(code, chr(39))}'"
 
 
-def quoted(codes: Sequence[int], limit: int, repeats: int, more: bool = False,
-           before: str = "") -> str:
-    """A text in quotes: what repeats more often than `repeats` is told once and counted.
+def quote(codes: Sequence[int], limit: int, repeats: int, more: bool = False,
+          before: str = "") -> str:
+    """Text in quotes. Characters that repeat more than `repeats` times are written once, with a
+    count.
 
-    It ends with the character at which the limit is reached, and all that repeat it. `more` says
-    that it goes on behind what is here.
+    It ends at the character that reaches the limit, and its repetitions. `more` says that the text
+    continues after `codes`.
     """
     printed, segments, plain, is_behind_number = 0, [], "", False
     for code, group in groupby(codes):
@@ -70,7 +71,7 @@ def quoted(codes: Sequence[int], limit: int, repeats: int, more: bool = False,
         length = sum(1 for _ in group)
         printed += length
         if repeats and length > repeats:
-            segments += [_plain(plain, before)] if plain else []
+            segments += [_quote_plain(plain, before)] if plain else []
             told = _characters([code], is_behind_number)
             segments.append(f"{before}'{told}' <repeats {length} times>")
             plain = ""
@@ -78,9 +79,9 @@ def quoted(codes: Sequence[int], limit: int, repeats: int, more: bool = False,
             plain += _characters([code] * length, is_behind_number)
         is_behind_number = code > 0o777
     if plain or not segments:
-        segments.append(_plain(plain, before))
+        segments.append(_quote_plain(plain, before))
     return ", ".join(segments) + (DOTS if more else "")
 
 
-def _plain(escaped: str, before: str) -> str:
+def _quote_plain(escaped: str, before: str) -> str:
     return f'{before}"{escaped}"'

@@ -1,8 +1,8 @@
-"""Values in a program's memory, read by the service's `show` and taken apart along their types.
+"""Values in a program's memory, read with `show` and parsed by their types.
 
-A whole value is one request. Where the service refuses it as a whole (TooLong, Incomplete,
-ShortMemory), or where its text could not be told apart, its parts are asked for instead, all of
-a level in one round. What that may cost is bounded: a hostile type doubles at each level.
+One request reads a whole value. If the service refuses it (TooLong, Incomplete, ShortMemory), or if
+the text cannot be parsed, the parts are asked for, all of a level in one round trip. Bounds limit
+this, since a hostile type could double the work at each level.
 """
 from __future__ import annotations
 
@@ -27,9 +27,8 @@ Item = TypeVar("Item")
 
 @dataclass
 class Bounds:
-    """What the reading of values may cost: elements of each array that is split, values and parts
-    of values that are read one by one, and text, also where the service has made it in vain.
-    """
+    """The limits for reading values: elements of each array that is split, values and parts read
+    one by one, and characters of text, also of text that the service produced in vain."""
 
     elements: int = 200
     pieces: int = 65_536
@@ -37,7 +36,7 @@ class Bounds:
 
 
 class Wanted(NamedTuple):
-    """A value to be read: `bit` bits behind the address `at`."""
+    """A value to read, `bit` bits after the address `at`."""
 
     type: Type
     at: int
@@ -46,7 +45,8 @@ class Wanted(NamedTuple):
 
 @dataclass
 class Piece:
-    """A value or a part of one, and where its outcome goes; `memory` is there once it was read."""
+    """A value or a part of one, and where to put the result. `memory` has its bytes once they are
+    read."""
 
     wanted: Wanted
     into: List[Value]
@@ -59,16 +59,16 @@ class Piece:
 
 
 def span(t: Type, bit: int) -> int:
-    """How many bytes from the one in which a value begins to the one in which it ends."""
+    """The number of bytes from the one in which a value begins to the one in which it ends."""
     lies = t.bit_field
     bits = 8 * (t.size or 0) if lies is None else lies.offset + lies.bits
     return (bit + bits + 7) // 8
 
 
 def values(wanted: List[Wanted], read: Read, bounds: Optional[Bounds] = None) -> List[Value]:
-    """The values at some places, in as few rounds as can be.
+    """The values at some addresses, in few round trips.
 
-    `read` is given an address and a length, and answers as many bytes as it can.
+    `read` takes an address and a length, and returns as many of the bytes as it can.
     """
     for t in {one.type for one in wanted}:
         t.gather()
@@ -76,13 +76,13 @@ def values(wanted: List[Wanted], read: Read, bounds: Optional[Bounds] = None) ->
 
 
 def value(t: Type, memory: bytes, bounds: Optional[Bounds] = None) -> Value:
-    """The value of a type that some bytes hold."""
+    """The value of type `t` in some bytes."""
     return values([Wanted(t, 0)], lambda at, size: memory[at:at + size], bounds)[0]
 
 
 @dataclass
 class Reading:
-    """One call of `values`: its pieces become smaller level by level."""
+    """One call of `values`. Level by level, pieces are read or split into smaller ones."""
 
     read: Read
     bounds: Bounds
@@ -90,7 +90,7 @@ class Reading:
 
     def run(self, wanted: List[Wanted]) -> List[Value]:
         roots: List[Value] = [Lost("cut")] * len(wanted)
-        level = [Piece(one, roots, number) for number, one in enumerate(self._allowed(wanted))]
+        level = [Piece(one, roots, number) for number, one in enumerate(self._within_limit(wanted))]
         while level:
             end = self._end_of_round(level)
             level, later = level[:end], level[end:]
@@ -101,7 +101,8 @@ class Reading:
         return roots
 
     def _end_of_round(self, level: List[Piece]) -> int:
-        """How many pieces may be asked for at once, if each long one takes all that it can."""
+        """The number of pieces that one round may ask for, if each long one is as long as
+        possible."""
         room = max(1, self.bounds.text // LONGEST_TEXT)
         for number, piece in enumerate(level):
             room -= not _is_short(piece.wanted.type.resolved)
@@ -109,14 +110,15 @@ class Reading:
                 return number
         return len(level)
 
-    def _allowed(self, pieces: List[Item]) -> List[Item]:
-        """The first of some pieces, as many as may be read yet."""
+    def _within_limit(self, pieces: List[Item]) -> List[Item]:
+        """The first of some pieces, as many as the limit still allows."""
         kept = pieces[:self.bounds.pieces]
         self.bounds.pieces -= len(kept)
         return kept
 
     def _must_ask(self, piece: Piece, refused: List[Tuple[Piece, str]]) -> bool:
-        """Whether the service is asked; else the piece has its value, or is to be split."""
+        """Whether to ask the service for a piece; otherwise the piece has its value or must be
+        split."""
         t = piece.wanted.type.resolved
         if self.bounds.text <= 0:
             piece.put(Lost("cut"))
@@ -129,36 +131,36 @@ class Reading:
             return False
         if self._is_split(t):
             if t.size and not piece.is_part:
-                self.read(piece.wanted.at + piece.wanted.bit // 8, 1)  # refused where nothing is
+                self.read(piece.wanted.at + piece.wanted.bit // 8, 1)  # Error if nothing is there
             refused.append((piece, "TooLong"))
             return False
         return True
 
     def _pointer(self, piece: Piece, size: int) -> Value:
-        """A pointer that the service has no type for, as `show` would show it."""
+        """A pointer whose type the dictionary does not have, as `show` would show it."""
         data = self._memory(piece, size)
         return Lost("ShortMemory") if len(data) < size else Leaf(f"0x{data[::-1].hex()}")
 
     def _characters(self, piece: Piece, t: Type) -> Value:
-        """The bytes themselves: `show` would spell each as a number."""
+        """An array of characters as bytes; `show` would write each as a number."""
         kept = min(t.count, MOST_TEXT)
         data = self._memory(piece, kept)
         short = len(data) < kept
         return Lost("ShortMemory") if short and not data else Characters(data, t.count)
 
     def _memory(self, piece: Piece, length: int) -> bytes:
-        """The bytes of a piece; of one that is not at the start of a byte, the bytes it is in."""
+        """The bytes of a piece, starting with the byte in which it begins."""
         if piece.memory is None:
             try:
                 piece.memory = self.read(piece.wanted.at + piece.wanted.bit // 8, length)
             except Error:
                 if not piece.is_part:
                     raise
-                piece.memory = b""  # the other parts may be there
+                piece.memory = b""  # other parts may be readable
         return piece.memory[:length]
 
     def _is_split(self, t: Type) -> bool:
-        """Whether a value is never asked for as a whole."""
+        """Whether a type is never asked for as a whole."""
         if (t.size or 0) > WHOLE or (t.kind == "array" and t.count > MANY):
             return True
         if t not in self.apart:
@@ -167,7 +169,7 @@ class Reading:
         return self.apart[t]
 
     def _ask(self, pieces: List[Piece]) -> List[Tuple[Piece, str]]:
-        """Shows what can be shown, in one round; the rest with why not."""
+        """Asks for pieces in one round trip. Returns those that failed, each with the reason."""
         if not pieces:
             return []
         session = pieces[0].wanted.type.dictionary.session
@@ -192,7 +194,7 @@ class Reading:
         return "show", fields
 
     def _parts(self, piece: Piece, why: str) -> List[Piece]:
-        """The members or elements of a value; none where it has none, and then it is lost."""
+        """The members or elements of a value; none if it has none, and it is then Lost."""
         t = piece.wanted.type.resolved
         if self.bounds.pieces <= 0:
             piece.put(Lost("cut"))
@@ -201,11 +203,11 @@ class Reading:
             places = [(member.type, member.offset) for member in t.members]
             items: List[Value] = [Lost("cut")] * len(places)
             piece.put(Parts(items, len(places)))
-            places = self._allowed(places)
+            places = self._within_limit(places)
         elif t.kind == "array" and t.contents.size:
             step = 8 * t.contents.size
             count = min(t.count, self.bounds.elements, self.bounds.pieces)
-            places = self._allowed([(t.contents, number * step) for number in range(count)])
+            places = self._within_limit([(t.contents, number * step) for number in range(count)])
             items = [Lost("cut")] * len(places)
             piece.put(Parts(items, t.count))
         else:
@@ -215,7 +217,7 @@ class Reading:
                 for number, (inner, offset) in enumerate(places)]
 
     def _part(self, whole: Piece, t: Type, offset: int, into: List[Value], index: int) -> Piece:
-        """A part that begins some bits behind the start of a whole."""
+        """A part that begins `offset` bits after the start of the whole."""
         first, bit = divmod(whole.wanted.bit % 8 + offset, 8)
         start = whole.wanted.at + whole.wanted.bit // 8
         part = Piece(Wanted(t, start + first, bit), into, index, True)
@@ -225,7 +227,7 @@ class Reading:
 
 
 def held_by(whole: Type) -> List[Type]:
-    """The types that a value of a type holds, itself among them, each once."""
+    """The types in a value of a type, itself included, each once."""
     seen: Dict[Type, None] = {}
     todo = [whole.resolved]
     while todo:
@@ -241,12 +243,12 @@ def held_by(whole: Type) -> List[Type]:
 
 
 def _is_short(t: Type) -> bool:
-    """Whether the text of a value has a few dozen characters at most."""
+    """Whether the text of a value has at most a few dozen characters."""
     return t.kind in ("integer", "float", "pointer") and (t.size or 0) <= 16
 
 
 def _is_unclear(t: Type) -> bool:
-    """Whether a text with such a value in it is needlessly long, or can be read in two ways."""
+    """Whether a text with such a value would be needlessly long, or ambiguous."""
     if t.kind == "array":
         return t.count > LONG_TEXT and is_character(t.contents.resolved)
     return t.kind == "enum" and any(not name.isidentifier() for name, _ in t.enumerators)

@@ -1,7 +1,7 @@
 """Types in front of values, spelled as gdb 13 spells them.
 
-gdb has one spelling for each of C's integers, whatever the compiler wrote, and blanks on both sides
-of a pointer's qualifiers.
+gdb has one spelling for each of C's integers, whatever the compiler wrote, and puts blanks on both
+sides of a pointer's qualifiers.
 """
 from __future__ import annotations
 
@@ -21,12 +21,12 @@ _QUALIFIER = re.compile(r"\*(?=(?:const|volatile|restrict)\b)")
 _ATOMIC = re.compile(r"\b_Atomic\(([\w ]+)\)")
 
 
-def spelled(text: str) -> str:
-    """What C has for a type, as gdb writes it."""
+def gdb_spelling(text: str) -> str:
+    """The declaration of a type, in gdb's spelling."""
     text = _INTEGER.sub(lambda found: INTEGERS[found[0]], text)
     return _ATOMIC.sub(r"_Atomic \1", _QUALIFIER.sub("* ", text))
 
 
 def of_type(t: Type) -> str:
-    """A type as gdb writes it."""
-    return spelled(declaration(t))
+    """A type in gdb's spelling."""
+    return gdb_spelling(declaration(t))

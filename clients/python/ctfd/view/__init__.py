@@ -1,1 +1,1 @@
-"""How types are shown: declarations, listings, JSON and a page."""
+"""Types as text: declarations and listings."""

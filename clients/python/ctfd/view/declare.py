@@ -1,7 +1,7 @@
-"""C's declaration of a type or of something that has it.
+"""C declarations of types and of names.
 
-The declarator is written from the inside out, along the type. It is cut at a depth and at a
-number of steps: a function may take a pointer to itself, and a hostile one may take many.
+The declarator is written from the inside out, along the type. Its depth and the number of steps are
+limited: a function may take a pointer to itself, and a hostile one may take many.
 """
 from __future__ import annotations
 
@@ -27,9 +27,9 @@ def base(named: Type) -> str:
 
 
 class Declarator(NamedTuple):
-    """A declaration in its parts: `qualifiers base left name right`: `const int (* f )(void)`.
+    """The parts of a declaration, `qualifiers base left name right`: `const int (* f )(void)`.
 
-    `named` is how bases are called.
+    `named` gives the name of a base.
     """
 
     qualifiers: List[str]
@@ -51,34 +51,35 @@ class Declarator(NamedTuple):
 
 
 def declaration(declared: Type, name: str = "") -> str:
-    """How C declares `name` with this type, arguments of functions and all."""
+    """The C declaration of `name` with this type, including arguments; with "", of the type
+    alone."""
     return declarator(declared).around(printable(name))
 
 
 def object_of(declared: Type, name: str) -> str:
-    """How C declares an object, which may be an array of a length that is not known."""
+    """The C declaration of an object, which may be an array of unknown length."""
     return declarator(declared, is_open=True).around(printable(name))
 
 
 def function(signature: Signature, name: str) -> str:
-    """How C declares a function by a symbol's signature."""
+    """The C declaration of a function, by a symbol's signature."""
     arguments = _arguments(signature, 0, [STEPS])
     return declarator(signature.returns).around(f"{printable(name)}({arguments})")
 
 
 def declarator(declared: Type, named: Callable[[Type], str] = base,
                is_open: bool = False) -> Declarator:
-    """The parts of a declaration. With `is_open` an array of no elements is one whose length is
-    not known, where C takes that."""
+    """The parts of a declaration. With `is_open`, an array of no elements has an unknown length,
+    where C allows that."""
     return _declarator(declared, 0, [STEPS], named, is_open)
 
 
 def _declarator(declared: Type, depth: int, budget: List[int],
                 named: Callable[[Type], str] = base, is_open: bool = False) -> Declarator:
-    """`budget` holds the steps that are left, for all declarators of one declaration."""
+    """The parts of a declaration. `budget` has the remaining steps for all its declarators."""
     left, right = "", ""
     qualifiers: List[str] = []
-    of_pointer: List[str] = []  # the qualifiers of the pointer that comes next
+    of_pointer: List[str] = []  # qualifiers of the next pointer
     while True:
         budget[0] -= 1
         kind = declared.kind
@@ -108,7 +109,7 @@ def _declarator(declared: Type, depth: int, budget: List[int],
 
 
 def _element(declared: Type) -> Type:
-    """What a qualifier of a type is said of: of an array its elements."""
+    """The type that a qualifier applies to: for an array, its elements."""
     for _ in range(STEPS):
         declared = declared.stripped
         if declared.kind != "array":
@@ -122,7 +123,7 @@ def _arguments(signature: Signature, depth: int, budget: List[int],
     if depth >= DEEPEST or budget[0] <= 0:
         return CUT
     if signature.varargs and not signature.arguments:
-        return ""  # what they are is not said, as by `int f()`
+        return ""  # unknown arguments, as in `int f()`
     listed: List[str] = []
     for argument in signature.arguments:
         if budget[0] <= 0:

@@ -1,11 +1,11 @@
-"""Types as C writes them, with places, sizes and holes as pahole prints them."""
+"""Definitions of types in C, with offsets, sizes and holes as pahole prints them."""
 from __future__ import annotations
 
 from typing import List, Optional
 
 from ..text import printable
 from ..client.types import Type
-from ..layout.places import Layout, Place, gathered, layout
+from ..layout.places import Layout, Place, gathered_layout, layout
 from .declare import Declarator, base, declaration, declarator
 
 LINE = 64
@@ -15,24 +15,25 @@ AGGREGATES = ("struct", "union")
 
 
 def definition(listed: Type, is_expanded: bool = False) -> str:
-    """A type in full as C defines it, without places."""
+    """The C definition of a type, without offsets."""
     return "\n".join(Listing(False, LINE, is_expanded).definition(listed))
 
 
 def listing(listed: Type, cache_line: int = LINE, is_expanded: bool = False,
             is_hexadecimal: bool = False) -> str:
-    """A type in full with the place and size of each member in bytes, as pahole prints it.
+    """The C definition of a type, with the offset and size of each member in bytes, as pahole
+    prints it.
 
-    Expanded, the structs and unions that it holds by value are written in place.
+    With `is_expanded`, structs and unions that it contains by value are written in place.
     """
     return "\n".join(Listing(True, cache_line, is_expanded, is_hexadecimal).definition(listed))
 
 
 class Listing:
-    """The lines of one type, made from top to bottom; `line` counts the cache lines told.
+    """The lines of one type, from top to bottom. `line` is the number of the last cache line noted.
 
-    A struct or union without a name is written out where a member is declared with it. That ends
-    at a depth and at a number of lines: a hostile type doubles at each level.
+    Structs and unions without a name are written at the member that has them. Depth and the number
+    of lines are limited: a hostile type doubles at each level.
     """
 
     def __init__(self, places: bool, cache_line: int = LINE, is_expanded: bool = False,
@@ -61,7 +62,7 @@ class Listing:
             self.lines.append(f"{declaration(listed)};")
         return self.lines
 
-    def ordered(self, places: List[Place]) -> List[str]:
+    def lines_in_order(self, places: List[Place]) -> List[str]:
         """The lines of some members, in this order."""
         self._members(Layout(0, places, 0), 1, 0)
         return self.lines
@@ -74,20 +75,21 @@ class Listing:
         self.lines.append("};")
 
     def _members(self, whole: Layout, depth: int, start: int) -> None:
-        """The members, where the whole begins at byte `start`."""
+        """The members of a struct or union that begins at byte `start`."""
         for place in whole.places:
             if self.places:
                 self._gap(place, depth)
                 self._boundary(start + place.start // 8, depth)
             said = declarator(place.member.type)
-            inner = self._opened(said)
+            inner = self._expanded_type(said)
             if inner is not None and depth < DEEPEST and len(self.lines) < LONGEST:
                 self._inner(place, said, inner, depth, start)
             else:
                 self._member(place, said, depth, start)
 
-    def _opened(self, said: Declarator) -> Optional[Type]:
-        """The struct or union that is written in place: one without a name, or any that is held."""
+    def _expanded_type(self, said: Declarator) -> Optional[Type]:
+        """The struct or union that is written in place: an unnamed one, or with `is_expanded` any
+        that is contained by value; else None."""
         if said.base.kind in AGGREGATES and not said.base.name:
             return said.base
         if self.is_expanded and "*" not in said.left:
@@ -100,13 +102,14 @@ class Listing:
         renamed = [] if inner == said.base else [f"/* typedef {base(said.base)} */"]
         head = [*renamed, *said.qualifiers, base(inner) if inner.name else inner.kind, "{"]
         self.lines.append("\t" * depth + " ".join(head))
-        begins = 0 if "*" in said.left else start + place.member.offset // 8  # or it is elsewhere
-        self._members(gathered(inner) if "*" not in said.left else layout(inner), depth + 1, begins)
+        begins = 0 if "*" in said.left else start + place.member.offset // 8  # or elsewhere
+        whole = gathered_layout(inner) if "*" not in said.left else layout(inner)
+        self._members(whole, depth + 1, begins)
         name = said.left + printable(place.member.name) + said.right
         self._line(f"}} {name};" if name else "};", place, depth, start)
 
     def _member(self, place: Place, said: Declarator, depth: int, start: int) -> None:
-        """One member: its type in a column of its own, then its name, and where it lies."""
+        """One member: its type in a column, its name, and its offset and size."""
         cut = said.left.find("(")
         outer, declared = (said.left, "") if cut < 0 else (said.left[:cut], said.left[cut:])
         declared += printable(place.member.name) + said.right
@@ -139,7 +142,7 @@ class Listing:
         self.lines.append("\t" * depth + f"{written:<{column - 1}} {lies}")
 
     def _number(self, number: int, width: int) -> str:
-        """A place, a size or a value, as pahole has it: 0 is 0 in hexadecimal too."""
+        """An offset, a size or a value, as pahole writes it: 0 is "0" also in hexadecimal."""
         written = f"{number:#x}" if self.is_hexadecimal and number else str(number)
         return written.rjust(width)
 
@@ -152,7 +155,7 @@ class Listing:
                 self.lines += ["", hole, ""]
 
     def _boundary(self, byte: int, depth: int) -> None:
-        """A word where a cache line begins at a member or began within the last."""
+        """A note if a cache line begins at a member, or began within the last one."""
         line, past = divmod(byte, self.cache_line)
         if line > self.line:
             ago = f" was {past} byte{'s' * (past != 1)} ago" if past else ""

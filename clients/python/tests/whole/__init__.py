@@ -1,5 +1,5 @@
-"""All types of an open dictionary with what is worked out of them, beside which tests hold what the
-commands print."""
+"""All types of an open dictionary with derived data, which tests compare with the output of
+commands."""
 from __future__ import annotations
 
 from typing import Iterable, List, NamedTuple
@@ -12,8 +12,8 @@ from .naming import Names
 from .sizes import Sizes
 
 
-class Whole(NamedTuple):
-    """A file's types with what is worked out of them; `cut` says what was left out of that."""
+class WholeFile(NamedTuple):
+    """A file's types with derived data; `cut` lists what was left out of that."""
 
     path: str
     catalog: Catalog
@@ -22,8 +22,8 @@ class Whole(NamedTuple):
     cut: List[str]
 
 
-def whole(types: Dictionary, path: str, lists: Iterable[str] = LISTS) -> Whole:
+def whole_of(types: Dictionary, path: str, lists: Iterable[str] = LISTS) -> WholeFile:
     """All types of an open dictionary."""
     catalog = Catalog(types, lists)
     names = Names(catalog)
-    return Whole(path, catalog, names, Sizes(catalog, names), [])
+    return WholeFile(path, catalog, names, Sizes(catalog, names), [])

@@ -1,8 +1,7 @@
-"""All types of a dictionary and of its parent as records, asked for in a few rounds.
+"""All types of a dictionary and of its parent as records, fetched in a few round trips.
 
-What the commands print is compared with what is worked out of these: a record is a tuple, and no
-question is asked once it is read. What a dictionary holds is judged by the service, so chains of
-types end.
+The output of commands is compared with data derived from these. A record is a tuple, and no
+question is asked after it is read. The service has checked the dictionary, so chains of types end.
 """
 from __future__ import annotations
 
@@ -20,8 +19,8 @@ AT_ONCE = 8192
 RENAMES = (*QUALIFIERS, "typedef")
 
 
-class Reached(NamedTuple):
-    """What a member's type comes to, behind typedefs, qualifiers and arrays."""
+class ReachedType(NamedTuple):
+    """The type of a member behind typedefs, qualifiers and arrays."""
 
     number: int
     elements: int
@@ -29,7 +28,7 @@ class Reached(NamedTuple):
 
 
 class Catalog:
-    """The records of a dictionary; `own` are the numbers of its own types, in order."""
+    """The records of a dictionary; `own` lists the numbers of its own types, in order."""
 
     def __init__(self, dictionary: Dictionary, lists: Iterable[str] = LISTS) -> None:
         self.dictionary = dictionary
@@ -40,7 +39,7 @@ class Catalog:
         self._sizes: Dict[int, Optional[int]] = {0: None}
         self._ends: Dict[int, int] = {}
         self._spans: Dict[int, Span] = {}
-        self._reached: Dict[int, Reached] = {}
+        self._reached: Dict[int, ReachedType] = {}
         self._layouts: Dict[int, Layout] = {}
         self._has_sizes = False
         self._read(set(lists))
@@ -48,25 +47,26 @@ class Catalog:
                          if self[number].kind == "integer" and self[number].root}
 
     def __getitem__(self, number: int) -> Record:
-        """The record of a number; one that is a parent's, which is not there, is `unknown`."""
+        """The record of a number; `unknown` for a type of a missing parent."""
         return self._records.get(number) or Record("unknown")
 
     def __contains__(self, number: int) -> bool:
         return number in self._records
 
     def put(self, number: int, record: Record) -> None:
-        """Says more of a type than its dictionary can."""
+        """Replaces the record of a type."""
         self._records[number] = record
 
     def add(self, record: Record) -> int:
-        """A type that the dictionary has not; its number is above all of these."""
+        """Adds a type that the dictionary does not have, and returns its number, the greatest so
+        far."""
         number = max(self._records) + 1
         self._records[number] = record
         return number
 
     @property
     def is_orphan(self) -> bool:
-        """Whether it is a child whose parent is not there."""
+        """Whether it is a child whose parent is missing."""
         return self.dictionary.is_child and self.dictionary.parent is None
 
     # Reading.
@@ -92,7 +92,7 @@ class Catalog:
 
     def _record(self, number: int, said: Answer, lists: Set[str]) -> Record:
         kind = said["kind"]
-        size = 0 if kind == "array" else said.get("size", 0)  # which need not be an array's
+        size = 0 if kind == "array" else said.get("size", 0)  # an array's need not be given
         record = Record(kind, text.name(said["name"]), size, said.get("type", 0),
                         tag=said.get("tag", ""), root=said["root"])
         word = DETAIL.get(kind)
@@ -100,10 +100,10 @@ class Catalog:
             return record
         return _DETAILED[word](record, self._answer(word, number))
 
-    # What types come to.
+    # Following types.
 
-    def resolved(self, number: int) -> int:
-        """Without typedefs and qualifiers."""
+    def resolve(self, number: int) -> int:
+        """The type behind typedefs and qualifiers."""
         passed: List[int] = []
         while number not in self._ends and self[number].kind in RENAMES:
             passed.append(number)
@@ -112,14 +112,14 @@ class Catalog:
         self._ends.update(dict.fromkeys(passed, end))
         return end
 
-    def reached(self, number: int) -> Reached:
-        """Without typedefs, qualifiers and arrays; which types it led through."""
+    def reach(self, number: int) -> ReachedType:
+        """The type behind typedefs, qualifiers and arrays, and the types on the way."""
         known = self._reached.get(number)
         if known is None:
             known = self._reached[number] = self._reach(number)
         return known
 
-    def _reach(self, number: int) -> Reached:
+    def _reach(self, number: int) -> ReachedType:
         elements, through = 1, []
         record = self[number]
         while record.kind in RENAMES or record.kind == "array":
@@ -128,16 +128,16 @@ class Catalog:
                 elements *= record.elements
             number = record.type
             record = self[number]
-        return Reached(number, elements, tuple(through))
+        return ReachedType(number, elements, tuple(through))
 
     def size(self, number: int) -> Optional[int]:
-        """The bytes of a value; None where it has none."""
+        """The size in bytes, or None if there is none."""
         if number not in self._sizes:
             self._sizes[number] = self._size(number)
         return self._sizes[number]
 
     def _size(self, number: int) -> Optional[int]:
-        end = self.resolved(number)
+        end = self.resolve(number)
         record = self[end]
         if record.kind == "pointer":
             return self.dictionary.pointer_size
@@ -151,13 +151,13 @@ class Catalog:
         return record.size
 
     def _ask_sizes(self) -> None:
-        """Asks for the sizes of all arrays, which their records need not tell."""
+        """Asks for the sizes of all arrays, which their records need not contain."""
         if not self._has_sizes:
             self._has_sizes = True
             self._fetch([("size", n) for n in self.numbers if self[n].kind == "array"])
 
     def layout(self, number: int) -> Layout:
-        """Where the members of a struct or union lie, of which no question is asked."""
+        """The layout of a struct or union, without further questions."""
         if number not in self._layouts:
             record = self[number]
             spans = [(Member(part.name, self.type(part.type), part.offset), self._span(part))
@@ -166,20 +166,20 @@ class Catalog:
         return self._layouts[number]
 
     def _span(self, part: Part) -> Span:
-        """Where a member begins, how many bits it takes, and its width as a bit-field."""
+        """The offset and size of a member in bits, and its width if it is a bit-field."""
         lies, bits, width = self.span(part.type)
         return part.offset + lies, bits, width
 
     def span(self, number: int) -> Span:
-        """Where in its storage a value of a type begins, how wide it is, and its width if it is
-        that of a bit-field."""
+        """The offset and width of a value in its storage, in bits, and the width again if it is a
+        bit-field's type."""
         known = self._spans.get(number)
         if known is None:
             known = self._spans[number] = self._span_of_type(number)
         return known
 
     def _span_of_type(self, number: int) -> Span:
-        record = self[self.resolved(number)]
+        record = self[self.resolve(number)]
         lies = record.encoding
         if record.kind == "integer" and lies.bits:
             if lies.offset or lies.bits != 8 * record.size or self._is_copy(record):
@@ -187,23 +187,23 @@ class Catalog:
         return 0, 8 * (self.size(number) or 0), None
 
     def _is_copy(self, record: Record) -> bool:
-        """Whether an integer is a hidden copy of one that is seen: the type of a bit-field that is
-        as wide as that."""
+        """Whether an integer is a hidden copy of a visible one. A bit-field that is as wide as its
+        declared type has such a copy as its type."""
         return not record.root and _as_integer(record) in self._visible
 
-    # Which types there are.
+    # Sets of types.
 
     def aggregates(self) -> Iterator[int]:
-        """Its own structs and unions, in order."""
+        """The dictionary's own structs and unions, in order."""
         return (number for number in self.own if self[number].kind in AGGREGATES)
 
     def type(self, number: int) -> Type:
-        """The type as an object, for what declares it."""
+        """The type as an object, for declarations."""
         return self.dictionary.type(number)
 
 
 def _as_integer(record: Record) -> Tuple[str, int, Encoding]:
-    """What an integer is to C."""
+    """The name, size and encoding, by which C tells integers apart."""
     return record.name, record.size, record.encoding
 
 

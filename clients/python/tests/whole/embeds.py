@@ -1,4 +1,4 @@
-"""Which structs and unions hold a type by value, and which point to it."""
+"""The structs and unions that contain a type by value, and those that point to it."""
 from __future__ import annotations
 
 from functools import cached_property
@@ -12,10 +12,10 @@ DEEPEST, MOST = 64, 100_000
 LEAST, EACH = 400_000, 64
 
 
-class Held(NamedTuple):
-    """A member, and members of members, of a struct or union `owner`; `offset` is in bits.
+class HeldMember(NamedTuple):
+    """A member, or member of members, of a struct or union `owner`; `offset` is in bits.
 
-    `elements` is in how many elements of arrays it stands, of which `offset` is that of the first.
+    `elements` is the number of array elements that contain it; `offset` is that of the first.
     """
 
     owner: int
@@ -26,15 +26,15 @@ class Held(NamedTuple):
 
     @property
     def name(self) -> str:
-        """The path as C writes it: members without a name are left out."""
+        """The path as in C, without unnamed members."""
         return ".".join(filter(None, self.path))
 
 
 class Embeds:
     """Walks the members of a catalog's structs and unions.
 
-    Those without any name are walked through: they are no answer to the question who it is. With
-    `is_deep` all are. What was cut, since members of members were too many, is in `cut`.
+    Structs without any name are walked through, since they cannot be named as owners; with
+    `is_deep`, all are. `cut` lists those with too many members of members.
     """
 
     def __init__(self, catalog: Catalog, names: Names, is_deep: bool = False) -> None:
@@ -42,24 +42,24 @@ class Embeds:
         self.names = names
         self.is_deep = is_deep
         self.cut: List[int] = []
-        # What is walked in all follows the number of members, each level of one counted.
+        # The total work is bounded by the number of members, each level of nesting counted.
         self._left = LEAST + EACH * sum(len(catalog[n].members) for n in catalog.aggregates())
         self._through: Dict[int, bool] = {}
 
-    def containing(self, targets: Set[int]) -> Iterator[Held]:
-        """Where these stand by value."""
-        return self._held(self._reaches(targets, pointers=False))
+    def containing(self, targets: Set[int]) -> Iterator[HeldMember]:
+        """The members that contain these types by value."""
+        return self._members_of_type(self._reaches(targets, pointers=False))
 
-    def pointing(self, targets: Set[int]) -> Iterator[Held]:
-        """Where pointers to these stand."""
-        return self._held(self._reaches(targets, pointers=True))
+    def pointing(self, targets: Set[int]) -> Iterator[HeldMember]:
+        """The members that point to these types."""
+        return self._members_of_type(self._reaches(targets, pointers=True))
 
-    def _held(self, wanted: Callable[[int], bool]) -> Iterator[Held]:
+    def _members_of_type(self, wanted: Callable[[int], bool]) -> Iterator[HeldMember]:
         leading = {number for number in self._members
                    if wanted(number) or self.is_walked_through(number)}
         for owner in self._owners():
             if any(part.type in leading for part in self.catalog[owner].members):
-                yield from (one for one in self.walked(owner) if wanted(one.type))
+                yield from (one for one in self.walk(owner) if wanted(one.type))
 
     @cached_property
     def _members(self) -> Set[int]:
@@ -67,13 +67,13 @@ class Embeds:
         return {part.type for n in self.catalog.aggregates() for part in self.catalog[n].members}
 
     def _owners(self) -> List[int]:
-        """Its own structs and unions but those that are walked through in others."""
-        inner = {self.catalog.reached(number).number for number in self._members}
+        """The own structs and unions, except for those that are walked through in others."""
+        inner = {self.catalog.reach(number).number for number in self._members}
         return [n for n in self.catalog.aggregates() if n not in inner or self.names.has_name(n)]
 
-    def walked(self, owner: int) -> Iterator[Held]:
+    def walk(self, owner: int) -> Iterator[HeldMember]:
         """Each member, and those of the structs that are walked through, in order of members."""
-        todo = [Held(owner, (), owner, 0, 1)]
+        todo = [HeldMember(owner, (), owner, 0, 1)]
         for _ in range(MOST):
             if not todo:
                 return
@@ -90,14 +90,14 @@ class Embeds:
         """Whether the members of a member of this type are walked too."""
         known = self._through.get(number)
         if known is None:
-            end = self.catalog.reached(number).number
+            end = self.catalog.reach(number).number
             known = self._through[number] = self.catalog[end].kind in AGGREGATES and (
                 self.is_deep or not self.names.has_name(end))
         return known
 
-    def _inside(self, held: Held) -> List[Held]:
-        """The members of a member, where it is walked through."""
-        number, elements, _ = self.catalog.reached(held.type)
+    def _inside(self, held: HeldMember) -> List[HeldMember]:
+        """The members of a member that is walked through; otherwise none."""
+        number, elements, _ = self.catalog.reach(held.type)
         record = self.catalog[number]
         if record.kind not in AGGREGATES:
             return []
@@ -106,15 +106,17 @@ class Embeds:
         if len(held.path) >= DEEPEST:
             self.cut += [held.owner] if self.cut[-1:] != [held.owner] else []
             return []
-        return [Held(held.owner, (*held.path, part.name), part.type, held.offset + part.offset,
-                     held.elements * elements) for part in record.members]
+        return [HeldMember(held.owner, (*held.path, part.name), part.type,
+                           held.offset + part.offset, held.elements * elements)
+                for part in record.members]
 
     def _reaches(self, targets: Set[int], pointers: bool) -> Callable[[int], bool]:
-        """Whether a type leads to one of these, through pointers or without."""
+        """A function that says whether a type leads to one of these, through pointers or
+        without."""
         known: Dict[Tuple[int, bool], bool] = {}
 
         def reaches(number: int) -> bool:
-            passed: List[Tuple[int, bool]] = []  # each with whether it is behind a pointer
+            passed: List[Tuple[int, bool]] = []  # each with whether a pointer was followed
             here = number, False
             while here not in known:
                 passed.append(here)

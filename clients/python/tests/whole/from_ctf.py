@@ -1,6 +1,6 @@
-"""CTF of version 2 as a table: a dictionary that was judged already, and its parent.
+"""CTF of version 2 as a table: an accepted dictionary, and its parent.
 
-What this reads the service has accepted, so nothing is judged here but that it can be read.
+The service has accepted what this reads, so only readability is checked.
 """
 from __future__ import annotations
 
@@ -20,7 +20,7 @@ HEADER = 36
 
 
 class _Reader:
-    """The records of one section; those of a child behind the `parents` types of its parent."""
+    """The records of one section; those of a child follow the `parents` types of its parent."""
 
     def __init__(self, ctf: bytes, strings: Optional[bytes], parents: int) -> None:
         label, parent, *ends, length = struct.unpack_from("<8I", ctf, 4)
@@ -42,8 +42,8 @@ class _Reader:
         return found
 
     def symbols(self, made: Table) -> None:
-        """What is told of symbols, and the labels. What names no type of the dictionary is none
-        of its entries: it is judged with the symbols alone."""
+        """Reads the entries of symbols, and the labels. An entry with a type that does not exist is
+        dropped: it is only checked with the symbols."""
         count = len(made)
         objects = [self.number(n) for n in _words(self.objects)]
         made.objects = [n if n <= count else 0 for n in objects]
@@ -54,7 +54,7 @@ class _Reader:
         made.parent_name, made.parent_label = self.parent, self.parent_label
 
     def _entries(self) -> List[Optional[Record]]:
-        """The entries of functions; what is left of the section may be none."""
+        """The entries of functions; what remains of the section may not be one."""
         words = _words(self.functions)
         found: List[Optional[Record]] = []
         at = 0
@@ -67,12 +67,12 @@ class _Reader:
                 break
             else:
                 signature = Record("function", type=self.number(words[at + 1]))
-                found.append(self._told(signature, words[at + 2:at + 2 + length]))
+                found.append(self._with_arguments(signature, words[at + 2:at + 2 + length]))
                 at += 2 + length
         return found
 
-    def _told(self, function: Record, listed: Sequence[int]) -> Record:
-        """A function with its arguments; a 0 behind them says that more may follow."""
+    def _with_arguments(self, function: Record, listed: Sequence[int]) -> Record:
+        """A function with its arguments; a final 0 makes it variadic."""
         varargs = bool(listed) and listed[-1] == 0
         arguments = tuple(map(self.number, listed[:-1] if varargs else listed))
         return function._replace(arguments=arguments, varargs=varargs)
@@ -91,7 +91,7 @@ class _Reader:
         return listed[start:listed.index(b"\0", start)].decode("utf-8", "surrogateescape")
 
     def number(self, n: int) -> int:
-        """The number in the table of a type that a record names."""
+        """The number in the table of a type that a record refers to."""
         return n - CHILD + self.parents if self.is_child and n > CHILD else n
 
     def _take(self, form: str) -> Tuple[int, ...]:
@@ -126,7 +126,7 @@ class _Reader:
 
     def _function(self, record: Record, returns: int, length: int) -> Record:
         listed = self._take(f"{length + length % 2}H")[:length]
-        return self._told(record._replace(type=self.number(returns)), listed)
+        return self._with_arguments(record._replace(type=self.number(returns)), listed)
 
     def _members(self, size: int, length: int) -> Tuple[Part, ...]:
         made: List[Part] = []
@@ -146,8 +146,8 @@ class _Reader:
 
 def table_of(ctf: bytes, strings: Optional[bytes] = None, model: Model = "lp64",
              parent: Optional[Table] = None) -> Table:
-    """The types of a section, behind those of its parent; behind as many that are unknown as a
-    parent may have, where a child's is not there. Raises Unreadable."""
+    """The types of a section, after those of its parent. Without its parent, a child's types follow
+    as many unknown types as a parent may have. Raises Unreadable."""
     made = Table(model)
     try:
         reader = _Reader(ctf, strings, len(parent) if parent else CHILD - 1)
@@ -164,5 +164,5 @@ def table_of(ctf: bytes, strings: Optional[bytes] = None, model: Model = "lp64",
 
 
 def _words(data: bytes) -> Tuple[int, ...]:
-    """The numbers of 16 bits that a section is."""
+    """A section as numbers of 16 bits."""
     return struct.unpack(f"<{len(data) // 2}H", data[:len(data) & ~1])

@@ -14,11 +14,11 @@ _WORDS = re.compile(r"(struct|union|enum)\s+(.*)\Z", re.S)
 
 
 class Unknown(Error):
-    """A name is that of nothing here."""
+    """Nothing has the name."""
 
 
 def pattern_of(written: str) -> List[str]:
-    """The patterns that a written name stands for: base types are spelled in several ways."""
+    """The patterns for a written name: base types have several spellings."""
     found = _WORDS.match(written.strip())
     if found:
         return [f"{found[1]} {found[2].strip()}"]
@@ -28,12 +28,12 @@ def pattern_of(written: str) -> List[str]:
 
 
 def is_pattern(written: str) -> bool:
-    """Whether it may mean several names. Stars behind a blank are those of a pointer."""
+    """Whether it may match several names. Stars after a blank belong to a pointer."""
     return bool(_PATTERN.search(_STARS.sub("", written)))
 
 
 class Meaning:
-    """Which names are meant by some that a person wrote, patterns among them."""
+    """A matcher for written names and patterns."""
 
     def __init__(self, written: Iterable[str]) -> None:
         self._names = frozenset(written)
@@ -41,5 +41,5 @@ class Meaning:
                           if is_pattern(one)]
 
     def meets(self, name: str) -> bool:
-        """Whether a name is one that is meant."""
+        """Whether a name matches."""
         return name in self._names or any(match(name) for match in self._patterns)

@@ -1,4 +1,5 @@
-"""Figures of structs and unions: bytes, members, holes, padding, and what another order saves."""
+"""Numbers about structs and unions: bytes, members, holes, padding, and what another order
+saves."""
 from __future__ import annotations
 
 from typing import Callable, Dict, List, NamedTuple, Set, Tuple, Union
@@ -10,9 +11,9 @@ from ctfd.layout.records import AGGREGATES
 
 
 class Figures(NamedTuple):
-    """What is told of one struct or union; all but counts are bytes.
+    """The numbers of one struct or union; all except counts are bytes.
 
-    `saved` is by how much it would be smaller if no member had a hole in front of it.
+    `saved` is by how much it would shrink without holes between members.
     """
 
     number: int
@@ -27,7 +28,7 @@ class Figures(NamedTuple):
 
 
 class Sizes:
-    """The figures of a catalog's types, and the alignment that C gives them."""
+    """The numbers of a catalog's types, and their alignments in C."""
 
     def __init__(self, catalog: Catalog, names: Names) -> None:
         self.catalog = catalog
@@ -39,36 +40,38 @@ class Sizes:
         holes = whole.holes
         return Figures(number, self.names.label(number), whole.size, len(whole.places), len(holes),
                        sum(holes), len(whole.bit_holes), whole.padding // 8,
-                       self._saved(number, whole))
+                       self._bytes_saved(number, whole))
 
     def alignment(self, number: int) -> int:
-        """The greatest alignment of what a type holds by value, as C aligns numbers."""
-        todo = [self.catalog.reached(number).number]
+        """The greatest alignment of what a type contains by value, by C's rules for numbers."""
+        todo = [self.catalog.reach(number).number]
         whole = todo[0]
-        while todo:  # no recursion: types may hold each other as deep as the service allows
+        while todo:  # no recursion: types may be nested as deep as the service allows
             here = todo[-1]
-            held = self._held(here)
+            held = self._member_types(here)
             unknown = [one for one in held if one not in self._alignments]
             todo += unknown
             if not unknown:
                 known = max((self._alignments[one] for one in held), default=1)
-                self._alignments[here] = known if held else self._plain(here)
+                self._alignments[here] = known if held else self._natural_alignment(here)
                 todo.pop()
         return self._alignments[whole]
 
-    def _held(self, number: int) -> Set[int]:
-        """The types of which the members of a struct or union, or their elements, are."""
-        return {self.catalog.reached(part.type).number for part in self.catalog[number].members}
+    def _member_types(self, number: int) -> Set[int]:
+        """The types of the members of a struct or union, or of their elements."""
+        return {self.catalog.reach(part.type).number for part in self.catalog[number].members}
 
-    def _plain(self, number: int) -> int:
-        """A number's alignment is its size, as far as that is a power of two up to 16."""
+    def _natural_alignment(self, number: int) -> int:
+        """A number's alignment: its size, if that is a power of two up to 16, or its greatest such
+        divisor."""
         if self.catalog[number].kind in AGGREGATES:
             return 1
         size = self.catalog.size(number) or 1
         return next((power for power in (16, 8, 4, 2) if size % power == 0), 1)
 
-    def _saved(self, number: int, whole: Layout) -> int:
-        """What is left over once all stand close, the last one up to the struct's alignment."""
+    def _bytes_saved(self, number: int, whole: Layout) -> int:
+        """The bytes that remain when all members are close together, after the struct's
+        alignment."""
         if self.catalog[number].kind != "struct" or not (whole.holes or whole.bit_holes):
             return 0
         align = self.alignment(number)
@@ -77,7 +80,7 @@ class Sizes:
 
 
 def close(places: List[Place]) -> List[int]:
-    """The bytes of each member, where bit-fields that follow each other share theirs."""
+    """The sizes of members in bytes; adjacent bit-fields share theirs."""
     lengths: List[int] = []
     run = 0
     for place in places:

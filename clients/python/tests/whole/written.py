@@ -1,4 +1,4 @@
-"""The bytes of a dictionary of CTF version 2, from a table that says no more than that holds."""
+"""Writes a dictionary of CTF version 2, from a table that the format can represent."""
 from __future__ import annotations
 
 import itertools
@@ -19,20 +19,21 @@ CHILD = 0x8000
 
 
 class Names:
-    """The string section; each name stands there once."""
+    """The string section; each name is stored once."""
 
     def __init__(self) -> None:
         self.bytes = bytearray(b"\0")
         self._known: Dict[bytes, int] = {b"": 0}
 
     def append(self, names: str) -> int:
-        """Where a label stands with other names behind it, whatever of them stood there before."""
+        """Stores a label followed by other names, and returns its offset, even if they are there
+        already."""
         start = len(self.bytes)
         self.bytes += raw(names) + b"\0"
         return start
 
     def place(self, name: str) -> int:
-        """Where a name stands; it ends at its first zero byte, as any does."""
+        """The offset of a name, which ends at its first zero byte."""
         data = raw(name).split(b"\0")[0]
         known = self._known.get(data)
         if known is None:
@@ -41,8 +42,8 @@ class Names:
         return known
 
 
-def written(table: Table, parent: str = "", parents: int = 0) -> bytes:
-    """The section of a table; one with a `parent`, its name, is a child.
+def section_of(table: Table, parent: str = "", parents: int = 0) -> bytes:
+    """The section of a table; with `parent`, a parent's name, it is a child.
 
     The first `parents` types of the table are then those of the parent, and are not written.
     """
@@ -53,10 +54,10 @@ def written(table: Table, parent: str = "", parents: int = 0) -> bytes:
         return n - parents + CHILD if n > parents and parent else n
 
     label = names.place(table.parent_label)
-    own = [record.renumbered(number) for record in table.records[parents:]]
+    own = [record.renumber(number) for record in table.records[parents:]]
     types = b"".join(_record(record, names) for record in own)
     objects = b"".join(struct.pack("<H", number(n)) for n in table.objects)
-    functions = b"".join(_entry(one and one.renumbered(number)) for one in table.functions)
+    functions = b"".join(_entry(one and one.renumber(number)) for one in table.functions)
     functions += bytes(-(len(objects) + len(functions)) % 4)
     labels = b"".join(struct.pack("<II", names.append(label), number(last))
                       for label, last in table.labels)
@@ -66,7 +67,7 @@ def written(table: Table, parent: str = "", parents: int = 0) -> bytes:
 
 
 def _entry(function: Optional[Record]) -> bytes:
-    """What the section of functions has for a symbol."""
+    """The entry of a symbol in the function section."""
     if function is None:
         return struct.pack("<H", 0)
     listed = _arguments(function)
@@ -75,12 +76,12 @@ def _entry(function: Optional[Record]) -> bytes:
 
 
 def _arguments(function: Record) -> List[int]:
-    """The arguments; a 0 behind them says that more may follow."""
+    """The arguments, followed by 0 if the function is variadic."""
     return [*function.arguments, *([0] if function.varargs else [])]
 
 
 def _record(record: Record, names: Names) -> bytes:
-    """One record, in the long form where its size needs it."""
+    """One record, in the long form if its size needs it."""
     tail, length = _tail(record, names)
     field = _field(record)
     info = KINDS.index(record.kind) << 11 | record.root << 10 | length
@@ -91,7 +92,7 @@ def _record(record: Record, names: Names) -> bytes:
 
 
 def _field(record: Record) -> int:
-    """What stands in the field for a size or a type."""
+    """The field for a size or a type."""
     if record.kind == "forward":
         return KINDS.index(record.tag)
     if record.kind in ("integer", "float", "array", "struct", "union", "enum"):
@@ -100,7 +101,7 @@ def _field(record: Record) -> int:
 
 
 def _tail(record: Record, names: Names) -> "tuple[bytes, int]":
-    """What stands behind the head, and the length of the list in it."""
+    """The bytes after the head, and the length of the list in them."""
     if record.kind in ("integer", "float"):
         lies = record.encoding
         return struct.pack("<I", lies.flags << 24 | lies.offset << 16 | lies.bits), 0

@@ -1,4 +1,4 @@
-//! `ctfd-front`, linked with the library.
+//! `ctfd-front`, linked with libctfd.
 
 use std::process::ExitCode;
 

@@ -1,7 +1,7 @@
-//! The commands of ctfd, in one program: the name by which it is started says which command it is.
+//! All commands of ctfd, in one program; the name of the program selects the command.
 //!
-//! They are a crate of their own, which is compiled while the library is made: this one is linked
-//! with that.
+//! Separate from `ctfd-tools`, so that that crate compiles while libctfd.a is built, and only this
+//! one waits to be linked with it.
 
 use std::process::ExitCode;
 

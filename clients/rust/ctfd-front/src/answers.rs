@@ -1,4 +1,4 @@
-//! What answers the lines of a shard: a service of its own, in this thread.
+//! The service that answers the lines of a shard, in the shard's thread.
 
 use ctfd::{Fault, Refusal, Service};
 use std::collections::TryReserveError;
@@ -6,10 +6,10 @@ use std::collections::TryReserveError;
 /// The number of a connection's session.
 pub type Session = u32;
 
-/// The largest one.
+/// The greatest session number.
 pub const LAST_SESSION: u64 = u32::MAX as u64;
 
-/// Memory was refused: nothing, or a line without its reply, is lost by that.
+/// Memory was refused. At most the reply to one line is lost.
 #[derive(Clone, Copy, Debug)]
 pub struct OutOfMemory;
 
@@ -25,18 +25,18 @@ impl From<Refusal> for OutOfMemory {
     }
 }
 
-/// Answers the lines of all sessions of a shard.
+/// The service that answers the lines of all sessions of a shard.
 pub struct Answers {
     service: Service,
 }
 
 impl Answers {
-    /// A service in which nobody holds anything.
+    /// A service with new sessions.
     pub fn new() -> Result<Answers, Refusal> {
         Ok(Answers { service: Service::new()? })
     }
 
-    /// Appends the reply to a session's line, as the client is to read it.
+    /// Appends the reply to a session's line, in the form that the client reads.
     pub fn answer(
         &mut self,
         session: Session,
@@ -46,7 +46,8 @@ impl Answers {
         Ok(self.service.answer_as(session, line, replies)?)
     }
 
-    /// Whether a line is JSON, as the service reads it: as that of a session which holds nothing.
+    /// Whether a line is JSON, as the service reads it. The line is answered as that of a session
+    /// that has nothing.
     pub fn is_json(&mut self, line: &[u8], room: &mut Vec<u8>) -> Result<bool, OutOfMemory> {
         let start = room.len();
         let answered = self.service.answer_into(line, room);
@@ -56,7 +57,7 @@ impl Answers {
         Ok(fault != Some(Fault::NotJson))
     }
 
-    /// Gives back what a session holds, and what it published where that is to be withdrawn.
+    /// Frees what a session has, and withdraws its publications if `withdraws`.
     pub fn leave(&mut self, session: Session, withdraws: bool, room: &mut Vec<u8>) {
         if withdraws {
             let _ = self.service.leave(session);
@@ -67,7 +68,7 @@ impl Answers {
         room.truncate(start);
     }
 
-    /// Publishes a CTF section, for all to take from the operator.
+    /// Publishes a CTF section for the operator: any session may take it.
     pub fn load(&mut self, name: &str, section: &[u8]) -> Result<(), Refusal> {
         self.service.load(name, section)
     }
@@ -75,7 +76,7 @@ impl Answers {
 
 const FAULT: &[u8] = b"{\"fault\":{\"code\":";
 
-/// The fault that a reply tells, if it does.
+/// The fault in a reply, if there is one.
 pub fn fault_of(reply: &[u8]) -> Option<Fault> {
     let digits = reply.strip_prefix(FAULT)?.iter().map_while(|byte| match byte {
         b'0'..=b'9' => Some(u16::from(byte - b'0')),

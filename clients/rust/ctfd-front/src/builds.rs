@@ -1,7 +1,7 @@
-//! Types by build-id: what a store has of a build is published when it is first taken.
+//! Types by build-id: a build in a store is published when it is first taken.
 //!
-//! `ctfd-convert` reads it, in a process of its own, and a session of the front's hands it in, by
-//! lines as any client could write. So nothing that a client holds is answered otherwise.
+//! `ctfd-convert` reads it in another process. A session of the front hands it in, with lines that
+//! any client could write, so it changes no answer to a client's other requests.
 
 use crate::answers::{Answers, OutOfMemory, Session, LAST_SESSION};
 use crate::bundle::{self, Bundle};
@@ -15,36 +15,36 @@ use std::io::Write;
 use std::path::{Path, PathBuf};
 use std::time::{Duration, Instant};
 
-/// The owner of all builds: no connection has this number where there is a store.
+/// The owner of all builds. If there is a store, no connection has this session number.
 pub const OWNER: Session = LAST_SESSION as Session;
 const OWNER_DIGITS: &[u8] = b"4294967295";
-/// The bytes of lists that a session may have.
+/// The quota of a session, in bytes of lists.
 pub const QUOTA: u64 = 268_435_456;
-/// The bytes of a line by which a build is taken, at most.
+/// The longest line that takes a build, in bytes.
 const LONGEST: usize = 4_096;
-/// The digits of a build-id.
+/// The number of digits of a build-id.
 const DIGITS: std::ops::RangeInclusive<usize> = 4..=64;
 /// The folder of all builds in a store.
 const BUILD_IDS: &str = "buildid";
-/// How many bytes of a list stand in a line.
+/// The number of a list's bytes that one line has at most.
 const PIECE: usize = 500_000;
-/// Room for a line of that and for its other words.
+/// The size of the buffer for such a line, in bytes.
 const LINE: usize = 2 * PIECE + 256;
-/// Between two messages on builds that can't be had.
+/// The time between two messages on builds that can't be published.
 const PAUSE: Duration = Duration::from_secs(60);
 const OK: &[u8] = b"{\"ok\"";
 
-/// Where types are, as the operator says.
+/// A store of types, as the operator names it.
 #[derive(Clone, Debug)]
 pub struct Store {
     pub folder: PathBuf,
     /// The command that reads it.
     pub converter: PathBuf,
-    /// The bytes of lists that are published at once, at most.
+    /// The most bytes of lists that are published at the same time.
     pub most: u64,
 }
 
-/// A build that is published.
+/// A published build.
 struct PublishedBuild {
     bytes: u64,
     last_use: u64,
@@ -60,7 +60,7 @@ pub struct Builds {
     next_message: Instant,
 }
 
-/// Why a build is not published.
+/// The reason why a build is not published.
 pub enum Trouble {
     Memory(OutOfMemory),
     Refused(String),
@@ -79,20 +79,20 @@ impl From<String> for Trouble {
 }
 
 impl Builds {
-    /// Those of a store, none of which is published yet.
+    /// The builds of a store, before any is published.
     pub fn new(store: Store) -> Builds {
         let published = HashMap::new();
         let (line, next_message) = (Vec::new(), Instant::now());
         Builds { store, published, bytes: 0, uses: 0, line, next_message }
     }
 
-    /// Whether a line takes a build that is to be read first.
+    /// Whether a line takes a build that has to be read first.
     pub fn is_new(&self, line: &[u8]) -> bool {
         build_taken(line).is_some_and(|name| !self.published.contains_key(&name))
     }
 
-    /// Publishes the build that a line takes, where it takes one that the store has. What can't be
-    /// published is told to the operator; who takes it is answered that nobody published it.
+    /// Publishes the build that a line takes, if the store has it. If it can't be published, the
+    /// operator gets a message, and the client a reply that nothing is published by this name.
     pub fn provide(
         &mut self,
         line: &[u8],
@@ -118,7 +118,7 @@ impl Builds {
         }
     }
 
-    /// A message, unless there was one just now: who asks decides how many there would be.
+    /// Writes a message, unless there was one recently: clients decide how many there would be.
     fn tell(&mut self, name: &Name, why: impl Display) {
         let now = Instant::now();
         if now >= self.next_message {
@@ -139,7 +139,7 @@ impl Builds {
         let bytes = bundle.bytes();
         self.make_room(bytes, answers, room)?;
         let done = self.hand_in(&bundle, &name, answers, room);
-        // The slot and what is staged go, and the publication stays.
+        // Frees the slot and the stage; the publication stays.
         let ended = self.ask(answers, room, |line| line.extend_from_slice(br#"{"op":"reset"}"#));
         self.line = Vec::new();
         done.and(ended)?;
@@ -148,8 +148,8 @@ impl Builds {
         Ok(())
     }
 
-    /// Withdraws those that were taken longest ago, until there is room for so many bytes: twice,
-    /// while they are in a slot too.
+    /// Withdraws the builds that were taken longest ago, until there is room for twice as many
+    /// bytes: while a build is handed in, it is in a slot too.
     fn make_room(
         &mut self,
         bytes: u64,
@@ -193,7 +193,8 @@ impl Builds {
         })
     }
 
-    /// Has the front's session answered a line, for which there is room.
+    /// Sends a line, which `write` writes, in the front's session. `room` is a buffer for the
+    /// reply.
     fn ask(
         &mut self,
         answers: &mut Answers,
@@ -226,8 +227,8 @@ fn write_part(line: &mut Vec<u8>, section: &str, piece: &[u8]) {
     line.extend_from_slice(b"\"}");
 }
 
-/// The build that a line takes from the store's owner. That the line is JSON is for the service to
-/// say; of a key that stands there twice the last counts.
+/// The build that a line takes from the store's owner. The service checks that the line is JSON; of
+/// a key that occurs twice, the last counts.
 fn build_taken(line: &[u8]) -> Option<Name> {
     if line.len() > LONGEST || memmem::find(line, OWNER_DIGITS).is_none() {
         return None;

@@ -1,5 +1,5 @@
-//! The lists of a build, as `ctfd-convert --bundle` prints them: a line of JSON that counts them,
-//! and then one behind the other.
+//! The lists of a build, in the output of `ctfd-convert --bundle`: a line of JSON with their
+//! lengths, then the lists one after another.
 
 use crate::answers::OutOfMemory;
 use crate::builds::{Store, Trouble};
@@ -12,26 +12,27 @@ use std::io::{self, ErrorKind, Read};
 use std::process::{Child, ChildStdout, Command, Stdio};
 use std::time::{Duration, Instant};
 
-/// The bytes of all lists, at most.
+/// The most bytes of all lists.
 const LONGEST: usize = 1 << 28;
-/// What is read at once.
+/// The bytes that are read at once.
 const PIECE: usize = 1 << 18;
 /// How long the command may take.
 const PATIENCE: Duration = Duration::from_secs(20);
-/// What starting a command takes, which is asked for first: where it is refused, nothing ends.
+/// The memory that starting a command takes, in bytes. It is requested first, so that a refusal is
+/// found here, and does not end the process.
 const MARGIN: usize = 1 << 16;
 
 /// The lists of a build.
 pub struct Bundle {
     bytes: Vec<u8>,
-    /// Where each list stands: the dictionary, its symbols and their strings.
+    /// The range of each list: the dictionary, its symbols and their strings.
     places: [Option<(usize, usize)>; 3],
-    /// Whether its pointers have 8 bytes.
+    /// Whether pointers have 8 bytes.
     pub is_64: bool,
 }
 
 impl Bundle {
-    /// What a command has printed.
+    /// Parses the output of the command; `None` if it is no bundle.
     fn of(bytes: Vec<u8>) -> Option<Bundle> {
         let head = bytes.get(..memchr(b'\n', &bytes)?)?;
         let (mut lists, mut described) = (None, None);
@@ -62,19 +63,19 @@ impl Bundle {
         is_whole.then_some(Bundle { bytes, places, is_64 })
     }
 
-    /// The lists, by the names that `part` has for them.
+    /// The lists, with the names that `part` has for them.
     pub fn lists(&self) -> impl Iterator<Item = (&'static str, &[u8])> {
         let named = ["ctf", "sym", "str"].into_iter().zip(self.places);
         named.filter_map(|(name, place)| place.map(|(from, to)| (name, &self.bytes[from..to])))
     }
 
-    /// How many bytes they have.
+    /// The bytes of all lists.
     pub fn bytes(&self) -> u64 {
         self.lists().map(|(_, list)| list.len() as u64).sum()
     }
 }
 
-/// The numbers of a list, up to its end; None of what is none.
+/// The numbers in a JSON list, up to its end; `None` for anything else.
 fn numbers(list: &[u8]) -> impl Iterator<Item = Option<usize>> + '_ {
     let end = list.iter().position(|&byte| byte == b']').unwrap_or(list.len());
     list[..end]
@@ -82,7 +83,8 @@ fn numbers(list: &[u8]) -> impl Iterator<Item = Option<usize>> + '_ {
         .map(|digits| std::str::from_utf8(digits).ok()?.parse().ok())
 }
 
-/// Has the lists of a build read. No server is asked, and no other file than those of the store.
+/// Reads the lists of a build with the command. It asks no server, and reads only files of the
+/// store.
 pub fn read(store: &Store, name: &Name) -> Result<Bundle, Trouble> {
     drop(with_room(MARGIN)?);
     let mut child = Command::new(&store.converter)
@@ -116,7 +118,7 @@ fn with_room(bytes: usize) -> Result<Vec<u8>, OutOfMemory> {
     Ok(room)
 }
 
-/// All that a command prints.
+/// The output of a command.
 fn output_of(child: &mut Child) -> Result<Vec<u8>, Trouble> {
     let Some(mut output) = child.stdout.take() else { return Ok(Vec::new()) };
     let until = Instant::now() + PATIENCE;

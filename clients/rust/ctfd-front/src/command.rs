@@ -1,4 +1,4 @@
-//! The words of the command line.
+//! The command line.
 
 use crate::builds::{Store, QUOTA};
 use crate::limits::{Limits, LONGEST_LINE, MOST_SESSIONS};
@@ -25,11 +25,11 @@ const ANSWERED_FIRST: &str = "what is read is answered before more is read";
 /// The command that reads a store.
 const CONVERTER: &str = "ctfd-convert";
 const MOST_SHARDS: u64 = 256;
-/// The largest number of an option that has no limit of its own.
+/// The greatest value of an option without a limit of its own.
 const MOST: u64 = u32::MAX as u64 * 1_024;
 const MOST_SECONDS: f64 = 1e9;
 
-/// What the operator wants.
+/// The options of the command line.
 pub struct Options {
     pub files: Vec<OsString>,
     pub socket: Option<PathBuf>,
@@ -40,15 +40,15 @@ pub struct Options {
     pub stats: Option<Duration>,
     pub metrics: Option<PathBuf>,
     pub limits: Limits,
-    /// Where types by build-id are.
+    /// The store of types by build-id, if there is one.
     pub store: Option<Store>,
-    /// Bytes that all services may have, if that is bounded.
+    /// The limit on the memory of all services, in bytes, if there is one.
     pub service_memory: Option<u64>,
-    /// Options of earlier versions that mean nothing now, and why.
+    /// Options of earlier versions that have no effect, and why.
     pub ignored: Vec<(&'static str, &'static str)>,
 }
 
-/// The words of the command line. Wrong ones end the process with status 2.
+/// Parses the command line. A wrong one ends the process with status 2.
 pub fn options(words: impl IntoIterator<Item = OsString>, refuse: Refuse) -> Options {
     let matches =
         command().try_get_matches_from(words).unwrap_or_else(|error| refuse(&command(), &error));
@@ -162,7 +162,7 @@ fn of_the_service() -> [Arg; 10] {
     ]
 }
 
-/// An option that counts something, from 1 to so many.
+/// An option with a number from 1 to `most`.
 fn size(name: &'static str, default: u64, most: u64, help: &str) -> Arg {
     option(name, "N")
         .value_parser(value_parser!(u64).range(1..=most))
@@ -228,7 +228,7 @@ fn path(name: &'static str, value: &'static str) -> Arg {
     option(name, value).value_parser(value_parser!(PathBuf))
 }
 
-/// The store that is named, read by the command beside this one.
+/// The store on the command line. The command next to this one reads it.
 fn store(matches: &ArgMatches) -> Option<Store> {
     let folder = matches.get_one::<PathBuf>("store")?;
     let folder = folder.canonicalize().unwrap_or_else(|_| folder.clone());

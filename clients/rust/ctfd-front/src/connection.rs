@@ -1,4 +1,5 @@
-//! One client: what it has sent that is not answered, and what it has not read.
+//! A connection: the client's lines that are not answered yet, and the replies that it has not
+//! read.
 
 use crate::answers::{OutOfMemory, Session};
 use crate::incoming::{Incoming, Line};
@@ -13,11 +14,11 @@ use mio::{Interest, Registry, Token};
 use std::io::{self, ErrorKind, Read, Write};
 use std::time::{Duration, Instant};
 
-/// What a turn answers at most, in lines, time and bytes of replies; a single line may take longer.
+/// The limits of a turn in lines, time and bytes of replies. A single line may take longer.
 const TURN_LINES: usize = 128;
 const TURN_TIME: Duration = Duration::from_micros(250);
 const TURN_BYTES: usize = 262_144;
-/// A change of what is kept that is counted.
+/// The least change of the memory in use that is counted.
 const COUNTED_BYTES: usize = 4_096;
 
 const LONG_LINE: &[u8] = b"{\"fault\":{\"code\":59,\"name\":\"LongLine\",\"place\":0},\"s\":0}\n";
@@ -28,15 +29,16 @@ const OK: &[u8] = b"{\"ok\"";
 pub enum After {
     /// Another turn.
     Turn,
-    /// Others, whose requests are short: its own may be long, and is not answered yet.
+    /// Other connections, whose requests are short: its own next request may be long, and is not
+    /// answered yet.
     Others,
-    /// Its client, who is to send or to read.
+    /// Its client, which has to send or to read.
     Client,
-    /// Another shard, where its room is.
+    /// Another shard, which has its room.
     Shard(usize),
 }
 
-/// A client's socket, and the session that is its own.
+/// A client's socket, with its session.
 pub struct Connection {
     stream: UnixStream,
     pub session: Session,
@@ -44,7 +46,7 @@ pub struct Connection {
     incoming: Incoming,
     unsent: Vec<u8>,
     sent_bytes: usize,
-    /// What it publishes is withdrawn with its end.
+    /// Whether its publications are withdrawn when it ends.
     withdraws: bool,
     counted_bytes: usize,
     last_move: Instant,
@@ -52,7 +54,7 @@ pub struct Connection {
     has_hung_up: bool,
     has_ended: bool,
     has_entered: bool,
-    /// A request was granted: without one the session holds nothing, and is not to be given back.
+    /// Whether a request was granted: otherwise the session has nothing to free.
     may_hold: bool,
     waits_to_write: bool,
     pub lines: u64,
@@ -67,7 +69,7 @@ impl From<OutOfMemory> for Cause {
 }
 
 impl Connection {
-    /// A user's connection, with the number of its session.
+    /// A connection of a user, with the number of its session.
     pub fn new(
         stream: UnixStream,
         number: Session,
@@ -97,29 +99,30 @@ impl Connection {
         }
     }
 
-    /// Has a poll tell what comes, from now on.
+    /// Registers the socket with a poll.
     pub fn register(&mut self, registry: &Registry, token: usize) -> io::Result<()> {
         self.waits_to_write = false;
         self.stream.register(registry, Token(token), Interest::READABLE)
     }
 
-    /// A poll tells nothing more.
+    /// Removes the socket from its poll.
     pub fn deregister(&mut self, registry: &Registry) {
         let _ = self.stream.deregister(registry);
     }
 
-    /// Takes note of what a poll told.
+    /// Notes an event of the poll.
     pub fn note(&mut self, event: &Event) {
         if event.is_readable() || event.is_error() {
             self.is_readable = !self.has_ended;
         }
-        // The end is told once, perhaps with bytes before it: then no short read is the last one.
+        // The end is reported once, perhaps with bytes before it: then a short read is not the
+        // last.
         self.has_hung_up |= event.is_read_closed() || event.is_error();
     }
 
-    /// Sends what waits, reads once, answers a bounded part of what has come, and sends the
-    /// replies. Nothing is answered where the next request may be long, and it is to wait for
-    /// others then. What the longest request took is written to `longest`. Fails with the cause by
+    /// Sends waiting replies, reads once, answers a limited number of lines, and sends their
+    /// replies. If the next request may be long and `may_wait`, it answers nothing, so that others
+    /// come first. `longest` is raised to the time of the longest request. Fails with the cause for
     /// which the connection is to be closed.
     pub fn turn(
         &mut self,
@@ -164,7 +167,8 @@ impl Connection {
         }
     }
 
-    /// Has the poll tell when its client reads, or not, as there are replies to send.
+    /// Registers whether the poll reports that the client can read: only if there are replies to
+    /// send.
     pub fn watch(&mut self, registry: &Registry, token: usize) -> io::Result<()> {
         let waits = self.unread_bytes() > 0;
         if waits == self.waits_to_write {
@@ -176,17 +180,17 @@ impl Connection {
         self.stream.reregister(registry, Token(token), interest)
     }
 
-    /// Nothing more is read, but for what has come by now: whole lines are answered.
+    /// Stops reading, except what has arrived: whole lines are answered.
     pub fn finish(&mut self, tools: &mut Tools) {
         if !self.incoming.has_line() && !self.has_ended {
-            // That it is broken shows again when it is written to.
+            // If the socket is broken, writing to it will show that again.
             let _ = self.read(tools);
         }
         self.incoming.drop_piece();
         (self.has_ended, self.is_readable) = (true, false);
     }
 
-    /// Why it is to be closed, where it has been silent too long.
+    /// The cause for which it is to be closed, if it has been silent too long.
     pub fn overdue(&self, now: Instant, limits: &Limits) -> Option<Cause> {
         let silent = now.saturating_duration_since(self.last_move);
         let (cause, most) = if self.unread_bytes() > 0 {
@@ -201,7 +205,7 @@ impl Connection {
         (silent > most).then_some(cause)
     }
 
-    /// Gives back its session and all that is counted for it, and closes it.
+    /// Frees its session and all that is counted for it, and closes it.
     pub fn close(mut self, cause: Cause, tools: &mut Tools) {
         if let (Cause::Refused(refusal), 0) = (cause, self.unread_bytes()) {
             let _ = self.stream.write(refusal.line());
@@ -224,7 +228,8 @@ impl Connection {
         self.unsent.len() - self.sent_bytes
     }
 
-    /// Answers whole lines, as many as a turn may; the shard that it goes to, if it does.
+    /// Answers whole lines, as many as a turn allows. Returns the shard to which the connection
+    /// moves, if it does.
     fn answer(
         &mut self,
         tools: &mut Tools,
@@ -253,7 +258,7 @@ impl Connection {
         Ok(None)
     }
 
-    /// Answers the next line, if there is one, and tells what that took since a moment.
+    /// Answers the next line, if there is one. Returns the time since `before`.
     fn answer_line(
         &mut self,
         tools: &mut Tools,
@@ -286,7 +291,7 @@ impl Connection {
         Ok(Some(took))
     }
 
-    /// Looks whether the first line asks for a room; the shard that the room is in.
+    /// Enters a room if the first line asks for one. Returns the shard that has the room.
     fn enter(
         &mut self,
         tools: &mut Tools,
@@ -302,7 +307,7 @@ impl Connection {
         Ok(Some(room.shard(tools.shards)))
     }
 
-    /// Reads once.
+    /// Reads once from the socket.
     fn read(&mut self, tools: &mut Tools) -> Result<(), Cause> {
         let most = tools.read.len().min(tools.limits.bytes);
         match self.stream.read(&mut tools.read[..most]) {
@@ -325,7 +330,7 @@ impl Connection {
         Ok(())
     }
 
-    /// Sends replies behind those that wait; what does not go now waits.
+    /// Sends replies after those that wait. What the socket does not take waits too.
     fn send(&mut self, replies: &[u8], tools: &mut Tools) -> Result<(), Cause> {
         let mut rest = replies;
         if self.unread_bytes() == 0 && !rest.is_empty() {
@@ -339,7 +344,7 @@ impl Connection {
         Ok(())
     }
 
-    /// Sends what waits, as far as it goes.
+    /// Sends waiting replies, as many as the socket takes.
     fn flush(&mut self, tools: &mut Tools) -> Result<(), Cause> {
         if self.unread_bytes() == 0 {
             return Ok(());
@@ -357,7 +362,7 @@ impl Connection {
         Ok(())
     }
 
-    /// Writes as much as the socket takes.
+    /// Writes as much as the socket takes. Returns the number of bytes.
     fn write(&mut self, data: &[u8], tools: &mut Tools) -> Result<usize, Cause> {
         let mut count = 0;
         while count < data.len() {
@@ -374,7 +379,7 @@ impl Connection {
         Ok(count)
     }
 
-    /// Counts what is kept for it, where that has changed by some.
+    /// Counts the memory in use, if it has changed by enough.
     fn count(&mut self, tools: &Tools) -> Result<(), Cause> {
         let bytes = self.incoming.size() + self.unread_bytes();
         if bytes.abs_diff(self.counted_bytes) < COUNTED_BYTES {

@@ -1,4 +1,4 @@
-//! What other threads give a shard, and ask of it.
+//! The door of a shard: what other threads pass to it, and ask of it.
 
 use crate::connection::Connection;
 use crate::statistics::Statistics;
@@ -7,17 +7,17 @@ use std::sync::atomic::{AtomicBool, AtomicUsize, Ordering};
 use std::sync::{Condvar, Mutex, MutexGuard, PoisonError};
 use std::time::Duration;
 
-/// So long a shard that answers a long request is waited for.
+/// How long to wait for a shard that is answering a long request.
 const PATIENCE: Duration = Duration::from_millis(250);
 
-/// What a shard tells of itself.
+/// The counts of a shard.
 pub struct Snapshot {
     pub statistics: Statistics,
     pub processor: Duration,
     pub connections: Vec<Row>,
 }
 
-/// What a shard tells of an open connection.
+/// The counts of an open connection.
 pub struct Row {
     pub session: u32,
     pub user: u32,
@@ -27,7 +27,7 @@ pub struct Row {
     pub bytes: usize,
 }
 
-/// The way into a shard.
+/// The way into a shard, for other threads.
 pub struct Door {
     waker: Waker,
     comers: Mutex<Vec<Connection>>,
@@ -39,7 +39,7 @@ pub struct Door {
 }
 
 impl Door {
-    /// That of a shard which is woken so.
+    /// The door of a shard, which `waker` wakes.
     pub fn new(waker: Waker) -> Door {
         Door {
             waker,
@@ -52,7 +52,7 @@ impl Door {
         }
     }
 
-    /// Gives it a connection, or gives that back where memory is refused.
+    /// Passes a connection to the shard, or returns it if memory is refused.
     #[must_use]
     pub fn give(&self, connection: Connection) -> Option<Connection> {
         let mut comers = lock(&self.comers);
@@ -66,18 +66,18 @@ impl Door {
         None
     }
 
-    /// How many connections it has.
+    /// The number of connections of the shard.
     pub fn connections(&self) -> usize {
         self.connections.load(Ordering::Relaxed)
     }
 
-    /// Has it answer what has come, and end.
+    /// Asks the shard to answer what has arrived, and to end.
     pub fn stop(&self) {
         self.is_stopping.store(true, Ordering::Release);
         self.wake();
     }
 
-    /// What it has counted, or nothing where it answers a long request.
+    /// The counts of the shard; `None` if it is answering a long request.
     pub fn ask(&self) -> Option<Snapshot> {
         let snapshot = lock(&self.snapshot);
         self.is_asked.store(true, Ordering::Release);
@@ -88,23 +88,23 @@ impl Door {
     }
 
     fn wake(&self) {
-        // It fails where the shard has ended, which nobody wakes any more.
+        // It fails if the shard has ended, and then nobody needs to wake it.
         let _ = self.waker.wake();
     }
 
-    // What the shard itself does.
+    // The shard's own calls.
 
-    /// A connection that came, if there is one.
+    /// A connection that was passed to the shard, if there is one.
     pub fn comer(&self) -> Option<Connection> {
         lock(&self.comers).pop()
     }
 
-    /// A connection has gone.
+    /// Counts a connection as gone.
     pub fn leave(&self) {
         self.connections.fetch_sub(1, Ordering::Relaxed);
     }
 
-    /// Whether it is to end.
+    /// Whether the shard is to end.
     pub fn is_stopping(&self) -> bool {
         self.is_stopping.load(Ordering::Acquire)
     }
@@ -114,7 +114,7 @@ impl Door {
         self.is_asked.load(Ordering::Acquire)
     }
 
-    /// Tells what it has counted.
+    /// Passes on the shard's counts.
     pub fn tell(&self, snapshot: Snapshot) {
         *lock(&self.snapshot) = Some(snapshot);
         self.is_asked.store(false, Ordering::Release);

@@ -1,4 +1,4 @@
-//! The operator's dictionaries: NAME=FILE, read once for all shards.
+//! The operator's dictionaries, NAME=FILE, which are read once for all shards.
 
 use crate::members::Text;
 use crate::name::Name;
@@ -9,26 +9,26 @@ use std::io::{self, Read};
 use std::os::unix::ffi::OsStrExt;
 use std::path::{Path, PathBuf};
 
-/// The bytes of a section at most.
+/// The most bytes of a section.
 const LONGEST: u64 = 67_108_864;
 
-/// What programs and archives begin with.
+/// The first bytes of programs and archives.
 const PROGRAMS: [&[u8]; 3] = [b"\x7fELF", b"!<arch>\n", b"!<thin>\n"];
 
-/// Why a file is not served, and the status that the front ends with.
+/// The reason why a file is not served, and the exit status of the front.
 pub struct Trouble {
     pub status: u8,
     pub message: String,
 }
 
-/// A dictionary that all may take.
+/// A dictionary that all sessions may take.
 pub struct PublishedDictionary {
     pub name: String,
     pub path: PathBuf,
     pub section: Vec<u8>,
 }
 
-/// Refuses files that hold more than types.
+/// Refuses files that are programs: only types are served.
 pub fn refuse_programs(files: &[OsString]) -> Result<(), Trouble> {
     let program = files.iter().find_map(|word| {
         let (name, path) = cut(word)?;
@@ -46,25 +46,26 @@ pub fn refuse_programs(files: &[OsString]) -> Result<(), Trouble> {
 /// Whether a file is a program, a library, an object file or an archive.
 fn is_program(path: &Path) -> bool {
     let mut start = [0; 8];
-    // That it can't be read is told where it is to be read.
+    // If it can't be read, the error comes later, when it is to be read.
     let is_read =
         path.is_file() && File::open(path).and_then(|mut file| file.read_exact(&mut start)).is_ok();
     is_read && PROGRAMS.iter().any(|magic| start.starts_with(magic))
 }
 
-/// The two parts of NAME=FILE.
+/// The two parts of NAME=FILE, which the first `=` separates.
 fn cut(word: &OsString) -> Option<(&[u8], &Path)> {
     let bytes = word.as_bytes();
     let place = bytes.iter().position(|&byte| byte == b'=')?;
     Some((&bytes[..place], Path::new(OsStr::from_bytes(&bytes[place + 1..]))))
 }
 
-/// The dictionaries that some words name.
+/// Reads the dictionaries that the command line names.
 pub fn read(files: &[OsString]) -> Result<Vec<PublishedDictionary>, Trouble> {
-    files.iter().map(one).collect()
+    files.iter().map(dictionary_of).collect()
 }
 
-fn one(word: &OsString) -> Result<PublishedDictionary, Trouble> {
+/// The dictionary that a word NAME=FILE names.
+fn dictionary_of(word: &OsString) -> Result<PublishedDictionary, Trouble> {
     let usage = || Trouble { status: 2, message: "usage: NAME=FILE".into() };
     let (name, path) = cut(word).ok_or_else(usage)?;
     let is_plain = !name.contains(&b'\\');

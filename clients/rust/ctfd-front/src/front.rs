@@ -1,4 +1,5 @@
-//! The front's own thread: it takes connections, gives them to shards, and tells what they count.
+//! The front's main thread: it accepts connections, passes them to shards, and reports their
+//! counts.
 
 use crate::answers::LAST_SESSION;
 use crate::command::Options;
@@ -28,12 +29,12 @@ const SIGNALS: Token = Token(1);
 pub const TROUBLE: u8 = 5;
 const ENDED_UNASKED: u8 = 6;
 const NUMBERS_ENDED: u8 = 7;
-/// Without room for one more file, connections are tried again after so long.
+/// After failing for lack of file descriptors, accepting is tried again after this time.
 const PAUSE: Duration = Duration::from_secs(1);
 const METRICS_EVERY: Duration = Duration::from_secs(15);
 const TIDIED_EVERY: Duration = Duration::from_secs(60);
 
-/// The shards, and the connections that come.
+/// The state of the main thread.
 struct Front {
     options: Options,
     poll: Poll,
@@ -41,13 +42,14 @@ struct Front {
     listener: UnixListener,
     doors: Arc<[Door]>,
     users: Arc<Users>,
-    /// What this thread has counted: connections that were refused.
+    /// The counts of this thread: connections that were refused.
     own: Statistics,
     sessions: u64,
     snapshots: Vec<Option<Snapshot>>,
-    /// Where the file of statistics is written, if it is.
+    /// The paths of the statistics file, if one is written.
     places: Option<Places>,
-    /// Connections may wait; not before a moment, where there are too many files.
+    /// Whether connections may wait to be accepted; after a lack of file descriptors, they are
+    /// accepted from a later moment on.
     may_accept: bool,
     accepts_from: Instant,
     next_stats: Option<Instant>,
@@ -55,7 +57,7 @@ struct Front {
     next_tidying: Instant,
 }
 
-/// Serves until it is told to end; the status.
+/// Serves until it is told to end. Returns the exit status.
 pub fn run(options: Options, signals: Signals) -> u8 {
     for (name, why) in &options.ignored {
         say(Level::Notice, format_args!("--{name} is without effect: {why}"));
@@ -108,14 +110,14 @@ fn serve(options: Options, signals: Signals) -> Result<u8, Trouble> {
 }
 
 impl Options {
-    /// How often the file of statistics is written.
+    /// The interval at which the statistics file is written.
     fn metrics_every(&self) -> Duration {
         self.stats.unwrap_or(METRICS_EVERY)
     }
 }
 
 impl Front {
-    /// Takes connections until it is told to end, or can't go on; the status.
+    /// Accepts connections until it is told to end, or can't go on. Returns the exit status.
     fn work(&mut self, threads: &[Thread]) -> io::Result<u8> {
         let registry = self.poll.registry();
         registry.register(&mut self.listener, LISTENER, Interest::READABLE)?;
@@ -156,7 +158,8 @@ impl Front {
         next.map_or(PAUSE, |next| next.saturating_duration_since(now)).min(PAUSE)
     }
 
-    /// Takes connections that wait. The status, where no session is left for one.
+    /// Accepts the connections that wait. Returns the exit status if no session number is left for
+    /// one.
     fn accept(&mut self) -> Option<u8> {
         loop {
             match self.listener.accept() {
@@ -190,14 +193,15 @@ impl Front {
         }
     }
 
-    /// Gives a connection its session and its shard; one that is too many is told so, and closed.
+    /// Gives a connection a session and a shard. If there are too many, it gets a refusal and is
+    /// closed. Returns the exit status if no session number is left.
     fn take(&mut self, stream: UnixStream) -> Option<u8> {
         let user = system::peer_user(&stream).ok()?;
         if let Err(rejection) = self.users.begin(user, Instant::now()) {
             self.turn_away(stream, user, &rejection);
             return None;
         }
-        // The last is that of the store, if there is one.
+        // The last number is that of the store's owner, if there is a store.
         let last = LAST_SESSION - u64::from(self.options.store.is_some());
         if self.sessions >= self.options.limits.sessions.min(last) {
             say(Level::Error, "all numbers of sessions were given: start ctfd-front again");
@@ -248,7 +252,7 @@ impl Front {
         }
     }
 
-    /// Asks the shards what they have counted.
+    /// Asks the shards for their counts.
     fn ask(&mut self) {
         for (door, snapshot) in self.doors.iter().zip(&mut self.snapshots) {
             if let Some(new) = door.ask() {
@@ -257,14 +261,14 @@ impl Front {
         }
     }
 
-    /// All counts together.
+    /// The sum of all counts.
     fn statistics(&self) -> Statistics {
         let mut all = self.own.clone();
         self.snapshots.iter().flatten().for_each(|snapshot| all.add(&snapshot.statistics));
         all
     }
 
-    /// Tells all counts, in one line.
+    /// Writes all counts to standard error, in one line.
     fn tell(&mut self) {
         self.ask();
         let all = self.statistics();
@@ -290,7 +294,7 @@ impl Front {
         self.write();
     }
 
-    /// Writes the file of statistics, where one is wanted.
+    /// Writes the statistics file, if there is one.
     fn write(&mut self) {
         let Some(places) = &self.places else { return };
         self.next_metrics = Some(Instant::now() + self.options.metrics_every());
@@ -310,7 +314,7 @@ impl Front {
         }
     }
 
-    /// Has all that was read answered, and ends.
+    /// Stops the shards, which first answer what they have read. Returns the exit status.
     fn finish(
         mut self,
         listener: Listener,
@@ -341,7 +345,7 @@ impl Front {
     }
 }
 
-/// What the line of statistics says of the services.
+/// The services, for the line of statistics.
 struct Services<'a> {
     doors: &'a [Door],
     snapshots: &'a [Option<Snapshot>],
@@ -362,7 +366,7 @@ impl fmt::Display for Services<'_> {
     }
 }
 
-/// What it says of the request that took longest.
+/// The request that took longest, for the line of statistics.
 struct Dearest<'a>(Option<&'a Dear>);
 
 impl fmt::Display for Dearest<'_> {

@@ -1,4 +1,4 @@
-//! What a client has sent, cut into lines.
+//! The bytes that a client has sent, split into lines.
 
 use memchr::{memchr, memrchr};
 use std::collections::TryReserveError;
@@ -6,30 +6,30 @@ use std::collections::TryReserveError;
 /// A client's next line.
 #[derive(Clone, Copy, Debug, PartialEq, Eq)]
 pub enum Line<'a> {
-    /// Its bytes, without the newline.
+    /// The bytes of the line, without the newline.
     Whole(&'a [u8]),
-    /// It is longer than a line may be.
+    /// The line is longer than allowed.
     TooLong,
 }
 
-/// Bytes as they come, and the whole lines in them.
+/// Received bytes, and the whole lines in them.
 ///
-/// Of a line that is longer than `longest` nothing is kept. Nothing is taken while there are whole
-/// lines, so no more is kept than a piece of a line and what is read at once.
+/// Of a line longer than `longest` nothing is kept. Nothing is added while there are whole lines,
+/// so no more is kept than a part of a line and the bytes of one read.
 pub struct Incoming {
     bytes: Vec<u8>,
     start: usize,
-    /// The place behind the last newline.
+    /// The offset after the last newline.
     whole_end: usize,
     longest: usize,
-    /// The rest of a line that is too long is to be dropped.
+    /// Whether the rest of a line that is too long has to be dropped.
     is_cut: bool,
-    /// The first line was too long.
+    /// Whether the first line was too long.
     is_first_too_long: bool,
 }
 
 impl Incoming {
-    /// Nothing, and how long a line may be.
+    /// An empty buffer; `longest` is the most bytes of a line.
     pub fn new(longest: usize) -> Incoming {
         Incoming {
             bytes: Vec::new(),
@@ -41,7 +41,8 @@ impl Incoming {
         }
     }
 
-    /// Takes what has come; whether a line ended in it. Where memory is refused nothing is taken.
+    /// Adds received bytes. Returns whether a line ended in them. If memory is refused, nothing is
+    /// added.
     pub fn feed(&mut self, mut data: &[u8]) -> Result<bool, TryReserveError> {
         debug_assert!(!self.has_line(), "whole lines are answered first");
         let mut has_ended = false;
@@ -70,7 +71,7 @@ impl Incoming {
         Ok(has_ended)
     }
 
-    /// Nothing more comes: a last piece that is not empty is a line too.
+    /// Ends the input: a last part that is not empty is a line too.
     pub fn end(&mut self) -> Result<(), TryReserveError> {
         if self.is_cut || self.bytes.len() > self.whole_end {
             let end = [b'\n'];
@@ -85,7 +86,7 @@ impl Incoming {
         Ok(())
     }
 
-    /// Forgets a line that has begun and not ended.
+    /// Drops a line that has begun and not ended.
     pub fn drop_piece(&mut self) {
         self.bytes.truncate(self.whole_end);
         self.is_cut = false;
@@ -106,21 +107,21 @@ impl Incoming {
         Some(if line.len() > self.longest { Line::TooLong } else { Line::Whole(line) })
     }
 
-    /// Goes behind the next line, which has so many bytes.
+    /// Removes the next line, which has that many bytes.
     pub fn pass(&mut self, bytes: usize) {
         if std::mem::take(&mut self.is_first_too_long) {
             return;
         }
         self.start += bytes + 1;
         if self.start == self.bytes.len() {
-            // An idle connection has no room.
+            // An idle connection uses no memory.
             (self.bytes, self.start, self.whole_end) = (Vec::new(), 0, 0);
         } else if self.start == self.whole_end {
             self.keep_piece();
         }
     }
 
-    /// Forgets all lines, and the room that they had, so that a piece needs little.
+    /// Frees all lines, and leaves a buffer as small as the part of a line that remains.
     fn keep_piece(&mut self) {
         let mut piece = Vec::new();
         if piece.try_reserve_exact(self.bytes.len() - self.start).is_ok() {
@@ -132,14 +133,14 @@ impl Incoming {
         (self.start, self.whole_end) = (0, 0);
     }
 
-    /// Goes behind the next line.
+    /// Removes the next line.
     pub fn skip(&mut self) {
         let rest = &self.bytes[self.start..self.whole_end];
         let bytes = memchr(b'\n', rest).unwrap_or(0);
         self.pass(bytes);
     }
 
-    /// How many bytes are kept.
+    /// The number of bytes kept.
     pub fn size(&self) -> usize {
         self.bytes.len() - self.start
     }
@@ -154,7 +155,7 @@ impl Incoming {
 mod tests {
     use super::*;
 
-    /// The lines of what comes in pieces of a size; None for one that is too long.
+    /// The lines of data that arrives in pieces of a size; `None` for a line that is too long.
     fn lines(data: &[u8], size: usize, longest: usize) -> Vec<Option<Vec<u8>>> {
         let (mut incoming, mut found) = (Incoming::new(longest), Vec::new());
         let mut drain = |incoming: &mut Incoming| {

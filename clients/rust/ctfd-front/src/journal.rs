@@ -1,12 +1,11 @@
-//! Messages for the operator: lines on standard error, with the levels of journald where that reads
-//! them.
+//! Messages for the operator: lines on standard error, with levels if journald reads them.
 
 use crate::text::Line;
 use std::fmt;
 use std::io::{self, Write};
 use std::sync::{Mutex, OnceLock, PoisonError};
 
-/// Levels, as syslog(3) has them.
+/// Levels, as in syslog(3).
 #[derive(Clone, Copy, Debug)]
 pub enum Level {
     Error = 3,
@@ -15,7 +14,7 @@ pub enum Level {
     Info = 6,
 }
 
-/// Writes a message. A reader of standard error that has gone is no trouble.
+/// Writes a message. Ignores errors, such as a reader that has gone.
 pub fn say(level: Level, message: impl fmt::Display) {
     static IS_JOURNAL: OnceLock<bool> = OnceLock::new();
     static LINE: Mutex<Line> = Mutex::new(Line::new());
@@ -25,11 +24,11 @@ pub fn say(level: Level, message: impl fmt::Display) {
     } else {
         line.hold(format_args!("ctfd-front: {message}"))
     };
-    // In one write, so that no reader finds half of it.
+    // In one write, so that no reader gets half of it.
     let _ = io::stderr().write_all(bytes);
 }
 
-/// Whether standard error is the stream of which systemd tells that its journal reads it.
+/// Whether standard error is the stream that systemd's journal reads, which JOURNAL_STREAM names.
 fn is_journal() -> bool {
     let Ok(stream) = std::env::var("JOURNAL_STREAM") else { return false };
     let Ok(stat) = rustix::fs::fstat(io::stderr()) else { return false };

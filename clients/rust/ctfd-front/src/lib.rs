@@ -1,19 +1,19 @@
-//! ctfd-front: many clients of one ctfd, over a Unix socket.
+//! ctfd-front: lets many clients use one ctfd, over a Unix socket.
 //!
-//! Each connection is a session of its own. A thread for each shard has a service of its own, in
-//! process, and a share of the connections: no pipe and no second process is between a client and
+//! Each connection is a session of its own. Each shard is a thread that has a service of its own,
+//! in process, and a part of the connections: no pipe and no second process is between a client and
 //! its service.
 //!
-//! - `start`, `front`: the first thread: the socket, who may connect, signals, statistics.
-//! - `shard`, `door`: a shard's loop, and what other threads ask of it.
+//! - `start`, `front`: the main thread: the socket, who may connect, signals, statistics.
+//! - `shard`, `door`: the loop of a shard, and what other threads ask of it.
 //! - `connection`, `incoming`, `tools`: a client: its lines, its replies, and its turn.
-//! - `turns`, `weight`, `meter`: whose turn it is, by what each has used.
+//! - `turns`, `weight`, `meter`: whose turn it is, by the time that each has used.
 //! - `answers`: the service, which answers each line as its connection's session.
-//! - `rooms`, `name`, `members`: what the front reads of lines itself.
+//! - `rooms`, `name`, `members`: the parts of lines that the front itself reads.
 //! - `builds`, `bundle`: types by build-id, published when they are first taken.
-//! - `users`, `limits`, `refusals`: who has what, and what is too much.
-//! - `statistics`, `metrics`, `journal`, `text`, `notify`: what an operator sees.
-//! - `listening`, `signals`, `files`, `system`: what the system gives.
+//! - `users`, `limits`, `refusals`: what each user has, and the limits.
+//! - `statistics`, `metrics`, `journal`, `text`, `notify`: output for the operator.
+//! - `listening`, `signals`, `files`, `system`: calls of the operating system.
 
 mod answers;
 mod builds;
@@ -47,12 +47,12 @@ mod weight;
 
 use std::process::ExitCode;
 
-/// What ends the process where the words of the command line are wrong, or ask for help.
+/// A function that ends the process, for a command line that is wrong or asks for help.
 pub type Refuse = fn(&clap::Command, &clap::Error) -> !;
 
-/// Runs the front by the words of the process; its exit status.
+/// Runs the front with the command line of the process. Returns the exit status.
 pub fn main(refuse: Refuse) -> ExitCode {
-    // Before words are read, so that no signal is lost.
+    // Before the command line is parsed, so that no signal is lost.
     let signals = match signals::Signals::new() {
         Ok(signals) => signals,
         Err(why) => {

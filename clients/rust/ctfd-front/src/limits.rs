@@ -1,17 +1,18 @@
-//! How much one client, one user, and all together may have.
+//! Limits for one client, one user, and all together.
 
 use std::time::Duration;
 
-/// What the service takes of a line.
+/// The longest line that the service takes, in bytes.
 pub const LONGEST_LINE: usize = 1_048_576;
 
-/// What is read at once, at most.
+/// The most bytes that are read at once.
 pub const READ_BYTES: usize = 65_536;
 
-/// The largest number of sessions.
+/// The greatest number of sessions.
 pub const MOST_SESSIONS: u64 = 4_294_967_295;
 
-/// Sizes in bytes. `user_sessions` are those of an hour.
+/// The limits, which are options of the command line. Sizes are in bytes; `user_sessions` are
+/// sessions in an hour.
 #[derive(Clone, Debug)]
 pub struct Limits {
     pub connections: usize,

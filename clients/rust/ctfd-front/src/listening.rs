@@ -1,4 +1,4 @@
-//! The socket that clients find: at a path, or handed over by systemd.
+//! The socket for clients: at a path, or passed by systemd.
 
 use crate::system;
 use crate::text::Words;
@@ -15,17 +15,17 @@ use std::{env, thread};
 const BACKLOG: i32 = 1_024;
 const LOCK_PATIENCE: Duration = Duration::from_secs(5);
 
-/// A socket that listens, and the file that is to be removed at its end.
+/// A listening socket, and the file that is removed when it ends.
 pub struct Listener {
     pub socket: UnixListener,
     file: Option<(PathBuf, Identity)>,
 }
 
-/// What tells a file from another that is put at its path.
+/// The device and inode of a file, which differ for another file at its path.
 type Identity = (u64, u64);
 
 impl Drop for Listener {
-    /// The file goes where it is still the one that was made here.
+    /// Removes the file, if it is still the one that was made here.
     fn drop(&mut self) {
         if let Some((path, identity)) = &self.file {
             if fs::symlink_metadata(path).is_ok_and(|metadata| identity_of(&metadata) == *identity)
@@ -40,7 +40,7 @@ fn identity_of(file: &Metadata) -> Identity {
     (file.dev(), file.ino())
 }
 
-/// The socket of systemd's LISTEN_FDS, where there is one.
+/// The socket of systemd's LISTEN_FDS, if there is one.
 pub fn from_systemd() -> Result<Option<Listener>, String> {
     let own = |pid: &str| pid == std::process::id().to_string();
     let (Ok(count), Ok(pid)) = (env::var("LISTEN_FDS"), env::var("LISTEN_PID")) else {
@@ -61,7 +61,7 @@ pub fn from_systemd() -> Result<Option<Listener>, String> {
     }
 }
 
-/// A socket at a path. A file that is there is replaced where nobody listens.
+/// Makes a socket at a path. A socket there is replaced if nobody listens on it.
 pub fn at_path(path: &Path, mode: u32, group: Option<&str>) -> Result<Listener, String> {
     let message = |why: io::Error| format!("{}: {}", path.display(), Words(&why));
     let mut lock_path = path.as_os_str().to_owned();
@@ -74,7 +74,7 @@ pub fn at_path(path: &Path, mode: u32, group: Option<&str>) -> Result<Listener, 
     let socket = rustix::net::socket_with(AddressFamily::UNIX, kind, flags, Protocol::default())
         .map_err(|why| message(why.into()))?;
     let address = SocketAddrUnix::new(path).map_err(|why| message(why.into()))?;
-    // The file is made with the mode that the socket has: nobody may connect yet.
+    // The file gets the mode of the socket: nobody may connect yet.
     rustix::fs::fchmod(&socket, Mode::empty()).map_err(|why| message(why.into()))?;
     rustix::net::bind_unix(&socket, &address).map_err(|why| message(why.into()))?;
     let identity = fs::symlink_metadata(path).map(|file| identity_of(&file)).map_err(message)?;
@@ -120,10 +120,11 @@ fn remove_stale(path: &Path) -> Result<(), String> {
     }
 }
 
-/// No two fronts look for a stale socket at one path at once.
+/// A lock, so that no two fronts look for a stale socket at a path at the same time.
 ///
-/// What is locked is a file beside it that nobody else may open, so nobody else can hold the lock.
-/// It is removed while it is locked: who waited for it finds another file there, or none.
+/// The locked file is next to the socket, and nobody else may open it, so nobody else can hold the
+/// lock. It is removed while it is locked: whoever waited for the lock finds another file there, or
+/// none.
 struct Lock {
     path: PathBuf,
     _file: File,
@@ -153,7 +154,7 @@ impl Drop for Lock {
     }
 }
 
-/// A file of this user's own, which no other user may open.
+/// Opens a file of this user, which no other user may open.
 fn open_lock(path: &Path) -> Result<File, String> {
     let shown = path.display();
     let message = |why: io::Error| format!("{shown}: {}", Words(&why));
@@ -171,7 +172,7 @@ fn open_lock(path: &Path) -> Result<File, String> {
     Ok(file)
 }
 
-/// Whether an open file still stands at its path.
+/// Whether an open file is still the one at its path.
 fn is_at(path: &Path, file: &File) -> bool {
     match (fs::symlink_metadata(path), file.metadata()) {
         (Ok(there), Ok(here)) => identity_of(&there) == identity_of(&here),

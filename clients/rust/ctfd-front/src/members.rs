@@ -1,16 +1,16 @@
-//! The members of a line's object, as they stand in it: a scanner, no parser.
+//! The members of a line's object: a scanner, not a parser.
 //!
-//! What it gives is right where the line is JSON; the service refuses all others, whatever is in
+//! Its results are right if the line is JSON; the service refuses all other lines, whatever is in
 //! them.
 
 use memchr::memchr2;
 
-/// Whether a byte may stand between the parts of a line.
+/// Whether a byte may be between the parts of a line.
 pub fn is_blank(byte: u8) -> bool {
     matches!(byte, b' ' | b'\t' | b'\r')
 }
 
-/// The first place from `at` on that has no blank.
+/// The first offset from `at` on that has no blank.
 pub fn past_blanks(line: &[u8], mut at: usize) -> usize {
     while line.get(at).is_some_and(|&byte| is_blank(byte)) {
         at += 1;
@@ -18,18 +18,18 @@ pub fn past_blanks(line: &[u8], mut at: usize) -> usize {
     at
 }
 
-/// A text between its quotes, with its escapes.
+/// A JSON string between its quotes, with its escapes.
 #[derive(Clone, Copy, Debug, PartialEq, Eq)]
 pub struct Text<'a>(pub &'a [u8]);
 
 impl Text<'_> {
-    /// Whether it stands for a plain text, however it is written.
+    /// Whether it equals a plain text, however it is escaped.
     pub fn is(&self, plain: &str) -> bool {
         self.0 == plain.as_bytes()
             || (self.0.contains(&b'\\') && self.characters().eq(plain.bytes().map(Some)))
     }
 
-    /// Its characters; None for one that is not plain ASCII, and for a wrong escape.
+    /// Its characters; `None` for one that is not plain ASCII, and for a wrong escape.
     pub fn characters(&self) -> impl Iterator<Item = Option<u8>> + '_ {
         let mut rest = self.0;
         std::iter::from_fn(move || {
@@ -47,7 +47,7 @@ impl Text<'_> {
                     code.and_then(|code| u8::from_str_radix(code, 16).ok()).filter(u8::is_ascii)
                 }
                 Some(byte @ (b'"' | b'\\' | b'/')) => Some(byte),
-                _ => None, // those of control characters, which no word or name has
+                _ => None, // control characters, which no word or name has
             })
         })
     }
@@ -58,44 +58,44 @@ impl Text<'_> {
 pub struct Member<'a> {
     /// Its key.
     pub key: Text<'a>,
-    /// Its value, with blanks behind it.
+    /// Its value, which blanks may follow.
     pub value: &'a [u8],
 }
 
 impl<'a> Member<'a> {
-    /// The value where it is a text.
+    /// The value, if it is a string.
     pub fn text(&self) -> Option<Text<'a>> {
         let end = self.value.iter().rposition(|&byte| !is_blank(byte))?;
         self.value[..=end].strip_prefix(b"\"")?.strip_suffix(b"\"").map(Text)
     }
 }
 
-/// The members of the object that a line is.
+/// An iterator over the members of a line's object.
 pub struct Members<'a> {
     line: &'a [u8],
     at: usize,
 }
 
 impl<'a> Members<'a> {
-    /// Those of a line; none where it begins as something else.
+    /// The members of a line; none if it is no object.
     pub fn of(line: &'a [u8]) -> Members<'a> {
         let first = past_blanks(line, 0);
         let at = if line.get(first) == Some(&b'{') { first + 1 } else { line.len() };
         Members { line, at }
     }
 
-    /// Goes behind a text whose quote stands in front of `self.at`; where the text ends.
+    /// Moves past a string whose opening quote is before `self.at`. Returns the end of the string.
     fn skip_text(&mut self) -> Option<usize> {
         loop {
             self.at += memchr2(b'"', b'\\', self.line.get(self.at..)?)? + 1;
             if self.line[self.at - 1] == b'"' {
                 return Some(self.at - 1);
             }
-            self.at += 1; // what is escaped
+            self.at += 1; // the escaped character
         }
     }
 
-    /// Goes behind a value: to the comma or the bracket that ends it.
+    /// Moves past a value, to the comma or the bracket that ends it.
     fn skip_value(&mut self) -> Option<()> {
         let mut depth = 0_usize;
         loop {

@@ -1,14 +1,14 @@
-//! What lines take: by the clock, and where that says that one was long by the processor time of
-//! this thread, since other work on the machine may have stalled it.
+//! Measures the time of lines: by the clock, and, if that says that a line was long, by the CPU
+//! time of this thread, since other work on the machine may have stalled it.
 
 use crate::turns::LONG;
 use rustix::time::{clock_gettime, ClockId};
 use std::time::{Duration, Instant};
 
-/// So often the processor time is read, so that it bounds what a line took.
+/// The interval at which CPU time is read, so that it bounds the time of a line.
 const FRESH: Duration = Duration::from_millis(2);
 
-/// A clock of a thread.
+/// The clock of a thread.
 pub struct Meter {
     last: Instant,
     processor: Duration,
@@ -16,7 +16,7 @@ pub struct Meter {
 }
 
 impl Meter {
-    /// One of this thread.
+    /// The clock of the current thread.
     pub fn new() -> Meter {
         let now = Instant::now();
         Meter { last: now, processor: processor_time(), last_refresh: now }
@@ -28,12 +28,12 @@ impl Meter {
         self.last
     }
 
-    /// The time that was read last.
+    /// The time that `now` read last.
     pub fn last(&self) -> Instant {
         self.last
     }
 
-    /// Reads the processor time, where that is long ago.
+    /// Reads the CPU time, if the last reading is old.
     pub fn refresh(&mut self) {
         if self.now() - self.last_refresh > FRESH {
             self.processor = processor_time();
@@ -41,7 +41,7 @@ impl Meter {
         }
     }
 
-    /// What was used since a moment.
+    /// The time used since a moment.
     pub fn time_since(&mut self, since: Instant) -> Duration {
         let mut took = self.now() - since;
         if took > LONG {
@@ -52,13 +52,13 @@ impl Meter {
         took
     }
 
-    /// The processor time of this thread, as it was read last.
+    /// The CPU time of this thread, as last read.
     pub fn processor(&self) -> Duration {
         self.processor
     }
 }
 
-/// The processor time of this thread.
+/// The CPU time of this thread.
 fn processor_time() -> Duration {
     let time = clock_gettime(ClockId::ThreadCPUTime);
     Duration::new(time.tv_sec as u64, time.tv_nsec as u32)

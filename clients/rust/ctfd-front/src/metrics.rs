@@ -1,4 +1,4 @@
-//! What the front has counted, as a file for the textfile collector of Prometheus' node exporter.
+//! The statistics file, in the format of the textfile collector of Prometheus' node exporter.
 
 use crate::door::{Door, Row, Snapshot};
 use crate::statistics::Statistics;
@@ -10,14 +10,14 @@ use std::io::{self, ErrorKind, Write as _};
 use std::os::unix::fs::OpenOptionsExt;
 use std::path::{Path, PathBuf};
 
-/// What is told of all.
+/// The figures to write.
 pub struct Figures<'a> {
     pub statistics: &'a Statistics,
     pub users: &'a State,
     pub shards: &'a [Option<Snapshot>],
     pub doors: &'a [Door],
     pub connection_total: u64,
-    /// Resident bytes of this process.
+    /// The resident memory of this process, in bytes.
     pub memory: u64,
 }
 
@@ -31,7 +31,7 @@ pub fn text(figures: &Figures<'_>) -> Text {
     page.0
 }
 
-/// The lines of families, each of a name.
+/// The text, with lines grouped into families, each of which has a name.
 struct Page(Text);
 
 impl Page {
@@ -54,7 +54,7 @@ impl Page {
         self.sample(name, &[], value);
     }
 
-    /// A family with a sample for each.
+    /// Writes a family with a sample for each item.
     fn each<T>(
         &mut self,
         name: &str,
@@ -172,21 +172,21 @@ fn of_connections(page: &mut Page, figures: &Figures<'_>) {
     family("connection_held_bytes", help, &|row| row.bytes as f64);
 }
 
-/// Where the file is, and where it is made.
+/// The path of the file, and the path at which it is made.
 pub struct Places {
     path: PathBuf,
     new: PathBuf,
 }
 
 impl Places {
-    /// Those of a file. That it is none is told where it is written.
+    /// The paths for a file. If it can't be written, that shows later.
     pub fn of(path: PathBuf) -> Places {
         let new = new_place(&path, 0);
         Places { path, new }
     }
 
-    /// Puts the file in place whole, so that no reader finds half of it. It is made anew: what
-    /// another user put there may be a link.
+    /// Replaces the file in one step, so that no reader gets half of it. It is made anew, since
+    /// what another user put there may be a link.
     pub fn put(&self, text: &[u8]) -> io::Result<()> {
         let mut put = self.put_by(&self.new, text);
         for number in 1..100 {
@@ -200,7 +200,7 @@ impl Places {
         put
     }
 
-    /// Makes the file at another place, and puts it into its own.
+    /// Makes the file at the path `new`, and renames it.
     fn put_by(&self, new: &Path, text: &[u8]) -> io::Result<()> {
         let mut file = OpenOptions::new().write(true).create_new(true).mode(0o666).open(new)?;
         let put = file.write_all(text).and_then(|()| fs::rename(new, &self.path));
@@ -217,7 +217,7 @@ impl Display for Places {
     }
 }
 
-/// A place beside a path that nobody else makes.
+/// A path next to another, which nobody else uses.
 fn new_place(path: &Path, number: usize) -> PathBuf {
     let name = path.file_name().unwrap_or_default().to_string_lossy();
     path.with_file_name(format!(".{name}-{}-{number}.new", std::process::id()))

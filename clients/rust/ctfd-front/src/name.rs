@@ -3,7 +3,7 @@
 use crate::members::Text;
 use std::fmt;
 
-/// The characters of a name at most.
+/// The most characters of a name.
 const LONGEST: usize = 64;
 
 /// A name of a publication or a room: 1 to 64 ASCII letters, digits, `.`, `_` and `-`.
@@ -14,7 +14,7 @@ pub struct Name {
 }
 
 impl Name {
-    /// The name that a text stands for, where it is one.
+    /// The name in a text; `None` if it is no name.
     pub fn of(text: Text<'_>) -> Option<Name> {
         let mut name = Name { len: 0, bytes: [0; LONGEST] };
         for character in text.characters() {
@@ -27,7 +27,7 @@ impl Name {
         (name.len > 0).then_some(name)
     }
 
-    /// Its characters.
+    /// The characters of the name.
     pub fn bytes(&self) -> &[u8] {
         &self.bytes[..usize::from(self.len)]
     }

@@ -1,20 +1,20 @@
-//! What the front refuses by itself, as a line of the protocol.
+//! The front's own refusals, as lines of the protocol.
 //!
-//! The service has none of these codes.
+//! Their codes are not among those of the service.
 
-/// Why a connection is refused or closed: a code and a name, as a fault has them.
+/// The reason why a connection is refused or closed: a code and a name, as for a fault.
 #[derive(Clone, Copy, Debug, PartialEq, Eq)]
 pub enum Refusal {
-    /// The user, or all, have as many connections as they may.
+    /// The user, or all users together, have as many connections as allowed.
     Connections,
-    /// The user made too many sessions within the hour.
+    /// The user made too many sessions within an hour.
     Sessions,
-    /// The front holds too much, or memory was refused.
+    /// The front uses too much memory, or memory was refused.
     Held,
 }
 
 impl Refusal {
-    /// The line that the client is sent.
+    /// The line that is sent to the client.
     pub fn line(self) -> &'static [u8] {
         match self {
             Refusal::Connections => {
@@ -30,25 +30,25 @@ impl Refusal {
     }
 }
 
-/// Why a connection was closed, as statistics tell it.
+/// The reason why a connection was closed, for the statistics.
 #[derive(Clone, Copy, Debug, PartialEq, Eq)]
 pub enum Cause {
-    /// Its client ended it, and has read its replies.
+    /// The client closed it, and has read its replies.
     ByItself,
-    /// The system says that it is broken.
+    /// The system reports an error.
     Broken,
-    /// Replies were not read in time.
+    /// The client did not read its replies in time.
     Unread,
-    /// A line was not ended in time.
+    /// The client did not complete a line in time.
     HalfALine,
-    /// Nothing was sent in time.
+    /// The client sent nothing in time.
     Idle,
-    /// It was refused something.
+    /// The front refused something.
     Refused(Refusal),
 }
 
 impl Cause {
-    /// All of them.
+    /// All causes.
     pub const ALL: [Cause; 8] = [
         Cause::ByItself,
         Cause::Broken,
@@ -60,7 +60,7 @@ impl Cause {
         Cause::Refused(Refusal::Held),
     ];
 
-    /// It in words.
+    /// The cause in words.
     pub fn words(self) -> &'static str {
         match self {
             Cause::ByItself => "by itself",
@@ -74,7 +74,7 @@ impl Cause {
         }
     }
 
-    /// Its place among all.
+    /// The index in `ALL`.
     pub fn place(self) -> usize {
         Cause::ALL.iter().position(|cause| *cause == self).unwrap_or_default()
     }

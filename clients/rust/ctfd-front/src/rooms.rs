@@ -1,7 +1,7 @@
-//! Which of several shards a client is given: clients that are to meet name a room.
+//! Rooms: clients that want to meet name a room, which decides on their shard.
 //!
-//! A room is a name, and lives in one shard, which its name tells. So nothing is kept of it, and
-//! who comes later, or after a new start, comes to the same. It keeps nobody out.
+//! The name of a room determines its shard, so nothing has to be kept: a client that comes later,
+//! or after a restart, gets to the same shard. A room keeps nobody out.
 
 use crate::members::Members;
 use crate::name::Name;
@@ -9,19 +9,19 @@ use memchr::memmem;
 use std::collections::TryReserveError;
 use std::io::Write;
 
-/// The bytes of the line at most.
+/// The most bytes of the line.
 const LONGEST: usize = 256;
 
-/// What a client's first line asks for.
+/// The room that a client's first line asks for.
 pub struct Room {
     name: Name,
-    /// The session that it names, if any.
+    /// The session that the line names, if any.
     session: Option<u32>,
 }
 
 impl Room {
-    /// The room that a line asks for: `{"op":"room","name":"NAME"}`, with `s` or without it. That
-    /// the line is JSON is for the service to say.
+    /// The room that a line asks for: `{"op":"room","name":"NAME"}`, with or without `s`. The
+    /// service checks that the line is JSON.
     pub fn of_line(line: &[u8]) -> Option<Room> {
         if line.len() > LONGEST || memmem::find(line, b"room").is_none() {
             return None;
@@ -46,16 +46,17 @@ impl Room {
         Some(Room { name: Name::of(name?)?, session })
     }
 
-    /// Which shard it lives in, of so many.
+    /// The index of the shard that has the room.
     pub fn shard(&self, shards: usize) -> usize {
         crc32fast::hash(self.name.bytes()) as usize % shards
     }
 
-    /// Appends the line that the client is answered; without a session it is told its own.
+    /// Appends the reply to the line. Its session is that of the line, or `session` if that names
+    /// none.
     pub fn reply(&self, session: u32, replies: &mut Vec<u8>) -> Result<(), TryReserveError> {
         replies.try_reserve(2 * LONGEST)?;
         let session = self.session.unwrap_or(session);
-        // It has room already.
+        // The memory is reserved already.
         let _ = writeln!(replies, r#"{{"ok":{{"room":"{}"}},"s":{session}}}"#, self.name);
         Ok(())
     }

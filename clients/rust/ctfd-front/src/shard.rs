@@ -1,4 +1,4 @@
-//! A thread with a service of its own and its share of the connections.
+//! A shard: a thread with a service of its own and a part of the connections.
 
 use crate::connection::{After, Connection};
 use crate::door::{Door, Row, Snapshot};
@@ -10,18 +10,18 @@ use std::io::{self, ErrorKind};
 use std::sync::Arc;
 use std::time::{Duration, Instant};
 
-/// Who wakes a shard.
+/// The token of a shard's waker.
 pub const BELL: Token = Token(usize::MAX);
-/// So long turns go on before newcomers are looked for.
+/// How long turns go on before new events are read.
 const SLICE: Duration = Duration::from_millis(2);
-/// How often silent clients are looked for, at least and at most.
+/// The bounds of the interval at which silent clients are looked for.
 const LEAST_TICK: Duration = Duration::from_millis(20);
 const LONGEST_TICK: Duration = Duration::from_secs(1);
-/// So many events are told at once. Whose they are is served before more are taken, in less than a
-/// slice where lines are short: so all who wait for short replies come one after the other.
+/// The most events of one poll. Their connections are served before more events are read, in less
+/// than a slice if lines are short: so all clients with short requests come one after another.
 const EVENTS: usize = 128;
 
-/// A shard, as its thread has it.
+/// The state of a shard's thread.
 pub struct Shard {
     doors: Arc<[Door]>,
     poll: Poll,
@@ -30,13 +30,13 @@ pub struct Shard {
     connections: Vec<Option<Connection>>,
     free: Vec<usize>,
     open: usize,
-    /// When it ends, whatever is unread.
+    /// When it ends, even if replies are unread.
     until: Option<Instant>,
     next_tick: Instant,
 }
 
 impl Shard {
-    /// One without connections. `doors` are those of all shards.
+    /// A shard without connections. `doors` are those of all shards.
     pub fn new(poll: Poll, doors: Arc<[Door]>, tools: Tools) -> Shard {
         Shard {
             doors,
@@ -51,8 +51,8 @@ impl Shard {
         }
     }
 
-    /// Serves until it is told to end and all is answered and read, or the time for that is over.
-    /// How many connections were closed before that.
+    /// Serves until it is told to end and all replies are read, or the time for that is over.
+    /// Returns the number of connections that were closed before that.
     pub fn run(mut self) -> io::Result<usize> {
         let mut events = Events::with_capacity(EVENTS);
         loop {
@@ -70,8 +70,8 @@ impl Shard {
         Ok(left)
     }
 
-    /// Takes note of what has come: of everything, where somebody was left without a turn and those
-    /// who come now may go first.
+    /// Polls and notes events. If a connection is left without a turn, all events are noted, since
+    /// those who come now may go first.
     fn hear(&mut self, events: &mut Events) -> io::Result<()> {
         let times = if self.turns.is_empty() { 1 } else { 1 + self.open / EVENTS };
         for _ in 0..times {
@@ -87,7 +87,7 @@ impl Shard {
         Ok(())
     }
 
-    /// Takes note of some events; how many these are.
+    /// Notes some events. Returns their number.
     fn note(&mut self, events: &Events) -> usize {
         let mut count = 0;
         for event in events {
@@ -102,7 +102,7 @@ impl Shard {
         count
     }
 
-    /// Whether nobody waits in any shard, from which one could still come, or the time is over.
+    /// Whether no shard has connections, any of which could still move here, or the time is over.
     fn is_over(&self, until: Instant) -> bool {
         let is_empty = self.doors.iter().all(|door| door.connections() == 0);
         is_empty || self.tools.meter.last() > until
@@ -125,7 +125,7 @@ impl Shard {
         Some(next.saturating_duration_since(now))
     }
 
-    /// Gives turns for a bounded time.
+    /// Gives turns for a limited time.
     fn slice(&mut self) {
         let began = self.tools.meter.now();
         let mut before = began;
@@ -136,8 +136,8 @@ impl Shard {
             let may_wait = self.turns.may_put_behind(token);
             let after = connection.turn(&mut self.tools, may_wait, &mut longest);
             let answering = connection.time_used - before_turn;
-            // What stalled the thread is nobody's: amid a long request, or behind a reply, whose
-            // reader may have been given this processor.
+            // Nobody is charged for the time in which the thread did not run: during a long
+            // request, or after a reply, whose reader may have taken this processor.
             let turn = self.tools.meter.time_since(before);
             let took = if longest > crate::turns::LONG { answering } else { turn };
             let now = self.tools.meter.last();
@@ -166,7 +166,7 @@ impl Shard {
         }
     }
 
-    /// Closes a connection and gives back its session, which its user is charged for.
+    /// Closes a connection and frees its session. Its user is charged for the time.
     fn close(&mut self, token: usize, cause: Cause) {
         let Some(mut connection) = self.connections[token].take() else { return };
         connection.deregister(self.poll.registry());
@@ -177,7 +177,7 @@ impl Shard {
         self.leave(token);
     }
 
-    /// Gives a connection to the shard where its room is.
+    /// Passes a connection to the shard that has its room.
     fn hand_over(&mut self, token: usize, shard: usize) {
         let Some(mut connection) = self.connections[token].take() else { return };
         connection.deregister(self.poll.registry());
@@ -187,7 +187,7 @@ impl Shard {
         self.leave(token);
     }
 
-    /// A connection has left its place.
+    /// Frees the token of a connection that has gone.
     fn leave(&mut self, token: usize) {
         self.turns.leave(token);
         self.free.push(token);
@@ -195,7 +195,7 @@ impl Shard {
         self.door().leave();
     }
 
-    /// Looks what other threads have given and ask for.
+    /// Handles what other threads passed and asked.
     fn look(&mut self) {
         while let Some(connection) = self.door().comer() {
             self.adopt(connection);
@@ -214,7 +214,7 @@ impl Shard {
         }
     }
 
-    /// Takes a connection in; where memory is refused, or it can't be watched, it is closed.
+    /// Adds a connection. If memory is refused, or it can't be polled, it is closed.
     fn adopt(&mut self, mut connection: Connection) {
         match self.place(connection.user) {
             Some(token) if connection.register(self.poll.registry(), token).is_ok() => {
@@ -236,13 +236,13 @@ impl Shard {
         }
     }
 
-    /// A place for a user's connection, where memory for it is given.
+    /// A token for a user's connection; `None` if memory is refused.
     fn place(&mut self, user: u32) -> Option<usize> {
         let token = match self.free.pop() {
             Some(token) => token,
             None => {
                 self.connections.try_reserve(1).ok()?;
-                // Each place may be free at once.
+                // All tokens may be free at the same time.
                 let places = self.connections.len() + 1;
                 self.free.try_reserve(places.saturating_sub(self.free.len())).ok()?;
                 self.connections.push(None);
@@ -256,7 +256,7 @@ impl Shard {
         Some(token)
     }
 
-    /// Looks for those who are silent too long.
+    /// Closes connections that are silent for too long.
     fn tick(&mut self) {
         let now = self.tools.meter.last();
         if now < self.next_tick {
@@ -275,10 +275,10 @@ impl Shard {
         }
     }
 
-    /// Tells what it has counted.
+    /// Passes its counts to the main thread.
     fn tell(&self) {
         let mut connections = Vec::new();
-        // Without memory for it, what is told of connections is left out.
+        // If memory is refused, the rows of connections are left out.
         if connections.try_reserve(self.open).is_ok() {
             connections.extend(self.connections.iter().flatten().map(|open| Row {
                 session: open.session,

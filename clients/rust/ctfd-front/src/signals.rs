@@ -1,4 +1,4 @@
-//! What the system tells the front: to end, or to tell what it has counted.
+//! Signals: to end, or to write statistics.
 
 use mio::net::UnixStream;
 use signal_hook::consts::{SIGINT, SIGTERM, SIGUSR1};
@@ -7,7 +7,7 @@ use std::io::{self, Read};
 use std::sync::atomic::{AtomicBool, Ordering};
 use std::sync::Arc;
 
-/// Signals from the first words of the command on. `wake` can be read from when one has come.
+/// A receiver of signals. `wake` becomes readable when one has come.
 pub struct Signals {
     pub wake: UnixStream,
     ends: Arc<AtomicBool>,
@@ -15,7 +15,7 @@ pub struct Signals {
 }
 
 impl Signals {
-    /// Begins to listen.
+    /// Begins to receive signals.
     pub fn new() -> io::Result<Signals> {
         let (ends, tells) = (Arc::new(AtomicBool::new(false)), Arc::new(AtomicBool::new(false)));
         let (read, write) = std::os::unix::net::UnixStream::pair()?;
@@ -27,18 +27,18 @@ impl Signals {
         Ok(Signals { wake: UnixStream::from_std(read), ends, tells })
     }
 
-    /// Forgets what woke.
+    /// Empties `wake`.
     pub fn hush(&mut self) {
         let mut room = [0; 64];
         while matches!(self.wake.read(&mut room), Ok(1..)) {}
     }
 
-    /// Whether it was told to end.
+    /// Whether a signal to end has come.
     pub fn is_ending(&self) -> bool {
         self.ends.load(Ordering::Relaxed)
     }
 
-    /// Whether it was told to tell since this was asked last.
+    /// Whether a signal to write statistics has come since the last call.
     pub fn tells(&self) -> bool {
         self.tells.swap(false, Ordering::Relaxed)
     }

@@ -1,4 +1,4 @@
-//! What is there before a connection is taken: the socket, room for files, and the shards.
+//! Preparations before connections are accepted: the socket, limits, and the shards.
 
 use crate::answers::Answers;
 use crate::builds::{Builds, Store, OWNER};
@@ -20,18 +20,19 @@ use std::io;
 use std::sync::{mpsc, Arc};
 use std::thread::{self, JoinHandle};
 
-/// Files that are open beside connections, and those of a shard.
+/// The files that are open besides connections, and those of a shard.
 const SPARE_FILES: u64 = 32;
 const SHARD_FILES: u64 = 4;
 
-/// Bytes that a shard's thread needs, with its stack, and the front for a connection.
+/// The memory that a shard's thread needs, with its stack, and that of the front for a connection,
+/// in bytes.
 const SHARD_BYTES: u64 = 4 << 20;
 const CONNECTION_BYTES: u64 = 4 << 10;
 
-/// A thread of a shard. It gives the connections that it closed unread, or why it ended.
+/// The thread of a shard. It returns the number of connections closed unread, or an error.
 pub type Thread = JoinHandle<io::Result<usize>>;
 
-/// The socket of systemd, or the one at the path.
+/// The socket of systemd, or the one at the path of the command line.
 pub fn listener(options: &Options) -> Result<Listener, String> {
     match (listening::from_systemd()?, &options.socket) {
         (Some(_), Some(_)) => Err("systemd hands over a socket: leave --socket out".into()),
@@ -43,7 +44,7 @@ pub fn listener(options: &Options) -> Result<Listener, String> {
     }
 }
 
-/// Raises the limit of open files, as far as is needed and allowed.
+/// Raises the limit of open files, as far as necessary and allowed.
 pub fn allow_files(options: &Options) {
     let Rlimit { current, maximum } = getrlimit(Resource::Nofile);
     let shards = options.shards as u64;
@@ -64,8 +65,8 @@ pub fn allow_files(options: &Options) {
     }
 }
 
-/// Bounds the memory that this process may write to: what it has, what the front may need, and what
-/// the services may have. A request that needs more is answered Memory then.
+/// Limits the data memory of this process: to what it has, what the front may need, and what the
+/// services may have. A request that needs more is then refused with Memory.
 pub fn limit_memory(options: &Options) -> io::Result<()> {
     let Some(of_services) = options.service_memory else { return Ok(()) };
     let Limits { memory, connections, .. } = options.limits;
@@ -77,7 +78,7 @@ pub fn limit_memory(options: &Options) -> io::Result<()> {
     Ok(setrlimit(Resource::Data, Rlimit { current, maximum })?)
 }
 
-/// A service that never answered.
+/// The error of a service that never answered.
 pub fn not_started(trouble: Trouble) -> Trouble {
     say(Level::Error, &trouble.message);
     let status = trouble.status;
@@ -148,7 +149,7 @@ pub fn shards(
     Ok((threads, doors))
 }
 
-/// A service that has the operator's dictionaries.
+/// A service with the operator's dictionaries.
 fn answers(published: &[PublishedDictionary]) -> Result<Answers, Trouble> {
     let refused = |name: &dyn std::fmt::Display, why: ctfd::Refusal| Trouble {
         status: if why.fault == ctfd::Fault::Memory { 4 } else { 1 },

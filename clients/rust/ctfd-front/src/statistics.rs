@@ -1,4 +1,4 @@
-//! What a shard has counted since it was started.
+//! The counts of a shard since it was started.
 
 use crate::answers::fault_of;
 use crate::members::Members;
@@ -8,9 +8,9 @@ use std::fmt;
 use std::time::Duration;
 
 const FAULTS: usize = 128;
-/// The bytes of a line that are shown.
+/// How many bytes of a line are shown.
 const SHOWN: usize = 80;
-/// How many of the longest requests are kept.
+/// How many of the requests that took longest are kept.
 const DEAREST: usize = 5;
 
 /// A request that took long.
@@ -29,7 +29,7 @@ impl Dear {
         &self.line[..self.bytes.min(SHOWN)]
     }
 
-    /// Its word, as far as that is in the beginning.
+    /// Its word; empty unless it is in the beginning.
     pub fn word(&self) -> &str {
         let word = Members::of(self.line()).find(|member| member.key.is("op"));
         let text = word.and_then(|member| member.text()).map_or(&[][..], |text| text.0);
@@ -47,7 +47,7 @@ impl fmt::Display for Dear {
     }
 }
 
-/// Counts of all connections of a shard, or of all shards.
+/// The counts of all connections of a shard, or of all shards.
 #[derive(Clone)]
 pub struct Statistics {
     pub lines: u64,
@@ -55,12 +55,12 @@ pub struct Statistics {
     pub bytes_out: u64,
     closes: [u64; Cause::ALL.len()],
     refusals_by_code: [u64; FAULTS],
-    /// The longest first.
+    /// The requests that took longest, in descending order of time.
     dearest: [Option<Dear>; DEAREST],
 }
 
 impl Statistics {
-    /// Nothing yet.
+    /// Statistics whose counts are all 0.
     pub fn new() -> Statistics {
         Statistics {
             lines: 0,
@@ -72,7 +72,7 @@ impl Statistics {
         }
     }
 
-    /// Counts a reply; whether it is a refusal.
+    /// Counts a reply. Returns whether it is a refusal.
     pub fn count_reply(&mut self, reply: &[u8]) -> bool {
         self.lines += 1;
         let Some(fault) = fault_of(reply) else { return false };
@@ -80,12 +80,12 @@ impl Statistics {
         true
     }
 
-    /// Counts a connection that was closed.
+    /// Counts a closed connection.
     pub fn count_close(&mut self, cause: Cause) {
         self.closes[cause.place()] += 1;
     }
 
-    /// Keeps a request that took longer than others.
+    /// Keeps a request if it is among those that took longest.
     pub fn note_time(&mut self, took: Duration, session: u32, user: u32, line: &[u8]) {
         if self.dearest[DEAREST - 1].as_ref().is_some_and(|least| least.took >= took) {
             return;
@@ -96,7 +96,7 @@ impl Statistics {
         self.keep(dear);
     }
 
-    /// Keeps a request in the place of one that took less.
+    /// Keeps a request in place of a shorter one.
     fn keep(&mut self, mut dear: Dear) {
         for place in &mut self.dearest {
             match place {
@@ -110,12 +110,12 @@ impl Statistics {
         }
     }
 
-    /// The longest requests, the longest first.
+    /// The requests that took longest, in descending order of time.
     pub fn dearest(&self) -> impl Iterator<Item = &Dear> {
         self.dearest.iter().flatten()
     }
 
-    /// Adds what another has counted.
+    /// Adds the counts of another shard.
     pub fn add(&mut self, other: &Statistics) {
         self.lines += other.lines;
         self.bytes_in += other.bytes_in;
@@ -127,20 +127,20 @@ impl Statistics {
         other.dearest().for_each(|dear| self.keep(dear.clone()));
     }
 
-    /// Refusals by their faults, the most frequent first.
+    /// The number of refusals by fault, the most frequent first.
     pub fn refusals(&self) -> impl Iterator<Item = (FaultName, u64)> + Clone {
         largest_first(&self.refusals_by_code).filter_map(|(code, count)| {
             ctfd::Fault::from_code(code as u16).map(|fault| (FaultName(fault), count))
         })
     }
 
-    /// Closed connections by what closed them, the most frequent first.
+    /// The number of closed connections by cause, the most frequent first.
     pub fn causes(&self) -> impl Iterator<Item = (&'static str, u64)> + Clone {
         largest_first(&self.closes).map(|(place, count)| (Cause::ALL[place].words(), count))
     }
 }
 
-/// Places with a count, the largest counts first.
+/// The indexes of counts that are not 0, the greatest counts first.
 fn largest_first<const N: usize>(counts: &[u64; N]) -> impl Iterator<Item = (usize, u64)> + Clone {
     let mut sorted = [(0, 0); N];
     for ((place, count), sorted) in counts.iter().enumerate().zip(&mut sorted) {
@@ -150,7 +150,7 @@ fn largest_first<const N: usize>(counts: &[u64; N]) -> impl Iterator<Item = (usi
     sorted.into_iter().take_while(|(_, count)| *count > 0)
 }
 
-/// A fault, by its name.
+/// A fault that is displayed as its name.
 #[derive(Clone, Copy)]
 pub struct FaultName(ctfd::Fault);
 
@@ -160,7 +160,7 @@ impl fmt::Display for FaultName {
     }
 }
 
-/// Counts in words.
+/// Counts that are displayed with their names.
 pub struct Listing<I>(pub I);
 
 impl<I: Iterator<Item = (T, u64)> + Clone, T: fmt::Display> fmt::Display for Listing<I> {

@@ -1,5 +1,5 @@
-//! What the system is asked that neither std nor a crate of Debian has a safe call for: the only
-//! unsafe code of this crate.
+//! System calls for which neither std nor a crate in Debian has a safe function: the only unsafe
+//! code of this crate.
 #![allow(unsafe_code)]
 
 use std::ffi::CString;
@@ -9,22 +9,21 @@ use std::mem::{size_of, zeroed};
 use std::os::fd::{AsRawFd, FromRawFd, OwnedFd, RawFd};
 use std::os::unix::net::UnixListener;
 
-/// The first of the sockets that systemd hands over.
+/// The first of the sockets that systemd passes.
 const FIRST_HANDED: RawFd = 3;
 
 /// The user at the other end of a Unix socket.
 pub fn peer_user(socket: &impl AsRawFd) -> io::Result<u32> {
-    // SAFETY: the structure is plain numbers.
+    // SAFETY: the structure has only numbers.
     let mut peer: libc::ucred = unsafe { zeroed() };
     option(socket, libc::SO_PEERCRED, &mut peer)?;
     Ok(peer.uid)
 }
 
-/// The socket that systemd hands over. It is to be asked for once. None where it is no socket that
-/// listens.
+/// The socket that systemd passes; `None` if it does not listen. Call this only once.
 pub fn handed_listener() -> io::Result<Option<UnixListener>> {
-    // SAFETY: a file of this number that is open belongs to nobody else: it was handed over, and
-    // `fcntl` fails where it is not.
+    // SAFETY: if a file with this number is open, nobody else owns it, since it was passed to the
+    // process; if none is, `fcntl` fails.
     let socket = unsafe {
         if libc::fcntl(FIRST_HANDED, libc::F_SETFD, libc::FD_CLOEXEC) < 0 {
             return Err(io::Error::last_os_error());
@@ -40,7 +39,8 @@ pub fn handed_listener() -> io::Result<Option<UnixListener>> {
 fn option<T>(socket: &impl AsRawFd, name: libc::c_int, value: &mut T) -> io::Result<()> {
     let mut len = size_of::<T>() as libc::socklen_t;
     let at: *mut T = value;
-    // SAFETY: the value is lent for the call, and as long as is said; all of `T` here are numbers.
+    // SAFETY: the value is borrowed for the call, and has the stated length; all `T` here are
+    // numbers.
     let status = unsafe {
         libc::getsockopt(socket.as_raw_fd(), libc::SOL_SOCKET, name, at.cast(), &mut len)
     };
@@ -51,7 +51,7 @@ fn option<T>(socket: &impl AsRawFd, name: libc::c_int, value: &mut T) -> io::Res
     }
 }
 
-/// Bytes that the system counts for this process, by the name of a line of its status; 0 where that
+/// A memory figure of this process in bytes, by the name of its line in /proc/self/status; 0 if it
 /// can't be read.
 pub fn memory(name: &str) -> u64 {
     let mut status = [0; 4_096];
@@ -62,19 +62,19 @@ pub fn memory(name: &str) -> u64 {
     kibibytes.map_or(0, |kibibytes| 1_024 * kibibytes)
 }
 
-/// What the system says of an error's number.
+/// The system's text for an error number.
 pub fn error_text(number: i32, room: &mut [u8; 128]) -> &str {
-    // SAFETY: the room is lent for the call, and as long as is said.
+    // SAFETY: the buffer is borrowed for the call, and has the stated length.
     let status = unsafe { libc::strerror_r(number, room.as_mut_ptr().cast(), room.len()) };
     let text = room.split(|byte| *byte == 0).next().unwrap_or_default();
     std::str::from_utf8(text).ok().filter(|_| status == 0).unwrap_or("an error of the system")
 }
 
-/// The number of a group, where there is one of this name.
+/// The number of the group with a name; `None` if there is none.
 pub fn group_number(name: &str) -> Option<u32> {
     let name = CString::new(name).ok()?;
     let mut texts = vec![0; 65_536];
-    // SAFETY: the structure is plain numbers and pointers; all that is lent lives for the call.
+    // SAFETY: the structure has only numbers and pointers; all that is borrowed lives for the call.
     unsafe {
         let mut group: libc::group = zeroed();
         let mut result = std::ptr::null_mut();

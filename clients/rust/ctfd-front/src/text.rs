@@ -1,11 +1,11 @@
-//! Texts that are made where memory may be refused: that ends nothing, since what std's own strings
-//! need is not asked for here.
+//! Text that is made while memory may be refused. That ends nothing: std's own strings, which abort
+//! the process, are not used here.
 
 use crate::system;
 use std::fmt::{self, Write};
 use std::io;
 
-/// A text that grows as far as memory is given.
+/// A text that grows as long as memory is granted.
 #[derive(Default)]
 pub struct Text {
     bytes: Vec<u8>,
@@ -13,7 +13,7 @@ pub struct Text {
 }
 
 impl Text {
-    /// Its bytes, or nothing where memory for some of them was refused.
+    /// Its bytes; `None` if memory for some of them was refused.
     pub fn bytes(&self) -> Option<&[u8]> {
         (!self.is_refused).then_some(&self.bytes)
     }
@@ -30,25 +30,25 @@ impl Write for Text {
     }
 }
 
-/// The bytes of a line for the operator at most: 256 shards and all faults fit.
+/// The most bytes of a line for the operator: 256 shards and all faults fit.
 const LINE_BYTES: usize = 65_536;
 
-/// A line in room that is there from the start; what is longer is cut off.
+/// A line in a buffer of fixed size. What does not fit is cut off.
 pub struct Line {
     bytes: [u8; LINE_BYTES],
     len: usize,
 }
 
 impl Line {
-    /// An empty one. It is too large for a stack, which may not grow where memory is refused.
+    /// An empty line. It is too large for a stack, which may fail to grow if memory is refused.
     pub const fn new() -> Line {
         Line { bytes: [0; LINE_BYTES], len: 0 }
     }
 
-    /// Holds a text in place of what was there; its bytes, with a newline.
+    /// Replaces the text. Returns its bytes with a newline.
     pub fn hold(&mut self, text: impl fmt::Display) -> &[u8] {
         self.len = 0;
-        let _ = write!(self, "{text}"); // it is full then
+        let _ = write!(self, "{text}"); // it fails if the line is full
         self.bytes[self.len] = b'\n';
         &self.bytes[..self.len + 1]
     }
@@ -68,7 +68,7 @@ impl Write for Line {
     }
 }
 
-/// What the system says, without the number that Rust puts behind it.
+/// A system error that is displayed without the number that Rust adds.
 pub struct Words<'a>(pub &'a io::Error);
 
 impl fmt::Display for Words<'_> {

@@ -1,4 +1,4 @@
-//! What all connections of a shard use.
+//! The parts of a shard that all its connections use.
 
 use crate::answers::Answers;
 use crate::builds::Builds;
@@ -11,10 +11,10 @@ use std::sync::Arc;
 
 const REPLY_BYTES: usize = 65_536;
 
-/// The service, room to read and to write, and what is counted.
+/// The service, buffers to read and write, and the counts.
 pub struct Tools {
     pub answers: Answers,
-    /// Types by build-id, where there is a store.
+    /// The types by build-id, if there is a store.
     pub builds: Option<Builds>,
     pub statistics: Statistics,
     pub limits: Limits,
@@ -22,13 +22,13 @@ pub struct Tools {
     pub meter: Meter,
     pub read: Box<[u8]>,
     pub replies: Vec<u8>,
-    /// Which shard this is, of so many.
+    /// The index of the shard, and the number of shards.
     pub shard: usize,
     pub shards: usize,
 }
 
 impl Tools {
-    /// Those of a shard, made in its thread.
+    /// The tools of a shard, made in its thread.
     pub fn new(
         answers: Answers,
         builds: Option<Builds>,
@@ -51,7 +51,7 @@ impl Tools {
         }
     }
 
-    /// Whether a line may take as long as a whole dictionary.
+    /// Whether answering a line may take as long as reading a whole dictionary.
     pub fn may_be_long(&self, line: &[u8]) -> bool {
         weight::may_be_long(line) || self.builds.as_ref().is_some_and(|builds| builds.is_new(line))
     }

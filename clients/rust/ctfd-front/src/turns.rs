@@ -1,33 +1,35 @@
 //! Fairness: whose lines the service answers next.
 //!
-//! This is start-time fair queueing in two levels: users, and the connections of each. A tag is the
-//! time that its owner has used; one that comes, or comes again, begins at the tag of whoever was
-//! served last, so nobody saves up. The least tag is served first, and of equal ones a request
-//! whose word says that it is short: who comes last is not behind all who came with a long one.
+//! This is start-time fair queueing on two levels: users, and the connections of each. A tag is the
+//! time that a user or connection has used. Those who come, or come again, begin with the tag of
+//! the one served last, so nobody saves up time. The least tag is served first. Of equal tags, a
+//! request whose word is that of a short one is first, so a new client need not wait for all who
+//! came with a long one.
 //!
-//! A turn is short, unless a single request is long. Where others are about, a connection that had
-//! such a request rests as long as that took: they are undisturbed for half of the time, also where
-//! they have no line waiting at the very moment when the service has none.
+//! A turn is short, unless a single request is long. If others are active, a connection that had
+//! such a request rests as long as that took: so the others have half of the time undisturbed, even
+//! if they have no line waiting at the moment when the service is free.
 //!
-//! All room that turns need is taken when a connection joins, so nothing here fails later.
+//! All memory for turns is reserved when a connection joins, so nothing here fails later.
 
 use std::cmp::Reverse;
 use std::collections::{BinaryHeap, HashMap, TryReserveError};
 use std::hash::{BuildHasherDefault, Hasher};
 use std::time::{Duration, Instant};
 
-/// A request that takes longer is a long one.
+/// A request that takes longer than this is long.
 pub const LONG: Duration = Duration::from_millis(2);
-/// Somebody counts as being about so long after a turn.
+/// How long after a turn a connection counts as active.
 const ABOUT: Duration = Duration::from_secs(1);
 const LONGEST_REST: Duration = Duration::from_secs(1);
 
-/// A place in a queue: the tag, the order of coming, and who it is.
+/// A place in a queue: the tag, the order of arrival, and the owner.
 type Place<T> = Reverse<(u64, u64, T)>;
-/// Added to the order of one whose next request may be long: it is behind all others of its tag.
+/// Added to the order of a connection whose next request may be long, so that it comes after all
+/// others with its tag.
 const BEHIND: u64 = 1 << 63;
 
-/// Who waits, by tags in nanoseconds. `now` is the tag of the one that was served last.
+/// Those who wait, ordered by tags in nanoseconds. `now` is the tag of the one served last.
 struct Queue<T> {
     heap: BinaryHeap<Place<T>>,
     now: u64,
@@ -44,14 +46,13 @@ impl<T: Ord> Queue<T> {
         self.heap.push(Reverse((*tag, order, who)));
     }
 
-    /// Room for so many.
+    /// Reserves memory for `count` places.
     fn reserve(&mut self, count: usize) -> Result<(), TryReserveError> {
         self.heap.try_reserve(count.saturating_sub(self.heap.len()))
     }
 }
 
-/// Spreads the numbers of users over a table. The system gives these, so none is chosen to meet
-/// another.
+/// A hasher of user numbers. The system assigns these, so nobody can choose them to collide.
 #[derive(Default)]
 struct Spreader(u64);
 
@@ -61,7 +62,7 @@ impl Hasher for Spreader {
     }
 
     fn write_u32(&mut self, number: u32) {
-        // 2^64 by the golden ratio: numbers that are near each other come far apart.
+        // 2^64 divided by the golden ratio, which spreads numbers that are close.
         let spread = (self.0 ^ u64::from(number)).wrapping_mul(0x9e37_79b9_7f4a_7c15);
         self.0 = spread.rotate_left(32);
     }
@@ -71,7 +72,7 @@ impl Hasher for Spreader {
     }
 }
 
-/// A user: its place among users, and the queue of its connections.
+/// A user: its tag among users, and the queue of its connections.
 struct User {
     tag: u64,
     is_waiting: bool,
@@ -79,18 +80,18 @@ struct User {
     queue: Queue<usize>,
 }
 
-/// A connection: its user, and its place among that user's.
+/// A connection: its user, and its tag among the user's connections.
 struct Asker {
     user: u32,
     tag: u64,
-    /// The order of its place, where it has one.
+    /// The order of its place in the queue, if it has one.
     place: Option<u64>,
     is_resting: bool,
-    /// Its next request may be long, and it has been put behind those of its tag for that.
+    /// Whether its next request may be long, and it was put behind others with its tag.
     is_behind: bool,
 }
 
-/// Who has turns in a shard. Connections are known by their tokens.
+/// The turns of a shard. Connections are identified by their tokens.
 pub struct Turns {
     users: HashMap<u32, User, BuildHasherDefault<Spreader>>,
     queue: Queue<u32>,
@@ -98,14 +99,14 @@ pub struct Turns {
     rests: BinaryHeap<Reverse<(Instant, usize)>>,
     order: u64,
     count: usize,
-    /// Who had a turn last and when, and when another had.
+    /// The connection that had the last turn and when, and when another had one.
     recent: Option<usize>,
     recently: Option<Instant>,
     others_recently: Option<Instant>,
 }
 
 impl Turns {
-    /// Nobody waits.
+    /// No connections.
     pub fn new() -> Turns {
         Turns {
             users: HashMap::default(),
@@ -120,7 +121,7 @@ impl Turns {
         }
     }
 
-    /// A user's connection comes, under a token that nobody has.
+    /// Adds a connection of a user, with a token that is not in use.
     pub fn join(&mut self, token: usize, user: u32) -> Result<(), TryReserveError> {
         if self.askers.len() <= token {
             self.askers.try_reserve(token + 1 - self.askers.len())?;
@@ -145,7 +146,7 @@ impl Turns {
         Ok(())
     }
 
-    /// A connection goes.
+    /// Removes a connection.
     pub fn leave(&mut self, token: usize) {
         let Some(asker) = self.askers[token].take() else { return };
         self.count -= 1;
@@ -165,7 +166,7 @@ impl Turns {
         self.tidy(asker.user);
     }
 
-    /// Gives a user its place, where its connections wait.
+    /// Puts a user into the queue, if its connections wait.
     fn queue_again(&mut self, number: u32) {
         let Some(user) = self.users.get_mut(&number) else { return };
         if !user.is_waiting && !user.queue.heap.is_empty() {
@@ -175,7 +176,7 @@ impl Turns {
         }
     }
 
-    /// Forgets a user who has no connection and no debt.
+    /// Forgets a user without connections whose tag gives it no debt.
     fn tidy(&mut self, user: u32) {
         let is_old = |known: &User| known.connections == 0 && !known.is_waiting;
         if self.users.get(&user).is_some_and(|known| is_old(known) && known.tag <= self.queue.now) {
@@ -183,13 +184,13 @@ impl Turns {
         }
     }
 
-    /// Forgets all users who have no connection and no debt.
+    /// Forgets all such users.
     pub fn tidy_all(&mut self) {
         let now = self.queue.now;
         self.users.retain(|_, user| user.connections > 0 || user.is_waiting || user.tag > now);
     }
 
-    /// Gives a connection a turn, where it has none yet and does not rest.
+    /// Puts a connection into the queue, unless it is there already, or rests.
     pub fn offer(&mut self, token: usize) {
         let Some(asker) = self.askers[token].as_mut() else { return };
         if asker.place.is_some() || asker.is_resting {
@@ -205,14 +206,15 @@ impl Turns {
         }
     }
 
-    /// Whether the one whose turn it is may be put behind others of its user, who wait.
+    /// Whether the connection whose turn it is may be put behind other waiting connections of its
+    /// user.
     pub fn may_put_behind(&self, token: usize) -> bool {
         let Some(asker) = self.askers[token].as_ref() else { return false };
         let user = self.users.get(&asker.user);
         !asker.is_behind && user.is_some_and(|user| !user.queue.heap.is_empty())
     }
 
-    /// Gives the one whose turn it is another, behind those who have used as much, since its
+    /// Puts the connection whose turn it is behind others that have used as much time, since its
     /// request may be long.
     pub fn put_behind(&mut self, token: usize) {
         if let Some(asker) = self.askers[token].as_mut() {
@@ -221,12 +223,12 @@ impl Turns {
         self.offer(token);
     }
 
-    /// Whose turn it is. It has no place any more: see `offer`.
+    /// The connection whose turn it is. It is no longer in the queue: see `offer`.
     pub fn next(&mut self) -> Option<usize> {
         while let Some(Reverse((tag, order, number))) = self.queue.heap.pop() {
             let Some(user) = self.users.get_mut(&number) else { continue };
             if user.tag > tag && !user.queue.heap.is_empty() {
-                // It was found to have used more since it came.
+                // It has used more time since it was put into the queue.
                 self.queue.heap.push(Reverse((user.tag, order, number)));
                 continue;
             }
@@ -245,8 +247,8 @@ impl Turns {
         None
     }
 
-    /// Counts what a turn took, of which its longest request so much: where that was long and
-    /// others are about, the connection rests.
+    /// Charges a connection for a turn. `longest` is the time of its longest request: if that was
+    /// long and others are active, the connection rests.
     pub fn charge(&mut self, token: usize, took: Duration, longest: Duration, now: Instant) {
         let Some(asker) = self.askers[token].as_mut() else { return };
         let nanoseconds = took.as_nanos() as u64;
@@ -271,7 +273,7 @@ impl Turns {
         }
     }
 
-    /// Lets those who have rested have turns again; they are offered one.
+    /// Ends the rest of connections whose time has come, and offers them turns.
     pub fn wake(&mut self, now: Instant) {
         while let Some(&Reverse((until, token))) = self.rests.peek() {
             if until > now {
@@ -285,12 +287,12 @@ impl Turns {
         }
     }
 
-    /// When the next one has rested.
+    /// When the next connection ends its rest.
     pub fn next_wake(&self) -> Option<Instant> {
         self.rests.peek().map(|Reverse((until, _))| *until)
     }
 
-    /// Whether somebody waits for a turn.
+    /// Whether nobody waits for a turn.
     pub fn is_empty(&self) -> bool {
         self.queue.heap.is_empty()
     }
@@ -303,7 +305,7 @@ mod world;
 mod tests {
     use super::*;
 
-    /// A connection of each user.
+    /// Adds a connection for each user.
     fn join(turns: &mut Turns, users: &[u32]) {
         for (token, user) in users.iter().enumerate() {
             turns.join(token, *user).unwrap();

@@ -1,4 +1,4 @@
-//! Who connects, by the system's word for it, and what each user has.
+//! The users who connect, as the system identifies them, and what each of them has.
 
 use crate::limits::Limits;
 use crate::refusals::Refusal;
@@ -7,10 +7,11 @@ use std::sync::{Mutex, MutexGuard, PoisonError};
 use std::time::{Duration, Instant};
 
 const HOUR: f64 = 3_600.0;
-/// After so long it is told again that a user is refused a connection.
+/// How long after a message another may say that a user is refused a connection.
 const TOLD_AGAIN: Duration = Duration::from_secs(60);
 
-/// What a user has now. `sessions` is how many it may still make, as of `since`.
+/// The connections and the memory of a user. `sessions` is how many more sessions it may make, as
+/// of `since`.
 #[derive(Clone, Debug)]
 pub struct Account {
     pub connections: usize,
@@ -20,13 +21,13 @@ pub struct Account {
     last_refusal: Option<Instant>,
 }
 
-/// All users' accounts, and what all of them have together.
+/// The accounts of all users, and their sums.
 pub struct Users {
     limits: Limits,
     state: Mutex<State>,
 }
 
-/// What stands behind the lock.
+/// The state behind the lock.
 #[derive(Default)]
 pub struct State {
     pub connections: usize,
@@ -34,7 +35,7 @@ pub struct State {
     pub accounts: HashMap<u32, Account>,
 }
 
-/// Why a connection is refused, and whether the operator is to be told so.
+/// The reason why a connection is refused, and whether to tell the operator.
 pub struct Rejection {
     pub refusal: Refusal,
     pub is_news: bool,
@@ -43,17 +44,17 @@ pub struct Rejection {
 }
 
 impl Users {
-    /// Nobody yet.
+    /// No users.
     pub fn new(limits: &Limits) -> Users {
         Users { limits: limits.clone(), state: Mutex::default() }
     }
 
-    /// What there is now.
+    /// The current state.
     pub fn state(&self) -> MutexGuard<'_, State> {
         self.state.lock().unwrap_or_else(PoisonError::into_inner)
     }
 
-    /// Counts a connection of a user and the session that it makes, or tells why it may have none.
+    /// Counts a connection of a user and its session, or says why it is refused.
     pub fn begin(&self, user: u32, now: Instant) -> Result<(), Rejection> {
         let mut state = self.state();
         let all = state.connections;
@@ -84,7 +85,7 @@ impl Users {
         Err(Rejection { refusal, is_news, own: account.connections, all })
     }
 
-    /// A user's connection is closed.
+    /// Counts a user's connection as closed.
     pub fn end(&self, user: u32) {
         let mut state = self.state();
         state.connections -= 1;
@@ -93,8 +94,8 @@ impl Users {
         }
     }
 
-    /// Counts the bytes that are kept for a connection: so many now, so many before. Whether that
-    /// is too much, and more than before.
+    /// Counts the memory in use for a connection, in bytes: now, and before. Returns whether it is
+    /// too much, and more than before.
     pub fn hold(&self, user: u32, before: usize, bytes: usize) -> bool {
         let mut state = self.state();
         state.bytes = state.bytes + bytes - before;
@@ -106,7 +107,7 @@ impl Users {
         bytes > before && (all > self.limits.memory || own > self.limits.user_memory)
     }
 
-    /// Forgets users who have nothing, and may make as many sessions as any.
+    /// Forgets users that have no connection and may open as many sessions as any other.
     pub fn tidy(&self, now: Instant) {
         let most = self.limits.user_sessions as f64;
         self.state().accounts.retain(|_, account| {
@@ -117,7 +118,7 @@ impl Users {
 }
 
 impl Account {
-    /// Sessions that a user may make again, since time has gone by.
+    /// Grants further sessions for the time that has passed.
     fn allow_again(&mut self, most: f64, now: Instant) {
         let seconds = now.saturating_duration_since(self.since).as_secs_f64();
         self.sessions = most.min(self.sessions + seconds * most / HOUR);

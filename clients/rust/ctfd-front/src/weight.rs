@@ -1,13 +1,13 @@
-//! Which requests may be long, by their words, before anything is known of what they take.
+//! Which requests may be long, as far as their words say: before anything is known of their cost.
 
 use crate::members::Members;
 use memchr::memchr;
 
-/// A longer line takes as long as its bytes, whatever its word.
+/// Longer lines take time in proportion to their bytes, whatever the word.
 const SHORT_BYTES: usize = 65_536;
 
-/// Words that look something up, read a type's names, or write an answer of their own length: at
-/// most some milliseconds, whatever the dictionary.
+/// Words that look something up, read the names of a type, or write an answer in proportion to its
+/// length: at most some milliseconds, whatever the dictionary.
 const SHORT: [&str; 27] = [
     "kind",
     "record",
@@ -38,12 +38,12 @@ const SHORT: [&str; 27] = [
     "add",
 ];
 
-/// A line so short is searched for its word before its members are looked at.
+/// Lines up to this length are searched for the word before their members are scanned.
 const PLAIN_BYTES: usize = 256;
 const WORD_KEY: &[u8] = b"\"op\"";
 
-/// Whether a line may take as long as a whole dictionary: not where its word says otherwise, nor
-/// where it has none.
+/// Whether answering a line may take as long as reading a whole dictionary: not if its word is that
+/// of a short request, or if it has none.
 pub fn may_be_long(line: &[u8]) -> bool {
     if line.len() > SHORT_BYTES {
         return true;
@@ -59,8 +59,8 @@ pub fn may_be_long(line: &[u8]) -> bool {
     }
 }
 
-/// The word of a line as most clients write it: short, without escapes, and with one `"op"`. That
-/// may stand in an object of a member: then the line has no word.
+/// The word of a line as most clients write it: short, without escapes, and with one `"op"`. If
+/// this is in the object of a member, the line has no word.
 fn plain_word(line: &[u8]) -> Option<&[u8]> {
     if line.len() > PLAIN_BYTES || memchr(b'\\', line).is_some() {
         return None;

@@ -1,21 +1,21 @@
-//! Dictionaries in one file: an archive as `ar` writes it, with a parent and its children.
+//! Several dictionaries in one file: an archive as `ar` writes it, with a parent and its children.
 
 use crate::error::{refuse, Error, Result};
 use object::read::archive::ArchiveFile;
 
-/// How each archive begins.
+/// The first bytes of each archive.
 pub const MAGIC: &[u8] = b"!<arch>\n";
-/// The name of the parent, which comes first.
+/// The name of the parent, which is the first member.
 pub const PARENT: &str = ".ctf";
 const LONGEST_NAME: usize = 15;
 const LONGEST_MEMBER: usize = 9_999_999_999;
 
-/// The name of a child, counted from 1.
+/// The name of a child; `place` counts from 1.
 pub fn child_name(place: usize) -> String {
     format!("part{place:04}")
 }
 
-/// An archive of members, each with a name of at most 15 letters. It tells no time and no owner.
+/// An archive of members, whose names have at most 15 letters. Times and owners are 0.
 pub fn write<'m>(members: impl IntoIterator<Item = (String, &'m [u8])>) -> Result<Vec<u8>> {
     let mut made = MAGIC.to_vec();
     for (name, bytes) in members {
@@ -32,7 +32,7 @@ pub fn write<'m>(members: impl IntoIterator<Item = (String, &'m [u8])>) -> Resul
     Ok(made)
 }
 
-/// The members of an archive, each with its name.
+/// The members of an archive, with their names.
 pub fn members(bytes: &[u8]) -> Result<Vec<(String, &[u8])>> {
     let damage = |_| Error("a damaged archive".to_owned());
     let archive = ArchiveFile::parse(bytes).map_err(damage)?;
@@ -45,7 +45,7 @@ pub fn members(bytes: &[u8]) -> Result<Vec<(String, &[u8])>> {
     Ok(found)
 }
 
-/// Whether an archive has dictionaries: a parent comes first.
+/// Whether an archive contains dictionaries: the first member is a parent.
 pub fn has_dictionaries(bytes: &[u8]) -> bool {
     let header = bytes.strip_prefix(MAGIC).and_then(|rest| rest.get(..16));
     header.is_some_and(|name| name.trim_ascii_end() == b".ctf/")

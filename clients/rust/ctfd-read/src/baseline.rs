@@ -1,4 +1,5 @@
-//! What a file is compared by later: what it exports, and what its debug information says of types.
+//! Baselines: the parts of a library that are needed to compare it with a later build, which are
+//! its exports and the types in its debug information.
 
 use crate::dwarf::sections::Sections;
 use crate::elf;
@@ -7,7 +8,7 @@ use crate::image::Image;
 use object::{Object as _, ObjectSection as _, SectionKind};
 use std::path::PathBuf;
 
-/// The sections that say what a file exports, and which build it is.
+/// The sections with a file's exports and its build-id.
 pub const OF_EXPORTS: [&str; 7] = [
     ".dynsym",
     ".dynstr",
@@ -17,7 +18,7 @@ pub const OF_EXPORTS: [&str; 7] = [
     ".gnu.version_r",
     ".note.gnu.build-id",
 ];
-/// Those of debug information that say something of types and symbols.
+/// The sections of debug information on types and symbols.
 const OF_TYPES: [&str; 10] = [
     ".debug_info",
     ".debug_types",
@@ -31,12 +32,12 @@ const OF_TYPES: [&str; 10] = [
     ".debug_rnglists",
 ];
 
-/// A section's name, and what it holds.
+/// The name and the contents of a section.
 pub type Section = (&'static str, Vec<u8>);
 
-/// The sections of a library's debug information by their names, be it in the library or in its
-/// debug file. None where a file is to be kept as it is: it exports nothing as libraries do, or has
-/// no debug information. Debug information that goes on in other files is refused.
+/// The debug information of a library, by sections, from the library or its debug file. `None` if a
+/// file is to be kept as it is: it has no exports, or no debug information. Debug information that
+/// continues in other files is refused.
 pub fn debug_sections(image: &Image, folders: &[PathBuf]) -> Result<Option<Vec<Section>>> {
     if !image.is_elf() || image.elf()?.section_by_name(".dynsym").is_none() {
         return Ok(None);
@@ -63,7 +64,7 @@ pub fn debug_sections(image: &Image, folders: &[PathBuf]) -> Result<Option<Vec<S
     Ok(Some(made))
 }
 
-/// Whether an ELF file has code, as a baseline has not.
+/// Whether an ELF file has code; a baseline has none.
 pub fn has_code(image: &Image) -> Result<bool> {
     let file = image.elf()?;
     let mut sections = file.sections();

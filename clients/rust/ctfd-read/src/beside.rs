@@ -1,5 +1,5 @@
-//! What a file beside a program tells of it: whether it is of the same build, and which symbols of
-//! the program go with a dictionary.
+//! A program and a file that belongs to it: whether both are of the same build, and which symbols
+//! of the program go with a dictionary.
 
 use crate::ctf::Sections;
 use crate::elf;
@@ -11,8 +11,8 @@ use crate::symbols::{Identity, SymbolTable};
 use object::elf::SHF_ALLOC;
 use object::{Object as _, ObjectSection as _, SectionFlags};
 
-/// Whether two files are of one build: by the build ids, where both have one, and by what is loaded
-/// and where.
+/// Whether two files are of the same build: their build-ids are equal, if both have one, and their
+/// loaded sections are the same.
 pub fn is_same_build(one: &Image, other: &Image) -> Result<bool> {
     let (first, second) = (one.elf()?, other.elf()?);
     if let (Some(first), Some(second)) = (first.build_id()?, second.build_id()?) {
@@ -23,7 +23,7 @@ pub fn is_same_build(one: &Image, other: &Image) -> Result<bool> {
     Ok(loaded_sections(one)? == loaded_sections(other)?)
 }
 
-/// The sections that are loaded: their names, addresses and sizes.
+/// The names, addresses and sizes of the loaded sections.
 fn loaded_sections(image: &Image) -> Result<Vec<(Vec<u8>, u64, u64)>> {
     let is_loaded = |flags| match flags {
         SectionFlags::Elf { sh_flags } => sh_flags & u64::from(SHF_ALLOC) != 0,
@@ -39,8 +39,8 @@ fn identity_of(ctf: &[u8]) -> Option<Identity> {
 }
 
 impl<'a> LibraryInput<'a> {
-    /// Hands in the symbols of a program with a dictionary that is by itself, where it was written
-    /// for these.
+    /// Adds the symbols of a program to a dictionary that has a file of its own, if it was written
+    /// for these symbols.
     pub fn add_symbols_of(&mut self, program: &'a Image) -> Result<()> {
         for child in &mut self.children {
             child.add_symbols_of(program)?;
@@ -66,7 +66,8 @@ impl<'a> LibraryInput<'a> {
         Ok(())
     }
 
-    /// Hands in the symbols of a program of 32 bits, in the form of 64 that the library takes.
+    /// Adds the symbols of a 32-bit program, as a table of 64 bits, which is what the library
+    /// takes.
     pub fn widen(&mut self, program: &Image) -> Result<()> {
         for child in &mut self.children {
             child.widen(program)?;
@@ -84,7 +85,7 @@ impl<'a> LibraryInput<'a> {
         Ok(())
     }
 
-    /// Whether the symbols that were guessed are left out, since they do not fit.
+    /// Leaves out symbols that were guessed, and that do not fit.
     pub fn without_guess(&mut self) {
         self.symbols = None;
         self.origin = Origin::Refused;

@@ -1,30 +1,30 @@
-//! What a file says of its types beyond what CTF holds, for who compares two files.
+//! Facts about the types of a file that CTF cannot represent, for comparing two files.
 
 use crate::limits::fit;
 use crate::table::{Kind, Record, Table};
 use std::collections::HashMap;
 
-/// A name that an enum gives to a value.
+/// The name and the value of an enumerator.
 pub type Named = (Vec<u8>, i128);
 
-/// What is said beyond a dictionary, by the numbers that types have there.
+/// Facts that a dictionary does not have, by its type numbers.
 #[derive(Clone, Debug, Default)]
 pub struct Beyond {
-    /// All enumerators of enums that have more, or larger ones.
+    /// All enumerators of enums with more, or greater, values than CTF can represent.
     pub values: HashMap<u32, Vec<Named>>,
-    /// How many elements longer arrays have.
+    /// The number of elements of arrays that are longer than CTF allows.
     pub elements: HashMap<u32, u64>,
-    /// All arguments of functions that take more.
+    /// All arguments of functions with more than CTF allows.
     pub arguments: HashMap<u32, Vec<u32>>,
-    /// The enums that bit-fields are of, by struct or union and by the member's place in it.
+    /// The enums that are types of bit-fields, by the struct or union and the member's index in it.
     pub fields: HashMap<(u32, usize), u32>,
-    /// What is lost even so, a line each.
+    /// What is lost nevertheless, one line for each loss.
     pub losses: Vec<String>,
 }
 
 impl Beyond {
-    /// What the types of a file say beyond those that were written of them; None where not all of
-    /// them were.
+    /// The facts about the types of a file that the dictionary written from it lacks. `None` if not
+    /// all of the types were written.
     pub(crate) fn of_written(full: &Table<'_>, written: &Table<'_>) -> Option<Beyond> {
         let is_there = |number: u32| {
             let record = full.get(number);
@@ -46,7 +46,7 @@ impl Beyond {
         made
     }
 
-    /// Adds what a type says that the record of it in the dictionary does not.
+    /// Adds the facts that a type's record in the dictionary lacks.
     fn add(&mut self, full: &Table<'_>, number: u32, record: &Record<'_>, fitted: &Record<'_>) {
         if record.values() != fitted.values() {
             let named = record.values().iter().map(|one| (one.name.to_vec(), one.value));

@@ -1,7 +1,7 @@
-//! The types of BTF, the kernel's own type information, as a table.
+//! Reads BTF, the kernel's own type information, into a table.
 //!
-//! Its source is the kernel's `Documentation/bpf/btf.rst`: a header, types by number in the order in
-//! which they stand, and names. A module's types go on behind those of its base.
+//! The format is described in the kernel's `Documentation/bpf/btf.rst`: a header, types numbered in
+//! order, and names. The numbers of a module's types continue those of its base.
 
 use crate::bytes::{part, Names, Reader};
 use crate::error::{refuse, Error, Result};
@@ -18,29 +18,29 @@ const SIGNED: u8 = 1;
 const CHARACTER: u8 = 2;
 const BOOLEAN: u8 = 4;
 
-/// A function or a variable, and the number of its type in the table.
+/// A function or a variable, with the number of its type in the table.
 pub struct NamedSymbol<'a> {
     /// Its name.
     pub name: Name<'a>,
-    /// The number of its type; 0 where that is none.
+    /// The number of its type; 0 if it has none.
     pub of: u32,
 }
 
-/// A section that was read.
+/// A BTF section that was read.
 #[derive(Default)]
 pub struct Btf<'a> {
-    /// For each of its numbers that of the table; 0 for what is no type.
+    /// For each BTF number the number in the table; 0 for entries that are no types.
     numbers: Vec<u32>,
     names: JoinedNames<'a>,
-    /// The types that have a name, and enums.
+    /// The types with a name, and all enums.
     pub roots: Vec<u32>,
-    /// What is told of functions, by their names.
+    /// The functions, by name.
     pub functions: Vec<NamedSymbol<'a>>,
-    /// What is told of variables, by their names.
+    /// The variables, by name.
     pub objects: Vec<NamedSymbol<'a>>,
 }
 
-/// The names of a base, and behind them those of a module.
+/// The names of a base, followed by those of a module.
 #[derive(Clone, Default)]
 struct JoinedNames<'a> {
     tables: Vec<&'a [u8]>,
@@ -59,12 +59,12 @@ impl<'a> JoinedNames<'a> {
     }
 }
 
-/// Whether bytes begin as BTF does, of either byte order.
+/// Whether bytes begin like BTF, in either byte order.
 pub fn is_btf(bytes: &[u8]) -> bool {
     bytes.starts_with(&MAGIC) || bytes.starts_with(&BIG_ENDIAN_MAGIC)
 }
 
-/// Puts the types of a section into a table, behind those of its base, which are there already.
+/// Adds the types of a section to a table, after those of its base, which the table has already.
 pub fn read<'a>(bytes: &'a [u8], table: &mut Table<'a>, base: Option<&Btf<'a>>) -> Result<Btf<'a>> {
     Section::new(bytes, base)?.read(table).map_err(|error| match base {
         None => error,
@@ -72,7 +72,7 @@ pub fn read<'a>(bytes: &'a [u8], table: &mut Table<'a>, base: Option<&Btf<'a>>) 
     })
 }
 
-/// A record whose references are BTF's numbers, and what stands in its place where it is no type.
+/// An entry of BTF: a type, whose references are BTF numbers, or something else.
 enum Entry<'a> {
     Type(Record<'a>),
     Function(Name<'a>, u32),
@@ -81,7 +81,7 @@ enum Entry<'a> {
     Other,
 }
 
-/// What is known while a section is read.
+/// State while a section is read.
 struct Section<'a> {
     types: Reader<'a>,
     made: Btf<'a>,
@@ -123,7 +123,7 @@ impl<'a> Section<'a> {
         })
     }
 
-    /// Reads all types: numbers are given first, since a type may name later ones.
+    /// Reads all types. Numbers are assigned first, since types may refer to later ones.
     fn read(mut self, table: &mut Table<'a>) -> Result<Btf<'a>> {
         while !self.types.is_empty() {
             let own = self.made.numbers.len() as u32;
@@ -173,8 +173,8 @@ impl<'a> Section<'a> {
             .collect()
     }
 
-    /// The table's number of one of BTF's: tags lead on to what they are of. None where there is no
-    /// such type.
+    /// The number in the table for a BTF number, through the tags on it; `None` if there is no such
+    /// type.
     fn number(&mut self, mut n: u32) -> Option<u32> {
         let mut passed = Vec::new();
         while let Some(&next) = self.aliases.get(&n).filter(|_| passed.len() <= self.aliases.len())
@@ -221,7 +221,8 @@ impl<'a> Section<'a> {
         Ok(Entry::Type(record))
     }
 
-    /// What a type says behind its name; `field` is its size, or what it names.
+    /// Reads the fields of a type after its name; `field` is the type's size, or the type that it
+    /// refers to.
     fn fields(
         &mut self,
         record: &mut Record<'a>,
@@ -319,7 +320,7 @@ impl<'a> Section<'a> {
         Ok(values.into())
     }
 
-    /// A function; a last argument of no type says that more may follow.
+    /// Reads a function. A last argument of no type means that more may follow.
     fn function(&mut self, record: &mut Record<'a>, returns: u32, count: u32) -> Result<()> {
         let mut arguments = Vec::new();
         for _ in 0..count {
@@ -337,7 +338,7 @@ impl<'a> Section<'a> {
     }
 }
 
-/// The kind of a table's record by BTF's number.
+/// The kind of a record for a BTF kind.
 fn kind_of(number: u32) -> Kind {
     match number {
         1 => Kind::Integer,

@@ -1,4 +1,4 @@
-//! Sections of ELF files that are compressed, by zlib or by zstd.
+//! Compressed sections of ELF files, with zlib or zstd.
 
 use crate::error::{refuse, Error, Result};
 use crate::image::{Elf, ElfSection, Image, Pieces};
@@ -10,26 +10,27 @@ use object::{pod, CompressedFileRange, CompressionFormat, Endianness};
 use object::{Object as _, ObjectSection as _, ReadRef as _, SectionFlags};
 use std::borrow::Cow;
 
-/// What deflate makes of one byte at most: a header that says more is damaged. So much is taken of
-/// zstd too, which makes no more of debug information than of bytes that were made to fill memory.
+/// The most bytes that deflate makes of one: a header that states more is damaged. The same limit
+/// serves for zstd, which exceeds it for bytes crafted to exhaust memory, but not for debug
+/// information.
 const MOST_INFLATED: u64 = 1032;
-/// Why a section is refused that zlib did not compress.
+/// The error for a section that is no valid zlib data.
 const INVALID: &str = "a damaged ELF file (Invalid zlib compressed data)";
-/// The kind of a section that zstd compressed.
+/// The compression type of zstd in a section's header.
 const ZSTD: u32 = 2;
 
-/// A section as it stands in its file.
+/// A section as stored in its file.
 pub enum StoredSection<'a> {
-    /// One that is not compressed.
+    /// Not compressed.
     Plain(&'a [u8]),
-    /// One that zlib compressed, and how many bytes it holds.
+    /// Compressed with zlib, and the size that its header states.
     Zlib(Pieces<'a>, u64),
-    /// One that zstd compressed.
+    /// Compressed with zstd, and the size that its header states.
     Zstd(Pieces<'a>, u64),
 }
 
 impl<'a> StoredSection<'a> {
-    /// A section, for what it holds. Its compressed bytes are not kept beside that.
+    /// Finds a section in its file. Its compressed bytes are not kept in memory.
     pub fn of(
         image: &'a Image,
         file: &Elf<'a>,
@@ -50,12 +51,12 @@ impl<'a> StoredSection<'a> {
         }
     }
 
-    /// Whether what it holds has to be inflated.
+    /// Whether the section has to be decompressed.
     pub fn is_compressed(&self) -> bool {
         !matches!(self, StoredSection::Plain(_))
     }
 
-    /// What it holds.
+    /// The contents of the section.
     pub fn inflate(self, name: &str) -> Result<Cow<'a, [u8]>> {
         match self {
             StoredSection::Plain(data) => Ok(Cow::Borrowed(data)),
@@ -73,7 +74,7 @@ fn damage_of(name: &str) -> Error {
     Error(format!("{name} does not inflate to the size that its header states: it is damaged"))
 }
 
-/// Where the bytes of a compressed section stand, and how many it holds.
+/// The offset and size of compressed bytes, and the size when decompressed.
 struct Range {
     offset: u64,
     size: u64,
@@ -81,7 +82,7 @@ struct Range {
 }
 
 impl Range {
-    /// The bytes of a section that can hold what its header says.
+    /// The compressed bytes, refused if the stated size is too great for them.
     fn pieces<'a>(&self, image: &'a Image, name: &str) -> Result<Pieces<'a>> {
         if self.whole_size > MOST_INFLATED.saturating_mul(self.size) {
             return Err(damage_of(name));
@@ -97,7 +98,7 @@ impl From<&CompressedFileRange> for Range {
     }
 }
 
-/// Where a section is that zstd compressed; None of any other.
+/// The range of a section compressed with zstd; `None` for any other.
 fn zstd_range(image: &Image, file: &Elf<'_>, one: &ElfSection<'_, '_>) -> Result<Option<Range>> {
     let SectionFlags::Elf { sh_flags } = one.flags() else { return Ok(None) };
     let Some((offset, size)) = one.file_range() else { return Ok(None) };
@@ -116,8 +117,8 @@ fn zstd_range(image: &Image, file: &Elf<'_>, one: &ElfSection<'_, '_>) -> Result
     Ok((kind == ZSTD).then_some(Range { offset: offset + length, size, whole_size }))
 }
 
-/// What the header of a compressed section says: how it is compressed, its bytes without that, and
-/// the header's own.
+/// The header of a compressed section: the type of compression, the decompressed size, and the
+/// length of the header.
 fn compression<F>(image: &Image, offset: u64, endian: Endianness) -> Result<(u32, u64, u64)>
 where
     F: FileHeader<Endian = Endianness>,
@@ -129,7 +130,7 @@ where
     Ok((head.ch_type(endian), head.ch_size(endian).into(), length))
 }
 
-/// What a section holds that zlib compressed: no more than its header says.
+/// Decompresses a zlib section, to at most the size that its header states.
 fn of_zlib(name: &str, mut pieces: Pieces<'_>, whole_size: u64) -> Result<Vec<u8>> {
     let length = usize::try_from(whole_size).map_err(|_| damage_of(name))?;
     let mut made = Vec::with_capacity(length);
@@ -154,7 +155,7 @@ fn of_zlib(name: &str, mut pieces: Pieces<'_>, whole_size: u64) -> Result<Vec<u8
     }
 }
 
-/// What a section holds that zstd compressed.
+/// Decompresses a zstd section, to exactly the size that its header states.
 fn of_zstd(name: &str, data: &[u8], whole_size: u64) -> Result<Cow<'static, [u8]>> {
     let length = usize::try_from(whole_size).map_err(|_| damage_of(name))?;
     let made = ctfd_zstd::decompress(data, length);

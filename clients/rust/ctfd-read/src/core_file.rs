@@ -1,4 +1,4 @@
-//! Core files: what a process had in memory, and which files were mapped there.
+//! Core files: the memory of a process, and the files that were mapped there.
 
 use crate::bytes::Reader;
 use crate::error::{refuse, Error, Result};
@@ -12,40 +12,40 @@ use std::ffi::OsStr;
 use std::os::unix::ffi::OsStrExt as _;
 use std::path::{Path, PathBuf};
 
-/// The kind of an ELF file that is a core file, and where its header says so.
+/// The ELF type of core files, and the offset of the type in the header.
 const CORE: u16 = 4;
 const KIND: u64 = 16;
-/// The kinds of notes that are read: `NT_AUXV` and `NT_FILE`.
+/// The types of the notes that are read: `NT_AUXV` and `NT_FILE`.
 const AUXILIARY: u32 = 6;
 const FILES: u32 = 0x4649_4c45;
-/// Among the auxiliary values: where the program begins.
+/// The key of the program's entry point among the auxiliary values.
 const ENTRY: u64 = 9;
 
-/// Addresses at which a part of a file is, from an offset on.
+/// A range of addresses to which a part of a file is mapped.
 #[derive(Clone, Copy, Debug, PartialEq, Eq)]
 pub struct Mapping {
     /// The first address.
     pub start: u64,
-    /// The one behind the last.
+    /// The address after the last.
     pub end: u64,
-    /// The place in the file.
+    /// The offset of the part in the file.
     pub offset: u64,
 }
 
-/// A file that is mapped.
+/// A mapped file.
 #[derive(Clone, Debug, PartialEq, Eq)]
 pub struct MappedFile {
     /// Its name.
     pub path: PathBuf,
-    /// Where it can be opened: the first of these that is there.
+    /// The paths at which it may be; it is opened at the first that exists.
     pub places: Vec<PathBuf>,
-    /// Where parts of it are.
+    /// The parts of it that are mapped.
     pub mappings: Vec<Mapping>,
     /// Whether it is the program itself.
     pub is_program: bool,
 }
 
-/// Bytes of memory that stand in the file.
+/// A range of memory that is in the core file.
 #[derive(Clone, Copy, Debug)]
 struct Part {
     start: u64,
@@ -62,12 +62,12 @@ pub struct CoreFile {
 }
 
 impl CoreFile {
-    /// Opens a core file; `program` names its program, if that is not where the core file says.
+    /// Opens a core file. `program` is the path of its program, if that is not the recorded one.
     pub fn open(path: &Path, program: Option<&Path>) -> Result<CoreFile> {
         CoreFile::of_image(Image::open(path)?, program)
     }
 
-    /// The same of a file that is open.
+    /// Reads a core file that is open already; `program` as for `open`.
     pub fn of_image(image: Image, program: Option<&Path>) -> Result<CoreFile> {
         let named = |error: Error| error.within(&image.path().display().to_string());
         let model = match image.data_is_64().map_err(named)? {
@@ -86,7 +86,7 @@ impl CoreFile {
         Ok(made)
     }
 
-    /// Where it is.
+    /// The path of the core file.
     pub fn path(&self) -> &Path {
         self.image.path()
     }
@@ -96,12 +96,12 @@ impl CoreFile {
         self.model
     }
 
-    /// The files that were mapped; the program, which is that in which it began, comes first.
+    /// The mapped files. The program, which is the file that has the entry point, comes first.
     pub fn files(&self) -> &[MappedFile] {
         &self.files
     }
 
-    /// As many of the bytes at an address as it has: none where it has not the first.
+    /// The bytes at an address, at most `length`, up to the first that the file does not have.
     pub fn read(&self, address: u64, length: u64) -> Vec<u8> {
         let mut made = Vec::new();
         while (made.len() as u64) < length {
@@ -119,7 +119,7 @@ impl CoreFile {
         made
     }
 
-    /// Puts another file in the place of the program.
+    /// Uses another file as the program.
     fn name_program(&mut self, program: Option<&Path>) -> Result<()> {
         let Some(path) = program else { return Ok(()) };
         match self.files.first_mut().filter(|one| one.is_program) {
@@ -143,8 +143,7 @@ struct Notes {
     files: Vec<u8>,
 }
 
-/// The parts of memory in the order of their addresses, and the notes. Of one that is cut off as
-/// much as there is.
+/// The ranges of memory, ordered by address, and the notes. Those that are cut off are shortened.
 fn contents(image: &Image) -> Result<(Vec<Part>, Notes)> {
     let data = image.data();
     let end = data.len().unwrap_or(0);
@@ -175,7 +174,7 @@ fn contents(image: &Image) -> Result<(Vec<Part>, Notes)> {
     Ok((parts, noted))
 }
 
-/// The next number of an address's width.
+/// The next number of the width of an address.
 fn address(rest: &mut Reader<'_>, model: Model) -> Result<u64> {
     match model {
         Model::Lp64 => rest.long(),
@@ -184,7 +183,7 @@ fn address(rest: &mut Reader<'_>, model: Model) -> Result<u64> {
 }
 
 impl Notes {
-    /// The files that were mapped, the program first.
+    /// The mapped files, the program first.
     fn files(&self, model: Model) -> Result<Vec<MappedFile>> {
         let mut made: Vec<MappedFile> = Vec::new();
         let mut numbers: HashMap<&[u8], usize> = HashMap::new();
@@ -208,7 +207,7 @@ impl Notes {
         Ok(made)
     }
 
-    /// Each part of a file that was mapped, by the name of the file.
+    /// The mapped parts of files, each with its file's name.
     fn mappings(&self, model: Model) -> Result<Vec<(&[u8], Mapping)>> {
         if self.files.is_empty() {
             return Ok(Vec::new());
@@ -233,7 +232,7 @@ impl Notes {
         }
     }
 
-    /// Where the program begins, in memory; 0 where nothing says that.
+    /// The address of the program's entry point; 0 if it is not recorded.
     fn entry(&self, model: Model) -> u64 {
         let mut rest = Reader::new(&self.auxiliary, Endianness::Little, "auxiliary values");
         let pair = |_| Some((address(&mut rest, model).ok()?, address(&mut rest, model).ok()?));

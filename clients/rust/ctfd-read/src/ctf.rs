@@ -1,8 +1,8 @@
-//! CTF of version 2: its sections, inflated, and its records as a table, behind those of a parent.
-//! FreeBSD's version 3 is the same with numbers of types of 32 bits in place of 16.
+//! Reads CTF version 2: its sections, decompressed, and its records, as a table that continues that
+//! of a parent. FreeBSD's version 3 is the same with type numbers of 32 bits instead of 16.
 //!
-//! A dictionary that is read here is judged by the library before it is used, so nothing is judged
-//! but that it can be read.
+//! The library checks each dictionary before it is used, so this module only refuses what it cannot
+//! read.
 
 use crate::bytes::{part, Names, Reader};
 use crate::error::{refuse, Error, Result};
@@ -14,35 +14,35 @@ use object::endian::{Endian as _, Endianness};
 use std::borrow::Cow;
 use std::io::Write as _;
 
-/// The bytes of a header.
+/// The size of a header in bytes.
 pub const HEADER: usize = 36;
-/// The most bytes of a dictionary.
+/// The greatest size of a dictionary in bytes.
 pub const LONGEST: u64 = 67_108_864;
-/// How a dictionary of version 2 begins, of either byte order.
+/// The first bytes of a dictionary of version 2, in either byte order.
 const BEGINS: [[u8; 3]; 2] = [[0xf1, 0xcf, 2], [0xcf, 0xf1, 2]];
-/// The same of version 3, as FreeBSD writes it since its release 14.
+/// The first bytes of version 3, which FreeBSD has written since release 14, in either byte order.
 const BEGINS_WIDE: [[u8; 3]; 2] = [[0xf1, 0xcf, 3], [0xcf, 0xf1, 3]];
-/// From this number on a child's types are its own.
+/// The own types of a child have numbers above this one.
 const CHILD: u32 = 0x8000;
 const WIDE_CHILD: u32 = 0x8000_0000;
 const WIDE_LONG_SIZE: u32 = 0xffff_ffff;
 const WIDE_LONG_MEMBERS: u64 = 536_870_912;
-/// Where the flags of a header are.
+/// The offset of the flags in a header.
 const FLAGS: usize = 3;
 const COMPRESSED: u8 = 1;
 const MOST_PADDING: usize = 16;
 const WHAT: &str = "dictionary";
 
-/// The byte order of a dictionary, and whether it is of version 3.
+/// The byte order of a dictionary, and whether it has version 3.
 #[derive(Clone, Copy, PartialEq, Eq)]
 pub struct Layout {
     endian: Endianness,
-    /// Whether numbers of types have 32 bits.
+    /// Whether type numbers have 32 bits.
     pub is_wide: bool,
 }
 
 impl Layout {
-    /// That of some bytes, if they begin as a dictionary does.
+    /// The layout of a dictionary; `None` if the bytes do not begin like one.
     pub fn of(bytes: &[u8]) -> Option<Layout> {
         let begins = |listed: &[[u8; 3]; 2]| listed.iter().position(|one| bytes.starts_with(one));
         let of = |place, is_wide| Layout {
@@ -53,7 +53,7 @@ impl Layout {
         narrow.or_else(|| begins(&BEGINS_WIDE).map(|place| of(place, true)))
     }
 
-    /// Whether it is that of the dictionaries that are written here.
+    /// Whether this is the layout of the dictionaries that this program writes.
     pub fn is_native(self) -> bool {
         self.endian == Endianness::Little && !self.is_wide
     }
@@ -66,7 +66,7 @@ impl Layout {
         }
     }
 
-    /// The numbers of types that some bytes are.
+    /// The type numbers that some bytes encode.
     fn numbers(self, bytes: &[u8]) -> Vec<u32> {
         if self.is_wide {
             let word = |one: &[u8]| self.endian.read_u32_bytes([one[0], one[1], one[2], one[3]]);
@@ -76,7 +76,7 @@ impl Layout {
         bytes.chunks_exact(2).map(half).collect()
     }
 
-    /// How many bytes a number of a type has.
+    /// The size of a type number in bytes.
     fn width(self) -> usize {
         if self.is_wide {
             4
@@ -86,15 +86,15 @@ impl Layout {
     }
 }
 
-/// The sections of a dictionary that is not compressed.
+/// The sections of a dictionary whose body is not compressed.
 pub struct Sections<'a> {
-    /// How its numbers are written.
+    /// The encoding of its numbers.
     pub layout: Layout,
-    /// The name of its parent's label, as a reference.
+    /// A reference to the name of its parent's label.
     pub parent_label: u32,
-    /// The name of its parent, as a reference; 0 where it has none.
+    /// A reference to the name of its parent; 0 if it has none.
     pub parent_name: u32,
-    /// Labels: a reference to a name and a type's number each.
+    /// The labels, each a reference to a name and a type number.
     pub labels: &'a [u8],
     /// The types of objects.
     pub objects: &'a [u8],
@@ -107,7 +107,7 @@ pub struct Sections<'a> {
 }
 
 impl<'a> Sections<'a> {
-    /// Those of a dictionary.
+    /// The sections of a dictionary.
     pub fn of(bytes: &'a [u8]) -> Result<Sections<'a>> {
         let little = Layout { endian: Endianness::Little, is_wide: false };
         let layout = Layout::of(bytes).unwrap_or(little);
@@ -136,8 +136,8 @@ impl<'a> Sections<'a> {
     }
 }
 
-/// The dictionaries that stand behind each other in a section, as ld leaves those of object files;
-/// all of it where it is one, or none.
+/// The dictionaries of a section that has several, one after another, as ld concatenates those of
+/// object files. The whole section if it has one or none.
 pub fn each(section: &[u8]) -> Vec<&[u8]> {
     let mut found = Vec::new();
     let mut at = 0;
@@ -157,7 +157,7 @@ pub fn each(section: &[u8]) -> Vec<&[u8]> {
     }
 }
 
-/// A dictionary with all that is behind its header compressed.
+/// Compresses the body of a dictionary.
 pub fn deflate(ctf: &[u8]) -> Result<Vec<u8>> {
     let Some((header, body)) = ctf.split_at_checked(HEADER) else {
         return refuse("a damaged dictionary");
@@ -169,8 +169,8 @@ pub fn deflate(ctf: &[u8]) -> Result<Vec<u8>> {
     Ok(encoder.finish()?)
 }
 
-/// How many bytes the dictionary at the front has; None where that is not told. No more of it is
-/// inflated than its header says.
+/// The size of the first dictionary in bytes; `None` if it can't be determined. Decompresses no
+/// more than its header states.
 fn length_of(bytes: &[u8]) -> Option<usize> {
     let (names, length) = lengths(bytes)?;
     let end = HEADER as u64 + names + length;
@@ -194,7 +194,7 @@ fn length_of(bytes: &[u8]) -> Option<usize> {
     }
 }
 
-/// Where the names begin behind the header, and their length, as a header says.
+/// The offset of the names after the header, and their length, from the header.
 fn lengths(bytes: &[u8]) -> Option<(u64, u64)> {
     let endian = Layout::of(bytes).map_or(Endianness::Little, |layout| layout.endian);
     let number = |at: usize| {
@@ -204,8 +204,9 @@ fn lengths(bytes: &[u8]) -> Option<(u64, u64)> {
     (bytes.len() >= HEADER).then(|| Some((number(28)?, number(32)?)))?
 }
 
-/// A dictionary with its body inflated, and the flag of that cleared; one without the flag as it is.
-/// What the header says is the bound: a small body may inflate to anything.
+/// Decompresses the body of a dictionary and clears the flag; a dictionary without the flag is
+/// returned as it is. The size in the header is a bound, since a small body may decompress to any
+/// size.
 pub fn inflate(bytes: &[u8]) -> Result<Cow<'_, [u8]>> {
     if bytes.len() < HEADER || bytes[FLAGS] & COMPRESSED == 0 {
         return Ok(Cow::Borrowed(bytes));
@@ -236,8 +237,9 @@ pub fn inflate(bytes: &[u8]) -> Result<Cow<'_, [u8]>> {
     Ok(Cow::Owned(whole))
 }
 
-/// The records of a section as a table: behind those of its parent; behind as many that are unknown
-/// as a parent may have, where a child's is not there. `strings` are those of its ELF file.
+/// The records of a section as a table, after those of its parent. For a child without its parent,
+/// they come after unknown records, as many as a parent may have. `strings` is the string table of
+/// the ELF file.
 pub fn table_of<'a>(
     sections: &Sections<'a>,
     strings: &'a [u8],
@@ -270,7 +272,7 @@ pub fn table_of<'a>(
     Ok(table)
 }
 
-/// What is known while the records of a section are read.
+/// State while the records of a section are read.
 struct Section<'a> {
     names: Names<'a>,
     strings: Names<'a>,
@@ -282,8 +284,8 @@ struct Section<'a> {
 }
 
 impl<'a> Section<'a> {
-    /// What is told of symbols, and the labels. What names no type of the dictionary is none of its
-    /// entries: it is judged with the symbols alone.
+    /// Reads the types of symbols, and the labels. An entry that refers to a missing type counts as
+    /// absent: the library checks entries only together with the symbols.
     fn symbols(&mut self, sections: &Sections<'a>, table: &mut Table<'a>) -> Result<()> {
         let count = table.len();
         let objects = self.layout.numbers(sections.objects).into_iter();
@@ -306,7 +308,7 @@ impl<'a> Section<'a> {
         Ok(())
     }
 
-    /// The entries of functions; what is left of the section may be none.
+    /// The entries of functions, up to the first that is cut off.
     fn entries(&self, functions: &[u8]) -> Vec<Option<Record<'a>>> {
         let words: Vec<u32> = self.layout.numbers(functions);
         let mut found = Vec::new();
@@ -329,14 +331,14 @@ impl<'a> Section<'a> {
         found
     }
 
-    /// The arguments of a function; a 0 behind them says that more may follow.
+    /// Sets the arguments of a function. A 0 after them means that more may follow.
     fn arguments(&self, record: &mut Record<'a>, listed: &[u32]) {
         record.varargs = listed.last() == Some(&0);
         let listed = &listed[..listed.len() - usize::from(record.varargs)];
         record.parts = Parts::Arguments(listed.iter().map(|&n| self.number(n)).collect());
     }
 
-    /// A name, from the dictionary's strings or from those beside it.
+    /// A name, from the dictionary's strings or those of the ELF file.
     fn name(&mut self, reference: u32) -> Result<Name<'a>> {
         let (place, is_outer) = (reference & 0x7fff_ffff, reference >> 31 != 0);
         if place == 0 {
@@ -353,7 +355,7 @@ impl<'a> Section<'a> {
         names.at(place.into()).map(Cow::Borrowed).ok_or_else(|| self.types.damage())
     }
 
-    /// The number in the table of a type that a record names.
+    /// The number in the table for a type number of the dictionary.
     fn number(&self, n: u32) -> u32 {
         let child = self.layout.child();
         if self.is_child && n > child {
@@ -363,7 +365,7 @@ impl<'a> Section<'a> {
         }
     }
 
-    /// The number of a type that stands next.
+    /// Reads a type number.
     fn reference(&mut self) -> Result<u32> {
         let n = if self.layout.is_wide { self.types.word()? } else { self.types.half()?.into() };
         Ok(self.number(n))
@@ -390,7 +392,7 @@ impl<'a> Section<'a> {
         Ok(record)
     }
 
-    /// What a record says behind its name.
+    /// Reads the fields of a record after its name.
     fn fields(&mut self, record: &mut Record<'a>, size: u64, count: usize) -> Result<()> {
         match record.kind {
             Kind::Integer | Kind::Float => {

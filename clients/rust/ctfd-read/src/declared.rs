@@ -1,4 +1,4 @@
-//! In which source files the types of debug information are defined.
+//! The source files in which types are defined, from debug information.
 
 use crate::dwarf::names::{Language, Prefixes};
 use crate::dwarf::scopes::scopes;
@@ -10,11 +10,11 @@ use gimli::DwTag;
 use rayon::prelude::*;
 use std::collections::{BTreeSet, HashMap};
 
-/// What a type is, its name, and the names of the files in which it is defined.
+/// A type's kind and name, and the names of the files that define it.
 pub type TypeFiles<'f> = (Kind, &'f [u8], Vec<&'f [u8]>);
 
-/// The names of the files, without folders, in which types are defined, by what these are and by
-/// their names. One that several units define may have several.
+/// For each type, by kind and name, the names of the files that define it, without folders. A type
+/// that several units define may have several files.
 #[derive(Clone, Debug, Default)]
 pub struct SourceFiles {
     names: Vec<Vec<u8>>,
@@ -24,7 +24,7 @@ pub struct SourceFiles {
 }
 
 impl SourceFiles {
-    /// Those of all units of some debug information.
+    /// The source files of all units.
     pub fn of(debug: &Debug<'_>) -> Result<SourceFiles> {
         let of_unit = |place: usize| -> Result<SourceFiles> {
             let mut made = SourceFiles::default();
@@ -37,18 +37,18 @@ impl SourceFiles {
         Ok(SourceFiles { is_known: true, ..made })
     }
 
-    /// The files in which a type is defined; none where nothing says that.
+    /// The files that define a type; none if this is not known.
     pub fn of_type(&self, kind: Kind, name: &[u8]) -> impl Iterator<Item = &[u8]> {
         let numbers = self.types.get(&(kind, name.to_vec())).into_iter().flatten();
         numbers.map(|&number| self.names[number as usize].as_slice())
     }
 
-    /// Whether nothing says in which files types are defined: no debug information was read.
+    /// Whether the files of types are not known: no debug information was read.
     pub fn is_unknown(&self) -> bool {
         !self.is_known && self.types.is_empty()
     }
 
-    /// Each type with the files in which it is defined, in the order of their names.
+    /// Each type with its files, ordered by the types' names.
     pub fn each(&self) -> Vec<TypeFiles<'_>> {
         let file = |&number: &u32| self.names[number as usize].as_slice();
         let each = self.types.iter();
@@ -59,7 +59,7 @@ impl SourceFiles {
         made
     }
 
-    /// Says that a type is defined in a file.
+    /// Adds a file that defines a type.
     pub fn add(&mut self, kind: Kind, name: &[u8], file: &[u8]) {
         let number = self.number(file);
         self.types.entry((kind, name.to_vec())).or_default().insert(number);
@@ -75,7 +75,7 @@ impl SourceFiles {
         number
     }
 
-    /// The same with what others say.
+    /// Adds all types and files of `other`.
     pub fn with_others(mut self, other: SourceFiles) -> SourceFiles {
         if self.types.len() < other.types.len() {
             return other.with_others(self);
@@ -118,7 +118,7 @@ impl SourceFiles {
     }
 }
 
-/// What an entry of a tag defines.
+/// The kind of type that an entry with a tag defines.
 fn kind_of(tag: DwTag) -> Option<Kind> {
     match tag {
         dw::DW_TAG_structure_type | dw::DW_TAG_class_type => Some(Kind::Struct),

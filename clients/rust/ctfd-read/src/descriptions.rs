@@ -1,4 +1,4 @@
-//! What debug information says of functions and objects, and which symbol it is said of.
+//! Descriptions of functions and objects in debug information, and the symbols that they belong to.
 
 use crate::hashed::{Map, Set};
 use crate::symbols::Symbol;
@@ -6,7 +6,7 @@ use crate::table::{Kind, Parts, Record};
 use smallvec::SmallVec;
 use std::borrow::Cow;
 
-/// What a function returns, and what it takes.
+/// The return type and the arguments of a function.
 pub struct Signature {
     of: u32,
     varargs: bool,
@@ -14,7 +14,7 @@ pub struct Signature {
 }
 
 impl Signature {
-    /// That of a function's record.
+    /// The signature in the record of a function.
     pub fn of_record(record: Record<'_>) -> Signature {
         let arguments = match record.parts {
             Parts::Arguments(listed) => listed,
@@ -23,7 +23,7 @@ impl Signature {
         Signature { of: record.of, varargs: record.varargs, arguments }
     }
 
-    /// The record of such a function, with other numbers for what it names.
+    /// The record of a function with this signature, whose type numbers are mapped by `to`.
     pub fn record<'a>(&self, to: impl Fn(u32) -> u32) -> Record<'a> {
         let arguments = self.arguments.iter().map(|&n| to(n)).collect();
         Record {
@@ -35,8 +35,8 @@ impl Signature {
     }
 }
 
-/// What is said of a function or an object: the number of its type, or what a function returns and
-/// takes; `is_whole` where it is defined there and not just declared.
+/// The type number of an object, or the signature of a function. `is_whole` is true for a
+/// definition, and false for a declaration.
 pub struct Description {
     pub of: u32,
     pub function: Option<Signature>,
@@ -44,7 +44,7 @@ pub struct Description {
 }
 
 impl Description {
-    /// Gives another number to each type that it names.
+    /// Maps the numbers of all its types.
     pub fn renumber(&mut self, to: impl Fn(u32) -> u32) {
         self.of = to(self.of);
         if let Some(function) = &mut self.function {
@@ -54,9 +54,10 @@ impl Description {
     }
 }
 
-/// What was said by a name, which has a number among those that are wanted, and by an address where
-/// there was one. A function that the compiler divided has `others` too, one of which may be where
-/// it begins. `is_own` says that no other file sees it, so that its name alone does not tell it.
+/// A description with its name, which is numbered among the wanted names, and with its address, if
+/// it has one. A function that the compiler divided also has `others`, the addresses of its parts,
+/// one of which may be its beginning. `is_own` means that no other source file sees the name, so
+/// the name alone does not identify it.
 pub struct Statement {
     pub name: u32,
     pub place: Option<u64>,
@@ -65,13 +66,13 @@ pub struct Statement {
     pub is_own: bool,
 }
 
-/// The number of a name that no symbol has.
+/// The number of names that no symbol has.
 const UNWANTED: u32 = u32::MAX;
-/// Stands for no place among what is said.
+/// The index that stands for none.
 const NOWHERE: u32 = u32::MAX;
 
-/// What says how well a statement tells what a name stands for, the best first: what other files
-/// see, and a definition before declarations.
+/// How well a statement describes its name, best first: names that other files see come before
+/// others, and definitions before declarations.
 type Rank = (bool, bool);
 
 impl Statement {
@@ -84,8 +85,8 @@ impl Statement {
     }
 }
 
-/// The statements of some units, without those that tell nothing beside the ones before them: most
-/// declarations of a function stand in many units.
+/// The statements of some units, without those that are no better than earlier ones: most functions
+/// are declared in many units.
 #[derive(Default)]
 pub struct Statements {
     pub listed: Vec<Statement>,
@@ -93,7 +94,7 @@ pub struct Statements {
 }
 
 impl Statements {
-    /// Takes further ones in.
+    /// Adds statements.
     pub fn extend(&mut self, told: Vec<Statement>) {
         for one in told {
             let rank = one.rank();
@@ -108,7 +109,7 @@ impl Statements {
     }
 }
 
-/// The names and addresses of which anything is wanted.
+/// The names and addresses of the symbols whose types are wanted.
 pub struct SymbolFilter<'w> {
     names: Map<&'w [u8], u32>,
     addresses: Set<u64>,
@@ -131,14 +132,15 @@ impl<'w> SymbolFilter<'w> {
         SymbolFilter { names, addresses: wanted.iter().map(|one| one.address).collect() }
     }
 
-    /// The number of a name of which something is wanted, or at whose address; None of others.
+    /// The number of a name that is wanted; `UNWANTED` for another name at a wanted address; else
+    /// `None`.
     pub fn number(&self, name: &[u8], place: Option<u64>) -> Option<u32> {
         let is_wanted = || place.is_some_and(|at| self.addresses.contains(&at));
         self.names.get(name).copied().or_else(|| is_wanted().then_some(UNWANTED))
     }
 }
 
-/// What was said so far, and the places in that by addresses and by the numbers of names.
+/// All statements so far, indexed by addresses and by the numbers of names.
 #[derive(Default)]
 pub struct Descriptions {
     said: Vec<LinkedStatement>,
@@ -147,20 +149,20 @@ pub struct Descriptions {
     by_name: Vec<Best>,
 }
 
-/// What was said, and the place of what was said next of the same address.
+/// A statement, and the index of the next one with the same address.
 struct LinkedStatement {
     name: u32,
     next: u32,
     description: Description,
 }
 
-/// The places of the first and the last that was said of an address.
+/// The indexes of the first and the last statement with an address.
 struct Chain {
     first: u32,
     last: u32,
 }
 
-/// The place of what tells best what a name stands for.
+/// The index of the best statement for a name.
 #[derive(Clone, Copy)]
 struct Best {
     place: u32,
@@ -168,8 +170,7 @@ struct Best {
 }
 
 impl Descriptions {
-    /// Takes something in. By name what other files see wins, and a definition over declarations,
-    /// whatever comes first.
+    /// Adds a statement. For each name the best statement counts, whichever comes first.
     pub fn tell(&mut self, told: Statement) {
         let place = self.said.len() as u32;
         if let Some(at) = told.place {
@@ -191,7 +192,7 @@ impl Descriptions {
         }
     }
 
-    /// Whether nothing was said that tells as well what a name stands for.
+    /// Whether no earlier statement describes the name as well.
     fn is_best(&mut self, told: &Statement) -> bool {
         let number = told.name as usize;
         if self.by_name.len() <= number {
@@ -210,15 +211,16 @@ impl Descriptions {
         }
     }
 
-    /// The places of what was said of an address, in order.
+    /// The indexes of the statements with an address, in order.
     fn of_address(&self, at: u64) -> impl Iterator<Item = u32> + '_ {
         let first = self.by_address.get(&at).map(|chain| chain.first);
         let next = |&place: &u32| Some(self.said[place as usize].next).filter(|&n| n != NOWHERE);
         std::iter::successors(first, next)
     }
 
-    /// What is told of a symbol: by name and address, else by one of these. In an object file many
-    /// have one address; in what is linked, what no other file sees is elsewhere.
+    /// The description of a symbol: by name and address, else by one of these. The address alone
+    /// counts only in a linked file, since in an object file many symbols share one; the name alone
+    /// does not count in a linked file if only its own source file sees it.
     pub fn description_of(
         &self,
         wanted: &Symbol<'_>,
@@ -254,7 +256,8 @@ fn without_version(name: &[u8]) -> &[u8] {
     name.split(|&byte| byte == b'@').next().unwrap_or(name)
 }
 
-/// A symbol's name without what the compiler marks by what is local: `.part.0`, `.lto_priv.3`.
+/// The name of a symbol without the suffix by which compilers mark local copies, such as `.part.0`
+/// or `.lto_priv.3`.
 fn without_local_suffix(name: &[u8]) -> &[u8] {
     if !name.contains(&b'.') {
         return name;

@@ -1,4 +1,4 @@
-//! The dictionary that is made of what was read: alone, as a child of another, or as two.
+//! The dictionary that is written: alone, as a child of another, or together with its parent.
 
 use crate::ctf::{table_of, Sections};
 use crate::error::{refuse, Error, Result};
@@ -18,31 +18,32 @@ use std::borrow::Cow;
 use std::collections::HashSet;
 use std::path::Path;
 
-/// A parent that is there: its types, its bytes, and what a child calls it.
+/// A parent that exists already.
 pub struct Parent<'a> {
     /// Its types.
     pub table: Table<'a>,
     /// Its bytes.
     pub ctf: &'a [u8],
-    /// What a child calls it.
+    /// The name by which a child refers to it.
     pub name: String,
 }
 
-/// A dictionary before it is written: the types of a table, behind those of its parent.
+/// A dictionary before it is written: its types in a table, after those of its parent.
 pub struct Dictionary<'a> {
     /// Its types.
     pub table: Table<'a>,
-    /// Those that its entries go by.
+    /// The symbols that its entries of functions and objects belong to.
     pub symbols: Symbols<'a>,
-    /// The bytes of its parent, where it has one.
+    /// The bytes of its parent, if it has one.
     pub parent: Option<Vec<u8>>,
-    /// Whether the parent is written beside it.
+    /// Whether the parent is written too.
     pub has_own_parent: bool,
-    /// What is written in place of the table's own bytes.
+    /// The bytes to write instead of the table.
     pub plain: Option<Vec<u8>>,
 }
 
-/// What is wanted of a file, each type once and as CTF holds it; which of these are the base's.
+/// Selects the wanted types of a file, merges equal ones, and reduces them to what CTF can
+/// represent. Also returns how many of them are the base's.
 pub fn select<'a>(found: ProgramTypes<'a>, names: &[String]) -> Result<(ProgramTypes<'a>, u32)> {
     let (mut found, bases) = select_in_full(found, names)?;
     if found.form != Form::Ctf {
@@ -51,7 +52,7 @@ pub fn select<'a>(found: ProgramTypes<'a>, names: &[String]) -> Result<(ProgramT
     Ok((found, bases))
 }
 
-/// As [`select`], with all that the file says, CTF may hold it or not.
+/// As [`select`], but with everything that the file describes, whether or not CTF can represent it.
 pub fn select_in_full<'a>(
     found: ProgramTypes<'a>,
     names: &[String],
@@ -83,7 +84,7 @@ pub fn select_in_full<'a>(
     Ok((ProgramTypes { table, roots: Vec::new(), bases, form, symbols, note, verifier }, bases))
 }
 
-/// A dictionary without a parent.
+/// Makes a dictionary without a parent.
 pub fn alone<'a>(mut table: Table<'a>, symbols: Symbols<'a>) -> Dictionary<'a> {
     if table.len() > MOST_TYPES {
         let is_hidden = |&n: &u32| !table.get(n).name.is_empty() && !table.get(n).root;
@@ -99,8 +100,8 @@ pub fn alone<'a>(mut table: Table<'a>, symbols: Symbols<'a>) -> Dictionary<'a> {
     Dictionary { table, symbols, parent: None, has_own_parent: false, plain: None }
 }
 
-/// The symbols without those of which nothing is told, where the names are the dictionary's own; the
-/// table's entries with them.
+/// If the names of symbols are stored in the dictionary, drops the symbols without a type, and
+/// their entries in the table.
 fn symbols_with_types<'a>(table: &mut Table<'a>, symbols: Symbols<'a>) -> Symbols<'a> {
     if symbols.table != SymbolTable::Names {
         return symbols;
@@ -116,7 +117,7 @@ fn symbols_with_types<'a>(table: &mut Table<'a>, symbols: Symbols<'a>) -> Symbol
     kept
 }
 
-/// Those symbols alone of which something is told, as where names are the dictionary's own.
+/// Drops the symbols without a type, and their entries in the table.
 pub fn keep_described<'a>(table: &mut Table<'a>, symbols: Symbols<'a>) -> Symbols<'a> {
     let objects: Vec<bool> = table.objects.iter().map(|&n| n != 0).collect();
     let functions: Vec<bool> = table.functions.iter().map(Option::is_some).collect();
@@ -128,7 +129,7 @@ pub fn keep_described<'a>(table: &mut Table<'a>, symbols: Symbols<'a>) -> Symbol
     Symbols { table: symbols.table, listed }
 }
 
-/// A child of a dictionary that is there.
+/// Makes a child of a parent that exists already.
 pub fn child<'a>(
     parent: Parent<'a>,
     table: Table<'a>,
@@ -139,7 +140,7 @@ pub fn child<'a>(
     Ok(made)
 }
 
-/// What is told by a parent's types and by a child's, which has those that it has not.
+/// A dictionary with a parent's types, followed by those types of a child that the parent lacks.
 fn over<'a>(
     parent: Table<'a>,
     table: Table<'a>,
@@ -176,7 +177,7 @@ fn over<'a>(
     Dictionary { table: joined, symbols, parent: None, has_own_parent: false, plain: None }
 }
 
-/// A parent of the base's types, or of as many as it holds, and a child of the rest.
+/// Makes a parent with the base's types, or as many as it holds, and a child with the rest.
 pub fn split<'a>(
     name: String,
     table: Table<'a>,
@@ -230,12 +231,12 @@ impl<'a> Dictionary<'a> {
         !self.table.objects.is_empty() || !self.table.functions.is_empty()
     }
 
-    /// Whether it says which symbols its entries go by.
+    /// Whether it has a label that identifies the symbols of its entries.
     pub fn has_label(&self) -> bool {
         self.has_entries() && !self.symbols.listed.is_empty() && self.plain.is_none()
     }
 
-    /// Leaves out what is told of symbols.
+    /// Drops the symbols and their entries, and records the reason as a loss.
     pub fn leave_symbols_out(&mut self, why: String) {
         self.table.objects.clear();
         self.table.functions.clear();
@@ -243,7 +244,8 @@ impl<'a> Dictionary<'a> {
         self.symbols = Symbols::default();
     }
 
-    /// The bytes of the dictionary, which tell its model, its symbols and its parent.
+    /// The bytes of the dictionary, with labels for the data model and the symbols, and the name of
+    /// its parent.
     pub fn bytes(&mut self) -> Result<Vec<u8>> {
         if let Some(plain) = &self.plain {
             return Ok(plain.clone());
@@ -261,8 +263,8 @@ impl<'a> Dictionary<'a> {
         encode(&self.table)
     }
 
-    /// The bytes, once the library has opened them, over the parent and with the symbols of the
-    /// file. Where its entries don't fit the file's symbol table they are left out, with a line.
+    /// The bytes, after the library has opened them, over the parent and with the symbols of the
+    /// file. If the entries do not fit the symbol table, they are left out, and a loss is recorded.
     pub fn checked_bytes(&mut self, image: &Image, output: &Path) -> Result<Vec<u8>> {
         let refused = |refusal: ctfd::Refusal| {
             let output = output.display();
@@ -308,10 +310,11 @@ impl<'a> Dictionary<'a> {
     }
 }
 
-/// The bytes of a dictionary that is written, and those of its parent if it is a child.
+/// The bytes of a written dictionary, and those of its parent if it is a child.
 pub type WithParent<'b> = (&'b [u8], Option<&'b [u8]>);
 
-/// Refuses dictionaries that do not tell what was read; how many types were compared.
+/// Refuses dictionaries that differ from the types that were read. Returns the number of types
+/// compared.
 pub fn verify(
     written: &[WithParent<'_>],
     extent: Extent,
@@ -321,13 +324,13 @@ pub fn verify(
     verifier(&Judges::new(&tables, extent))
 }
 
-/// The types of a dictionary behind those of its parent.
+/// The types of a dictionary, after those of its parent.
 fn table_over((bytes, parent): WithParent<'_>) -> Result<Table<'_>> {
     let parent = parent.map(|parent| table_of(&Sections::of(parent)?, &[], None)).transpose()?;
     table_of(&Sections::of(bytes)?, &[], parent)
 }
 
-/// Whether a refusal is one of the rules on symbols.
+/// Whether a fault is about symbols.
 fn is_of_symbols(refusal: &ctfd::Refusal) -> bool {
     matches!(
         refusal.fault,
@@ -335,13 +338,14 @@ fn is_of_symbols(refusal: &ctfd::Refusal) -> bool {
     )
 }
 
-/// What a child calls its parent: the name of its file, without what is behind the last dot.
+/// The name by which a child refers to its parent: the name of the parent's file, up to the last
+/// dot.
 pub fn parent_name(path: &Path) -> String {
     let name = path.file_stem().map(|name| name.to_string_lossy().into_owned());
     name.filter(|name| !name.is_empty()).unwrap_or_else(|| "parent".to_owned())
 }
 
-/// The lines of a report: what was read, what was made of it and what was lost.
+/// The lines of a report: what was read, what was written and what was lost.
 pub fn report(path: &Path, form: Form, count: u32, made: &Dictionary<'_>) -> Vec<String> {
     let table = &made.table;
     let own = &table.records[table.bases as usize..];
@@ -376,7 +380,7 @@ pub fn report(path: &Path, form: Form, count: u32, made: &Dictionary<'_>) -> Vec
     lines
 }
 
-/// Each line once, with how often it was told.
+/// Each line once, with the number of its occurrences.
 pub fn loss_lines(losses: &[String]) -> Vec<String> {
     let mut lines: Vec<(&String, usize)> = Vec::new();
     let mut known = std::collections::HashMap::new();
@@ -394,8 +398,9 @@ pub fn loss_lines(losses: &[String]) -> Vec<String> {
     lines.into_iter().map(told).collect()
 }
 
-/// What a user is told of losses: that types, symbols or files are left out comes first, and of what
-/// else is many, how many there are, and how to see them.
+/// The lines on losses that a user sees. Those on types, symbols or files that are left out come
+/// first; of more than `most` others, the last lines are replaced by one with their number and
+/// `how` to see them.
 pub fn notice(losses: &[String], most: usize, how: &str) -> Vec<String> {
     let (mut first, mut others): (Vec<String>, Vec<String>) =
         loss_lines(losses).into_iter().partition(|line| is_grave(line));

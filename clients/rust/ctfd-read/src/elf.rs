@@ -1,4 +1,4 @@
-//! ELF files: their sections, the files that have their debug information, and their symbols.
+//! ELF files: their sections, the files with their debug information, and their symbols.
 
 use crate::bytes::Names;
 use crate::compressed::StoredSection;
@@ -15,10 +15,10 @@ use std::path::{Component, Path, PathBuf};
 
 const FOLDER: &str = "/usr/lib/debug";
 const PAGE: u64 = 4096;
-/// How many of the places are told where a debug file was looked for.
+/// How many of the paths at which a debug file was looked for an error lists.
 const MOST_SHOWN: usize = 6;
 
-/// Whether a file has DWARF that is more than a name: `strip` leaves empty sections.
+/// Whether a file has DWARF, and not only empty sections, as `strip` leaves them.
 pub fn has_debug(file: &Elf<'_>) -> bool {
     file.section_by_name(".debug_info")
         .is_some_and(|one| matches!(one.file_range(), Some((_, size)) if size > 0))
@@ -33,11 +33,11 @@ pub fn endian(file: &Elf<'_>) -> RunTimeEndian {
     }
 }
 
-/// What to do with an object file of -flto.
+/// Advice for an object file of -flto.
 pub const LINK_IT: &str = "an object file of -flto has none of its own before it is linked: name \
                            the linked program, or compile with -ffat-lto-objects";
 
-/// Whether it is an object file of -flto, without code of its own as a rule.
+/// Whether this is an object file of -flto, which normally has no code of its own.
 pub fn is_lto(file: &Elf<'_>) -> bool {
     let is_of_lto =
         |name: &[u8]| name.starts_with(b".gnu.lto_") || name.starts_with(b".gnu.debuglto_");
@@ -45,13 +45,13 @@ pub fn is_lto(file: &Elf<'_>) -> bool {
         && file.sections().any(|one| one.name_bytes().is_ok_and(is_of_lto))
 }
 
-/// Where the debug information of a file is: in a file of its own, or in the file itself.
+/// The debug information of a file: in a file of its own, or in the file itself.
 pub struct DebugFile {
-    /// The file that has it, where that is another.
+    /// The file that has it, if it is another one.
     pub debug: Option<Image>,
 }
 
-/// The bytes of a section of a name; none where it is not there.
+/// The bytes of the section with a name; empty if there is none.
 pub fn section_bytes<'a>(image: &'a Image, name: &str) -> Result<&'a [u8]> {
     match image.elf()?.section_by_name(name) {
         Some(section) => Ok(section.data()?),
@@ -59,8 +59,9 @@ pub fn section_bytes<'a>(image: &'a Image, name: &str) -> Result<&'a [u8]> {
     }
 }
 
-/// The file that has the debug information of another: none where that has it itself. It is looked
-/// for as gdb does: by the build id, then by the name in .gnu_debuglink, whose check sum must fit.
+/// The file with the debug information of another, or none if that has it itself. It is looked for
+/// as gdb does: by the build-id, then by the name in .gnu_debuglink; the checksum must be the
+/// stated one unless the build-ids are equal.
 pub fn debug_file(image: &Image, folders: &[PathBuf]) -> Result<DebugFile> {
     let file = image.elf()?;
     if has_debug(&file) {
@@ -112,8 +113,8 @@ pub fn debug_file(image: &Image, folders: &[PathBuf]) -> Result<DebugFile> {
     ))
 }
 
-/// The file that `dwz -m` moved common parts to, where a file names one. Anybody may have written
-/// that name, so it counts beside the file and in folders for debug files alone.
+/// The file to which `dwz -m` moved common parts; `None` if the file names none. Anybody may have
+/// written that name, so only files next to this one, and in folders for debug files, are accepted.
 pub fn alternate_file(image: &Image, folders: &[PathBuf]) -> Result<Option<Image>> {
     let file = image.elf()?;
     let Some((name, build)) = file.gnu_debugaltlink()? else { return Ok(None) };
@@ -150,7 +151,7 @@ pub fn alternate_file(image: &Image, folders: &[PathBuf]) -> Result<Option<Image
     ))
 }
 
-/// The part of a path from the folder on that Debian's packages have for dwz's files.
+/// The part of a path from the folder `.dwz` on, which Debian's packages have for the files of dwz.
 fn in_dwz(name: &Path) -> Option<PathBuf> {
     let mut parts = name.components().skip_while(|part| part.as_os_str() != ".dwz");
     parts.clone().next()?;
@@ -163,13 +164,15 @@ fn by_build_id(folder: &Path, build: &[u8]) -> PathBuf {
     folder.join(".build-id").join(&digits[..2]).join(format!("{}.debug", &digits[2..]))
 }
 
-/// What the sections of a name hold, inflated and relocated; an object file may have more than one.
+/// The contents of the sections with a name, decompressed and relocated; an object file may have
+/// several.
 pub fn section<'a>(image: &'a Image, file: &Elf<'a>, name: &str) -> Result<Cow<'a, [u8]>> {
     let [made] = sections(image, file, [name]);
     made
 }
 
-/// The same for several names. Those that are compressed are inflated side by side.
+/// The contents of the sections with several names, as [`section`] returns them. Compressed ones
+/// are decompressed in parallel.
 pub fn sections<'a, const N: usize>(
     image: &'a Image,
     file: &Elf<'a>,
@@ -201,7 +204,7 @@ pub fn sections<'a, const N: usize>(
     })
 }
 
-/// The sections of a name, also of the one that they had when only GNU's tools compressed any.
+/// The sections with a name, or with the .zdebug name that GNU's tools once gave compressed ones.
 fn sections_of_name<'a, 'f>(file: &'f Elf<'a>, name: &str) -> Result<Vec<ElfSection<'a, 'f>>> {
     let zipped = name.strip_prefix(".debug").map(|rest| format!(".zdebug{rest}"));
     let mut found = Vec::new();
@@ -214,7 +217,7 @@ fn sections_of_name<'a, 'f>(file: &'f Elf<'a>, name: &str) -> Result<Vec<ElfSect
     Ok(found)
 }
 
-/// The bytes of some sections as one, relocated.
+/// The bytes of some sections, relocated and joined.
 fn joined_bytes<'a>(
     file: &Elf<'a>,
     mut parts: Vec<Cow<'a, [u8]>>,
@@ -231,7 +234,7 @@ fn joined_bytes<'a>(
     })
 }
 
-/// Writes in an object file what the linker would.
+/// Applies the relocations of an object file, as the linker would.
 fn relocate(file: &Elf<'_>, section: &ElfSection<'_, '_>, data: &mut [u8]) -> Result<()> {
     let (places, mut endian) = (places(file), endian(file));
     for (at, one) in section.relocations() {
@@ -261,7 +264,7 @@ fn relocate(file: &Elf<'_>, section: &ElfSection<'_, '_>, data: &mut [u8]) -> Re
     Ok(())
 }
 
-/// How many bytes a relocation of debug information writes; none where it keeps what is there.
+/// The number of bytes that a relocation of debug information writes; `None` if it leaves them.
 ///
 /// Offsets within thread-local storage and in the global offset table are no addresses, and the
 /// sums and differences of RISC-V are lengths of code, which no type has.
@@ -296,7 +299,7 @@ fn relocated_bytes(machine: Architecture, one: &Relocation) -> Result<Option<usi
     }
 }
 
-/// Where each section of an object file is put, so that no two symbols have one address.
+/// An address for each section of an object file, such that no two symbols share an address.
 fn places(file: &Elf<'_>) -> Vec<u64> {
     let mut made = vec![0];
     let mut place = PAGE;
@@ -313,14 +316,14 @@ fn places(file: &Elf<'_>) -> Vec<u64> {
     made
 }
 
-/// A symbol table of an ELF file, and the names that go with it.
+/// The entries of a symbol table, and its string table.
 type RawTable<'a, S> = (&'a [S], Names<'a>);
 
-/// The names of all symbols together may overlap: they are read for so many bytes for each of the
-/// table's.
+/// Names may overlap: those that are read may have this many times the bytes of their table and its
+/// entries.
 const MOST_TIMES: u64 = 64;
 
-/// A symbol table of a file; None where it has none of that name with bytes in the file.
+/// A symbol table of a file; `None` if there is none with this name that has bytes in the file.
 fn raw_table<'a, F>(data: Data<'a>, name: &str) -> Result<Option<RawTable<'a, F::Sym>>>
 where
     F: FileHeader<Endian = Endianness>,
@@ -341,8 +344,8 @@ where
     Ok(Some((entries, Names(strings.data(endian, data)?))))
 }
 
-/// The functions and objects of a table, in the order in which a dictionary tells of them; None
-/// where the file has no such table.
+/// The functions and objects of a symbol table, in the order of a dictionary's entries; `None` if
+/// the file has no such table.
 pub fn symbols_of<'a>(image: &'a Image, table: SymbolTable) -> Result<Option<Symbols<'a>>> {
     match image.elf()?.is_64() {
         true => symbols_in::<elf::FileHeader64<Endianness>>(image, table),
@@ -388,7 +391,8 @@ where
     Ok(Some(Symbols { table, listed }))
 }
 
-/// A symbol table and its strings as the library takes them: little-endian ones of 64 bits alone.
+/// A symbol table and its strings in the form that the library takes; `None` unless they are
+/// little-endian, of 64 bits.
 pub fn symbol_lists(image: &Image, table: SymbolTable) -> Option<(&[u8], &[u8])> {
     let data = image.data();
     let header = elf::FileHeader64::<Endianness>::parse(data).ok()?;
@@ -399,8 +403,8 @@ pub fn symbol_lists(image: &Image, table: SymbolTable) -> Option<(&[u8], &[u8])>
     Some((section.data(endian, data).ok()?, strings.data(endian, data).ok()?))
 }
 
-/// The strings that go with a section of types: those that its link names, or that of the symbols
-/// which it names; else `.strtab`.
+/// The strings that go with a section of types: those that it links to, or those of the symbol
+/// table that it links to; else `.strtab`.
 pub fn linked_strings<'a>(image: &'a Image, name: &str) -> Result<&'a [u8]> {
     if image.elf()?.is_64() {
         strings_of::<elf::FileHeader64<Endianness>>(image.data(), name)

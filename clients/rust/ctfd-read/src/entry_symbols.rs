@@ -1,4 +1,4 @@
-//! Which symbols of a program the entries of a dictionary go by.
+//! The symbols of a program that the entries of a dictionary belong to.
 
 use crate::ctf::Sections;
 use crate::elf;
@@ -7,28 +7,28 @@ use crate::image::Image;
 use crate::labels;
 use crate::symbols::{Identity, Symbols};
 
-/// How the symbols of a file are to those that a dictionary was written for.
+/// Whether the symbols of a file are those that a dictionary was written for.
 #[derive(Clone, Copy, Debug, PartialEq, Eq)]
 pub enum Likeness {
-    /// They are the same.
+    /// They are.
     Same,
-    /// They are others.
+    /// The file has other symbols.
     Others,
-    /// The file has no such table.
+    /// The file has no such symbol table.
     Absent,
 }
 
-/// The symbols that a dictionary says that it was written for.
+/// The symbols that a dictionary was written for; `None` if it does not record them.
 pub fn identity_of(ctf: &[u8]) -> Option<Identity> {
     Sections::of(ctf).ok().and_then(|sections| labels::symbols(&sections))
 }
 
-/// The symbols whose names a dictionary has itself, if it has them all.
+/// The symbols with the names that the dictionary itself has; `None` unless it has all of them.
 pub fn own_symbols(ctf: &[u8]) -> Option<Symbols<'_>> {
     Sections::of(ctf).ok().and_then(|sections| labels::own_symbols(&sections))
 }
 
-/// How the symbols of a file are to some that a dictionary names.
+/// Compares the symbols of a file with those that a dictionary was written for.
 pub fn likeness(image: &Image, wanted: Identity) -> Result<Likeness> {
     let found = elf::symbols_of(image, wanted.table)?;
     Ok(match found {

@@ -1,4 +1,4 @@
-//! What a file exports: the functions and objects that other programs see, with their versions.
+//! The exports of a file: the functions and objects that other programs see, with their versions.
 
 use crate::bytes::{Names, Reader};
 use crate::error::{Error, Result};
@@ -9,18 +9,20 @@ use object::{Endian as _, Endianness, Object as _, SectionIndex};
 use std::borrow::Cow;
 use std::collections::HashMap;
 
-/// Names may overlap: they are read for so many times the bytes of their table, and some more.
+/// Names may overlap: those that are read may have `MOST_TIMES` times the bytes of their table, and
+/// `AT_LEAST` more.
 const MOST_TIMES: u64 = 16;
 const AT_LEAST: u64 = 65_536;
-/// The bytes of a symbol as the library takes it.
+/// The size of a symbol in the form that the library takes, in bytes.
 const ENTRY: usize = 24;
-/// That of functions whose address is found as a program is loaded.
+/// The type of functions whose address is found when the program is loaded.
 const INDIRECT: u8 = 10;
 const UNIQUE: u8 = 10;
-/// Versions below are none; the flag is of those that are no default.
+/// Version numbers below this one mean no version; the flag marks versions that are not the
+/// default.
 const LEAST_VERSION: u16 = 2;
 const HIDDEN: u16 = 0x8000;
-/// What linkers define in any file.
+/// Symbols that linkers define in any file.
 const OF_LINKERS: [&[u8]; 15] = [
     b"_init",
     b"_fini",
@@ -39,14 +41,14 @@ const OF_LINKERS: [&[u8]; 15] = [
     b"__TMC_END__",
 ];
 
-/// What an exported symbol is.
+/// The kind of an exported symbol.
 #[derive(Clone, Copy, Debug, PartialEq, Eq)]
 pub enum ExportKind {
     /// A function.
     Function,
     /// An object.
     Object,
-    /// One of which its table does not say what it is.
+    /// A symbol without a type in its table.
     Symbol,
 }
 
@@ -60,7 +62,7 @@ impl ExportKind {
         }
     }
 
-    /// The word for it.
+    /// The kind as a word.
     pub fn word(self) -> &'static str {
         match self {
             ExportKind::Function => "function",
@@ -70,25 +72,25 @@ impl ExportKind {
     }
 }
 
-/// A symbol that others see.
+/// A symbol that other programs see.
 #[derive(Clone, Debug)]
 pub struct Export<'a> {
     /// Its name.
     pub name: &'a [u8],
-    /// Its version; empty without one.
+    /// Its version; empty if it has none.
     pub version: &'a [u8],
-    /// What it is.
+    /// Its kind.
     pub kind: ExportKind,
-    /// Its bytes.
+    /// Its size in bytes.
     pub size: u64,
-    /// Its place in the table that types go by, where it is there.
+    /// Its number in the symbol table that the types belong to, if it is there.
     pub number: Option<u32>,
-    /// Whether each thread has one of its own.
+    /// Whether it is thread-local.
     pub is_of_threads: bool,
 }
 
 impl Export<'_> {
-    /// Its name, with its version where it has one.
+    /// Its name, with the version if there is one.
     pub fn label(&self) -> Vec<u8> {
         match self.version {
             b"" => self.name.to_vec(),
@@ -97,24 +99,24 @@ impl Export<'_> {
     }
 }
 
-/// All that a file exports.
+/// All exports of a file.
 #[derive(Debug, Default)]
 pub struct Exports<'a> {
-    /// The symbols in the order of their table, each once.
+    /// The symbols in the order of their table, without duplicates.
     pub listed: Vec<Export<'a>>,
-    /// What programs that were linked with the file ask for; empty without one.
+    /// The name that programs linked with the file record; empty if there is none.
     pub soname: Cow<'a, [u8]>,
     by_version: HashMap<(&'a [u8], &'a [u8]), usize>,
     by_name: HashMap<&'a [u8], usize>,
 }
 
 impl<'a> Exports<'a> {
-    /// Whether there is a function among them.
+    /// Whether any of them is a function.
     pub fn has_functions(&self) -> bool {
         self.listed.iter().any(|one| one.kind == ExportKind::Function)
     }
 
-    /// What a program finds here that was linked with another's symbol.
+    /// The symbol here that is used by a program linked with `other`.
     pub fn matching(&self, other: &Export<'_>) -> Option<&Export<'a>> {
         let exact = self.by_version.get(&(other.name, other.version));
         let place = exact.or_else(|| match other.version {
@@ -133,8 +135,8 @@ impl<'a> Exports<'a> {
     }
 }
 
-/// What a file exports: its dynamic symbols, or of one that was not linked for the loader the
-/// global ones. `table` and `strings` are those that its types go by.
+/// The exports of a file: its dynamic symbols, or the global ones of a file that was not linked for
+/// the loader. `table` and `strings` are the symbols that its types belong to.
 pub fn exports<'a>(image: &'a Image, table: &[u8], strings: &[u8]) -> Result<Exports<'a>> {
     let numbers = numbers(table, strings);
     let found = match image.elf()?.is_64() {
@@ -144,7 +146,8 @@ pub fn exports<'a>(image: &'a Image, table: &[u8], strings: &[u8]) -> Result<Exp
     found.map_err(|error| error.of(image.path().display()))
 }
 
-/// The places of symbols in the table that types go by, global ones before others.
+/// The numbers of symbols in the table that types belong to, by name and address. Of several with
+/// the same name and address, a global one is preferred.
 type Numbers<'n> = HashMap<(&'n [u8], u64), u32>;
 
 fn numbers<'n>(table: &'n [u8], strings: &'n [u8]) -> Numbers<'n> {
@@ -163,8 +166,8 @@ fn numbers<'n>(table: &'n [u8], strings: &'n [u8]) -> Numbers<'n> {
     made
 }
 
-/// What programs ask for that are linked with a shared library: empty where it has no such name;
-/// None of another file.
+/// The name that programs linked with a shared library record, empty if there is none; `None` for
+/// other files.
 pub fn soname(image: &Image) -> Result<Option<Vec<u8>>> {
     fn of<F: FileHeader<Endian = Endianness>>(image: &Image) -> Result<Option<Vec<u8>>> {
         let file: File<'_, F> = File::parse(image)?;
@@ -179,7 +182,7 @@ pub fn soname(image: &Image) -> Result<Option<Vec<u8>>> {
     }
 }
 
-/// A function or object of the table that types go by.
+/// A function or object of the table that types belong to.
 struct TypedSymbol {
     name: u32,
     address: u64,
@@ -197,7 +200,7 @@ impl TypedSymbol {
     }
 }
 
-/// The names of a table, read within a bound.
+/// The names of a string table, with a limit on the bytes that are read.
 struct Strings<'a> {
     names: Names<'a>,
     left: u64,
@@ -215,14 +218,14 @@ impl<'a> Strings<'a> {
     }
 }
 
-/// A name as its table has it: without a version, and that.
+/// The name and the version in a symbol's name, which may have `@` or `@@` between them.
 fn without_version(name: &[u8]) -> (&[u8], &[u8]) {
     let end = name.iter().position(|&byte| byte == b'@').unwrap_or(name.len());
     let signs = name[end..].iter().take_while(|&&byte| byte == b'@').count();
     (&name[..end], &name[end + signs..])
 }
 
-/// An ELF file of one class.
+/// An ELF file, of 32 or 64 bits.
 struct File<'a, F: FileHeader<Endian = Endianness>> {
     data: Data<'a>,
     endian: Endianness,
@@ -242,7 +245,7 @@ impl<'a, F: FileHeader<Endian = Endianness>> File<'a, F> {
         Ok(File { data, endian, is_linked, is_shared, sections })
     }
 
-    /// The section of a name, where it has bytes in the file.
+    /// The section with a name, if it has bytes in the file.
     fn section_of_name(&self, name: &str) -> Option<&'a F::SectionHeader> {
         let (_, found) = self.sections.section_by_name(self.endian, name.as_bytes())?;
         (found.sh_type(self.endian) != elf::SHT_NOBITS).then_some(found)
@@ -288,7 +291,7 @@ impl<'a, F: FileHeader<Endian = Endianness>> File<'a, F> {
         Ok(made)
     }
 
-    /// What a symbol is that other files see; None of others.
+    /// The kind of a symbol that other files see; `None` for other symbols.
     fn export_kind(&self, symbol: &F::Sym, name: &[u8]) -> Option<ExportKind> {
         let section = symbol.st_shndx(self.endian);
         let is_bound = matches!(symbol.st_bind(), elf::STB_GLOBAL | elf::STB_WEAK | UNIQUE);
@@ -300,8 +303,8 @@ impl<'a, F: FileHeader<Endian = Endianness>> File<'a, F> {
         ExportKind::of_symbol(symbol.st_type()).filter(|_| is_there && is_own)
     }
 
-    /// The version of each dynamic symbol, as GNU's linker writes them; empty for none, and for
-    /// that of the file itself.
+    /// The version of each dynamic symbol, as GNU's linker writes them; empty for none, and for the
+    /// version of the file itself.
     fn versions(&self) -> Result<Vec<&'a [u8]>> {
         let Some(table) = self.section_of_name(".gnu.version") else { return Ok(Vec::new()) };
         let defined = match self.section_of_name(".gnu.version_d") {
@@ -315,7 +318,7 @@ impl<'a, F: FileHeader<Endian = Endianness>> File<'a, F> {
         Ok(self.bytes(table)?.chunks_exact(2).map(of_place).collect())
     }
 
-    /// The names of the versions that a file defines.
+    /// The names of the versions that a file defines, by number.
     fn version_names(&self, section: &F::SectionHeader) -> Result<HashMap<u16, &'a [u8]>> {
         let mut made = HashMap::new();
         let mut rest = self.bytes(section)?;
@@ -340,7 +343,7 @@ impl<'a, F: FileHeader<Endian = Endianness>> File<'a, F> {
         Ok(made)
     }
 
-    /// What programs that were linked with the file ask for.
+    /// The name that programs linked with the file record.
     fn soname(&self) -> Result<&'a [u8]> {
         let Some(section) = self.section_of_name(".dynamic") else { return Ok(&[]) };
         let Some(mut strings) = self.strings(section)? else { return Ok(&[]) };

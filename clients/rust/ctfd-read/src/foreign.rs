@@ -1,4 +1,4 @@
-//! Why a file has no dictionary that is read as it is, and what to do.
+//! The reason why a file has no dictionary that can be read, and what to do about it.
 
 use crate::elf;
 use crate::error::{Error, Result};
@@ -8,7 +8,7 @@ use crate::opening::{has_others, SECTIONS};
 
 const CONVERTS: &str = "which is not read as it is; ctfd-convert makes CTF of version 2 of it";
 
-/// Why a file has no dictionary of version 2, in a line for a user.
+/// The reason why a file has no dictionary of version 2, in a line for the user.
 pub fn why_no_dictionary(image: &Image) -> Error {
     let path = image.path().display().to_string();
     let why = if image.is_elf() { why_in_elf(image, &path) } else { why_of_bytes(image) };

@@ -1,7 +1,7 @@
-//! The types of GNU's CTF, version 3, as `gcc -gctf` and ld write it, as a table.
+//! Reads GNU's CTF, version 3, which `gcc -gctf` and ld write, into a table.
 //!
-//! An archive has one dictionary of what all units share, and one for each unit with types of its
-//! own: they go into one table. No crate reads this format.
+//! An archive has one dictionary for what all units share, and one for each unit with types of its
+//! own; all go into one table. No crate reads this format.
 
 use crate::bytes::{part, Names, Reader};
 use crate::ctf::LONGEST;
@@ -12,11 +12,11 @@ use object::endian::{Endian as _, Endianness};
 use std::borrow::Cow;
 use std::collections::HashMap;
 
-/// How a dictionary begins, of either byte order.
+/// The first bytes of a dictionary, in either byte order.
 pub const MAGICS: [[u8; 2]; 2] = [[0xf2, 0xdf], [0xdf, 0xf2]];
-/// How an archive of dictionaries begins, whatever the byte order of these.
+/// The first bytes of an archive of dictionaries, whatever their byte order.
 pub const ARCHIVE: [u8; 8] = 0x8b47_f2a4_d762_3eeb_u64.to_le_bytes();
-const VERSION: u8 = 4; // of the bytes: the format calls it 3
+const VERSION: u8 = 4; // in the bytes: the format calls it 3
 const HEADER: u64 = 4 + 12 * 4;
 const COMPRESSED: u8 = 1;
 const NEW_FUNCTIONS: u8 = 2;
@@ -27,28 +27,27 @@ const LONG_MEMBERS: u64 = 536_870_912;
 const CHILD: u32 = 0x8000_0000;
 const WHAT: &str = "GNU CTF";
 
-/// What is told of functions or objects: their types by the table's numbers, and their names, or
-/// None where they are in the order of symbols.
+/// The types of functions or objects, by their numbers in the table, and their names. Without
+/// names, they are in the order of symbols.
 #[derive(Default)]
 pub struct SymbolTypes<'a> {
-    /// The numbers of their types.
+    /// The numbers of the types.
     pub types: Vec<u32>,
-    /// Their names.
+    /// The names of the functions or objects.
     pub names: Option<Vec<Name<'a>>>,
 }
 
-/// What one dictionary tells of symbols; `is_dynamic` says by which symbol table what has no names
-/// is ordered.
+/// The types of the symbols in one dictionary.
 pub struct Entries<'a> {
-    /// Of objects.
+    /// The objects.
     pub objects: SymbolTypes<'a>,
-    /// Of functions.
+    /// The functions.
     pub functions: SymbolTypes<'a>,
-    /// Whether the order is that of `.dynsym`.
+    /// Whether those without names are in the order of `.dynsym`; else of `.symtab`.
     pub is_dynamic: bool,
 }
 
-/// A bit-field's type: bits of another type.
+/// The type of a bit-field: some bits of another type.
 #[derive(Clone, Copy)]
 struct Slice {
     of: u32,
@@ -56,7 +55,7 @@ struct Slice {
     bits: u16,
 }
 
-/// The dictionaries of a section, inflate; of an archive the one that the others share comes first.
+/// The dictionaries of a section, decompressed. In an archive, the shared one comes first.
 pub fn dictionaries(section: &[u8]) -> Result<Vec<Cow<'_, [u8]>>> {
     dictionaries_of(section)?.into_iter().map(inflate).collect()
 }
@@ -82,7 +81,7 @@ fn dictionaries_of(section: &[u8]) -> Result<Vec<&[u8]>> {
     Ok(found.into_iter().map(|(_, one)| one).collect())
 }
 
-/// A dictionary whose body, if it is compressed, is inflate; the header bounds it.
+/// Decompresses the body of a dictionary, if it is compressed; the header states the size.
 fn inflate(bytes: &[u8]) -> Result<Cow<'_, [u8]>> {
     if !MAGICS.iter().any(|magic| bytes.starts_with(magic)) {
         return refuse(format!("GNU CTF was expected, and it begins with {:02x?}", bytes.get(..4)));
@@ -118,13 +117,13 @@ fn inflate(bytes: &[u8]) -> Result<Cow<'_, [u8]>> {
     Ok(Cow::Owned(whole))
 }
 
-/// Whether names that a section has not itself are those of dynamic symbols.
+/// Whether symbols without names are in the order of the dynamic symbols.
 pub fn is_dynamic(dictionaries: &[Cow<'_, [u8]>]) -> bool {
     dictionaries.first().and_then(|one| one.get(3)).is_some_and(|flags| flags & DYNAMIC != 0)
 }
 
-/// Puts the types of dictionaries into a table; what each tells of symbols. `strings` are those of
-/// the ELF file.
+/// Adds the types of dictionaries to a table. Returns the symbols of each dictionary. `strings` is
+/// the string table of the ELF file.
 pub fn read<'a>(
     dictionaries: &'a [Cow<'_, [u8]>],
     strings: &'a [u8],
@@ -151,7 +150,7 @@ pub fn read<'a>(
     Ok(found)
 }
 
-/// One dictionary; `numbers` has for each of its own numbers that of the table.
+/// A dictionary that is being read.
 struct Dictionary<'a> {
     flags: u8,
     endian: Endianness,
@@ -163,7 +162,7 @@ struct Dictionary<'a> {
     own: Numbers,
 }
 
-/// What the numbers of a dictionary stand for.
+/// The types of a dictionary, by its own numbers.
 #[derive(Clone, Default)]
 struct Numbers {
     numbers: Vec<u32>,
@@ -171,7 +170,7 @@ struct Numbers {
 }
 
 impl Numbers {
-    /// The table's number of an own one, through the slices that it may be.
+    /// The number in the table for an own number, through slices.
     fn of(&self, mut n: u32) -> Option<u32> {
         for _ in 0..=self.slices.len() {
             match self.slices.get(&n) {
@@ -213,7 +212,7 @@ impl<'a> Dictionary<'a> {
         })
     }
 
-    /// Reads all types: numbers are given first, since a type may name later ones.
+    /// Reads all types. Numbers are assigned first, since types may refer to later ones.
     fn read(&mut self, table: &mut Table<'a>) -> Result<()> {
         let mut records = Vec::new();
         while !self.types.is_empty() {
@@ -250,7 +249,8 @@ impl<'a> Dictionary<'a> {
         Ok(())
     }
 
-    /// What is told of symbols. Functions are told otherwise by tools of before 2021.
+    /// The types of symbols. Functions are skipped if tools from before 2021 wrote them, in another
+    /// form.
     fn entries(&self) -> Result<Entries<'a>> {
         let [objects, functions, object_names, function_names] = self.symbols;
         let functions = if self.flags & NEW_FUNCTIONS != 0 { functions } else { &[] };
@@ -278,7 +278,7 @@ impl<'a> Dictionary<'a> {
         }
     }
 
-    /// The slice that a number names, in this dictionary or its parent.
+    /// The slice with a number, in this dictionary or its parent.
     fn slice(&self, n: u32) -> Option<Slice> {
         match &self.parent {
             Some(parent) if n < CHILD => parent.slices.get(&n).copied(),
@@ -298,7 +298,7 @@ impl<'a> Dictionary<'a> {
         names.at(place.into()).map(Cow::Borrowed).ok_or_else(damage)
     }
 
-    /// The next record; None where it is a slice.
+    /// The next record; `None` if it is a slice.
     fn record(&mut self) -> Result<Option<Record<'a>>> {
         let (name, info, field) = (self.types.word()?, self.types.word()?, self.types.word()?);
         let mut size = u64::from(field);
@@ -314,7 +314,7 @@ impl<'a> Dictionary<'a> {
         }
         let kind = u16::try_from(number).ok().and_then(Kind::of_number).ok_or_else(damage)?;
         let name = match kind {
-            // gcc gives the type of a function that function's name, by which C has no type.
+            // gcc gives the type of a function the function's name, which C has not as a type's.
             Kind::Function => Cow::Borrowed(&b""[..]),
             _ => self.name(name)?,
         };
@@ -323,7 +323,7 @@ impl<'a> Dictionary<'a> {
         Ok(Some(record))
     }
 
-    /// What a record says behind its name.
+    /// Reads the fields of a record after its name.
     fn fields(&mut self, record: &mut Record<'a>, size: u64, count: u32) -> Result<()> {
         match record.kind {
             Kind::Integer | Kind::Float => {
@@ -391,12 +391,12 @@ impl<'a> Dictionary<'a> {
     }
 }
 
-/// The numbers of 32 bits that some bytes are.
+/// The 32-bit numbers in some bytes.
 fn words(bytes: &[u8], endian: Endianness) -> impl Iterator<Item = u32> + '_ {
     bytes.chunks_exact(4).map(move |one| endian.read_u32_bytes([one[0], one[1], one[2], one[3]]))
 }
 
-/// The byte order of a dictionary, by how it begins.
+/// The byte order of a dictionary, from its first bytes.
 fn endian(bytes: &[u8]) -> Endianness {
     if bytes.starts_with(&MAGICS[1]) {
         Endianness::Big

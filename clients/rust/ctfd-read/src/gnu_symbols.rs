@@ -1,7 +1,7 @@
-//! What GNU's CTF tells of functions and objects, and which symbols of its file these are.
+//! The functions and objects of GNU's CTF, and the symbols of the file that they belong to.
 //!
-//! An object file names them. In what ld links they stand in the order of a symbol table, the
-//! dynamic one as a rule: what is not exported is not told there.
+//! In an object file they have names. In a linked file they are in the order of a symbol table,
+//! usually the dynamic one, so there are none for symbols that are not exported.
 
 use crate::error::Result;
 use crate::gnu::{Entries, SymbolTypes};
@@ -10,7 +10,7 @@ use crate::table::{Kind, Name, Table};
 use std::borrow::Cow;
 use std::collections::{HashMap, HashSet};
 
-/// A symbol's name without its version, and whether it is a function.
+/// The name of a symbol without its version, and whether it is a function.
 type Key<'a> = (Name<'a>, bool);
 
 fn key<'a>(symbol: &Symbol<'a>) -> Key<'a> {
@@ -22,7 +22,8 @@ fn key<'a>(symbol: &Symbol<'a>) -> Key<'a> {
     (name, symbol.is_function)
 }
 
-/// The types of symbols: by place where that is known, else by name, 0 where a name has several.
+/// The types of symbols, by name and address if that is known, else by name; 0 if a name has
+/// several.
 #[derive(Default)]
 struct TypesOfSymbols<'a> {
     by_place: HashMap<(Key<'a>, u64), u32>,
@@ -32,7 +33,8 @@ struct TypesOfSymbols<'a> {
 }
 
 impl<'a> TypesOfSymbols<'a> {
-    /// Takes the functions or objects of a dictionary in; those of a file's table in their order.
+    /// Adds the functions or objects of a dictionary. Without names they are in the order of
+    /// `symbols`.
     fn take<'s>(
         &mut self,
         listed: &SymbolTypes<'a>,
@@ -64,7 +66,7 @@ impl<'a> TypesOfSymbols<'a> {
         }
     }
 
-    /// The type of a symbol, 0 where it is not told.
+    /// The type of a symbol; 0 if it is not known.
     fn type_of(&self, table: &Table<'_>, one: &Symbol<'a>, is_only: bool) -> u32 {
         let key = key(one);
         let by_name = || if is_only { self.by_name.get(&key).copied() } else { None };
@@ -91,7 +93,7 @@ impl<'a> TypesOfSymbols<'a> {
     }
 }
 
-/// The symbol tables of a file by name.
+/// The symbol tables of a file.
 pub struct FileSymbols<'a> {
     /// `.symtab`.
     pub symtab: Symbols<'a>,
@@ -100,7 +102,7 @@ pub struct FileSymbols<'a> {
 }
 
 impl<'a> FileSymbols<'a> {
-    /// One of them.
+    /// The symbols of one of the tables.
     pub fn of(&self, table: SymbolTable) -> &Symbols<'a> {
         if table == SymbolTable::Dynsym {
             &self.dynsym
@@ -110,8 +112,8 @@ impl<'a> FileSymbols<'a> {
     }
 }
 
-/// The symbols of which something is told, whose types the table has then: those of a symbol table
-/// of the file, or without a file the names that are in the section.
+/// Stores the types of symbols in the table. Returns the symbols: those of a symbol table of the
+/// file or, without a file, those that the section names.
 pub fn describe<'a>(
     table: &mut Table<'a>,
     found: &[Entries<'a>],
@@ -143,7 +145,7 @@ pub fn describe<'a>(
     let mut names: HashSet<Key<'a>> = known.by_name.keys().cloned().collect();
     names.extend(known.by_place.keys().map(|(key, _)| key.clone()));
     if file.is_some() {
-        // What is declared alone, or was optimized away, has no symbol.
+        // What is only declared, or was optimized away, has no symbol.
         let symbols: HashSet<Key<'a>> = pairs.iter().map(|(one, _)| key(one)).collect();
         names.retain(|name| symbols.contains(name));
     }
@@ -155,7 +157,8 @@ pub fn describe<'a>(
     Ok(Symbols { table: if file.is_some() { wanted } else { SymbolTable::Names }, listed })
 }
 
-/// Each symbol of a table with its type. By its name alone one is known that no other has.
+/// Each symbol of a table with its type. The name alone identifies a symbol only if no other has
+/// it.
 fn of_file<'a>(
     known: &TypesOfSymbols<'a>,
     table: &Table<'_>,
@@ -169,7 +172,7 @@ fn of_file<'a>(
     symbols.listed.iter().map(pair).collect()
 }
 
-/// What was told and is left out: for want of the symbol table, or of a name of its own.
+/// Records the losses: symbols without a symbol table, and names that several symbols have.
 fn tell_losses(
     table: &mut Table<'_>,
     lost: usize,

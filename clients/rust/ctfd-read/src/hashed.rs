@@ -1,17 +1,17 @@
-//! Tables by keys that a file chooses, as names: hashed fast, with keys of this run, so that nobody
-//! makes a file whose names all fall into one place.
+//! Hash tables whose keys come from a file, such as names. They are fast, and their hash keys
+//! differ in each run, so nobody can craft a file whose names all collide.
 
 use ahash::{AHasher, RandomState};
 use std::collections::{hash_map, HashMap, HashSet};
 use std::hash::{BuildHasher, Hasher as _};
 use std::sync::OnceLock;
 
-/// A table by such keys.
+/// A hash map with the hash keys of this run.
 pub type Map<K, V> = HashMap<K, V, KeysOfRun>;
-/// Such keys by themselves.
+/// A hash set with the hash keys of this run.
 pub type Set<K> = HashSet<K, KeysOfRun>;
 
-/// Makes hashers with keys that are others in each run.
+/// A maker of hashers, whose hash keys differ in each run.
 #[derive(Clone)]
 pub struct KeysOfRun(RandomState);
 

@@ -1,5 +1,5 @@
-//! Files that are read: as much of them as is asked for. None is mapped, since somebody may cut a
-//! file while it is read.
+//! Input files, read as far as needed. They are not mapped, since a mapped file may be truncated
+//! while it is read.
 
 use crate::error::{refuse, Error, Result};
 use flate2::Crc;
@@ -9,12 +9,12 @@ use std::io::{Cursor, Read, Seek, SeekFrom};
 use std::ops::Range;
 use std::path::{Path, PathBuf};
 
-/// What the bytes of a file come from: the file, or all that came through a pipe.
+/// The source of a file's bytes: the file, or all that came through a pipe.
 pub trait Source: Read + Seek {}
 impl<T: Read + Seek> Source for T {}
 
-/// The bytes of a file, read where they are asked for, and none behind its end: the cache makes room
-/// before it reads, as much as a damaged file says.
+/// The bytes of a file, read on demand. Reads past the end are refused here, since the cache
+/// allocates memory before it reads, as much as a damaged file asks for.
 #[derive(Clone, Copy)]
 pub struct Data<'a> {
     cache: &'a ReadCache<Box<dyn Source>>,
@@ -50,14 +50,14 @@ pub type Elf<'a> = object::File<'a, Data<'a>>;
 /// A section of an ELF file.
 pub type ElfSection<'a, 'f> = object::Section<'a, 'f, Data<'a>>;
 
-/// The most that is read of a pipe, which tells no length.
+/// The most bytes that are read from a pipe, which has no length.
 const LONGEST_PIPE: u64 = 1 << 32;
-/// How many bytes a check sum reads at a time.
+/// The size of the pieces in which a checksum is computed, in bytes.
 const PIECE: u64 = 1 << 20;
-/// How many bytes pass at a time that are not kept.
+/// The size of pieces that are not kept, in bytes.
 const PASSING: u64 = 1 << 16;
 
-/// A file, and where it is.
+/// A file and its path.
 pub struct Image {
     path: PathBuf,
     file: Option<File>,
@@ -76,7 +76,7 @@ impl Image {
                 return Ok((Box::new(file.try_clone()?), Some(file)));
             }
             if kind.is_dir() {
-                return refuse("it is a folder");
+                return refuse("is a directory");
             }
             if !is_pipe(&kind) {
                 return refuse("not a regular file: devices and the like are not read");
@@ -91,31 +91,30 @@ impl Image {
         Ok(Image { path: path.to_owned(), file, cache: ReadCache::new(source), length })
     }
 
-    /// Opens a regular file that another file names; anybody may have written that name.
+    /// Opens a regular file that another file names; `None` if it is none or can't be read. The
+    /// name is not trusted: it may be that of a device.
     pub fn open_linked(path: &Path) -> Option<Image> {
         let is_file = std::fs::metadata(path).is_ok_and(|about| about.is_file());
         is_file.then(|| Image::open(path).ok()).flatten()
     }
 
-    /// Opens a regular file that is at one place and known by another name; anybody may have
-    /// written that place.
+    /// Opens the file at `place` as `open_linked` does, for which errors name `path`.
     pub fn linked_as(place: &Path, path: &Path) -> Option<Image> {
         Some(Image { path: path.to_owned(), ..Image::open_linked(place)? })
     }
 
-    /// Bytes that are no file of their own, as a member of an archive.
+    /// Bytes that have no file of their own, such as a member of an archive.
     pub fn of_bytes(path: PathBuf, bytes: Vec<u8>) -> Image {
         let length = bytes.len() as u64;
         Image { path, file: None, cache: ReadCache::new(Box::new(Cursor::new(bytes))), length }
     }
 
-    /// All its bytes.
+    /// All bytes of the file.
     pub fn all(&self) -> Result<&[u8]> {
         self.data().read_bytes_at(0, self.length).map_err(|()| Error("can't be read".to_owned()))
     }
 
-    /// Some of its bytes, which come a piece at a time, and are not kept beside what is made of
-    /// them.
+    /// Some bytes of the file, in pieces that are not kept in memory.
     pub fn pieces(&self, offset: u64, length: u64) -> Result<Pieces<'_>> {
         let end = offset.checked_add(length).filter(|&end| end <= self.length);
         let end = end.ok_or_else(|| Error("it ends too early".to_owned()))?;
@@ -128,27 +127,27 @@ impl Image {
         }
     }
 
-    /// Where the file is.
+    /// The path of the file.
     pub fn path(&self) -> &Path {
         &self.path
     }
 
-    /// Its bytes, which are read where they are asked for.
+    /// The bytes of the file, read on demand.
     pub fn data(&self) -> Data<'_> {
         Data { cache: &self.cache, length: self.length }
     }
 
-    /// Whether it begins as ELF files do.
+    /// Whether it begins like an ELF file.
     pub fn is_elf(&self) -> bool {
         self.data().read_bytes_at(0, 4) == Ok(&object::elf::ELFMAG[..])
     }
 
-    /// The file as ELF.
+    /// Parses the file as ELF.
     pub fn elf(&self) -> Result<Elf<'_>> {
         Ok(object::File::parse(self.data())?)
     }
 
-    /// The check sum by which `.gnu_debuglink` knows a file.
+    /// The checksum that `.gnu_debuglink` has for a file.
     pub fn crc(&self) -> Result<u32> {
         let mut crc = Crc::new();
         let mut file = File::open(&self.path)?.take(LONGEST_PIPE);
@@ -163,25 +162,25 @@ impl Image {
     }
 }
 
-/// Some bytes of a file, a piece at a time.
+/// Some bytes of a file, in pieces.
 pub enum Pieces<'a> {
-    /// All of them at once, where they are there already.
+    /// All bytes at once, if they are in memory.
     Whole(&'a [u8]),
-    /// Those of a file, of which one piece is kept.
+    /// Bytes of a file, one piece at a time.
     OfFile {
         /// The file.
         file: &'a File,
-        /// Where the next piece begins.
+        /// The offset of the next piece.
         at: u64,
-        /// Where the last ends.
+        /// The end of the last piece.
         end: u64,
-        /// The last one that was read.
+        /// The piece that was read last.
         piece: Vec<u8>,
     },
 }
 
 impl Pieces<'_> {
-    /// The next piece; empty behind the last.
+    /// The next piece; empty after the last.
     pub fn next_piece(&mut self) -> Result<&[u8]> {
         match self {
             Pieces::Whole(bytes) => Ok(std::mem::take(bytes)),
@@ -195,7 +194,7 @@ impl Pieces<'_> {
         }
     }
 
-    /// All that is left.
+    /// All remaining bytes.
     pub fn all(&mut self) -> Result<Vec<u8>> {
         let mut made = Vec::new();
         loop {
@@ -208,7 +207,7 @@ impl Pieces<'_> {
     }
 }
 
-/// Fills bytes with those of a file from an offset on, wherever else it is read.
+/// Reads bytes at an offset, independently of other readers of the file.
 #[cfg(unix)]
 fn read_at(file: &File, bytes: &mut [u8], offset: u64) -> std::io::Result<()> {
     std::os::unix::fs::FileExt::read_exact_at(file, bytes, offset)

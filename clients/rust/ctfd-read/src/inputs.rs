@@ -1,4 +1,4 @@
-//! A file's types as a table, whatever they are written in: DWARF, BTF, GNU's CTF or CTF itself.
+//! Reads the types of a file into a table, from DWARF, BTF, GNU's CTF or CTF.
 
 use crate::btf;
 use crate::bytes::Names;
@@ -28,7 +28,7 @@ use std::collections::{HashMap, HashSet};
 use std::fmt;
 use std::path::{Path, PathBuf};
 
-/// What types are written in.
+/// The form of the types in a file.
 #[derive(Clone, Copy, Debug, PartialEq, Eq)]
 pub enum Form {
     /// CTF of version 2.
@@ -37,17 +37,17 @@ pub enum Form {
     OtherCtf,
     /// The kernel's BTF.
     Btf,
-    /// The debug information of compilers.
+    /// The debug information of compilers, DWARF.
     Dwarf,
     /// GNU's CTF, of version 3.
     Gnu,
 }
 
 impl Form {
-    /// All of them, in the order in which they are looked for.
+    /// All forms, in the order in which they are looked for.
     pub const ALL: [Form; 5] = [Form::Ctf, Form::OtherCtf, Form::Btf, Form::Dwarf, Form::Gnu];
 
-    /// The word for it on a command line.
+    /// The word for the form on a command line.
     pub fn word(self) -> &'static str {
         match self {
             Form::Ctf => "ctf",
@@ -58,7 +58,7 @@ impl Form {
         }
     }
 
-    /// The sections of an ELF file that have it.
+    /// The sections of an ELF file that may have this form.
     fn sections(self) -> &'static [&'static str] {
         match self {
             Form::Ctf | Form::OtherCtf => &[".SUNW_ctf", ".ctf"],
@@ -68,7 +68,7 @@ impl Form {
         }
     }
 
-    /// The form that first bytes say.
+    /// The form of some bytes, by their beginning.
     pub(crate) fn of(bytes: &[u8]) -> Option<Form> {
         if btf::is_btf(bytes) {
             Some(Form::Btf)
@@ -95,69 +95,67 @@ impl fmt::Display for Form {
     }
 }
 
-/// What the caller says of a file.
+/// How a file is read.
 #[derive(Clone, Debug, Default)]
 pub struct Options {
-    /// The data model; an ELF file says its own.
+    /// The data model, for a file that does not have one: an ELF file does.
     pub model: Option<Model>,
-    /// The form to read.
+    /// The form to read; by default the first that the file has.
     pub form: Option<Form>,
-    /// The BTF of a module's kernel, or the parent of a child.
+    /// The file with the BTF of a module's kernel, or the parent of a child.
     pub base: Option<PathBuf>,
     /// Folders of debug files, searched before the system's own.
     pub folders: Vec<PathBuf>,
-    /// Which of several dictionaries, counted from 1.
+    /// The dictionary to read, if a section has several, counted from 1.
     pub number: Option<usize>,
-    /// The symbol table that is wanted.
+    /// The symbol table to use.
     pub symbols: SymbolTable,
-    /// Whether what CTF does not hold is wanted beside the dictionary.
+    /// Whether the facts that CTF cannot represent are wanted too.
     pub is_in_full: bool,
-    /// Who is told how far the reading is.
+    /// The listener that progress is reported to.
     pub listener: Listener,
-    /// Whether the files in which types are defined are wanted.
+    /// Whether the source files that define types are wanted.
     pub has_sources: bool,
-    /// Who has types by build-id.
+    /// The source of types by build-id.
     pub elsewhere: Elsewhere,
-    /// Whether one dictionary is wanted also of more types than it holds: those without room are
-    /// left out then.
+    /// Whether to make a single dictionary even if there are more types than it holds; those
+    /// without room are then left out.
     pub is_one: bool,
 }
 
-/// What a file has: its types, those of them that are wanted for themselves, and the number of types
-/// of its base or parent, which come first. What is told of symbols goes by `symbols`; `note` is
-/// what a user should know of that.
+/// The types of a file. Those of its base or parent come first.
 pub struct ProgramTypes<'a> {
-    /// All its types, and what is told of symbols.
+    /// All types, with the types of symbols.
     pub table: Table<'a>,
-    /// The types that are wanted for themselves.
+    /// The types that are wanted for themselves, not only because others refer to them.
     pub roots: Vec<u32>,
-    /// How many of the types, the first, are those of its base or parent.
+    /// The number of types of the base or parent.
     pub bases: u32,
-    /// What they were read from.
+    /// The form that they were read from.
     pub form: Form,
-    /// The symbols that the entries of the table go by.
+    /// The symbols that the entries of the table belong to.
     pub symbols: Symbols<'a>,
-    /// What should be known of these; empty where it is nothing.
+    /// A note for the user on these symbols; empty if there is none.
     pub note: String,
-    /// Judges a dictionary by the units that were read, where types were read from such.
+    /// Compares a dictionary with the units that were read, if there were any.
     pub verifier: Option<&'a Verifier<'a>>,
 }
 
-/// Refuses types that were written where they are not those of the units that were read; how many of
-/// the units' types were compared.
+/// A function that refuses written types if they differ from those of the units that were read, and
+/// returns the number of the units' types that were compared.
 pub type Verifier<'a> = dyn Fn(&Judges<'_>) -> Result<usize> + 'a;
 
-/// A section with types, in its ELF file where it is in one, with the strings that go with it.
+/// A section with types, its ELF file if it is in one, and its string table.
 struct Section<'a> {
     data: &'a [u8],
     file: Option<&'a Image>,
     strings: &'a [u8],
 }
 
-/// What is run on the types of a file, while all that they lie in is there.
+/// The function that uses the types of a file, while the data that they borrow lives.
 type Use<'u> = dyn FnMut(ProgramTypes<'_>) -> Result<()> + 'u;
 
-/// Reads the types of a file, and runs something on them.
+/// Reads the types of a file, and passes them to `run`.
 pub fn with_types<T>(
     image: &Image,
     options: &Options,
@@ -191,7 +189,7 @@ fn read(image: &Image, options: &Options, run: &mut Use<'_>) -> Result<()> {
     with_section(form, &section, options, run).map_err(|error| error.within(&path))
 }
 
-/// What bytes are that nothing here reads.
+/// A description of bytes that are in no form that can be read.
 pub(crate) fn foreign(bytes: &[u8]) -> String {
     let version = bytes.get(2).copied().unwrap_or(0);
     match bytes.get(..2) {
@@ -213,12 +211,12 @@ pub(crate) fn foreign(bytes: &[u8]) -> String {
     }
 }
 
-/// What is to be known of a program of a big-endian machine.
+/// The note on a program for a big-endian machine.
 const BIG_ENDIAN: &str =
     "it is of a big-endian machine: its types are read, and the dictionary is \
                           little-endian, as all are that ctfd opens";
 
-/// The first of the forms that an ELF file has, or the one asked for; DWARF may be elsewhere.
+/// Reads the first form that an ELF file has, or the requested one. DWARF may be in another file.
 fn with_elf(image: &Image, options: &Options, run: &mut Use<'_>) -> Result<()> {
     let path = image.path().display().to_string();
     let file = image.elf().map_err(|error| error.of(&path))?;
@@ -277,8 +275,8 @@ fn model_of(file: &crate::image::Elf<'_>) -> Model {
     }
 }
 
-/// Whether dictionaries are those of the object files that a program was linked of, and its debug
-/// information tells of all of it.
+/// Whether the dictionaries are those of the object files that were linked into a program, whose
+/// debug information covers everything.
 fn is_of_its_objects(
     section: &Section<'_>,
     file: &crate::image::Elf<'_>,
@@ -297,7 +295,7 @@ fn is_of_its_objects(
     Ok(is_named && symbols_of(section.file, &sections)?.is_none())
 }
 
-/// The symbols that a dictionary says that its entries go by, if they are those of its file.
+/// The symbols that the entries of a dictionary belong to, if they are those of its file.
 fn symbols_of<'a>(file: Option<&'a Image>, sections: &Sections<'a>) -> Result<Option<Symbols<'a>>> {
     let Some(wanted) = labels::symbols(sections) else { return Ok(None) };
     if wanted.table == SymbolTable::Names {
@@ -307,7 +305,7 @@ fn symbols_of<'a>(file: Option<&'a Image>, sections: &Sections<'a>) -> Result<Op
     Ok(found.filter(|found| found.identity() == wanted))
 }
 
-/// Refuses the number of a dictionary where there are none to choose from.
+/// Refuses the number of a dictionary if the form has no dictionaries to choose from.
 fn judge_number(form: Form, options: &Options) -> Result<()> {
     match options.number {
         Some(number) if !matches!(form, Form::Ctf | Form::OtherCtf) => refuse(format!(
@@ -330,7 +328,7 @@ fn with_section(
         Some(model) => model == Model::Ilp32,
         None => is_of_file.unwrap_or(false),
     };
-    // Of a section by itself the size of a long tells the model, where nothing else does.
+    // For a section in no ELF file, the size of a long gives the model if nothing else does.
     let is_told = section.file.is_some() || options.model.is_some();
     let mut run = |mut found: ProgramTypes<'_>| {
         found.table.is_ilp32 |= !is_told && has_short_longs(&found.table);
@@ -394,7 +392,7 @@ fn with_dwarf(image: &Image, options: &Options, run: &mut Use<'_>) -> Result<()>
     run(ProgramTypes { table, roots, bases: 0, form: Form::Dwarf, symbols, note, verifier })
 }
 
-/// The symbols that the entries of a program go by: of one that is stripped those of its debug
+/// The symbols that the entries of a program belong to. For a stripped program, those of its debug
 /// file.
 fn program_symbols<'a>(
     image: &'a Image,
@@ -411,7 +409,7 @@ fn program_symbols<'a>(
     Ok(Symbols { table: SymbolTable::Names, ..found })
 }
 
-/// The files in which the types of some debug information are defined.
+/// The source files that define the types of some debug information.
 fn sources_of(files: &[(Debug<'_>, String)]) -> Result<SourceFiles> {
     let mut made = SourceFiles::default();
     for (debug, name) in files {
@@ -420,7 +418,7 @@ fn sources_of(files: &[(Debug<'_>, String)]) -> Result<SourceFiles> {
     Ok(made)
 }
 
-/// What is to be known of the symbols of a program.
+/// A note for the user on the symbols of a program.
 fn note(image: &Image, symbols: &Symbols<'_>, debug: &Image) -> Result<String> {
     let count = symbols.listed.len();
     Ok(match symbols.table {
@@ -442,8 +440,8 @@ fn note(image: &Image, symbols: &Symbols<'_>, debug: &Image) -> Result<String> {
     })
 }
 
-/// The types of all object files in an archive. Of symbols nothing is told: it has no table of them
-/// that a dictionary could go by.
+/// Reads the types of all object files in an archive. There are no types of symbols, since an
+/// archive has no symbol table that a dictionary could use.
 fn with_archive(image: &Image, data: &[u8], options: &Options, run: &mut Use<'_>) -> Result<()> {
     let path = image.path();
     if crate::archive::has_dictionaries(data) {
@@ -502,7 +500,7 @@ fn with_archive(image: &Image, data: &[u8], options: &Options, run: &mut Use<'_>
     run(ProgramTypes { table, roots, bases: 0, form: Form::Dwarf, symbols, note, verifier: None })
 }
 
-/// The object files of an archive; those of a thin one are files beside it.
+/// The object files of an archive. Those of a thin archive are separate files.
 fn members(path: &Path, data: &[u8]) -> Result<Vec<Image>> {
     if data.starts_with(THIN) {
         return thin_members(path, data);
@@ -521,7 +519,7 @@ fn members(path: &Path, data: &[u8]) -> Result<Vec<Image>> {
     Ok(found)
 }
 
-/// Refuses an archive whose first member, most often its index, is not all there: the crate for
+/// Refuses an archive whose first member, usually its index, is cut off: the crate that reads
 /// archives takes it for one without members.
 fn judge_first(data: &[u8]) -> Result<()> {
     let Some(header) = data.get(THIN.len()..THIN.len() + MEMBER) else { return Ok(()) };
@@ -538,8 +536,8 @@ fn judge_first(data: &[u8]) -> Result<()> {
 const THIN: &[u8] = b"!<thin>\n";
 const MEMBER: usize = 60;
 
-/// The object files of a thin archive, which the crate for archives does not read: a header for each,
-/// and of bytes only those of the list of long names.
+/// The object files of a thin archive, which the crate that reads archives does not support. Each
+/// has a header; only the list of long names has bytes in the archive.
 fn thin_members(path: &Path, data: &[u8]) -> Result<Vec<Image>> {
     let damage = || Error("a damaged archive".to_owned());
     let (mut names, mut found, mut at) = (&[][..], Vec::new(), THIN.len());
@@ -557,7 +555,7 @@ fn thin_members(path: &Path, data: &[u8]) -> Result<Vec<Image>> {
             at += size + size % 2;
             continue;
         }
-        let name = name.trim_end_matches(['/', ' ']); // BFD leaves a slash behind the blanks
+        let name = name.trim_end_matches(['/', ' ']); // BFD leaves a slash after the blanks
         let long = name.strip_prefix('/').and_then(|place| place.parse::<usize>().ok());
         let name = match long {
             Some(place) => {
@@ -629,13 +627,13 @@ fn with_ctf(
     })
 }
 
-/// Whether a dictionary tells of as many functions and objects as a symbol table has.
+/// Whether a dictionary has entries for all functions and objects of a symbol table.
 fn has_entries_for(table: &Table<'_>, symbols: &Symbols<'_>) -> bool {
     table.objects.len() == symbols.objects().count()
         && table.functions.len() >= symbols.functions().count()
 }
 
-/// The dictionary of a number, which counts from 1, or the only one.
+/// The dictionary with a number, counted from 1, or the only one.
 fn choose(section: &[u8], number: Option<usize>) -> Result<&[u8]> {
     let found = ctf::each(section);
     match number {
@@ -653,10 +651,10 @@ fn choose(section: &[u8], number: Option<usize>) -> Result<&[u8]> {
     }
 }
 
-/// How many dictionaries a line describes.
+/// How many dictionaries a message describes.
 const LISTED: usize = 10;
 
-/// How many dictionaries there are, each with its number, its types and the first name of one.
+/// The number of dictionaries, and for each its number, its types and a type's name.
 fn description_of_all(found: &[&[u8]]) -> String {
     let described =
         |(place, ctf): (usize, &&[u8])| format!("{} ({})", place + 1, description_of(ctf));
@@ -688,7 +686,7 @@ fn description_of(ctf: &[u8]) -> String {
     describe().unwrap_or_else(|_| format!("{} bytes, damaged", ctf.len()))
 }
 
-/// The bytes of a file's dictionary, inflated: of its section, or of a section by itself.
+/// The bytes of a file's dictionary, decompressed: of its section, or of the whole file.
 pub fn plain_bytes(image: &Image, number: Option<usize>) -> Result<Vec<u8>> {
     if !image.is_elf() {
         return Ok(ctf::inflate(choose(image.all()?, number)?)?.into_owned());
@@ -730,12 +728,12 @@ fn with_gnu(
     run(ProgramTypes { table, roots, bases: 0, form: Form::Gnu, symbols, note, verifier: None })
 }
 
-/// What is wanted for itself: what has a name, and the names of an enum.
+/// Whether a type is wanted for itself: it has a name, or is an enum.
 fn is_wanted(record: &Record<'_>) -> bool {
     !record.name.is_empty() || record.kind == Kind::Enum
 }
 
-/// What is to be known of symbols of which GNU's CTF tells nothing.
+/// A note for the user if GNU's CTF has no types for the symbols.
 fn gnu_note(table: &Table<'_>, file: &Image, symbols: &Symbols<'_>) -> Result<String> {
     if table.objects.iter().any(|&n| n != 0) || table.functions.iter().any(Option::is_some) {
         return Ok(String::new());
@@ -784,7 +782,7 @@ fn with_btf(
     })
 }
 
-/// What BTF tells of the symbols of its file.
+/// Sets the types of the file's symbols, from BTF.
 fn by_symbols(table: &mut Table<'_>, found: &btf::Btf<'_>, symbols: &Symbols<'_>) {
     let of = |listed: &'_ [btf::NamedSymbol<'_>]| -> HashMap<Vec<u8>, u32> {
         listed.iter().map(|one| (one.name.to_vec(), one.of)).collect()
@@ -806,7 +804,7 @@ fn by_symbols(table: &mut Table<'_>, found: &btf::Btf<'_>, symbols: &Symbols<'_>
     }
 }
 
-/// What BTF tells of functions and variables of which it has the names alone.
+/// Sets the types of the functions and variables that BTF names, for a file without symbols.
 fn by_names<'a>(table: &mut Table<'a>, found: &btf::Btf<'a>) -> Symbols<'a> {
     let objects: Vec<&btf::NamedSymbol<'a>> =
         found.objects.iter().filter(|one| one.of != 0).collect();
@@ -829,7 +827,7 @@ fn prototype<'a>(table: &Table<'a>, number: u32) -> Option<Record<'a>> {
     (record.kind == Kind::Function).then(|| record.clone())
 }
 
-/// The BTF of a base: the bytes of such a section, or an ELF file that has one.
+/// The BTF of a base: the bytes of such a section, or of an ELF file that has one.
 fn btf_of(path: &Path) -> Result<Vec<u8>> {
     let image = Image::open(path)?;
     if image.is_elf() {

@@ -1,11 +1,13 @@
-//! What one unit tells, joined to what all before it told: most units repeat the types of others.
+//! Joins the types of each unit to those of all units before it: most units repeat the types of
+//! others.
 //!
-//! Two types become one where no walk along their references shows a difference. A struct or union
-//! of a name is compared with those that look like it; what has none follows from what it names,
-//! since in C no cycle is without a name. What a bound leaves apart, `merge` finds.
+//! Two types are joined if no walk along their references finds a difference. A named struct or
+//! union is compared with those that look like it. A type without a name is identified by the types
+//! that it refers to, since in C no cycle is without a name. What a bound keeps apart, `merge`
+//! finds.
 //!
-//! A tag that has a single definition in the program stands for it, also where a unit only declares
-//! it: `slots` has these.
+//! A tag with a single definition in the program stands for this definition, even if a unit only
+//! declares it: `slots` has these tags.
 
 use crate::dwarf::tags::SingleTags;
 use crate::slots::Slots;
@@ -13,14 +15,14 @@ use crate::table::{Record, Table};
 use std::collections::{HashMap, HashSet};
 use std::hash::{BuildHasherDefault, Hash, Hasher};
 
-/// With how many that look alike a struct is compared, and how many members and types are looked at
-/// for each type of a unit.
+/// The number of similar types with which a struct is compared, and the number of members and types
+/// that are visited for each type of a unit.
 const MOST_ALIKE: usize = 32;
 const MOST_STEPS: u64 = 256;
-/// How often a unit is looked at anew without the tags whose definitions differ.
+/// How many times a unit is joined again without the tags whose definitions differ.
 const MOST_TRIES: u32 = 8;
 
-/// A hasher of numbers that are hashes already, or places.
+/// A hasher of numbers that are hashes already, or offsets.
 #[derive(Default)]
 pub struct NumberHasher(u64);
 
@@ -39,7 +41,7 @@ impl Hasher for NumberHasher {
     }
 }
 
-/// Types by a hash: the first of each, and for each type the next.
+/// Types by a hash: the first for each hash, and for each type the next.
 #[derive(Default)]
 struct Chains {
     first: HashMap<u64, u32, BuildHasherDefault<NumberHasher>>,
@@ -60,20 +62,20 @@ impl Chains {
     }
 }
 
-/// The types of one unit, with numbers of its own from 1 on, and the shape of each.
+/// The types of one unit, which are numbered from 1, and the shape of each.
 pub struct Piece<'a> {
     pub records: Vec<Record<'a>>,
     pub shape: Vec<u64>,
-    /// For each type with a tag of a single definition the key of that; 0 for all others.
+    /// For each type whose tag has a single definition, the key of the tag; else 0.
     pub single: Vec<u64>,
-    /// The keys of those by which declarations were joined already.
+    /// The keys of tags by which declarations were joined already.
     pub loose: HashSet<u64>,
-    /// Numbers, in their order, that stand for types of the table, and which these are.
+    /// Own numbers that stand for types of the table, in order, with their numbers there.
     known: Vec<(u32, u32)>,
 }
 
 impl<'a> Piece<'a> {
-    /// Types of which some, by their numbers, are `known` as types of the table.
+    /// A piece of some types, of which those in `known` have numbers in the table.
     pub fn new(records: Vec<Record<'a>>, known: Vec<(u32, u32)>, tags: &SingleTags) -> Piece<'a> {
         let shape = records.iter().map(Record::shape).collect();
         Piece { known, ..Piece::with_shape(records, shape, HashSet::new(), tags) }
@@ -89,18 +91,18 @@ impl<'a> Piece<'a> {
         Piece { records, shape, single, loose, known: Vec::new() }
     }
 
-    /// The numbers of types with a tag of a single definition, and the keys of these.
+    /// The numbers of types whose tags have a single definition, with the keys of the tags.
     pub fn single_definitions(&self) -> impl Iterator<Item = (u32, u64)> + '_ {
         (1..).zip(self.single.iter().copied()).filter(|&(_, key)| key != 0)
     }
 
-    /// The type of the table that a number stands for, if it stands for one.
+    /// The number in the table for an own number, if `known` has it.
     pub fn table_number(&self, number: u32) -> Option<u32> {
         let place = self.known.binary_search_by_key(&number, |&(own, _)| own).ok()?;
         Some(self.known[place].1)
     }
 
-    /// The type of a number.
+    /// The type with a number.
     pub fn get(&self, number: u32) -> &Record<'a> {
         &self.records[number as usize - 1]
     }
@@ -110,12 +112,12 @@ impl<'a> Piece<'a> {
     }
 }
 
-/// The types of a table that are known so far, each once.
+/// The table of all types so far, without duplicates.
 #[derive(Default)]
 pub struct Joiner<'a> {
     table: Table<'a>,
     shape: Vec<u64>,
-    /// For each type when it was told first, in full where that is told at all.
+    /// For each type the turn in which it was first seen, or first defined if it is defined at all.
     turn: Vec<u64>,
     turns: u64,
     known: Chains,
@@ -123,10 +125,10 @@ pub struct Joiner<'a> {
     slots: Slots,
 }
 
-/// What a unit's types were found to be: 0 for what is not known yet, a number of the table, or one
-/// behind all of these for the unit's own.
+/// The types of a unit, as far as they are identified. 0 is not known yet; other numbers are those
+/// of the table, or, above these, the unit's own.
 pub struct Identities {
-    /// For each number, 0 too, what it was found to be.
+    /// For each number, including 0, the type that it is.
     pub is: Vec<u32>,
     pairs: Vec<u32>,
     differ: HashSet<u64, BuildHasherDefault<NumberHasher>>,
@@ -134,7 +136,8 @@ pub struct Identities {
 }
 
 impl<'a> Joiner<'a> {
-    /// Takes the types of a unit in. For each of its numbers, 0 too, that of the table.
+    /// Joins the types of a unit. Returns the number in the table for each number of the unit,
+    /// including 0.
     pub fn join(&mut self, mut piece: Piece<'a>) -> Vec<u32> {
         self.slots.leave_several_out(&mut piece);
         for left in (0..MOST_TRIES).rev() {
@@ -151,7 +154,7 @@ impl<'a> Joiner<'a> {
         unreachable!("without tags there are none that differ");
     }
 
-    /// Finds what each type of a unit is.
+    /// Identifies each type of a unit.
     fn find(&self, piece: &Piece<'a>) -> Identities {
         let count = piece.records.len() as u32;
         let mut is = self.slots.find(piece, &self.table);
@@ -179,7 +182,7 @@ impl<'a> Joiner<'a> {
         found
     }
 
-    /// Writes what is new behind what is known, in the order of its first copies.
+    /// Adds the new types to the table, in the order of their first copies.
     fn take(&mut self, piece: Piece<'a>, is: Vec<u32>, fuller: &HashSet<u32>) -> Vec<u32> {
         let known = self.table.len();
         let mut to = vec![0; is.len()];
@@ -239,7 +242,7 @@ impl<'a> Joiner<'a> {
         }
     }
 
-    /// Puts a further copy of a type in the place of one that tells less.
+    /// Replaces a type by a copy of it with more detail.
     fn replace(&mut self, number: u32, record: Record<'a>, shape: u64) {
         let place = number as usize - 1;
         if record.is_named_aggregate() && self.shape[place] != shape {
@@ -249,13 +252,14 @@ impl<'a> Joiner<'a> {
         self.table.records[place] = record;
     }
 
-    /// The keys of tags that have several definitions, though declarations were joined by them.
+    /// The keys of tags by which declarations were joined, and that turned out to have several
+    /// definitions.
     pub fn conflicts(&mut self) -> &mut HashSet<u64> {
         &mut self.slots.conflicts
     }
 
-    /// The table in the order in which its types were told, and for each number that was given, 0
-    /// too, the one in it.
+    /// The table in the order in which types were seen, and the new number of each old one,
+    /// including 0.
     pub fn into_table(self) -> (Table<'a>, Vec<u32>) {
         let Joiner { mut table, turn, .. } = self;
         let (order, to) = order_of_turns(&turn);
@@ -263,7 +267,7 @@ impl<'a> Joiner<'a> {
         (table, to)
     }
 
-    /// What was joined, to be joined with more: a piece, the numbers in it, and the conflicts.
+    /// The joined types as a piece, to be joined with others; the new numbers; and the conflicts.
     pub fn into_piece(self, tags: &SingleTags) -> (Piece<'a>, Vec<u32>, HashSet<u64>) {
         let Joiner { mut table, shape, turn, slots, .. } = self;
         let (order, to) = order_of_turns(&turn);
@@ -272,7 +276,7 @@ impl<'a> Joiner<'a> {
         (Piece::with_shape(table.records, shape, slots.loose, tags), to, slots.conflicts)
     }
 
-    /// Finds a struct or union, with all that it names, among those that are known.
+    /// Looks for a struct or union, with all that it refers to, among the known types.
     fn compare(&self, piece: &Piece<'a>, number: u32, found: &mut Identities) {
         let alike: Vec<u32> = self.named.of(piece.shape(number)).take(MOST_ALIKE).collect();
         for other in alike {
@@ -284,8 +288,8 @@ impl<'a> Joiner<'a> {
         }
     }
 
-    /// Whether a new type, and all that it names, are the same as known ones; if so these are found.
-    /// Where two differ, so do all on the way to them: none of these is compared again.
+    /// Whether a new type and all that it refers to equal known types; if so, they are identified.
+    /// If two types differ, so do all on the way to them, which are not compared again.
     fn is_alike(&self, piece: &Piece<'a>, number: u32, other: u32, found: &mut Identities) -> bool {
         found.pairs[number as usize] = other;
         let mut met = vec![(number, 0)];
@@ -325,7 +329,7 @@ impl<'a> Joiner<'a> {
         differs.is_none()
     }
 
-    /// Finds a type, and before it all that it names, among those that are known.
+    /// Identifies a type, after all types that it refers to.
     fn look_up(&self, piece: &Piece<'a>, number: u32, found: &mut Identities, fresh: &mut Chains) {
         const BEGUN: u32 = u32::MAX;
         let mut todo = vec![number];
@@ -347,7 +351,7 @@ impl<'a> Joiner<'a> {
         }
     }
 
-    /// A type whose references are found.
+    /// Identifies a type whose references are identified.
     fn of_record(
         &self,
         piece: &Piece<'a>,
@@ -380,7 +384,7 @@ impl<'a> Joiner<'a> {
     }
 }
 
-/// Types in the order of their turns, and for each, 0 too, its place in that, from 1 on.
+/// The types in the order of their turns, and the new number of each old one, including 0.
 fn order_of_turns(turn: &[u64]) -> (Vec<u32>, Vec<u32>) {
     let mut order: Vec<u32> = (1..=turn.len() as u32).collect();
     order.sort_by_key(|&n| turn[n as usize - 1]);
@@ -391,12 +395,12 @@ fn order_of_turns(turn: &[u64]) -> (Vec<u32>, Vec<u32>) {
     (order, to)
 }
 
-/// Two numbers as one.
+/// A pair of numbers as one number.
 fn pair(one: u32, other: u32) -> u64 {
     u64::from(one) << 32 | u64::from(other)
 }
 
-/// Pairs what two types name; false where that differs.
+/// Pairs the references of two types. Returns false if they differ.
 fn pair_all(
     mine: &Record<'_>,
     theirs: &Record<'_>,

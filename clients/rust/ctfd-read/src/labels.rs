@@ -1,13 +1,13 @@
-//! What a dictionary says of itself by its labels, and of its parent by the label of that.
+//! The labels by which dictionaries describe themselves and their parents.
 //!
-//! Labels are names that a tool leaves in a dictionary; they change nothing of its types:
+//! A label is a name that a tool leaves in a dictionary; it does not change the types.
 //!
-//! - `ctfd.model=ilp32`: the data model of the program, where that is not lp64.
-//! - `ctfd.symbols=TABLE,OBJECTS,FUNCTIONS,CHECKSUM`: which symbols the entries of functions and
-//!   objects go by. Where TABLE is `names`, the names stand behind the label in the strings, each
-//!   with its zero byte, objects before functions.
-//! - the parent's label of a child, `ctfd.types=CHECKSUM`: the CRC-32 of the parent's types and
-//!   names, as they stand in its section.
+//! - `ctfd.model=ilp32`: the data model of the program, unless it is lp64.
+//! - `ctfd.symbols=TABLE,OBJECTS,FUNCTIONS,CHECKSUM`: the symbols that the entries of functions and
+//!   objects belong to. If TABLE is `names`, their names follow the label in the strings, each with
+//!   its zero byte, objects before functions.
+//! - the label of a child's parent, `ctfd.types=CHECKSUM`: the CRC-32 of the parent's types and
+//!   names, as they are in its section.
 
 use crate::bytes::Names;
 use crate::ctf::Sections;
@@ -31,11 +31,11 @@ pub fn model_word(model: Model) -> &'static str {
     }
 }
 
-/// The text of the first label of a dictionary that begins with a word, without that word, and what
-/// stands behind it among the names.
+/// The text of the first label that begins with `word`, without this word, and the names that
+/// follow the label.
 fn text_behind<'a>(sections: &Sections<'a>, word: &str) -> Option<(&'a [u8], &'a [u8])> {
     let names = Names(sections.names);
-    // Of those that could name a text without an end, none is looked at to its end.
+    // So no search for the end of a name can fail, however many labels there are.
     if sections.names.last() != Some(&0) {
         return None;
     }
@@ -57,7 +57,7 @@ fn text_behind<'a>(sections: &Sections<'a>, word: &str) -> Option<(&'a [u8], &'a
     None
 }
 
-/// The data model that a dictionary names.
+/// The data model in a dictionary's label.
 pub fn model(sections: &Sections<'_>) -> Option<Model> {
     match text_behind(sections, MODEL)?.0 {
         text if text == ILP32.as_bytes() => Some(Model::Ilp32),
@@ -66,7 +66,7 @@ pub fn model(sections: &Sections<'_>) -> Option<Model> {
     }
 }
 
-/// The symbols that a dictionary names.
+/// The symbols in a dictionary's label.
 pub fn symbols(sections: &Sections<'_>) -> Option<Identity> {
     let text = std::str::from_utf8(text_behind(sections, SYMBOLS)?.0).ok()?;
     let words: Vec<&str> = text.split(',').collect();
@@ -79,7 +79,7 @@ pub fn symbols(sections: &Sections<'_>) -> Option<Identity> {
     })
 }
 
-/// The symbols whose names a dictionary has itself, if it has them all.
+/// The symbols whose names the dictionary itself has; `None` unless it has all of them.
 pub fn own_symbols<'a>(sections: &Sections<'a>) -> Option<Symbols<'a>> {
     let wanted = symbols(sections).filter(|one| one.table == SymbolTable::Names)?;
     let (_, behind) = text_behind(sections, SYMBOLS)?;
@@ -98,12 +98,12 @@ pub fn own_symbols<'a>(sections: &Sections<'a>) -> Option<Symbols<'a>> {
     (found.identity() == wanted).then_some(found)
 }
 
-/// The label of a data model, none where that is what a dictionary without one is of.
+/// The label of a data model; `None` for the one that a dictionary without a label has.
 pub fn of_model(model: Model) -> Option<Vec<u8>> {
     matches!(model, Model::Ilp32).then(|| format!("{MODEL}{ILP32}").into_bytes())
 }
 
-/// The label of symbols, with the names behind it where these are the dictionary's own.
+/// The label of symbols, followed by their names if the dictionary is to have them.
 pub fn of_symbols(symbols: &Symbols<'_>) -> Vec<u8> {
     let Identity { table, objects, functions, checksum } = symbols.identity();
     let table = table.word();
@@ -117,7 +117,7 @@ pub fn of_symbols(symbols: &Symbols<'_>) -> Vec<u8> {
     label
 }
 
-/// The label by which a child names its parent.
+/// The label by which a child identifies its parent.
 pub fn of_types(sections: &Sections<'_>) -> Vec<u8> {
     let mut crc = Crc::new();
     crc.update(sections.types);
@@ -125,7 +125,8 @@ pub fn of_types(sections: &Sections<'_>) -> Vec<u8> {
     format!("{TYPES}{:08x}", crc.sum()).into_bytes()
 }
 
-/// Why a dictionary is not the parent that a child names by a label; None where it may be.
+/// The reason why a dictionary is not the parent that a child's label identifies; `None` if it may
+/// be.
 pub fn not_its_parent(label: &[u8], of_parent: &[u8]) -> Option<&'static str> {
     (label.starts_with(TYPES.as_bytes()) && label != of_parent).then_some(
         "its types are not those that the child was made over: name the parent's file of that day, \
@@ -133,7 +134,7 @@ pub fn not_its_parent(label: &[u8], of_parent: &[u8]) -> Option<&'static str> {
     )
 }
 
-/// Whether a label is one that is made anew with each dictionary.
+/// Whether a label is written anew with each dictionary.
 pub fn is_own(label: &[u8]) -> bool {
     [MODEL, SYMBOLS].iter().any(|word| label.starts_with(word.as_bytes()))
         && label.starts_with(PREFIX.as_bytes())

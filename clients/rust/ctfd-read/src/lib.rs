@@ -1,10 +1,10 @@
-//! The types of C programs from their debug information, as CTF dictionaries.
+//! Reads the types of C programs from their debug information, and makes CTF dictionaries.
 //!
-//! [`inputs::with_types`] reads a file of any form. The units of debug information are read many at
-//! a time by [`gimli`] and [`rayon`], each into records of its own; `join` makes one table of them,
-//! in which each type stands once, and `limits` makes that say no more than CTF holds.
-//! [`dictionary`] makes a dictionary of it, alone or over a parent, whose bytes `section` writes
-//! and the library of this project, which is proved, opens before anybody gets them.
+//! [`inputs::with_types`] reads a file of any form. [`gimli`] and [`rayon`] read the units of debug
+//! information in parallel, each into records of its own; `join` makes one table of them, without
+//! duplicates, and `limits` reduces it to what CTF can represent. [`dictionary`] makes a dictionary
+//! of the table, alone or over a parent. `section` writes its bytes, which the proved library of
+//! this project opens before anybody gets them.
 
 mod archive;
 pub mod baseline;

@@ -1,4 +1,4 @@
-//! What CTF of version 2 holds of a table, and what is told of the rest.
+//! Reduces a table to what CTF version 2 can represent, and records the losses.
 
 use crate::table::{Encoding, Kind, Member, Name, Parts, Record, Table};
 use std::borrow::Cow;
@@ -9,7 +9,7 @@ const MOST_PARTS: usize = 1023;
 const MOST_COUNT: u64 = 0xffff_ffff;
 const DEEPEST: usize = 512;
 
-/// Makes a table say no more than CTF holds, with the losses told.
+/// Reduces a table to what CTF can represent, and records the losses.
 pub fn fit(table: &mut Table<'_>) {
     let mut widths = Widths::default();
     for number in 1..=table.len() {
@@ -36,7 +36,7 @@ pub fn fit(table: &mut Table<'_>) {
     functions.iter_mut().flatten().for_each(|one| function(losses, one));
 }
 
-/// Whether CTF holds a type as it is.
+/// Whether CTF can represent a type as it is.
 fn fits(record: &Record<'_>) -> bool {
     match record.kind {
         Kind::Struct | Kind::Union => {
@@ -55,12 +55,12 @@ fn fits(record: &Record<'_>) -> bool {
     }
 }
 
-/// How many arguments of a function CTF holds.
+/// The number of arguments that CTF can hold for a function.
 fn argument_room(record: &Record<'_>) -> usize {
     MOST_PARTS - usize::from(record.varargs)
 }
 
-/// The values of an enum that CTF holds.
+/// The enumerator values that CTF can hold for an enum.
 fn values_held(record: &Record<'_>) -> Range<i128> {
     -(1 << 31)..if record.size == 4 { 1 << 32 } else { 1 << 31 }
 }
@@ -149,7 +149,7 @@ fn aggregate<'a>(table: &mut Table<'a>, record: &mut Record<'a>, widths: &mut Wi
     }
 }
 
-/// Puts members that are too many in unnamed structs or unions of which each is as large.
+/// Moves members beyond the limit to unnamed structs or unions, each as large as the whole.
 fn nest<'a>(table: &mut Table<'a>, record: &mut Record<'a>) {
     let mut groups = Vec::new();
     for some in record.members().chunks(MOST_PARTS) {
@@ -163,7 +163,7 @@ fn nest<'a>(table: &mut Table<'a>, record: &mut Record<'a>) {
     record.parts = Parts::Members(groups.into());
 }
 
-/// The types of bit-fields, each made once: typedefs may lie deep, and members are many.
+/// The types of bit-fields. Each is made only once, since typedefs may be deep, and members many.
 #[derive(Default)]
 struct Widths {
     narrowed: HashMap<(u32, u64), u32>,
@@ -171,8 +171,8 @@ struct Widths {
 }
 
 impl Widths {
-    /// A bit-field gets a type of its width, all others stay. One as wide as its type gets a hidden
-    /// copy of that, by which it is known.
+    /// Gives a bit-field a type of its width; other members are unchanged. If it is as wide as its
+    /// type, it gets a hidden copy of that, which marks it as a bit-field.
     fn member(&mut self, table: &mut Table<'_>, whole: &str, member: &mut Member<'_>) {
         let Some(width) = member.width.take().map(u64::from) else { return };
         let end = table.resolve(member.of);
@@ -196,7 +196,7 @@ impl Widths {
         member.of = self.narrow(table, member.of, width);
     }
 
-    /// A type, its typedefs and qualifiers kept, with an integer of fewer bits at their end.
+    /// The type, with its typedefs and qualifiers, over an integer of the given width.
     fn narrow(&mut self, table: &mut Table<'_>, number: u32, width: u64) -> u32 {
         let mut passed = Vec::new();
         let mut at = number;
@@ -236,7 +236,7 @@ impl Widths {
         made
     }
 
-    /// The type of a record, added where no call of this has added it.
+    /// The type with a record. It is added unless an earlier call has added it.
     fn once<'a>(&mut self, table: &mut Table<'a>, record: Record<'a>) -> u32 {
         let listed = self.made.entry(record.shape()).or_default();
         if let Some(&known) = listed.iter().find(|&&n| *table.get(n) == record) {
@@ -248,7 +248,7 @@ impl Widths {
     }
 }
 
-/// The bytes of a type; None where it has no size.
+/// The size of a type in bytes; `None` if it has none.
 fn size_of(table: &Table<'_>, mut number: u32) -> Option<u64> {
     let mut count: u64 = 1;
     for _ in 0..=table.len() {
@@ -270,7 +270,7 @@ fn size_of(table: &Table<'_>, mut number: u32) -> Option<u64> {
     None
 }
 
-/// A type as C spells it in a cast, the arguments of functions left out.
+/// The type as C spells it in a cast, without the arguments of functions.
 fn spelling(table: &Table<'_>, mut number: u32) -> String {
     let (mut left, mut right) = (String::new(), String::new());
     let mut before: Vec<&str> = Vec::new();

@@ -1,15 +1,15 @@
-//! Types that say the same become one: those that no walk along their references tells apart.
+//! Merges equal types: those that no walk along their references tells apart.
 //!
-//! All types that look alike are taken for one, until their references tell them apart. Of a class
-//! that falls into parts the largest keeps its color, so that what is looked at in all is the
-//! references, times the logarithm of their number.
+//! Types that look alike begin in one class, which is divided if their references differ. The
+//! largest part of a divided class keeps its color, so the total work is the number of references
+//! times its logarithm.
 
 use crate::hashed::{Map, Set};
 use crate::table::{Kind, Record, Table};
 use smallvec::SmallVec;
 use std::hash::{Hash, Hasher};
 
-/// How often forwards are resolved anew, since those of a tag turned out to be of several types.
+/// How many times forwards are resolved again, after a tag turned out to have several types.
 const MOST_ROUNDS: u32 = 8;
 
 type Tag<'t> = (Kind, &'t [u8]);
@@ -18,9 +18,9 @@ fn tag<'t>(record: &'t Record<'_>) -> Tag<'t> {
     (record.tag, &record.name)
 }
 
-/// Keeps each type once, in the order of their first copies. A forward is the struct, union or enum
-/// of its tag where the table has just one. The first `fixed` types, those of a parent, all stay as
-/// they are.
+/// Keeps each type once, in the order of their first copies. A forward is merged with the struct,
+/// union or enum of its tag if the table has only one. The first `fixed` types, those of a parent,
+/// stay as they are.
 pub fn merge(table: &mut Table<'_>, fixed: u32) {
     let mut resolved = definitions(table);
     for number in 1..=fixed {
@@ -49,7 +49,7 @@ pub fn merge(table: &mut Table<'_>, fixed: u32) {
     name_once(table, fixed);
 }
 
-/// For each type itself, but for a forward the first type of its tag that is declared in full.
+/// For each type its own number; for a forward, that of the first definition of its tag.
 fn definitions(table: &Table<'_>) -> Vec<u32> {
     let mut full: Map<Tag<'_>, u32> = Map::default();
     for (place, record) in table.records.iter().enumerate() {
@@ -69,7 +69,7 @@ fn definitions(table: &Table<'_>) -> Vec<u32> {
     resolved
 }
 
-/// The tags that forwards were resolved by though several types have them.
+/// The tags by which forwards were resolved, but which several types have.
 fn ambiguous<'t>(table: &'t Table<'_>, colors: &[u32], resolved: &[u32]) -> Set<Tag<'t>> {
     let is_resolved = |n: usize| resolved[n] != n as u32;
     let numbers = 1..resolved.len();
@@ -86,7 +86,8 @@ fn ambiguous<'t>(table: &'t Table<'_>, colors: &[u32], resolved: &[u32]) -> Set<
     several
 }
 
-/// A color for each number, 0 too, that two have in common just where they are the same.
+/// A color for each number, including 0. Two numbers have the same color exactly if their types are
+/// equal.
 fn colors(table: &Table<'_>, resolved: &[u32]) -> Vec<u32> {
     let named = Edges::references(table, resolved);
     let named_by = named.reverse();
@@ -118,7 +119,7 @@ fn colors(table: &Table<'_>, resolved: &[u32]) -> Vec<u32> {
     colors
 }
 
-/// The numbers of each color; none of a color that one number has alone, since it is not divided.
+/// The numbers of each color; empty for a color with a single number, which is never divided.
 fn classes(colors: &[u32], count: usize) -> Vec<Set<u32>> {
     let mut sizes = vec![0; count];
     colors.iter().for_each(|&color| sizes[color as usize] += 1);
@@ -131,14 +132,14 @@ fn classes(colors: &[u32], count: usize) -> Vec<Set<u32>> {
     classes
 }
 
-/// For each number some others, one behind the other.
+/// Lists of numbers, one for each number.
 struct Edges {
     ends: Vec<u32>,
     listed: Vec<u32>,
 }
 
 impl Edges {
-    /// What each type names.
+    /// The references of each type.
     fn references(table: &Table<'_>, resolved: &[u32]) -> Edges {
         let mut made = Edges { ends: vec![0], listed: Vec::new() };
         for record in &table.records {
@@ -148,7 +149,7 @@ impl Edges {
         made
     }
 
-    /// For each number those that it is among the others of.
+    /// The inverse: for each number, the numbers whose lists contain it.
     fn reverse(&self) -> Edges {
         let mut ends = vec![0; self.ends.len()];
         self.listed.iter().for_each(|&n| ends[n as usize] += 1);
@@ -172,7 +173,7 @@ impl Edges {
     }
 }
 
-/// A type without what it names, and without who sees it.
+/// A type without its references, and without whether look-ups find it.
 struct Shape<'t, 'a>(&'t Record<'a>);
 
 impl PartialEq for Shape<'_, '_> {
@@ -189,10 +190,11 @@ impl Hash for Shape<'_, '_> {
     }
 }
 
-/// The colors of what a type names: most name one other.
+/// The colors of a type's references. Most types have one.
 type Names = SmallVec<[u32; 4]>;
 
-/// Those that may differ now, by their class, and in that by the colors of what they name.
+/// The types that may differ now, by their classes, and within these by the colors of their
+/// references.
 fn parts(changed: &[u32], named: &Edges, colors: &[u32]) -> Vec<(u32, Vec<Vec<u32>>)> {
     let mut by_class: Map<u32, (usize, Map<Names, usize>)> = Map::default();
     let mut made: Vec<(u32, Vec<Vec<u32>>)> = Vec::new();
@@ -213,8 +215,9 @@ fn parts(changed: &[u32], named: &Edges, colors: &[u32]) -> Vec<(u32, Vec<Vec<u3
     made
 }
 
-/// Gives all parts of a class but the largest colors of their own. What was not looked at is a part
-/// too: it names nothing whose color is new, as all others do.
+/// Gives all parts of a class but the largest new colors. The types that were not looked at are a
+/// part too: none of their references has a new color, while each of the others has such a
+/// reference.
 fn fall_apart(
     color: u32,
     mut parts: Vec<Vec<u32>>,
@@ -258,13 +261,13 @@ fn one_of_each(table: &mut Table<'_>, colors: &[u32], resolved: &[u32], fixed: u
         }
     }
     let to: Vec<u32> = resolved.iter().map(|&n| first[&colors[n as usize]]).collect();
-    // Those of a parent stay as they are, whatever they name.
+    // The types of a parent stay as they are, whatever they refer to.
     let parents: Vec<Record<'_>> = table.records[..fixed as usize].to_vec();
     table.choose(&order, &to);
     table.records.splice(..fixed as usize, parents);
 }
 
-/// Of several types of a name the first that is declared in full is found by it.
+/// If several types have a name, lets look-ups find only the first that is defined.
 pub fn name_once(table: &mut Table<'_>, fixed: u32) {
     let mut best: Map<Tag<'_>, usize> = Map::default();
     let mut hidden = Vec::new();

@@ -1,13 +1,13 @@
-//! The names that are nearest to one that was not found.
+//! Suggestions: the names that are nearest to one that was not found.
 
 use std::collections::HashSet;
 
-/// How many are offered.
+/// The most suggestions.
 const MOST: usize = 3;
-/// How alike two names are at least, of 1 for the same.
+/// The least likeness of a suggestion; 1 for equal names.
 const LEAST: f64 = 0.6;
 
-/// A name without the word in front.
+/// A name without struct, union or enum.
 fn without_word(name: &str) -> &str {
     match name.split_once(' ') {
         Some(("struct" | "union" | "enum", rest)) => rest.trim(),
@@ -15,14 +15,14 @@ fn without_word(name: &str) -> &str {
     }
 }
 
-/// How alike two names are; a word in front counts where both have one.
+/// The likeness of two names. The words struct, union and enum count only if both have one.
 fn likeness(name: &str, other: &str) -> f64 {
     let other = if without_word(name) == name { without_word(other) } else { other };
     strsim::normalized_damerau_levenshtein(name, other)
 }
 
-/// Words for a message: `; did you mean a, b or c?`, or none where nothing is near. First come names of
-/// the same letters under another word, then those that differ in few.
+/// The end of a message: `; did you mean a, b or c?`, or nothing if no name is near. Names that
+/// differ only in struct, union or enum come first, then those that differ in few letters.
 pub fn suggestion(name: &str, names: impl Iterator<Item = String>) -> String {
     let mut met = HashSet::new();
     let known: Vec<String> = names.filter(|one| met.insert(one.clone())).collect();

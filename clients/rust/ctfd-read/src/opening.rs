@@ -1,5 +1,5 @@
-//! What the library is given for a file: its dictionary as it is, or one that is made of its types,
-//! and the symbols that go with it.
+//! The input of the library for a file: its own dictionary, or one made from its types, and the
+//! symbols that go with it.
 
 use crate::archive::{has_dictionaries, members};
 use crate::beyond::Beyond;
@@ -25,37 +25,38 @@ use object::{Endianness, Object as _, ObjectSection as _, SectionFlags, SectionI
 use std::borrow::Cow;
 use std::path::PathBuf;
 
-/// The sections that have a dictionary.
+/// The sections that may have a dictionary.
 pub const SECTIONS: [&str; 2] = [".SUNW_ctf", ".ctf"];
-/// Those with types of a form that is read, but for DWARF, and of a file whose types are converted.
+/// The sections with types of any form but DWARF, and the sections of files whose types can be
+/// converted.
 const TYPES: [&str; 3] = [".SUNW_ctf", ".ctf", ".BTF"];
 const OTHERS: [&str; 4] = [".debug_info", ".zdebug_info", ".gnu_debuglink", ".BTF"];
 
-/// How the symbols that go with a dictionary were found.
+/// How the symbols for a dictionary were found.
 #[derive(Clone, Copy, Debug, PartialEq, Eq)]
 pub enum Origin {
-    /// There are none.
+    /// No symbols.
     None,
-    /// They are those that the dictionary says that it was written for.
+    /// The dictionary's label names them.
     Named,
-    /// The section with the dictionary names them.
+    /// The section with the dictionary links to them.
     Linked,
-    /// They are those of `.symtab`, which may not be those that the dictionary was written for.
+    /// They are those of `.symtab`, for which the dictionary may not have been written.
     Guessed,
-    /// The caller has handed them in.
+    /// The caller passed them.
     Given,
-    /// Those that were guessed do not fit.
+    /// They were guessed, and do not fit.
     Refused,
-    /// Those of the file are no longer those that the dictionary was written for.
+    /// The file no longer has the symbols that the dictionary was written for.
     Differs,
-    /// Those that it was written for were stripped from the file.
+    /// The symbols that the dictionary was written for were stripped from the file.
     Stripped,
-    /// They are of 32 bits.
+    /// They have 32 bits.
     Unread,
 }
 
 impl Origin {
-    /// The word for it.
+    /// The word for the origin.
     pub fn word(self) -> &'static str {
         match self {
             Origin::None => "none",
@@ -70,7 +71,7 @@ impl Origin {
         }
     }
 
-    /// What a user should know of symbols that were found so.
+    /// A warning for the user on such symbols; empty if there is none.
     pub fn warning(self) -> &'static str {
         match self {
             Origin::Guessed => {
@@ -98,27 +99,27 @@ impl Origin {
     }
 }
 
-/// What the library is given for a file.
+/// The input of the library for a file.
 pub struct LibraryInput<'a> {
-    /// The dictionary, inflated.
+    /// The dictionary, decompressed.
     pub ctf: Cow<'a, [u8]>,
-    /// A symbol table of ELF64.
+    /// The symbol table, in the form of ELF64.
     pub symbols: Option<Cow<'a, [u8]>>,
-    /// Its strings, where names of the dictionary may stand too.
+    /// Its strings. Names of the dictionary may be in them too.
     pub strings: Option<Cow<'a, [u8]>>,
-    /// How these were found.
+    /// How the symbols were found.
     pub origin: Origin,
-    /// The data model, where something tells it.
+    /// The data model, if it is known.
     pub model: Option<Model>,
-    /// Whether the dictionary was made here.
+    /// Whether the dictionary was made from other types.
     pub is_made: bool,
-    /// What CTF does not hold of the file, a line each.
+    /// What CTF cannot represent, one line for each loss.
     pub losses: Vec<String>,
-    /// The same as far as it can be said, where that was asked for.
+    /// The facts about the file's types that the dictionary lacks, if they were asked for.
     pub beyond: Option<Beyond>,
-    /// In which source files its types are defined, where that was asked for.
+    /// The source files that define the types, if they were asked for.
     pub sources: SourceFiles,
-    /// The children of a program in parts, of which this is the parent.
+    /// The children, if this is the parent of a program in parts.
     pub children: Vec<LibraryInput<'a>>,
 }
 
@@ -138,7 +139,7 @@ impl<'a> LibraryInput<'a> {
         }
     }
 
-    /// The same, which borrows nothing.
+    /// Copies what is borrowed.
     pub fn into_owned(self) -> LibraryInput<'static> {
         let owned = |bytes: Cow<'a, [u8]>| Cow::Owned(bytes.into_owned());
         LibraryInput {
@@ -155,7 +156,7 @@ impl<'a> LibraryInput<'a> {
         }
     }
 
-    /// The dictionary alone, without symbols, and its children so.
+    /// The dictionary and its children, without symbols.
     pub fn without_symbols(&self) -> LibraryInput<'_> {
         LibraryInput {
             model: self.model,
@@ -165,7 +166,7 @@ impl<'a> LibraryInput<'a> {
         }
     }
 
-    /// Whether a dictionary has names of symbols that are not handed in yet, as `add_names` does.
+    /// Whether a dictionary has names of symbols that `add_names` would add.
     pub fn has_more_names(&self) -> bool {
         let is_bare = self.symbols.is_none() && self.origin == Origin::None;
         let has_names = is_bare
@@ -176,7 +177,7 @@ impl<'a> LibraryInput<'a> {
         has_names || self.children.iter().any(LibraryInput::has_more_names)
     }
 
-    /// Hands in the symbols whose names the dictionaries have themselves.
+    /// Adds the symbols whose names the dictionaries themselves have.
     pub fn add_names(&mut self) {
         let own = Sections::of(&self.ctf).ok().and_then(|sections| {
             labels::own_symbols(&sections).map(|symbols| symbols.made_table())
@@ -191,7 +192,7 @@ impl<'a> LibraryInput<'a> {
         }
     }
 
-    /// What is handed in with the dictionary.
+    /// The options for opening the dictionary with the library.
     pub fn options(&self) -> ctfd::Options<'_> {
         ctfd::Options {
             symbols: self.symbols.as_deref(),
@@ -201,49 +202,49 @@ impl<'a> LibraryInput<'a> {
     }
 }
 
-/// Whether an ELF file has a section for a dictionary that has bytes.
+/// Whether an ELF file has a section for a dictionary, with bytes in the file.
 pub fn has_dictionary(image: &Image) -> bool {
     let Ok(file) = image.elf() else { return false };
     let mut listed = SECTIONS.iter().filter_map(|name| file.section_by_name(name));
     listed.any(|section| section.file_range().is_some())
 }
 
-/// The data model that a dictionary names.
+/// The data model in a dictionary's label.
 pub fn model_named(ctf: &[u8]) -> Option<Model> {
     Sections::of(ctf).ok().and_then(|sections| labels::model(&sections))
 }
 
-/// A dictionary with its sections compressed, as CTF has it; as it is where that takes no fewer bytes.
+/// Compresses a dictionary, unless that takes as many bytes.
 pub fn deflate(ctf: &[u8]) -> Result<Cow<'_, [u8]>> {
     let packed = ctf::deflate(ctf)?;
     Ok(if packed.len() < ctf.len() { packed.into() } else { ctf.into() })
 }
 
-/// The label by which a child names a dictionary as its parent; None of one that is cut off.
+/// The label by which a child identifies this dictionary as its parent; `None` if it is cut off.
 pub fn label_of_parent(ctf: &[u8]) -> Option<Vec<u8>> {
     Sections::of(ctf).ok().map(|sections| labels::of_types(&sections))
 }
 
-/// Why a dictionary is not the parent that a child names; None where it may be.
+/// The reason why a dictionary is not the parent that a child names; `None` if it may be.
 pub fn why_not_parent(child: &ctfd::Dictionary<'_>, parent: &[u8]) -> Option<&'static str> {
     let sections = Sections::of(parent).ok()?;
     let of_parent = labels::of_types(&sections);
     child.is_child().then(|| labels::not_its_parent(&child.parent_label(), &of_parent)).flatten()
 }
 
-/// The symbol table of an ELF file, and its strings.
+/// The symbol table of an ELF file and its strings: `.symtab` or else `.dynsym`.
 pub fn table_of_program(image: &Image) -> Option<(&[u8], &[u8])> {
     let listed = |table| elf::symbol_lists(image, table).filter(|(symbols, _)| !symbols.is_empty());
     listed(SymbolTable::Symtab).or_else(|| listed(SymbolTable::Dynsym))
 }
 
-/// The file that has the debug information of another; None where that has it itself.
+/// The file with the debug information of another file; `None` if that has it itself.
 pub fn debug_file_of(image: &Image, folders: &[PathBuf]) -> Result<Option<Image>> {
     let found = elf::debug_file(image, folders);
     Ok(found.map_err(|error| error.of(image.path().display()))?.debug)
 }
 
-/// What the library is given for a file: its own dictionary, or one that is made of its types.
+/// The input of the library for a file: its own dictionary, or one made from its types.
 pub fn library_input<'a>(image: &'a Image, options: &Options) -> Result<LibraryInput<'a>> {
     match own_or_found(image, options)? {
         Some(found) => Ok(found),
@@ -254,8 +255,8 @@ pub fn library_input<'a>(image: &'a Image, options: &Options) -> Result<LibraryI
     }
 }
 
-/// The dictionary of a file, or what is given for the file that has its types by build-id, where it
-/// has none itself.
+/// The dictionary of a file. If it has no types, that of a file found by its build-id; `None` if
+/// there is none either.
 fn own_or_found<'a>(image: &'a Image, options: &Options) -> Result<Option<LibraryInput<'a>>> {
     if let Some(found) = own_dictionary(image, options)? {
         return Ok(Some(found));
@@ -270,14 +271,14 @@ fn own_or_found<'a>(image: &'a Image, options: &Options) -> Result<Option<Librar
     Ok(Some(library_input(&found, &options)?.into_owned()))
 }
 
-/// Whether an ELF file has types itself.
+/// Whether an ELF file itself has types.
 fn has_types(image: &Image) -> Result<bool> {
     let file = image.elf()?;
     Ok(TYPES.iter().any(|name| file.section_by_name(name).is_some()) || elf::has_debug(&file))
 }
 
-/// The same; of a program that strip has left no symbols but those that it exports, with those that
-/// it had before and their addresses, where its debug file has them.
+/// As [`library_input`]. If strip has left a program only the symbols that it exports, the result
+/// has its former symbols with their addresses, if the debug file has them.
 pub fn handed_before_strip<'a>(image: &'a Image, options: &Options) -> Result<LibraryInput<'a>> {
     let is_stripped = symbols_before_strip(image).is_some();
     match own_or_found(image, options)? {
@@ -290,7 +291,7 @@ pub fn handed_before_strip<'a>(image: &'a Image, options: &Options) -> Result<Li
     }
 }
 
-/// The dictionary of a file, unless it has other types that are wanted.
+/// The dictionary of a file, unless the file has other types that are wanted.
 fn own_dictionary<'a>(image: &'a Image, options: &Options) -> Result<Option<LibraryInput<'a>>> {
     let is_plain = matches!(options.form, None | Some(Form::Ctf)) && options.base.is_none();
     if is_plain && !image.is_elf() && has_dictionaries(image.all()?) {
@@ -306,7 +307,7 @@ fn own_dictionary<'a>(image: &'a Image, options: &Options) -> Result<Option<Libr
     Ok(None)
 }
 
-/// The dictionary of a file as it is; None where the file has none of version 2.
+/// The dictionary of a file; `None` if it has none of version 2.
 pub fn dictionary_of<'a>(
     image: &'a Image,
     number: Option<usize>,
@@ -329,13 +330,13 @@ pub fn dictionary_of<'a>(
     Ok(Some(LibraryInput { model, ..LibraryInput::of_dictionary(ctf) }))
 }
 
-/// The dictionaries of a program in parts, as `ctfd-convert` writes them; None of other files.
+/// The dictionaries of a program in parts, as `ctfd-convert` writes them; `None` for other files.
 pub fn parts_of(image: &Image) -> Result<Option<LibraryInput<'_>>> {
     let is_archive = !image.is_elf() && has_dictionaries(image.all()?);
     is_archive.then(|| in_archive(image, &Options::default())).transpose()
 }
 
-/// The dictionaries of an archive, as `ctfd-convert` writes them of a program in parts.
+/// The dictionaries of an archive, as `ctfd-convert` writes it for a program in parts.
 fn in_archive<'a>(image: &'a Image, options: &Options) -> Result<LibraryInput<'a>> {
     let path = image.path().display();
     if options.number.is_some() {
@@ -359,7 +360,7 @@ fn in_archive<'a>(image: &'a Image, options: &Options) -> Result<LibraryInput<'a
     Ok(made)
 }
 
-/// Whether an ELF file has types beside those of its dictionary.
+/// Whether an ELF file has types besides those of its dictionary.
 pub(crate) fn has_others(image: &Image) -> bool {
     let file = image.is_elf().then(|| image.elf().ok()).flatten();
     file.is_some_and(|file| OTHERS.iter().any(|name| file.section_by_name(name).is_some()))
@@ -409,7 +410,7 @@ fn in_elf<'a, F: FileHeader<Endian = Endianness>>(
     Ok(Some(made))
 }
 
-/// Adds the symbols that a dictionary says that it was written for, if its file has them.
+/// Adds the symbols that the dictionary's label names, if its file has them.
 fn add_named<'a>(made: &mut LibraryInput<'a>, image: &'a Image, table: SymbolTable) -> Result<()> {
     if table == SymbolTable::Names {
         made.add_names();
@@ -434,8 +435,8 @@ fn add_named<'a>(made: &mut LibraryInput<'a>, image: &'a Image, table: SymbolTab
     Ok(())
 }
 
-/// Adds the symbol table and strings of a section whose dictionary says nothing of them. What strip
-/// leaves in .dynsym is never taken for .symtab.
+/// Adds the symbol table and strings of a section whose dictionary has no label for them. What
+/// strip leaves in .dynsym is never taken for .symtab.
 fn add_unnamed<'a, F: FileHeader<Endian = Endianness>>(
     made: &mut LibraryInput<'a>,
     data: Data<'a>,
@@ -476,7 +477,7 @@ fn add_unnamed<'a, F: FileHeader<Endian = Endianness>>(
     Ok(())
 }
 
-/// A dictionary that is made of a file's types.
+/// Makes a dictionary from the types of a file.
 fn convert<'a>(image: &'a Image, options: &Options) -> Result<LibraryInput<'a>> {
     let is_ilp32 = image.is_elf() && !image.elf()?.is_64();
     with_types(image, options, |found| {
@@ -501,7 +502,7 @@ fn convert<'a>(image: &'a Image, options: &Options) -> Result<LibraryInput<'a>> 
         };
         let has_places = dictionary.symbols.listed.iter().any(|one| one.address != 0);
         if dictionary.has_label() && table == SymbolTable::Names && !has_places {
-            return Ok(made); // their names stand in it
+            return Ok(made); // the dictionary has the names
         }
         let lists = match is_ilp32 {
             true => None,
@@ -558,7 +559,7 @@ fn in_parts<'a>(
     Ok(made)
 }
 
-/// Types as CTF holds them, and all that the file says of them, where CTF does not hold that.
+/// Reduces types to what CTF can represent. Also returns the full types if that lost anything.
 fn fit_to_ctf<'a>(found: ProgramTypes<'a>) -> (ProgramTypes<'a>, Option<Table<'a>>) {
     let full = found.table.clone();
     let mut found = found;
@@ -569,7 +570,7 @@ fn fit_to_ctf<'a>(found: ProgramTypes<'a>) -> (ProgramTypes<'a>, Option<Table<'a
     (found, has_losses.then_some(full))
 }
 
-/// The symbol table by which entries are to go: what is exported, where strip has left nothing else.
+/// The symbol table for the entries: `.dynsym` if strip has left nothing else.
 fn table_wanted(image: &Image) -> Result<SymbolTable> {
     if !image.is_elf() {
         return Ok(SymbolTable::Symtab);

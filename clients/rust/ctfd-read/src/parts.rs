@@ -1,5 +1,5 @@
-//! A program with more types than a dictionary holds, as several in one file: an archive with a
-//! parent and its children.
+//! Writes a program with more types than a dictionary holds to one file, as several dictionaries:
+//! an archive with a parent and its children.
 
 use crate::archive::{self, child_name, PARENT};
 use crate::dictionary::{keep_described, Dictionary, WithParent};
@@ -12,13 +12,13 @@ use crate::table::Table;
 use std::borrow::Cow;
 use std::path::Path;
 
-/// What is written of a program in parts.
+/// The parts of a program.
 pub struct WrittenParts<'a> {
     /// The file.
     pub bytes: Vec<u8>,
-    /// The types of all parts, as one that is not written, with the losses.
+    /// The types of all parts as one dictionary, which is not written, with the losses.
     pub whole: Dictionary<'a>,
-    /// How many types the parent has, and each child beside them.
+    /// The number of types of the parent, then those of each child.
     pub counts: Vec<usize>,
 }
 
@@ -32,7 +32,7 @@ impl WrittenParts<'_> {
     }
 }
 
-/// The dictionaries of a table, each checked by the library, in one file.
+/// Spreads a table over dictionaries in one file. The library checks each of them.
 pub fn write<'a>(
     mut table: Table<'a>,
     symbols: Symbols<'a>,
@@ -59,7 +59,7 @@ pub fn write<'a>(
     Ok(WrittenParts { bytes, whole, counts })
 }
 
-/// The table that is spread, and what was written of it.
+/// A table and the state of writing its parts.
 struct Parts<'p, 'a> {
     table: Table<'a>,
     symbols: Symbols<'a>,
@@ -69,7 +69,8 @@ struct Parts<'p, 'a> {
     output: &'p Path,
 }
 
-/// Which objects and functions are told of: each is in the first part that has its type.
+/// The objects and functions that earlier parts describe: each is in the first part that has its
+/// type.
 #[derive(Default)]
 struct ToldSymbols {
     objects: Vec<bool>,
@@ -92,7 +93,7 @@ impl ToldSymbols {
 }
 
 impl Parts<'_, '_> {
-    /// The bytes of the parent, or of a child with types of its own over it.
+    /// The bytes of the parent, or of a child with its own types over the parent.
     fn bytes(&mut self, parents: &[u32], own: &[u32], parent: Option<&Vec<u8>>) -> Result<Vec<u8>> {
         let mut part = self.table.clone();
         let order: Vec<u32> = parents.iter().chain(own).copied().collect();

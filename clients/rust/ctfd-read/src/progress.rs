@@ -1,29 +1,29 @@
-//! How far the reading of a file is, for who waits for it.
+//! The progress of reading a file, for those who wait for it.
 
 use std::fmt;
 use std::sync::atomic::{AtomicU64, Ordering};
 use std::sync::Arc;
 
-/// Is told how far some work is, by any thread.
+/// A display of progress, which any thread may call.
 pub trait Progress: Send + Sync {
-    /// So much of so much is done.
+    /// Reports that `done` of `total` pieces are done.
     fn advance(&self, done: u64, total: u64);
 
-    /// Nothing more is to be told.
+    /// Reports that the work has ended.
     fn end(&self);
 }
 
-/// Who is told, if anybody.
+/// The display of progress, if there is one.
 #[derive(Clone, Default)]
 pub struct Listener(Option<Arc<dyn Progress>>);
 
 impl Listener {
-    /// One that is told.
+    /// A listener that passes progress on.
     pub fn new(told: Arc<dyn Progress>) -> Listener {
         Listener(Some(told))
     }
 
-    /// Work of so many pieces, which begins now.
+    /// Begins work of `total` pieces.
     pub(crate) fn begin(&self, total: u64) -> Work<'_> {
         Work { listener: self, done: AtomicU64::new(0), total }
     }
@@ -35,7 +35,7 @@ impl fmt::Debug for Listener {
     }
 }
 
-/// Work that goes on.
+/// Work in progress.
 pub(crate) struct Work<'l> {
     listener: &'l Listener,
     done: AtomicU64,
@@ -43,7 +43,7 @@ pub(crate) struct Work<'l> {
 }
 
 impl Work<'_> {
-    /// So many pieces more are done.
+    /// Counts further pieces as done.
     pub(crate) fn add(&self, pieces: u64) {
         let done = self.done.fetch_add(pieces, Ordering::Relaxed) + pieces;
         if let Some(told) = &self.listener.0 {

@@ -1,4 +1,5 @@
-//! The bytes of a dictionary of CTF version 2, from a table that says no more than that holds.
+//! Writes the bytes of a dictionary of CTF version 2, from a table that was reduced to what that
+//! can represent.
 
 use crate::error::{refuse, Result};
 use crate::hashed::Map;
@@ -6,16 +7,16 @@ use crate::table::{Kind, Record, Table};
 
 const MAGIC: u16 = 0xcff1;
 const VERSION: u8 = 2;
-/// Structs and unions of so many bytes or more have members in the long form.
+/// Structs and unions of at least this many bytes have members in the long form.
 pub const LONG_MEMBERS: u64 = 8192;
-/// Stands in the field of a record whose size does not fit it.
+/// The value of a record's size field if the size does not fit it.
 pub const LONG_SIZE: u64 = 0xffff;
-/// The number from which on a child's types are its own.
+/// Own types of a child have numbers above this one.
 const CHILD: u32 = 0x8000;
-/// How many types a dictionary has at most.
+/// The most types of a dictionary.
 pub const MOST_TYPES: u32 = 32_766;
 
-/// Bytes that are appended to, little-endian.
+/// A buffer of little-endian numbers.
 #[derive(Default)]
 struct Bytes(Vec<u8>);
 
@@ -28,14 +29,14 @@ impl Bytes {
         self.0.extend((value as u32).to_le_bytes());
     }
 
-    /// The high and the low half of a number of 64 bits.
+    /// Appends a 64-bit number, its high half first.
     fn two(&mut self, value: u64) {
         self.word(value >> 32);
         self.word(value);
     }
 }
 
-/// The string section; each name stands there once.
+/// The string section, in which each name occurs once.
 struct Names<'t> {
     bytes: Vec<u8>,
     known: Map<&'t [u8], u64>,
@@ -64,8 +65,8 @@ impl<'t> Names<'t> {
     }
 }
 
-/// The section of a table. One whose `parent_name` is not empty is a child: the first `bases` types
-/// of the table are then those of its parent, and are not written.
+/// Encodes a table. If `parent_name` is not empty, the dictionary is a child: the first `bases`
+/// types of the table are then those of the parent, and are not written.
 pub fn encode(table: &Table<'_>) -> Result<Vec<u8>> {
     let is_child = !table.parent_name.is_empty();
     let bases = if is_child { table.bases } else { 0 };
@@ -103,7 +104,7 @@ pub fn encode(table: &Table<'_>) -> Result<Vec<u8>> {
     Ok(made.0)
 }
 
-/// The entries of objects, and those of functions, padded to four bytes together.
+/// The entries of objects and of functions, padded to four bytes together.
 fn symbols(table: &Table<'_>, number: &impl Fn(u32) -> u32) -> (Bytes, Bytes) {
     let (mut objects, mut functions) = (Bytes::default(), Bytes::default());
     table.objects.iter().for_each(|&n| objects.half(number(n).into()));
@@ -123,14 +124,14 @@ fn symbols(table: &Table<'_>, number: &impl Fn(u32) -> u32) -> (Bytes, Bytes) {
     (objects, functions)
 }
 
-/// The arguments; a 0 behind them says that more may follow.
+/// The arguments of a function. A 0 after them means that more may follow.
 fn arguments(function: &Record<'_>, number: &impl Fn(u32) -> u32) -> Vec<u64> {
     let mut listed: Vec<u64> = function.arguments().iter().map(|&n| number(n).into()).collect();
     listed.extend(function.varargs.then_some(0));
     listed
 }
 
-/// One record, in the long form where its size needs it.
+/// Writes one record, in the long form if its size needs it.
 fn write<'t>(
     record: &'t Record<'_>,
     number: &impl Fn(u32) -> u32,
@@ -149,7 +150,7 @@ fn write<'t>(
         _ => number(record.of).into(),
     };
     let head = made.0.len();
-    made.word(0); // the name, which comes behind those of members in the strings
+    made.word(0); // the name, which comes after those of members in the strings
     made.half((record.kind as u64) << 11 | u64::from(record.root) << 10 | length as u64);
     made.half(field.min(LONG_SIZE));
     if field >= LONG_SIZE {
@@ -161,7 +162,7 @@ fn write<'t>(
     Ok(())
 }
 
-/// Writes what stands behind the head of a record.
+/// Writes the part of a record after its head.
 fn write_tail<'t>(
     record: &'t Record<'_>,
     number: &impl Fn(u32) -> u32,

@@ -1,4 +1,4 @@
-//! What an ELF file puts into memory, and the build id that its notes hold.
+//! The segments of an ELF file, and the build-id in its notes.
 
 use crate::bytes::Reader;
 use crate::error::{Error, Result};
@@ -7,40 +7,40 @@ use object::elf::{FileHeader32, FileHeader64, PF_W, PT_LOAD, PT_NOTE};
 use object::read::elf::{FileHeader, ProgramHeader};
 use object::Endianness;
 
-/// The kind of a note with a build id, and the name of its owner.
+/// The type of a note with a build-id, and the name of its owner.
 const BUILD_ID: u32 = 3;
 const GNU: &[u8] = b"GNU\0";
 
-/// What a segment is for.
+/// The purpose of a segment.
 #[derive(Clone, Copy, Debug, PartialEq, Eq)]
 pub enum Purpose {
-    /// Its bytes are put into memory.
+    /// Loaded into memory.
     Load,
-    /// It has notes.
+    /// Contains notes.
     Note,
     /// Anything else.
     Other,
 }
 
-/// A part of a file that is put into memory: so many bytes in the file, and there.
+/// A segment of a file.
 #[derive(Clone, Copy, Debug, PartialEq, Eq)]
 pub struct Segment {
-    /// What it is for.
+    /// Its purpose.
     pub purpose: Purpose,
-    /// Where it is in the file.
+    /// Its offset in the file.
     pub offset: u64,
-    /// Where it is in memory.
+    /// Its address in memory.
     pub address: u64,
-    /// Its bytes in the file.
+    /// Its size in the file, in bytes.
     pub in_file: u64,
-    /// Its bytes in memory.
+    /// Its size in memory, in bytes.
     pub in_memory: u64,
     /// Whether the program may write to it.
     pub is_writable: bool,
 }
 
 impl Segment {
-    /// Where it ends in memory.
+    /// The address after its last byte.
     pub fn end(&self) -> u64 {
         self.address.saturating_add(self.in_memory)
     }
@@ -75,15 +75,15 @@ fn segments_of<F: FileHeader<Endian = Endianness>>(data: Data<'_>) -> Result<Vec
 /// A note of a segment.
 #[derive(Clone, Copy, Debug)]
 pub struct Note<'a> {
-    /// Its number, which counts for its owner.
+    /// Its type, a number whose meaning depends on the owner.
     pub kind: u32,
     /// The name of its owner.
     pub owner: &'a [u8],
-    /// What it says.
+    /// Its contents.
     pub text: &'a [u8],
 }
 
-/// The notes of a segment of a little-endian file, as far as they go.
+/// The notes of a segment of a little-endian file, up to the first that is cut off.
 pub fn notes(bytes: &[u8]) -> impl Iterator<Item = Note<'_>> {
     let mut rest = Reader::new(bytes, Endianness::Little, "notes");
     std::iter::from_fn(move || next_note(&mut rest).ok())
@@ -95,21 +95,21 @@ fn next_note<'a>(rest: &mut Reader<'a>) -> Result<Note<'a>> {
     Ok(Note { kind, owner, text: padded_bytes(rest, length)? })
 }
 
-/// Some bytes and what fills them up to four; the last of a file may lack that.
+/// Some bytes, with the padding to a multiple of four; the last in a file may lack the padding.
 fn padded_bytes<'a>(rest: &mut Reader<'a>, length: u32) -> Result<&'a [u8]> {
     let taken = rest.take(length as usize)?;
     rest.take((length.wrapping_neg() & 3) as usize).or_else(|_| rest.take(0))?;
     Ok(taken)
 }
 
-/// The build id among the notes of a segment.
+/// The build-id among the notes of a segment.
 pub fn build_id(bytes: &[u8]) -> Option<&[u8]> {
     let is_id = |one: &Note<'_>| one.kind == BUILD_ID && one.owner == GNU;
     notes(bytes).find(is_id).map(|one| one.text)
 }
 
 impl Image {
-    /// Whether a little-endian ELF file is one of 64 bits; any other file is refused.
+    /// Whether a little-endian ELF file has 64 bits. Refuses any other file.
     pub fn data_is_64(&self) -> Result<bool> {
         let head = self.data();
         let bytes = object::read::ReadRef::read_bytes_at(head, 0, 6).unwrap_or_default();

@@ -1,4 +1,4 @@
-//! Which types of a table a dictionary gets: those that some reach, as many as it has numbers.
+//! Selects the types of a table for a dictionary: those that others reach, as many as it holds.
 
 use crate::error::{refuse, Result};
 use crate::nearest::suggestion;
@@ -6,18 +6,18 @@ use crate::section::MOST_TYPES;
 use crate::table::{Kind, Record, Table};
 use std::collections::HashSet;
 
-/// How many names of types that were left out a line lists.
+/// How many names of types that are left out a line lists.
 const LISTED: usize = 20;
 
-/// The numbers of the types of a table that were chosen, in order, and those left out.
+/// The types of a table that were chosen and those left out, by number, in order.
 pub struct Choice {
-    /// What is kept.
+    /// The types to keep.
     pub kept: Vec<u32>,
-    /// What is left out.
+    /// The types to leave out.
     pub left: Vec<u32>,
 }
 
-/// The types that are looked up by name.
+/// The types that look-ups by name find, and enums.
 pub fn roots(table: &Table<'_>) -> Vec<u32> {
     let is_root = |&n: &u32| {
         let record = table.get(n);
@@ -26,7 +26,7 @@ pub fn roots(table: &Table<'_>) -> Vec<u32> {
     (1..=table.len()).filter(is_root).collect()
 }
 
-/// The types of some names, as C has them: `struct list_head`, `size_t`.
+/// The types with names in C, such as `struct list_head` or `size_t`.
 pub fn types_named(table: &Table<'_>, names: &[String]) -> Result<Vec<u32>> {
     let mut found = Vec::new();
     for name in names {
@@ -57,8 +57,8 @@ fn normal(name: &str) -> String {
     name.replace('*', " * ").split_whitespace().collect::<Vec<_>>().join(" ")
 }
 
-/// As many types as a dictionary holds. Each brings what it holds by value; what it only points to
-/// comes behind all that has a name, and behind that what is wanted last.
+/// Chooses as many types as a dictionary holds, each with all types that it needs by value. Types
+/// that are only pointed to come after all named ones, and after them those in `last`.
 pub fn fitting(
     table: &Table<'_>,
     roots: impl IntoIterator<Item = u32>,
@@ -73,7 +73,7 @@ pub fn fitting(
     later.extend(last);
     let mut at = 0;
     while at < later.len() {
-        filling.take(later[at], &mut later); // it grows as they bring further ones
+        filling.take(later[at], &mut later); // `later` grows as they bring further types
         at += 1;
     }
     let numbers = 1..=table.len();
@@ -81,7 +81,7 @@ pub fn fitting(
     Choice { kept, left }
 }
 
-/// What was chosen so far.
+/// The types chosen so far.
 struct Filling<'t, 'a> {
     table: &'t Table<'a>,
     chosen: Vec<bool>,
@@ -89,7 +89,7 @@ struct Filling<'t, 'a> {
 }
 
 impl Filling<'_, '_> {
-    /// Adds a type and what it holds by value, or nothing where that is too much.
+    /// Adds a type and all that it needs by value, or nothing if there is no room.
     fn take(&mut self, root: u32, later: &mut Vec<u32>) {
         if root == 0 || self.chosen[root as usize] {
             return;
@@ -116,12 +116,12 @@ impl Filling<'_, '_> {
     }
 }
 
-/// Whether a type can't do without what it names: each but a pointer.
+/// Whether a type needs what it refers to: each type but a pointer.
 fn is_by_value(record: &Record<'_>) -> bool {
     record.kind != Kind::Pointer
 }
 
-/// The types of a parent that holds as many as it has numbers: each with all that it reaches.
+/// The types of a parent, as many as it holds: each with all that it reaches.
 pub fn closure_of_all(table: &Table<'_>, roots: impl IntoIterator<Item = u32>) -> Vec<u32> {
     let mut kept = HashSet::new();
     let mut never = HashSet::new();
@@ -143,7 +143,7 @@ pub fn closure_of_all(table: &Table<'_>, roots: impl IntoIterator<Item = u32>) -
     kept
 }
 
-/// A type and all that it reaches that is not kept yet; None where that is too much.
+/// A type and all that it reaches, without those kept already; `None` if that is too much.
 fn closure(
     table: &Table<'_>,
     root: u32,
@@ -168,7 +168,7 @@ fn closure(
     Some(own)
 }
 
-/// A line on types that were left out for want of numbers; None where none were.
+/// A line on types that are left out for lack of numbers; `None` if there are none.
 pub fn left_out(table: &Table<'_>, left: &[u32], what: &str) -> Option<String> {
     let names: Vec<String> = left
         .iter()

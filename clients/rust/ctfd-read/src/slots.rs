@@ -1,44 +1,44 @@
 //! The types that stand for their tags while units are joined.
 //!
-//! Of a tag that has a single definition in the program, all that define or declare it are one type.
-//! That it is single is judged with each definition: it must be the first one again, but that what
-//! the one names may be declared alone where the other has it in full. Where two differ the tag
-//! stands for nothing from then on. If a declaration was joined by it before, it is a conflict, and
-//! what was joined counts no more.
+//! If a tag has a single definition in the program, all that define or declare it are one type.
+//! Each definition is compared with the first: both must be equal, except that a type to which one
+//! refers may be only declared where the other has its definition. If two differ, the tag stands
+//! for no type from then on. If a declaration was joined by it before, that is a conflict, and all
+//! units are joined again.
 
 use crate::join::{Identities, NumberHasher, Piece};
 use crate::table::{is_same, Kind, Record, Table};
 use std::collections::{HashMap, HashSet};
 use std::hash::BuildHasherDefault;
 
-/// How many types are compared of two definitions that are not the same.
+/// The number of types that are compared for two definitions that are not equal.
 const MOST_PAIRS: usize = 4096;
 
 type ByKey<T> = HashMap<u64, T, BuildHasherDefault<NumberHasher>>;
 
-/// The types of a table that stand for their tags, by the keys of these.
+/// The types of a table that stand for their tags, by the tags' keys.
 #[derive(Default)]
 pub struct Slots {
     by_key: ByKey<u32>,
-    /// The keys of those for which something was taken that tells less.
+    /// The keys of tags for which a declaration, or a definition with less detail, was joined.
     pub loose: HashSet<u64>,
     several: HashSet<u64>,
     /// The keys of tags that have several definitions, though declarations were joined by them.
     pub conflicts: HashSet<u64>,
 }
 
-/// What was found of the definitions of a unit.
+/// The results for the definitions of a unit.
 #[derive(Default)]
 pub struct Verdicts {
     /// The keys of tags whose definitions differ.
     pub several: Vec<u64>,
-    /// Those of which one tells less than another.
+    /// The keys of tags of which one definition has less detail than another.
     pub loose: Vec<u64>,
-    /// The unit's numbers of those that tell more than what is known.
+    /// The unit's numbers of definitions that have more detail than the known ones.
     pub fuller: HashSet<u32>,
 }
 
-/// How two definitions of a tag are alike.
+/// How a definition compares with the known one.
 #[derive(Clone, Copy, PartialEq, Eq)]
 enum Likeness {
     Same,
@@ -53,12 +53,12 @@ impl Slots {
         self.by_key.get(&key).copied()
     }
 
-    /// A type that stands for its tag from now on, if none does yet.
+    /// Lets a type stand for its tag, if none does yet.
     pub fn add(&mut self, key: u64, number: u32) {
         self.by_key.entry(key).or_insert(number);
     }
 
-    /// For each number of a unit, 0 too, the type that stands for its tag; 0 where none does.
+    /// For each number of a unit, including 0, the type that stands for its tag; 0 if none does.
     pub fn find(&self, piece: &Piece<'_>, table: &Table<'_>) -> Vec<u32> {
         let mut is = vec![0; piece.records.len() + 1];
         let mut own: ByKey<u32> = HashMap::default();
@@ -78,7 +78,7 @@ impl Slots {
         is
     }
 
-    /// Compares the definitions of a unit with those that are known.
+    /// Compares the definitions of a unit with the known ones.
     pub fn judge(&self, piece: &Piece<'_>, table: &Table<'_>, found: &Identities) -> Verdicts {
         let mut judged = Verdicts::default();
         let mut first: ByKey<u32> = HashMap::default();
@@ -112,7 +112,7 @@ impl Slots {
         judged
     }
 
-    /// Marks those that declarations of a unit are taken for, and what tells less.
+    /// Marks the tags of a unit's declarations, and those of which a definition has less detail.
     pub fn loosen(&mut self, piece: &Piece<'_>, loose: &[u64]) {
         let declared =
             piece.single_definitions().filter(|&(number, _)| piece.get(number).is_forward());
@@ -120,7 +120,7 @@ impl Slots {
         self.loose.extend(keys.chain(piece.loose.iter().copied()));
     }
 
-    /// Takes tags for ones with several definitions.
+    /// Marks tags as having several definitions.
     pub fn add_several(&mut self, keys: &[u64], piece: &Piece<'_>) {
         for &key in keys.iter().filter(|&&key| key != 0) {
             self.several.insert(key);
@@ -131,7 +131,7 @@ impl Slots {
         }
     }
 
-    /// Takes what has a tag of several definitions in a unit for what has none.
+    /// Removes the keys of tags with several definitions from a unit.
     pub fn leave_several_out(&self, piece: &mut Piece<'_>) {
         if !self.several.is_empty() {
             let is_several = |key: &&mut u64| self.several.contains(&**key);
@@ -149,14 +149,14 @@ fn is_tagged(record: &Record<'_>) -> bool {
     is_of_tag && !record.name.is_empty()
 }
 
-/// A type that a unit names: one that it told, or one that stands in the table already.
+/// A type that a unit refers to: one of its own, or one that the table has already.
 #[derive(Clone, Copy)]
 enum Reference {
     OfUnit(u32),
     OfTable(u32),
 }
 
-/// A unit's types, beside what they were found to be in a table.
+/// The types of a unit, and what they are in a table.
 struct Comparison<'c, 'a> {
     piece: &'c Piece<'a>,
     table: &'c Table<'a>,
@@ -171,8 +171,8 @@ impl<'c, 'a> Comparison<'c, 'a> {
         }
     }
 
-    /// The pairs of what two types name that were not found to be the same; None where one of them
-    /// names nothing.
+    /// The pairs of references of two types that are not known to be equal; `None` if only one of a
+    /// pair is a type.
     fn open_pairs(&self, one: Reference, other: u32) -> Option<Vec<(Reference, u32)>> {
         let pairs = self.record(one).references().zip(self.table.get(other).references());
         let open = pairs.filter_map(|(x, y)| {
@@ -189,8 +189,8 @@ impl<'c, 'a> Comparison<'c, 'a> {
     }
 }
 
-/// How a unit's definition of a tag is alike to the one that is known. What has no tag is compared
-/// with all that it names; what has one is the same, or declared on one side alone.
+/// Compares a unit's definition of a tag with the known one. Types without a tag are compared with
+/// all that they refer to; those with a tag must be equal, or declared on one side only.
 fn likeness(number: u32, known: u32, compared: &Comparison<'_, '_>) -> Likeness {
     let mut likeness = Likeness::Same;
     let mut todo = vec![(Reference::OfUnit(number), known)];

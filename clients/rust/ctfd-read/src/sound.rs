@@ -1,14 +1,14 @@
-//! Whether a table can be written at all: what is read of damaged files may say what no program has.
+//! Checks that a table can be written: damaged files may have types that no program has.
 
 use crate::error::{refuse, Result};
 use crate::table::{Kind, Record, Table};
 use smallvec::{smallvec, SmallVec};
 
-/// The types that one leads on to.
+/// The types to which a type leads.
 type Next = SmallVec<[u32; 8]>;
 
-/// Refuses a table in which a type names one that is not there, or has a place or a size that no
-/// type of C has.
+/// Refuses a table in which a type refers to a missing one, or has an offset or a size that no type
+/// of C has.
 pub fn judge(table: &Table<'_>) -> Result<()> {
     let count = table.len();
     for record in &table.records {
@@ -30,7 +30,7 @@ pub fn judge(table: &Table<'_>) -> Result<()> {
     values.and(declarations)
 }
 
-/// What a value of a type is made of.
+/// The types by value of which a type consists.
 fn by_value(record: &Record<'_>) -> Next {
     match record.kind {
         kind if kind.is_aggregate() => record.members().iter().map(|one| one.of).collect(),
@@ -40,7 +40,7 @@ fn by_value(record: &Record<'_>) -> Next {
     }
 }
 
-/// What a declaration goes on with.
+/// The next type in the declaration of a type.
 fn as_declared(record: &Record<'_>) -> Next {
     match record.kind {
         Kind::Typedef | Kind::Pointer | Kind::Function | Kind::Array => smallvec![record.of],
@@ -49,11 +49,11 @@ fn as_declared(record: &Record<'_>) -> Next {
     }
 }
 
-/// Refuses a table in which types lead on further than those of a program, or without end: all that
-/// looks at them would take a step for each pair of them.
+/// Refuses a table in which chains of types are longer than in any program, or endless: code that
+/// follows them could take a step for each pair of types.
 fn judge_depth(table: &Table<'_>, leads: fn(&Record<'_>) -> Next) -> Result<()> {
     const BEGUN: u32 = u32::MAX;
-    // From each type, and one more; 0 while that is not known.
+    // For each type the length of its longest chain, plus one; 0 if that is not known yet.
     let mut steps = vec![0u32; table.len() as usize + 1];
     let mut todo = Vec::new();
     for number in 1..=table.len() {
@@ -84,12 +84,12 @@ fn judge_depth(table: &Table<'_>, leads: fn(&Record<'_>) -> Next) -> Result<()> 
     Ok(())
 }
 
-/// How many types lead from one to the next at most, as a dictionary's rules have it.
+/// The longest chain of types that the rules of a dictionary allow.
 const DEEPEST: u32 = 512;
 
 const LONGEST: u64 = 1 << 60;
 
-/// A member of a struct that is not large has 16 bits for its place.
+/// Checks the offsets of members: those of a small struct have 16 bits.
 fn judge_members(record: &Record<'_>) -> Result<()> {
     let last = if record.size < crate::section::LONG_MEMBERS { 0xffff } else { 8 * LONGEST - 1 };
     for one in record.members() {

@@ -1,22 +1,23 @@
-//! The types of a table that are more than a dictionary holds, spread over several: a parent with
-//! what many name, and children, each with all that its types reach beside the parent's.
+//! Spreads the types of a table over several dictionaries, if one does not hold them: a parent with
+//! types that many others refer to, and children, each with all that its types reach outside the
+//! parent.
 //!
-//! The choice depends on the table alone. Types that form a cycle stay together: a group of them, and
-//! all that it reaches, is in the parent or in each child that needs it.
+//! The choice depends only on the table. Types that form a cycle stay together: they, and all that
+//! they reach, are in the parent or in each child that needs them.
 
 use crate::section::MOST_TYPES;
 use crate::table::Table;
 
-/// How often a group that does not fit the parent is tried: each costs as much as a parent holds.
+/// How many types may fail to fit into the parent: each try costs as much as a parent holds.
 const MOST_FAILURES: u32 = 2048;
 
-/// The numbers of types, ascending: those of the parent, and those that each child has beside them.
+/// The types of the parent and of the children, by ascending numbers.
 pub struct Spread {
-    /// Those of the parent.
+    /// The parent's types.
     pub parent: Vec<u32>,
-    /// Those of each child.
+    /// The types of each child, without the parent's.
     pub children: Vec<Vec<u32>>,
-    /// Those that reach more than a child holds.
+    /// Types that reach more than a child holds.
     pub left: Vec<u32>,
 }
 
@@ -41,7 +42,7 @@ pub fn spread(table: &Table<'_>) -> Spread {
     parts.children.push(child.added);
     parts.children.retain(|one| !one.is_empty());
     parts.children.iter_mut().for_each(|one| one.sort_unstable());
-    // What one child can't have, since it comes with too much, another may have as a part of less.
+    // What does not fit into one child, since it comes with too much, may be part of another.
     let told: std::collections::HashSet<u32> = parts.children.iter().flatten().copied().collect();
     parts.left.retain(|n| !told.contains(n));
     parts.parent = (1..=table.len()).filter(|&n| parent.is_in[n as usize]).collect();
@@ -54,8 +55,8 @@ struct SharedTypes {
 }
 
 impl SharedTypes {
-    /// As many as fit of those that several types name, those first that most do, each with all that
-    /// it reaches.
+    /// Those types to which several others refer, the most used first, each with all that it
+    /// reaches, as many as fit.
     fn of(table: &Table<'_>) -> SharedTypes {
         let mut users = vec![0u32; table.len() as usize + 1];
         for record in &table.records {
@@ -76,7 +77,7 @@ impl SharedTypes {
     }
 }
 
-/// Types with all that they reach, beside some that are elsewhere.
+/// Types with all that they reach, except those that are elsewhere.
 struct ReachableTypes<'t, 'a> {
     table: &'t Table<'a>,
     is_in: Vec<bool>,
@@ -88,7 +89,8 @@ impl<'t, 'a> ReachableTypes<'t, 'a> {
         ReachableTypes { table, is_in: elsewhere.to_vec(), added: Vec::new() }
     }
 
-    /// Adds a type and all that it reaches, or nothing where that is more than there is room for.
+    /// Adds a type and all that it reaches, or nothing if there is no room. Returns whether they
+    /// fit.
     fn take(&mut self, number: u32, most: u32) -> bool {
         let before = self.added.len();
         let mut at = before;

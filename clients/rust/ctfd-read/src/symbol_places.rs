@@ -1,4 +1,4 @@
-//! The functions and objects of a program by their names and their addresses.
+//! The functions and objects of a program, with their names and addresses.
 
 use crate::bytes::Names;
 use crate::elf::debug_file;
@@ -9,14 +9,14 @@ use object::elf::{SHN_ABS, SHN_UNDEF, SHT_NOBITS, STB_LOCAL, STT_FUNC, STT_OBJEC
 use object::read::elf::{FileHeader, SectionHeader, Sym as _};
 use object::{Endianness, Object as _, SectionIndex};
 
-/// The tables of a file; the first that it has counts.
+/// The names of symbol tables. The first that a file has is used.
 const TABLES: [&str; 2] = [".symtab", ".dynsym"];
-/// Symbols of a kernel's sections, which are no objects.
+/// Names of marks that a linker adds, which are no objects.
 const MARKS: [&[u8]; 2] = [b"_START_", b"_END_"];
-/// What compilers append to the name of a whole copy of a function.
+/// The suffixes that compilers append to the name of a whole copy of a function.
 const COPIES: [&[u8]; 3] = [b".isra", b".constprop", b".lto_priv"];
-/// The names of all symbols together may overlap: they are read for so many bytes for each of the
-/// table's.
+/// Names may overlap: those that are read may have this many times the bytes of their table and its
+/// entries.
 const MOST_TIMES: u64 = 64;
 
 /// A function or an object of a program.
@@ -24,9 +24,9 @@ const MOST_TIMES: u64 = 64;
 pub struct SymbolPlace<'a> {
     /// Its name, without a version.
     pub name: &'a [u8],
-    /// Its address in the file.
+    /// Its address, as the file has it.
     pub address: u64,
-    /// Its bytes.
+    /// Its size in bytes.
     pub size: u64,
     /// Whether it is a function.
     pub is_function: bool,
@@ -35,7 +35,7 @@ pub struct SymbolPlace<'a> {
 }
 
 impl<'a> SymbolPlace<'a> {
-    /// The name that C has for it: of a copy of a function that of the function.
+    /// Its name in C; for a copy of a function, that of the function.
     pub fn written_name(&self) -> &'a [u8] {
         match self.is_function {
             true => without_copy(self.name),
@@ -44,7 +44,7 @@ impl<'a> SymbolPlace<'a> {
     }
 }
 
-/// A function's name without what compilers append to those of copies, as in `f.isra.0`.
+/// The name of a function without the suffixes of copies, such as `.isra.0`.
 fn without_copy(name: &[u8]) -> &[u8] {
     let digits = name.iter().rev().take_while(|byte| byte.is_ascii_digit()).count();
     let front = &name[..name.len() - digits];
@@ -57,15 +57,15 @@ fn without_copy(name: &[u8]) -> &[u8] {
     }
 }
 
-/// The debug file of a program that strip has left no symbols but those that it exports, if that is
-/// installed: its symbols are those of the program before.
+/// The debug file of a program whose `.symtab` was stripped, if it is installed. It has the
+/// program's former symbols.
 pub fn symbols_before_strip(image: &Image) -> Option<Image> {
     let has_table = image.elf().ok()?.section_by_name(TABLES[0]).is_some();
     (!has_table).then(|| debug_file(image, &[]).ok()?.debug).flatten()
 }
 
-/// The functions and objects of a file, in the order of its table. Of what lies past the end of its
-/// strings nothing is told.
+/// The functions and objects of a file, in the order of its symbol table, without those whose names
+/// are past the end of the strings.
 pub fn symbol_places(image: &Image) -> Result<Vec<SymbolPlace<'_>>> {
     match image.data_is_64()? {
         true => places_of::<FileHeader64<Endianness>>(image.data()),

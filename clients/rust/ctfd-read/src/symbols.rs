@@ -1,29 +1,29 @@
-//! The symbols of which a dictionary can tell something, in the order in which it tells.
+//! The symbols for which a dictionary can have types, in the order of its entries.
 
 use flate2::Crc;
 use std::borrow::Cow;
 
-/// The checksum's byte for an object, as ELF's `STT_OBJECT` is.
+/// The byte for an object in the checksum, as ELF's `STT_OBJECT`.
 const OBJECT: u8 = 1;
-/// That for a function.
+/// The byte for a function.
 const FUNCTION: u8 = 2;
-/// Bytes of a symbol of ELF64, which is what the library takes.
+/// The size of an ELF64 symbol, which the library takes, in bytes.
 const ENTRY: usize = 24;
 
-/// Which symbols a dictionary's entries go by.
+/// The symbol table that a dictionary's entries belong to.
 #[derive(Clone, Copy, Debug, Default, PartialEq, Eq)]
 pub enum SymbolTable {
-    /// Those of `.symtab`.
+    /// The symbols of `.symtab`.
     #[default]
     Symtab,
-    /// Those of `.dynsym`, which `strip` keeps.
+    /// The symbols of `.dynsym`, which `strip` keeps.
     Dynsym,
-    /// Those whose names the dictionary has itself.
+    /// Symbols whose names the dictionary itself has.
     Names,
 }
 
 impl SymbolTable {
-    /// The word for it in a dictionary's label, and the name of its section.
+    /// The word for the table in a dictionary's label. For a section, it is the section's name.
     pub fn word(self) -> &'static str {
         match self {
             SymbolTable::Symtab => ".symtab",
@@ -32,7 +32,7 @@ impl SymbolTable {
         }
     }
 
-    /// The table of a word.
+    /// The table with a word.
     pub fn of_word(word: &str) -> Option<SymbolTable> {
         [SymbolTable::Symtab, SymbolTable::Dynsym, SymbolTable::Names]
             .into_iter()
@@ -40,7 +40,7 @@ impl SymbolTable {
     }
 }
 
-/// A symbol: what the debug information says of it is looked for by name and address.
+/// A symbol. Debug information for it is found by name and address.
 #[derive(Clone, Debug, PartialEq, Eq)]
 pub struct Symbol<'a> {
     /// Its name.
@@ -51,40 +51,41 @@ pub struct Symbol<'a> {
     pub is_function: bool,
 }
 
-/// The symbols that a dictionary's entries go by, of a table of its file, or of none.
+/// The symbols that a dictionary's entries belong to: those of a table of its file, or symbols that
+/// no file has.
 #[derive(Clone, Debug, Default)]
 pub struct Symbols<'a> {
-    /// Where they are listed.
+    /// The table that lists them.
     pub table: SymbolTable,
-    /// All of them, in the table's order.
+    /// All symbols, in the table's order.
     pub listed: Vec<Symbol<'a>>,
 }
 
-/// What tells the symbols of a table from those of any other.
+/// The identity of the symbols of a table: how many there are, and a checksum.
 #[derive(Clone, Copy, Debug, PartialEq, Eq)]
 pub struct Identity {
-    /// Where they are listed.
+    /// The table that lists them.
     pub table: SymbolTable,
-    /// How many of them are objects.
+    /// The number of objects.
     pub objects: usize,
-    /// How many of them are functions.
+    /// The number of functions.
     pub functions: usize,
-    /// CRC-32 of a byte for the kind, the name and a zero for each, in their order.
+    /// The CRC-32 of all symbols in order, each as a byte for its kind, its name and a zero byte.
     pub checksum: u32,
 }
 
 impl<'a> Symbols<'a> {
-    /// Those that are objects.
+    /// The objects.
     pub fn objects(&self) -> impl Iterator<Item = &Symbol<'a>> {
         self.listed.iter().filter(|one| !one.is_function)
     }
 
-    /// Those that are functions.
+    /// The functions.
     pub fn functions(&self) -> impl Iterator<Item = &Symbol<'a>> {
         self.listed.iter().filter(|one| one.is_function)
     }
 
-    /// What tells them from those of any other table.
+    /// The identity of these symbols.
     pub fn identity(&self) -> Identity {
         let mut crc = Crc::new();
         for one in &self.listed {
@@ -101,7 +102,7 @@ impl<'a> Symbols<'a> {
         }
     }
 
-    /// A table of ELF64 for symbols that no file has, and its names.
+    /// An ELF64 symbol table made for the symbols, and its strings.
     pub fn made_table(&self) -> (Vec<u8>, Vec<u8>) {
         let (mut table, mut names) = (vec![0; ENTRY], vec![0]);
         for one in &self.listed {

@@ -1,28 +1,28 @@
-//! Types of C as records that name each other by number, before they are a dictionary.
+//! Types of C as records that refer to each other by number, before a dictionary is made of them.
 
 use crate::declared::SourceFiles;
 use ahash::AHasher;
 use std::borrow::Cow;
 use std::hash::{Hash, Hasher};
 
-/// A name, most often where it stands in the debug information.
+/// A name, usually borrowed from the debug information.
 pub type Name<'a> = Cow<'a, [u8]>;
 
-/// The kinds of the format by their numbers, and one that it has not.
+/// The kinds of CTF with their numbers, and `Atomic`, which CTF does not have.
 #[derive(Clone, Copy, Debug, PartialEq, Eq, Hash)]
 #[repr(u8)]
 pub enum Kind {
-    /// One of which nothing is known.
+    /// An unknown kind.
     Unknown,
     /// An integer.
     Integer,
-    /// A float.
+    /// A floating-point number.
     Float,
     /// A pointer.
     Pointer,
     /// An array.
     Array,
-    /// A function.
+    /// A function type.
     Function,
     /// A struct.
     Struct,
@@ -30,7 +30,7 @@ pub enum Kind {
     Union,
     /// An enum.
     Enum,
-    /// A declaration of a struct, union or enum.
+    /// A forward declaration of a struct, union or enum.
     Forward,
     /// A typedef.
     Typedef,
@@ -40,12 +40,12 @@ pub enum Kind {
     Const,
     /// `restrict`.
     Restrict,
-    /// `_Atomic`, which the format has not.
+    /// `_Atomic`, which CTF does not have.
     Atomic,
 }
 
 impl Kind {
-    /// The kind of a number of the format.
+    /// The kind with a number in CTF.
     pub fn of_number(number: u16) -> Option<Kind> {
         Some(match number {
             0 => Kind::Unknown,
@@ -66,7 +66,7 @@ impl Kind {
         })
     }
 
-    /// What a forward declares, by the number of its kind.
+    /// The kind that a forward declares, by its number; a struct for other numbers.
     pub fn of_forward(number: u64) -> Kind {
         match number {
             7 => Kind::Union,
@@ -75,7 +75,7 @@ impl Kind {
         }
     }
 
-    /// Its name, as the service has it.
+    /// The name of the kind in the protocol.
     pub fn name(self) -> &'static str {
         match self {
             Kind::Unknown => "unknown",
@@ -91,17 +91,17 @@ impl Kind {
         }
     }
 
-    /// Whether it has members.
+    /// Whether the kind has members.
     pub fn is_aggregate(self) -> bool {
         matches!(self, Kind::Struct | Kind::Union)
     }
 
-    /// Whether it only qualifies another type.
+    /// Whether the kind is a qualifier.
     pub fn is_qualifier(self) -> bool {
         matches!(self, Kind::Volatile | Kind::Const | Kind::Restrict | Kind::Atomic)
     }
 
-    /// The word that C has for it.
+    /// The keyword of C; empty if there is none.
     pub fn word(self) -> &'static str {
         match self {
             Kind::Struct => "struct",
@@ -115,51 +115,52 @@ impl Kind {
     }
 }
 
-/// How an integer or a float encoding in its storage.
+/// How an integer or a float is stored.
 #[derive(Clone, Copy, Debug, Default, PartialEq, Eq, Hash)]
 pub struct Encoding {
-    /// 1 for signed, 2 for a character, 4 for a boolean; of a float CTF's word for its encoding.
+    /// For an integer, a sum of 1 (signed), 2 (character) and 4 (boolean); for a float, the number
+    /// of its encoding in CTF.
     pub flags: u8,
-    /// The bits in front of it.
+    /// The offset of the value in its storage, in bits.
     pub offset: u8,
-    /// Its width in bits.
+    /// The width of the value, in bits.
     pub bits: u64,
 }
 
 impl Encoding {
-    /// That of a word of CTF: flags, offset and bits from the highest byte on.
+    /// Decodes a word of CTF: flags, offset and bits, the highest byte first.
     pub fn of_word(word: u32) -> Encoding {
         let [low, high, offset, flags] = word.to_le_bytes();
         Encoding { flags, offset, bits: u16::from_le_bytes([low, high]).into() }
     }
 }
 
-/// A member; `offset` is in bits, and `width` that of a bit-field.
+/// A member of a struct or union.
 #[derive(Clone, Debug, PartialEq, Eq, Hash)]
 pub struct Member<'a> {
-    /// Its name; empty without one.
+    /// Its name; empty if it has none.
     pub name: Name<'a>,
-    /// The number of the type that it names; 0 is none.
+    /// The number of its type; 0 is none.
     pub of: u32,
-    /// Where it begins, in bits.
+    /// Its offset in bits.
     pub offset: u64,
-    /// The width of a bit-field, in bits.
+    /// The width in bits, for a bit-field.
     pub width: Option<u16>,
 }
 
-/// A name that an enum gives to a value.
+/// An enumerator of an enum.
 #[derive(Clone, Debug, PartialEq, Eq, Hash)]
 pub struct Enumerator<'a> {
-    /// Its name; empty without one.
+    /// Its name; empty if it has none.
     pub name: Name<'a>,
     /// Its value.
     pub value: i128,
 }
 
-/// The list behind a record.
+/// The list that a record has.
 #[derive(Clone, Debug, Default, PartialEq, Eq, Hash)]
 pub enum Parts<'a> {
-    /// Nothing.
+    /// No list.
     #[default]
     None,
     /// The types of a function's arguments.
@@ -170,36 +171,36 @@ pub enum Parts<'a> {
     Values(Box<[Enumerator<'a>]>),
 }
 
-/// A type. `of` is what it points to, renames, qualifies, returns or holds; 0 is none. A forward's
-/// `tag` is what it declares. `root` says whether look-ups by name see it.
+/// A type.
 #[derive(Clone, Debug, PartialEq, Eq, Hash)]
 pub struct Record<'a> {
-    /// What it is.
+    /// Its kind.
     pub kind: Kind,
-    /// What a forward declares; else its kind.
+    /// The kind that a forward declares; for other types, their own kind.
     pub tag: Kind,
-    /// Whether look-ups by name see it.
+    /// Whether look-ups by name find it.
     pub root: bool,
-    /// Whether further arguments may follow.
+    /// Whether more arguments may follow.
     pub varargs: bool,
-    /// The number of the type that it names; 0 is none.
+    /// The number of the type that it points to, renames, qualifies, returns or has as elements; 0
+    /// is none.
     pub of: u32,
-    /// The type by which an array is indexed.
+    /// The type of an array's index.
     pub index: u32,
-    /// Its size in bytes, as far as it says that.
+    /// Its size in bytes, if the record has one.
     pub size: u64,
-    /// How many elements an array has.
+    /// The number of elements of an array.
     pub elements: u64,
-    /// How an integer or a float lies in its storage.
+    /// How an integer or a float is stored.
     pub encoding: Encoding,
-    /// Its name; empty without one.
+    /// Its name; empty if it has none.
     pub name: Name<'a>,
     /// Its members, enumerators or arguments.
     pub parts: Parts<'a>,
 }
 
 impl<'a> Record<'a> {
-    /// One of a kind and a name, with nothing else said.
+    /// A record with a kind and a name, and nothing else.
     pub fn new(kind: Kind, name: Name<'a>) -> Record<'a> {
         Record {
             kind,
@@ -216,12 +217,12 @@ impl<'a> Record<'a> {
         }
     }
 
-    /// One of which nothing is told yet.
+    /// A record for a type that is not known yet.
     pub fn unknown() -> Record<'a> {
         Record::new(Kind::Unknown, Cow::Borrowed(b""))
     }
 
-    /// Its arguments; none where it is no function.
+    /// The arguments; empty unless it is a function.
     pub fn arguments(&self) -> &[u32] {
         match &self.parts {
             Parts::Arguments(listed) => listed,
@@ -229,7 +230,7 @@ impl<'a> Record<'a> {
         }
     }
 
-    /// Its members; none where it has no such.
+    /// The members; empty unless it is a struct or union.
     pub fn members(&self) -> &[Member<'a>] {
         match &self.parts {
             Parts::Members(listed) => listed,
@@ -237,7 +238,7 @@ impl<'a> Record<'a> {
         }
     }
 
-    /// Its enumerators; none where it is no enum.
+    /// The enumerators; empty unless it is an enum.
     pub fn values(&self) -> &[Enumerator<'a>] {
         match &self.parts {
             Parts::Values(listed) => listed,
@@ -245,7 +246,7 @@ impl<'a> Record<'a> {
         }
     }
 
-    /// The numbers of the types that it names; 0 is among them.
+    /// The numbers of the types that it refers to, including 0.
     pub fn references(&self) -> impl Iterator<Item = u32> + '_ {
         [self.of, self.index]
             .into_iter()
@@ -253,7 +254,7 @@ impl<'a> Record<'a> {
             .chain(self.members().iter().map(|member| member.of))
     }
 
-    /// Gives another number to each type that it names.
+    /// Maps the number of each type that it refers to.
     pub fn renumber(&mut self, mut to: impl FnMut(u32) -> u32) {
         self.of = to(self.of);
         self.index = to(self.index);
@@ -264,31 +265,31 @@ impl<'a> Record<'a> {
         }
     }
 
-    /// The same with other numbers.
+    /// A copy with mapped numbers.
     pub fn with_numbers(&self, to: impl FnMut(u32) -> u32) -> Record<'a> {
         let mut made = self.clone();
         made.renumber(to);
         made
     }
 
-    /// Whether it only declares a struct, union or enum.
+    /// Whether it is a forward declaration.
     pub fn is_forward(&self) -> bool {
         self.kind == Kind::Forward
     }
 
-    /// A struct or union that has a name: in C each circle of types has one.
+    /// Whether it is a struct or union with a name. In C each cycle of types contains one.
     pub fn is_named_aggregate(&self) -> bool {
         self.kind.is_aggregate() && !self.name.is_empty()
     }
 
-    /// What two types have in common that differ in no more than what they name.
+    /// A hash of the record without the types that it refers to.
     pub fn shape(&self) -> u64 {
         let mut hasher = AHasher::new_with_keys(1, 2);
         self.hash_shape(&mut hasher);
         hasher.finish()
     }
 
-    /// Feeds a hasher with the same.
+    /// Hashes the record without the types that it refers to.
     pub fn hash_shape(&self, hasher: &mut impl Hasher) {
         let parts = (self.arguments().len(), self.members().len());
         (self.kind, self.tag, self.varargs, self.size, self.elements).hash(hasher);
@@ -298,7 +299,8 @@ impl<'a> Record<'a> {
         }
     }
 
-    /// Whether two types differ in no more than what they name, and who sees them.
+    /// Whether two records differ in nothing but the types that they refer to, and whether look-ups
+    /// find them.
     pub fn has_shape_of(&self, other: &Record<'_>) -> bool {
         (self.kind, self.tag, self.varargs, self.size, self.elements, self.encoding)
             == (other.kind, other.tag, other.varargs, other.size, other.elements, other.encoding)
@@ -311,7 +313,7 @@ impl<'a> Record<'a> {
             })
     }
 
-    /// Its name as C has it, with the word in front.
+    /// Its name as C has it, with struct, union or enum.
     pub fn tag_name(&self) -> String {
         let name = String::from_utf8_lossy(&self.name);
         match self.tag.word() {
@@ -325,60 +327,60 @@ impl<'a> Record<'a> {
     }
 }
 
-/// Whether two names are the same: most often they stand in one place.
+/// Whether two names are equal. Usually they are at the same address.
 pub fn is_same(one: &[u8], other: &[u8]) -> bool {
     std::ptr::eq(one, other) || one == other
 }
 
-/// Records with numbers from 1 on, and what is told of the symbols of which a dictionary can tell
-/// something, in their order. `losses` tells what of their source they do not say.
+/// The types of a file, numbered from 1, and the types of its symbols.
 #[derive(Clone, Default)]
 pub struct Table<'a> {
-    /// The types, from number 1 on.
+    /// The types; the first has number 1.
     pub records: Vec<Record<'a>>,
-    /// For each object that is considered its type; 0 where it is not known.
+    /// The type of each considered object; 0 if it is not known.
     pub objects: Vec<u32>,
-    /// For each function that is considered its record; None where it is not known.
+    /// The record of each considered function; `None` if it is not known.
     pub functions: Vec<Option<Record<'a>>>,
-    /// What of their source they do not say, a line each.
+    /// The parts of the source that the types do not represent, one line for each loss.
     pub losses: Vec<String>,
-    /// Whether pointers have 4 bytes; else they have 8.
+    /// Whether pointers have 4 bytes, and not 8.
     pub is_ilp32: bool,
-    /// Labels of a dictionary, each with the last number that it covers.
+    /// The labels of a dictionary, each with the number of the last type that it covers.
     pub labels: Vec<(Name<'a>, u32)>,
-    /// How many types, the first, are those of its parent; unknown where it lacks that.
+    /// The number of the parent's types, which come first; they are of an unknown kind if the
+    /// parent is missing.
     pub bases: u32,
-    /// The name of its parent; empty without one.
+    /// The name of the parent; empty if it has none.
     pub parent_name: Name<'a>,
-    /// The label of its parent.
+    /// The label of the parent.
     pub parent_label: Name<'a>,
-    /// Whether it names types of a parent that is not there.
+    /// Whether it refers to types of a parent that is missing.
     pub lacks_parent: bool,
-    /// Whether names of it stand in the strings of its ELF file.
+    /// Whether some names are in the strings of its ELF file.
     pub has_outer_names: bool,
-    /// Whether types of it were left out, since a dictionary has no room for them.
+    /// Whether types were left out because a dictionary has no room for them.
     pub is_cut: bool,
-    /// In which source files its types are defined, where that was asked for.
+    /// The source files that define the types, if they were asked for.
     pub sources: SourceFiles,
 }
 
 impl<'a> Table<'a> {
-    /// The type of a number.
+    /// The type with a number.
     pub fn get(&self, number: u32) -> &Record<'a> {
         &self.records[number as usize - 1]
     }
 
-    /// How many types there are.
+    /// The number of types.
     pub fn len(&self) -> u32 {
         self.records.len() as u32
     }
 
-    /// Whether there are none.
+    /// Whether there are no types.
     pub fn is_empty(&self) -> bool {
         self.records.is_empty()
     }
 
-    /// A new type; its number.
+    /// Adds a type. Returns its number.
     pub fn add(&mut self, record: Record<'a>) -> u32 {
         self.records.push(record);
         self.len()
@@ -399,13 +401,13 @@ impl<'a> Table<'a> {
         0
     }
 
-    /// The types that are told of symbols.
+    /// The types of symbols.
     pub fn symbol_roots(&self) -> Vec<u32> {
         let told = self.functions.iter().flatten().flat_map(Record::references);
         self.objects.iter().copied().chain(told).filter(|&n| n != 0).collect()
     }
 
-    /// For each number, 0 too, whether one of some leads to it.
+    /// For each number, including 0, whether one of the roots leads to it.
     pub fn reachable(&self, roots: impl IntoIterator<Item = u32>) -> Vec<bool> {
         let mut seen = vec![false; self.records.len() + 1];
         let mut todo: Vec<u32> = roots.into_iter().filter(|&root| root != 0).collect();
@@ -417,8 +419,8 @@ impl<'a> Table<'a> {
         seen
     }
 
-    /// Keeps these types in this order, without labels and without a parent; each reference, symbols'
-    /// too, becomes what `to` says. Of a function is told nothing where a type in it is left out.
+    /// Keeps these types in this order, without labels and without a parent. Each reference, also
+    /// of a symbol, is mapped by `to`. A function is dropped if a type in it is left out.
     pub fn choose(&mut self, order: &[u32], to: &[u32]) {
         let is_same_order = (0..).zip(to).all(|(n, &to)| n == to);
         let to = |n: u32| to[n as usize];
@@ -443,7 +445,7 @@ impl<'a> Table<'a> {
         }
     }
 
-    /// Puts the records of these numbers, each of which stands there once, into this order.
+    /// Puts the records with these numbers into this order. No number may occur twice.
     fn arrange(&mut self, order: &[u32]) {
         if order.is_sorted() {
             let (mut number, mut next) = (0, order.iter().peekable());
@@ -458,7 +460,7 @@ impl<'a> Table<'a> {
         self.records.extend(order.iter().map(taken));
     }
 
-    /// Keeps these types alone; what named another names 0.
+    /// Keeps only these types, in this order. References to others become 0.
     pub fn keep(&mut self, order: &[u32]) {
         let mut to = vec![0; self.records.len() + 1];
         for (place, &number) in order.iter().enumerate() {

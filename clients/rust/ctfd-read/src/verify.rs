@@ -1,45 +1,46 @@
-//! Whether a dictionary tells truly what units tell: a walk of its own, which knows nothing of how
-//! types were joined.
+//! Verifies that a dictionary agrees with the units of its program, by a walk that does not depend
+//! on how types were joined.
 //!
-//! For each type that a unit has for itself some type of the dictionary must be of the same name, and
-//! alike with all that both name: kinds, sizes, names, places and widths of members, values, elements
-//! and arguments. Pairs that lead back to themselves are alike unless something else shows that they
-//! are not. What CTF can't hold is compared as it is told: a bit-field by its width alone, an atomic
-//! type by the typedef in its place. A declaration may stand for what another unit tells in full.
+//! For each type that a unit defines, some type of the dictionary must have the same name, and must
+//! agree with it in all that both refer to: kinds, sizes, names, offsets and widths of members,
+//! values, elements and arguments. Pairs that lead back to themselves agree unless something else
+//! shows that they do not. What CTF cannot represent is compared in the form in which it was
+//! written: a bit-field only by its width, an atomic type by the typedef that replaces it. A
+//! declaration may stand for a type that another unit defines.
 
 use crate::error::{refuse, Result};
 use crate::table::{Kind, Record, Table};
 use std::collections::{HashMap, HashSet};
 use std::sync::atomic::{AtomicBool, Ordering};
 
-/// Members, enumerators and arguments of more than so many are told otherwise.
+/// Longer lists of members, enumerators and arguments are written in another form.
 const MOST_PARTS: usize = 1023;
-/// How many pairs are compared for each type of a unit.
+/// The number of pairs that are compared for each type of a unit.
 const MOST_PAIRS: usize = 4096;
 
-/// How much of a program is written.
+/// How many of a program's types are written.
 #[derive(Clone, Copy, Debug, PartialEq, Eq)]
 pub enum Extent {
-    /// All types that its units have for themselves.
+    /// All named types of its units.
     All,
-    /// Some of them: then each that is written must be one of a unit.
+    /// Some of them. Then each written type must be one of a unit.
     Some,
 }
 
-/// The dictionaries that were written of a program.
+/// The dictionaries that were written for a program.
 pub struct Judges<'t> {
     listed: Vec<Judge<'t>>,
     extent: Extent,
 }
 
 impl<'t> Judges<'t> {
-    /// Over the types of each, those of its parent in front.
+    /// Takes the types of each dictionary, those of its parent first.
     pub fn new(tables: &'t [Table<'t>], extent: Extent) -> Judges<'t> {
         Judges { listed: tables.iter().map(Judge::new).collect(), extent }
     }
 
-    /// Refuses what a unit has for itself and no dictionary tells, where all is written; how many
-    /// are told.
+    /// Compares the named types of a unit with the dictionaries. Refuses a type that no dictionary
+    /// has if all types were written. Returns the number of types that one has.
     pub fn judge(&self, records: &[Record<'_>], roots: &[u32]) -> Result<usize> {
         let walk = |judge| Walk { judge, records, known: HashSet::new() };
         let mut walks: Vec<Walk<'_, '_>> = self.listed.iter().map(walk).collect();
@@ -66,7 +67,7 @@ impl<'t> Judges<'t> {
         Ok(count)
     }
 
-    /// Refuses what is written and no unit has so, where some types are written.
+    /// If some types were written, refuses those that no unit has.
     pub fn finish(&self) -> Result<()> {
         let of_none = match self.extent {
             Extent::All => None,
@@ -83,16 +84,16 @@ impl<'t> Judges<'t> {
     }
 }
 
-/// The types of a dictionary by their names.
+/// The types of a dictionary, by name.
 struct Judge<'t> {
     table: &'t Table<'t>,
     by_name: HashMap<(Kind, Vec<u8>), Vec<u32>>,
-    /// Which of them some unit has.
+    /// For each type, whether some unit has it.
     is_of_unit: Vec<AtomicBool>,
 }
 
 impl<'t> Judge<'t> {
-    /// Over the types that were written.
+    /// Takes the types that were written.
     fn new(table: &'t Table<'t>) -> Judge<'t> {
         let mut by_name: HashMap<_, Vec<u32>> = HashMap::new();
         for (number, record) in (1..).zip(&table.records) {
@@ -104,7 +105,7 @@ impl<'t> Judge<'t> {
         Judge { table, by_name, is_of_unit }
     }
 
-    /// A type with a name of its own that no unit has.
+    /// An own named type that no unit has.
     fn of_no_unit(&self) -> Option<&Record<'t>> {
         let own = self.table.records.iter().zip(&self.is_of_unit).skip(self.table.bases as usize);
         let is_of_none = |(record, is_of_unit): &(&Record<'t>, &AtomicBool)| {
@@ -114,14 +115,14 @@ impl<'t> Judge<'t> {
     }
 }
 
-/// Whether a type is one that a source file names: what CTF needs beside these is made here.
+/// Whether a type comes from a source file; other types are made for CTF.
 fn is_of_source(record: &Record<'_>) -> bool {
     let is_tagged = matches!(record.kind, Kind::Struct | Kind::Union | Kind::Enum);
     !record.name.is_empty()
         && (is_tagged || record.kind == Kind::Typedef && !record.name.starts_with(b"_Atomic("))
 }
 
-/// The pairs of a unit's types and the dictionary's that are known to be alike.
+/// Pairs of a unit's type and a dictionary's that are known to agree.
 struct Walk<'w, 't> {
     judge: &'w Judge<'t>,
     records: &'w [Record<'w>],
@@ -134,12 +135,12 @@ impl Walk<'_, '_> {
         self.judge.by_name.get(&(record.tag, record.name.to_vec())).map_or(&[], Vec::as_slice)
     }
 
-    /// Whether some type of the dictionary tells one of the unit.
+    /// Whether some type of the dictionary agrees with a type of the unit.
     fn is_told(&mut self, root: u32) -> bool {
         self.candidates(root).to_vec().into_iter().any(|n| self.is_alike(root, n))
     }
 
-    /// The same, with each marked that does and is no declaration in either.
+    /// As `is_told`, but also marks all types that agree, unless either is a declaration.
     fn mark(&mut self, root: u32) -> bool {
         let kind = self.records[root as usize - 1].kind;
         let alike = self.candidates(root).to_vec();
@@ -157,7 +158,8 @@ impl Walk<'_, '_> {
             if self.known.contains(&(x, y)) || !met.insert((x, y)) {
                 continue;
             }
-            // What is too much to compare at once is judged by the types that it consists of.
+            // A type that is too much to compare at once is judged by the types that it consists
+            // of.
             if met.len() > MOST_PAIRS {
                 return true;
             }
@@ -169,7 +171,7 @@ impl Walk<'_, '_> {
         true
     }
 
-    /// Whether two types say the same; what they name is added to what is to be compared.
+    /// Compares two types, and adds the types that they refer to to `todo`.
     fn compare(&self, x: u32, y: u32, todo: &mut Vec<(u32, u32)>) -> bool {
         let (mine, told) = (&self.records[x as usize - 1], self.judge.table.get(y));
         if mine.kind == Kind::Forward {
@@ -226,7 +228,7 @@ impl Walk<'_, '_> {
             })
     }
 
-    /// Whether a type is an integer or an enum of some bits, behind typedefs and qualifiers.
+    /// Whether a type resolves to an integer or an enum of some width in bits.
     fn has_width(&self, number: u32, width: u64) -> bool {
         let end = self.judge.table.resolve(number);
         let record = (end != 0).then(|| self.judge.table.get(end));
@@ -238,7 +240,7 @@ impl Walk<'_, '_> {
     }
 }
 
-/// Whether the values that a dictionary holds of an enum are those that it has.
+/// Whether a dictionary has all values of an enum that CTF can represent.
 fn values(mine: &Record<'_>, told: &Record<'_>) -> bool {
     let most = if mine.size == 4 { 1i128 << 32 } else { 1 << 31 };
     let fitting = mine.values().iter().filter(|one| (-(1i128 << 31)..most).contains(&one.value));
@@ -256,7 +258,7 @@ mod tests {
     use crate::table::{Encoding, Member, Parts};
     use std::borrow::Cow;
 
-    /// An int, a struct with one and a pointer to itself, and that pointer.
+    /// An int, a struct with an int and a pointer to the struct, and the pointer.
     fn unit() -> Vec<Record<'static>> {
         let mut int = Record::new(Kind::Integer, Cow::Borrowed(b"int"));
         int.size = 4;
@@ -300,7 +302,7 @@ mod tests {
     #[test]
     fn what_is_told_truly_is_accepted() {
         assert!(is_told(|_| {}));
-        // Another type of the name may stand in front.
+        // Another type with the name may exist.
         assert!(is_told(|records| {
             let mut other = records[1].clone();
             other.size = 24;

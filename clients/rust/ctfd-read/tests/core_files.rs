@@ -1,4 +1,4 @@
-//! Core files: memory and mapped files are read; of damaged ones too, or they are refused.
+//! Tests of core files: memory and mapped files are read, and damaged files are read or refused.
 
 mod chance;
 
@@ -96,7 +96,7 @@ fn what_is_no_core_file_is_refused() {
     assert_eq!(said, "core does not record where its program was in memory");
 }
 
-/// Cut at each place, and damaged: what is read is in it, and nothing panics.
+/// Files that are cut at each byte, or damaged: results stay within the file, and nothing panics.
 #[test]
 fn damaged_core_files_are_read_or_refused() {
     let whole = core();

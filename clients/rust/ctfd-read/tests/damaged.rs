@@ -1,4 +1,4 @@
-//! Damaged files are read or refused: nothing panics, whatever their bytes are.
+//! Tests of damaged files: they are read or refused, and nothing panics, whatever their bytes are.
 
 mod chance;
 
@@ -9,7 +9,8 @@ use ctfd_read::inputs::{with_types, Options};
 use object::read::ReadRef as _;
 use std::path::PathBuf;
 
-/// Reads some bytes as a file, and makes a dictionary of them if they can be read.
+/// Reads some bytes as a file, and makes a dictionary if they can be read. Returns whether they
+/// can.
 fn read(bytes: Vec<u8>) -> bool {
     let image = Image::of_bytes(PathBuf::from("damaged"), bytes);
     let made = with_types(&image, &Options::default(), |found| {

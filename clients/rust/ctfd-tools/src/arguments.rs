@@ -1,4 +1,4 @@
-//! What the words of several commands have in common: how options are made, and how files are read.
+//! Options that several commands share, among them how files are read.
 
 use crate::elsewhere;
 use clap::builder::PossibleValuesParser;
@@ -8,11 +8,11 @@ use ctfd_read::elsewhere::Elsewhere;
 use ctfd_read::inputs::{Form, Options};
 use std::path::PathBuf;
 
-/// The columns of a help that is read at ease, and those that it takes at least.
+/// The greatest and the least width of a help text, in columns.
 const MOST_COLUMNS: usize = 100;
 const LEAST_COLUMNS: usize = 40;
 
-/// A command of a name, with what its help says of it.
+/// A command with its name and description, and with the settings that all commands share.
 pub fn command(name: &'static str, about: &'static str) -> Command {
     let command = Command::new(name)
         .version(env!("CARGO_PKG_VERSION"))
@@ -22,7 +22,7 @@ pub fn command(name: &'static str, about: &'static str) -> Command {
     let columns = std::env::var("COLUMNS").ok().and_then(|columns| columns.parse().ok());
     match columns.filter(|&columns| columns >= LEAST_COLUMNS) {
         Some(columns) => command.term_width(columns),
-        None => command, // as wide as the terminal
+        None => command, // the width of the terminal
     }
 }
 
@@ -31,19 +31,19 @@ pub fn file(name: &'static str, help: &'static str) -> Arg {
     Arg::new(name).long(name).value_name("FILE").value_parser(value_parser!(PathBuf)).help(help)
 }
 
-/// An option that is given or not.
+/// An option without a value.
 pub fn flag(name: &'static str, help: &'static str) -> Arg {
     Arg::new(name).long(name).action(ArgAction::SetTrue).help(help)
 }
 
-/// An option of one of some words, which stand apart by `|`.
+/// An option whose value is one of the words in `listed`, separated by `|`.
 pub fn word(name: &'static str, listed: &'static str, help: &'static str) -> Arg {
     let words = PossibleValuesParser::new(listed.split('|'));
     let made = Arg::new(name).long(name).value_name(listed).value_parser(words);
     made.hide_possible_values(true).help(help)
 }
 
-/// The option that names stores.
+/// The option `--store`.
 pub fn store() -> Arg {
     Arg::new("store")
         .long("store")
@@ -51,12 +51,12 @@ pub fn store() -> Arg {
         .help("where types are asked for by build-id, in place of CTFD_STORE")
 }
 
-/// The stores that this option names, else those of the environment.
+/// The stores of `--store`, else those of the environment.
 pub fn stores(matches: &ArgMatches) -> Elsewhere {
     elsewhere::of(matches.get_one::<String>("store").map(String::as_str))
 }
 
-/// How files are read.
+/// The options for how files are read.
 pub fn of_reading() -> [Arg; 7] {
     [
         store(),
@@ -75,7 +75,7 @@ pub fn of_reading() -> [Arg; 7] {
     ]
 }
 
-/// What these say.
+/// The values of these options.
 pub fn reading(matches: &ArgMatches) -> Options {
     let word = |name: &str| matches.get_one::<String>(name).map(String::as_str);
     let model = word("model").map(|word| match word {

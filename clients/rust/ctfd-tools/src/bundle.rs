@@ -1,13 +1,13 @@
-//! What other programs take from `ctfd-convert`: all that goes with the types of a file, in one
-//! stream, and what an ELF file is.
+//! Output of `ctfd-convert` for other programs: the types of a file with all that belongs to them,
+//! in one stream, and what an ELF file is.
 //!
-//! A bundle is a line of JSON and the lists that it counts, one behind the other. `lists` has their
+//! A bundle is a line of JSON, followed by the lists that it counts. `lists` has their lengths in
 //! bytes, and `dictionaries` says which of them are the dictionary, the symbols and the strings of
-//! each: the parent comes first, where there are several. `how` tells how the symbols were found, and
-//! `label` is that by which a child names this one as its parent. Where it is asked for, `addresses`
-//! is a list too, of JSON: the functions and objects of the symbols, each with its name, number and
-//! address, and whether it is a function. `made` says whether the types were converted, `alone`
-//! whether of this file alone, and `losses` what CTF does not hold of them.
+//! each; a parent comes first. `how` tells how the symbols were found, and `label` is the label by
+//! which a child names this dictionary as its parent. On request `addresses` is a further list, as
+//! JSON: the functions and objects of the symbols, each with its name, number and address, and
+//! whether it is a function. `made` says whether the types were converted, `alone` whether they
+//! come from this file alone, and `losses` what CTF cannot represent of them.
 
 use crate::types::json::{list, text, Object};
 use ctfd::Model;
@@ -19,15 +19,15 @@ use object::archive::THIN_MAGIC;
 use object::elf::{ET_CORE, ET_DYN, ET_EXEC, ET_REL, SHT_NOBITS};
 use object::ReadRef as _;
 
-/// Sections with debug information; what `strip` leaves of them is empty.
+/// Sections with debug information; `strip` may leave them empty.
 const DEBUG: [&str; 2] = [".debug_info", ".zdebug_info"];
 
-/// The lists of a bundle, each once.
+/// The lists of a bundle, without duplicates.
 #[derive(Default)]
 struct Lists<'a>(Vec<std::borrow::Cow<'a, [u8]>>);
 
 impl<'a> Lists<'a> {
-    /// The place of a list, as JSON has it; null of none.
+    /// The index of a list, as JSON; `null` if there is no list.
     fn place(&mut self, bytes: Option<&'a [u8]>) -> String {
         let Some(bytes) = bytes else { return "null".to_owned() };
         let known = self.0.iter().position(|one| **one == *bytes);
@@ -40,7 +40,7 @@ impl<'a> Lists<'a> {
     }
 }
 
-/// The bundle of what is given for a file.
+/// The bundle for a file.
 pub fn bundle(image: &Image, handed: &LibraryInput<'_>, has_addresses: bool) -> Result<Vec<u8>> {
     let mut lists = Lists::default();
     let mut listed = Vec::new();
@@ -58,7 +58,7 @@ pub fn bundle(image: &Image, handed: &LibraryInput<'_>, has_addresses: bool) -> 
     Ok(bytes)
 }
 
-/// Whether it is an archive whose members are files beside it.
+/// Whether the file is a thin archive, whose members are other files.
 fn is_thin(image: &Image) -> bool {
     let length = THIN_MAGIC.len() as u64;
     image.data().read_bytes_at(0, length) == Ok(&THIN_MAGIC[..])
@@ -96,7 +96,7 @@ fn word_of(model: Model) -> &'static [u8] {
     }
 }
 
-/// What an ELF file is, as an object of JSON: null of any other file.
+/// What an ELF file is, as a JSON object; `null` for any other file.
 pub fn description(image: &Image) -> Result<String> {
     if !image.is_elf() {
         return Ok("null\n".to_owned());
@@ -128,7 +128,7 @@ fn kind_of(kind: u16) -> &'static str {
     }
 }
 
-/// What the library is given for a file, its own symbols' names among that.
+/// The library's input for a file, with the symbols that only the dictionary has names for.
 pub fn library_input<'a>(
     image: &'a Image,
     reading: &ctfd_read::inputs::Options,

@@ -26,10 +26,10 @@ use std::process::ExitCode;
 use std::sync::Arc;
 
 const NAME: &str = "ctfd-convert";
-/// How many lines tell losses of a user, and how to see all.
+/// The number of lines that report losses to a user, and how to see all of them.
 const MOST_LINES: usize = 12;
 const ALL_LINES: &str = "--report - lists them all";
-/// The stack of a thread, as large as that of a program's first one.
+/// The stack size of a thread: that of a program's first thread.
 const STACK: usize = 8 << 20;
 const ABOUT: &str = "\
 Writes a program's types as a dictionary of CTF version 2.
@@ -40,11 +40,11 @@ DWARF and GNU's CTF that it has is read. Each construct that CTF cannot represen
 what replaces it: the status is then 1, and OUT is written. It is 2 if nothing was written, and OUT
 is as it was.";
 
-/// Options of written dictionaries alone.
+/// Options that apply only to written dictionaries.
 const OF_TYPES: [&str; 7] =
     ["only", "parent", "split", "section", "self-contained", "report", "verify"];
 
-/// The command; its exit status.
+/// Runs the command, and returns its exit status.
 pub fn main(words: Vec<OsString>) -> ExitCode {
     let words = Words::of(&wrong_words::parse_words(options(), words));
     if standard::is_output_closed() {
@@ -66,7 +66,7 @@ pub fn main(words: Vec<OsString>) -> ExitCode {
     }
 }
 
-/// What a command line says.
+/// The values of the command line.
 struct Words {
     input: PathBuf,
     output: PathBuf,
@@ -82,12 +82,12 @@ struct Words {
     answer: Answer,
 }
 
-/// What is written.
+/// The kind of output.
 #[derive(Clone, Copy, PartialEq, Eq)]
 enum Answer {
     /// A dictionary, or several in one file.
     Types,
-    /// A bundle, with the addresses of its symbols or without.
+    /// A bundle, with or without the addresses of its symbols.
     Bundle { has_addresses: bool },
     /// What an ELF file is.
     Description,
@@ -142,7 +142,7 @@ impl Words {
         }
     }
 
-    /// How much of a program is written.
+    /// How much of a program is written: all, or some.
     fn extent(&self, made: &Conversion<'_>) -> Extent {
         let is_cut = match made {
             Conversion::One(made) => made.table.is_cut,
@@ -189,7 +189,7 @@ fn path(name: &'static str) -> Arg {
     Arg::new(name).value_parser(value_parser!(PathBuf))
 }
 
-/// An option of one of some words, which stand apart by `|`.
+/// An option whose value is one of the words in `listed`, separated by `|`.
 fn word(name: &'static str, listed: &'static str) -> Arg {
     let words = PossibleValuesParser::new(listed.split('|'));
     Arg::new(name).long(name).value_name(listed).value_parser(words).hide_possible_values(true)
@@ -210,7 +210,7 @@ fn options() -> Command {
     command.args(of_reading()).args(of_writing())
 }
 
-/// The options that say what is read.
+/// The options for what is read.
 fn of_reading() -> [Arg; 7] {
     [
         word("from", "ctf|other-ctf|btf|dwarf|gnu").help("the form to read"),
@@ -242,7 +242,7 @@ fn of_reading() -> [Arg; 7] {
     ]
 }
 
-/// The options that say what is written.
+/// The options for what is written.
 fn of_writing() -> [Arg; 12] {
     [
         path("parent").long("parent").value_name("FILE").help(
@@ -276,7 +276,7 @@ fn of_writing() -> [Arg; 12] {
         flag("describe").conflicts_with_all(OF_TYPES).conflicts_with("bundle").help(
             "for programs: OUT is JSON that says what the ELF file IN is, and whether it has types",
         ),
-        flag("lossy").help("end with status 0 even if CTF can't hold everything"),
+        flag("lossy").help("end with status 0 even if CTF cannot represent everything"),
         path("service")
             .long("service")
             .value_name("CTFD")
@@ -284,8 +284,8 @@ fn of_writing() -> [Arg; 12] {
     ]
 }
 
-/// Runs the command; what was lost, a line each. All of it runs in the threads that read: what one
-/// of them has freed serves what comes next.
+/// Runs the command, and returns what was lost, one line each. All of it runs in the threads that
+/// read, so that memory which one step freed serves the next.
 fn convert(words: &Words) -> Result<Vec<String>> {
     words.judge()?;
     words.outputs().into_iter().try_for_each(output::judge)?;
@@ -345,21 +345,21 @@ fn convert_file(words: &Words) -> Result<Vec<String>> {
                 write_report(path, &lines)?;
             }
             let losses = std::mem::take(&mut made.table.losses);
-            // The process ends soon, and takes less time over it than this would.
+            // Not dropped: the process ends soon, and that takes less time.
             std::mem::forget(made);
             Ok(losses)
         })
     })
 }
 
-/// Writes a bundle, whose reader is told there what was lost.
+/// Writes a bundle. The losses are in the bundle, so none are returned.
 fn write_bundle(words: &Words, image: &Image, has_addresses: bool) -> Result<Vec<String>> {
     let handed = bundle::library_input(image, &words.reading)?;
     output::write(&words.output, &bundle::bundle(image, &handed, has_addresses)?)?;
     Ok(Vec::new())
 }
 
-/// Refuses what is not as the units of the program have it, where that is asked.
+/// With `--verify`, refuses dictionaries that differ from the debug information of the program.
 fn verify(
     words: &Words,
     written: &[WithParent<'_>],
@@ -381,13 +381,13 @@ fn write_report(path: &Path, lines: &[String]) -> Result<()> {
     output::write(path, text.as_bytes())
 }
 
-/// What is made of a program: a dictionary, or several in one file.
+/// The result of a conversion: a dictionary, or several in one file.
 enum Conversion<'a> {
     One(Dictionary<'a>),
     InParts(parts::WrittenParts<'a>),
 }
 
-/// Makes the dictionary that the words want, and runs something on it.
+/// Makes the dictionary that the command line asks for, and calls `run` with it.
 fn with_dictionary<T>(
     words: &Words,
     image: &Image,
@@ -428,7 +428,7 @@ fn with_dictionary<T>(
     })
 }
 
-/// A dictionary as it is, inflated; or one with its names in its own strings.
+/// An existing dictionary, inflated, or with its names copied into its own strings.
 fn dictionary_as_it_is<'a>(
     words: &Words,
     image: &Image,

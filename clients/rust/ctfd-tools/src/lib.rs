@@ -1,8 +1,8 @@
-//! The commands of ctfd, in one program: the name by which it is started says which command it is.
+//! The commands of ctfd in one program, which takes its command from the name by which it is
+//! started.
 //!
-//! One program, since all commands share the reader and the library: apart they would each carry
-//! both. A link may have any name: then that of the file counts, and else the first word is the
-//! command's.
+//! All commands share the reader and the library; separate programs would each contain both. A link
+//! may have any name: then the name of the program's file counts, else its first argument.
 
 mod arguments;
 mod bundle;
@@ -28,7 +28,7 @@ use std::ffi::OsString;
 use std::path::{Path, PathBuf};
 use std::process::ExitCode;
 
-/// A command: from its words, the program's name first, to its exit status.
+/// A command: takes its words, beginning with the program's name, and returns its exit status.
 type Command = fn(Vec<OsString>) -> ExitCode;
 
 const COMMANDS: [(&str, Command); 7] = [
@@ -41,11 +41,11 @@ const COMMANDS: [(&str, Command); 7] = [
     ("ctfd-types", types::main),
 ];
 
-/// Runs the command that the words of the process name; its exit status.
+/// Runs the command that the process was started as, and returns its exit status.
 pub fn main() -> ExitCode {
     progress::begin();
     let mut words: Vec<OsString> = std::env::args_os().collect();
-    // A link may have another name, so the file that runs counts too.
+    // A link may have another name, so the name of the program's file counts too.
     let file = std::env::current_exe().map(PathBuf::into_os_string).unwrap_or_default();
     if let Some(command) = words.first().and_then(command_of).or_else(|| command_of(&file)) {
         return command(words);
@@ -59,7 +59,7 @@ pub fn main() -> ExitCode {
     ExitCode::from(messages::REFUSED)
 }
 
-/// The command of the name that a path ends in.
+/// The command with the file name of a path.
 fn command_of(word: &OsString) -> Option<Command> {
     let name = Path::new(word).file_name()?;
     COMMANDS.iter().find(|(known, _)| name == *known).map(|(_, command)| *command)

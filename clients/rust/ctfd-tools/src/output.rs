@@ -1,4 +1,4 @@
-//! Files that a command writes: whole, or not at all.
+//! Output files, each written whole or not at all.
 
 use crate::interrupts;
 use ctfd_read::error::{reason, refuse, Error, Result};
@@ -9,12 +9,12 @@ use std::os::unix::fs::{DirBuilderExt as _, MetadataExt as _};
 use std::path::{Path, PathBuf};
 use std::process::Command;
 
-/// The word for standard output in place of a file's name.
+/// The word for standard output in place of a file name.
 pub const STANDARD_OUTPUT: &str = "-";
-/// The status of a command whose output nobody reads, as a shell has it of SIGPIPE.
+/// The exit status if nobody reads the output: that of a process killed by SIGPIPE, in a shell.
 const UNREAD: i32 = 141;
 const SECTION: &str = ".SUNW_ctf";
-/// That of GNU knows the machines that it was built for.
+/// Programs that copy ELF files. GNU's knows only the machines that it was built for.
 const COPIERS: [&str; 2] = ["objcopy", "llvm-objcopy"];
 
 fn is_standard(path: &Path) -> bool {
@@ -25,21 +25,21 @@ fn error_of(path: &Path, error: &std::io::Error) -> Error {
     Error(format!("cannot write {}: {}", path.display(), reason(error)))
 }
 
-/// Refuses a file that can't be written, before what is to be in it is made.
+/// Refuses a file that cannot be written, before its contents are made.
 pub fn judge(path: &Path) -> Result<()> {
     if is_standard(path) {
         return Ok(());
     }
     match fs::metadata(path) {
         Ok(about) if about.is_dir() => {
-            refuse(format!("cannot write {}: it is a folder", path.display()))
+            refuse(format!("cannot write {}: is a directory", path.display()))
         }
-        Ok(about) if !about.is_file() => Ok(()), // a device or a pipe: to open it is to write to it
+        Ok(about) if !about.is_file() => Ok(()), // a device or a pipe: opening it would write to it
         _ => Beside::new(path).map(drop),
     }
 }
 
-/// Refuses a file that is read where it is also written.
+/// Refuses an input that is one of the outputs.
 pub fn judge_input(input: &Path, outputs: &[&Path]) -> Result<()> {
     let is_written = |output: &&Path| !is_standard(output) && is_same(input, output);
     match outputs.iter().any(is_written) {
@@ -51,13 +51,13 @@ pub fn judge_input(input: &Path, outputs: &[&Path]) -> Result<()> {
     }
 }
 
-/// Whether two paths name one file, links followed.
+/// Whether two paths name the same file, after links.
 pub fn is_same(one: &Path, other: &Path) -> bool {
     let real = |path: &Path| path.canonicalize().unwrap_or_else(|_| path.to_owned());
     real(one) == real(other)
 }
 
-/// Writes a file whole, or leaves what was there.
+/// Writes a file whole, or leaves the old one.
 pub fn write(path: &Path, bytes: &[u8]) -> Result<()> {
     if is_standard(path) {
         return print(bytes);
@@ -72,7 +72,7 @@ pub fn write(path: &Path, bytes: &[u8]) -> Result<()> {
         .map_err(|error| error_of(path, &error))
 }
 
-/// Writes to standard output. Where its reader has left, there is nobody to tell: the process ends.
+/// Writes to standard output. If its reader has left, ends the process without a message.
 fn print(bytes: &[u8]) -> Result<()> {
     let mut output = std::io::stdout().lock();
     match output.write_all(bytes).and_then(|()| output.flush()) {
@@ -81,7 +81,7 @@ fn print(bytes: &[u8]) -> Result<()> {
     }
 }
 
-/// A new file beside another, which takes its place or goes.
+/// A temporary file beside another, which it replaces if all goes well.
 struct Beside {
     path: PathBuf,
 }
@@ -105,22 +105,22 @@ impl Beside {
 
 impl Drop for Beside {
     fn drop(&mut self) {
-        interrupts::unmake(&self.path); // it has taken the other's place, as a rule
+        interrupts::unmake(&self.path); // as a rule it was renamed
     }
 }
 
-/// A folder of this process alone, which goes with what is in it.
+/// A temporary folder of this process, removed with its contents when dropped.
 pub struct Folder {
     path: PathBuf,
 }
 
 impl Folder {
-    /// Makes one.
+    /// Makes one in the system's folder for temporary files.
     pub fn new() -> Result<Folder> {
         Folder::within(&std::env::temp_dir())
     }
 
-    /// Makes one within another.
+    /// Makes one in the given folder.
     pub fn within(other: &Path) -> Result<Folder> {
         let process = std::process::id();
         for turn in 0..u32::MAX {
@@ -134,7 +134,7 @@ impl Folder {
         refuse("no free name for a temporary folder")
     }
 
-    /// Where it is.
+    /// The path of the folder.
     pub fn path(&self) -> &Path {
         &self.path
     }
@@ -146,7 +146,7 @@ impl Drop for Folder {
     }
 }
 
-/// Writes a copy of an ELF file with the dictionary in it, in place of one that it has.
+/// Writes a copy of an ELF file with the dictionary in it, replacing any that it has.
 pub fn add_section(input: &Path, bytes: &[u8], output: &Path) -> Result<()> {
     let words = ["--remove-section", SECTION].map(str::to_owned);
     let whole = with_sections("--section", input, &words, &[(SECTION, bytes)], output)?;
@@ -159,8 +159,8 @@ pub fn add_section(input: &Path, bytes: &[u8], output: &Path) -> Result<()> {
     Ok(())
 }
 
-/// A copy of an ELF file that objcopy makes by some words, with some sections by their names.
-/// `option` is what the user asked for, and `output` the file that is to be written.
+/// A copy of an ELF file, made by objcopy with the given options and added sections. `option` is
+/// the user's option that needs it, and `output` the file to be written; both are for messages.
 pub fn with_sections(
     option: &str,
     input: &Path,
@@ -192,8 +192,8 @@ pub fn with_sections(
     }
 }
 
-/// A program on the PATH, of whose folders those count that are named from the root on: another user
-/// may have put a file into the folder that this one stands in.
+/// The path of a program on the PATH. Relative folders on the PATH are skipped: another user may
+/// have put a file into the current folder.
 pub fn on_path(name: &str) -> Option<PathBuf> {
     let is_program = |path: &PathBuf| {
         fs::metadata(path).is_ok_and(|about| about.is_file() && about.mode() & 0o111 != 0)
@@ -204,7 +204,7 @@ pub fn on_path(name: &str) -> Option<PathBuf> {
         .find(is_program)
 }
 
-/// Copies a file by a tool; what that said in vain. None where it is not there.
+/// Copies a file by a tool, and returns its message if that fails; None if it cannot be run.
 fn copy_by_tool(
     copier: &str,
     words: &[String],

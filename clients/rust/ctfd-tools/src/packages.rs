@@ -1,4 +1,4 @@
-//! Packages of distributions: their regular files, from what the tool for each format makes of them.
+//! Packages of distributions: extracts regular files from the output of each format's own tool.
 
 mod cpio;
 
@@ -11,15 +11,15 @@ use std::io::{self, ErrorKind, Read};
 use std::path::{Component, Path, PathBuf};
 use std::process::{Child, Command, Stdio};
 
-/// How many times its bytes a package may unpack to, and how much more.
+/// How many times its own size a package may unpack to, and how many bytes more.
 const MOST_TIMES: u64 = 256;
 const AT_LEAST: u64 = 1 << 30;
-/// How many bytes of a file say what it is.
+/// How many bytes at the start of a file tell its format.
 const FIRST: u64 = 4;
-/// The longest name of a file, as the system has it.
+/// The longest path, as on Linux.
 const LONGEST_NAME: usize = 4096;
 
-/// What made a package.
+/// The format of a package.
 #[derive(Clone, Copy, Debug, PartialEq, Eq)]
 pub enum Format {
     /// dpkg, of Debian.
@@ -31,7 +31,7 @@ pub enum Format {
 impl Format {
     const ALL: [Format; 2] = [Format::Debian, Format::Rpm];
 
-    /// That of a file, as its first bytes say.
+    /// The format of a file, by its first bytes.
     pub fn of(path: &Path) -> Option<Format> {
         let is_file = fs::metadata(path).is_ok_and(|about| about.is_file());
         let begins = |format: &Format| {
@@ -49,7 +49,7 @@ impl Format {
         }
     }
 
-    /// The program that prints the files as an archive, and what it is told in front of the package.
+    /// The program that prints the files as an archive, and its options before the package's name.
     fn unpacker(self) -> (&'static str, &'static [&'static str]) {
         match self {
             Format::Debian => ("dpkg-deb", &["--fsys-tarfile"]),
@@ -58,7 +58,7 @@ impl Format {
     }
 }
 
-/// Unpacks the regular files of a package that are wanted by their first bytes; how many there were.
+/// Unpacks those regular files of a package whose first bytes are wanted, and returns how many.
 pub fn unpack(
     package: &Path,
     format: Format,
@@ -84,7 +84,7 @@ pub fn unpack(
     }
 }
 
-/// Starts the program that unpacks a package.
+/// Starts the unpacker of a package.
 fn start(package: &Path, format: Format) -> Result<Child, String> {
     let (name, words) = format.unpacker();
     let Some(unpacker) = on_path(name) else {
@@ -102,7 +102,7 @@ fn start(package: &Path, format: Format) -> Result<Child, String> {
         .map_err(|error| reason(&error))
 }
 
-/// A folder that gets the files of a package.
+/// The folder into which a package is unpacked.
 struct Unpacking<'p> {
     into: &'p Path,
     is_wanted: fn(&[u8]) -> bool,
@@ -110,7 +110,7 @@ struct Unpacking<'p> {
 }
 
 impl Unpacking<'_> {
-    /// The files of an archive of tar, which is read to its end.
+    /// Unpacks the files of a tar archive, reading it to its end.
     fn tar(&mut self, bytes: impl Read) -> io::Result<()> {
         let mut archive = tar::Archive::new(bytes);
         for entry in archive.entries()? {
@@ -124,8 +124,8 @@ impl Unpacking<'_> {
         Ok(())
     }
 
-    /// A file of a name, if it is wanted. None is written outside of the folder: there are no links
-    /// in it, and a name that leads out is passed over.
+    /// Unpacks a file, if it is wanted. Nothing is written outside of the folder: links are not
+    /// unpacked, and a name that leads out of it is skipped.
     fn file(&mut self, name: &Path, bytes: &mut dyn Read) -> io::Result<()> {
         let mut first = Vec::new();
         bytes.take(FIRST).read_to_end(&mut first)?;
@@ -142,7 +142,7 @@ impl Unpacking<'_> {
     }
 }
 
-/// The path of a file below the folder that it is unpacked into; None where it leads out of that.
+/// The path of a file relative to the folder; None if it leads out of the folder.
 fn within(name: &Path) -> Option<PathBuf> {
     let is_plain = |part: &Component<'_>| matches!(part, Component::Normal(_));
     let is_passed = |part: &Component<'_>| matches!(part, Component::CurDir | Component::RootDir);

@@ -1,4 +1,4 @@
-//! How far long work is, with an estimate, on standard error where that is a terminal.
+//! A progress bar with an estimate for long work, if standard error is a terminal.
 
 use crate::types::text::printable;
 use ctfd_read::inputs::Options;
@@ -10,19 +10,19 @@ use std::path::Path;
 use std::sync::{Arc, OnceLock};
 use std::time::{Duration, Instant};
 
-/// Nothing is shown of work that takes no longer.
+/// Work that takes no longer shows no bar.
 const PATIENCE: Duration = Duration::from_secs(1);
 const TEMPLATE: &str = "{msg} [{bar:30}] {percent:>3}%, {eta} left";
 
 /// When the command began.
 static BEGUN: OnceLock<Instant> = OnceLock::new();
 
-/// Counts the time from now on, after which bars are shown.
+/// Records when the command began; bars are shown some time after that.
 pub fn begin() {
     BEGUN.get_or_init(Instant::now);
 }
 
-/// A bar that is there while something is read.
+/// A progress bar for reading a file.
 pub struct Bar {
     begun: Instant,
     what: String,
@@ -31,7 +31,7 @@ pub struct Bar {
 }
 
 impl Bar {
-    /// That of some work.
+    /// A bar with the given message.
     pub fn new(what: String) -> Bar {
         let is_wanted = stderr().is_terminal();
         Bar { begun: *BEGUN.get_or_init(Instant::now), what, is_wanted, shown: OnceLock::new() }
@@ -48,7 +48,7 @@ impl Bar {
     }
 }
 
-/// How a file is read, with a bar that tells how far that is.
+/// The options for reading a file, with a progress bar.
 pub fn with_bar(reading: &Options, path: &Path) -> Options {
     let what = format!("reading {}", printable(path.as_os_str().as_bytes()));
     Options { listener: Listener::new(Arc::new(Bar::new(what))), ..reading.clone() }

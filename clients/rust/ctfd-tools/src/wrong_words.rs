@@ -5,19 +5,19 @@ use clap::error::{ContextKind, ContextValue, Error, ErrorKind};
 use clap::{ArgMatches, Command};
 use std::ffi::OsString;
 
-/// What a command line says. A wrong one ends the process with status 2; so do `--help` and
-/// `--version`, with status 0.
+/// Parses a command line. A wrong one ends the process with status 2; `--help` and `--version` end
+/// it with status 0.
 pub fn parse_words(command: Command, words: Vec<OsString>) -> ArgMatches {
     command.clone().try_get_matches_from(words).unwrap_or_else(|error| refuse(&command, &error))
 }
 
-/// Refuses what a command line says.
+/// Ends the process with a message that refuses the command line.
 pub fn refuse_because(command: &Command, said: &str) -> ! {
     messages::warn(command.get_name(), with_advice(command, said.into()));
     std::process::exit(REFUSED.into())
 }
 
-/// Ends the process for what clap found: wrong words, or words that ask for help.
+/// Ends the process for an error of clap: a wrong command line, or one that asks for help.
 pub fn refuse(command: &Command, error: &Error) -> ! {
     if error.use_stderr() {
         refuse_because(command, &sentence(command, error));
@@ -39,7 +39,7 @@ fn sentence(command: &Command, error: &Error) -> String {
     words.join(" ").trim_start_matches("error: ").to_owned()
 }
 
-/// A word that the command does not take, with the nearest option that its help shows.
+/// The message for an unknown word, with the nearest option if the help lists it.
 fn unknown(command: &Command, error: &Error) -> String {
     let word = text_of(error, ContextKind::InvalidArg).unwrap_or_default();
     let sort = if word.starts_with('-') { "no option" } else { "no place for" };

@@ -1,16 +1,16 @@
-//! What zstd compressed, by libzstd: the two functions that this takes are bound here. Crates of
-//! Debian that bind all of it make their bindings while they are built, by clang and forty crates.
+//! Decompression with libzstd. This crate binds the two functions that it needs: Debian's crates
+//! that bind all of libzstd generate their bindings during the build, with clang and forty crates.
 
-/// Why there is nothing.
+/// The reason why nothing was decompressed.
 #[derive(Clone, Copy, Debug, PartialEq, Eq)]
 pub enum Refusal {
-    /// The bytes are not what zstd makes of so many.
+    /// The bytes are damaged, or decompress to another length.
     Damaged,
-    /// This was built where libzstd was not.
+    /// The program was built without libzstd.
     NotBuilt,
 }
 
-/// As many bytes as zstd made these of: no more and no fewer than `length`.
+/// Decompresses bytes. The result must have exactly `length` bytes.
 pub fn decompress(bytes: &[u8], length: usize) -> Result<Vec<u8>, Refusal> {
     let mut made = vec![0; length];
     match library::decompress(&mut made, bytes)? {
@@ -29,11 +29,11 @@ mod library {
         fn ZSTD_isError(code: usize) -> c_uint;
     }
 
-    /// Fills some room with what was compressed; how many bytes that are.
+    /// Decompresses into a buffer. Returns the number of bytes written.
     pub fn decompress(to: &mut [u8], from: &[u8]) -> Result<usize, Refusal> {
-        // SAFETY: it writes no more than the room, and reads no more than the bytes.
+        // SAFETY: it writes only into the buffer, and reads only the bytes.
         let code = unsafe { ZSTD_decompress(to.as_mut_ptr(), to.len(), from.as_ptr(), from.len()) };
-        // SAFETY: it looks at the number alone.
+        // SAFETY: it only looks at the number.
         match unsafe { ZSTD_isError(code) } {
             0 => Ok(code),
             _ => Err(Refusal::Damaged),
@@ -54,7 +54,7 @@ mod library {
 mod tests {
     use super::*;
 
-    /// "ctfd" a hundred times, as `zstd` writes it.
+    /// "ctfd" a hundred times, compressed by `zstd`.
     const MADE: &[u8] = &[
         0x28, 0xb5, 0x2f, 0xfd, 0x60, 0x90, 0x00, 0x5d, 0x00, 0x00, 0x20, 0x63, 0x74, 0x66, 0x64,
         0x01, 0x00, 0x89, 0xd4, 0x4b, 0x04,

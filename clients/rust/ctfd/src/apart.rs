@@ -1,8 +1,8 @@
-//! Lists that do not overlap, as the library wants those of one call.
+//! Copies of lists that overlap, as no two lists of a library call may.
 
 use std::borrow::Cow;
 
-/// A list by itself: a copy, where it shares bytes with one of the others of the same call.
+/// The list; a copy if it shares bytes with another list of the same call.
 pub(crate) fn apart<'a>(list: &'a [u8], others: &[&[u8]]) -> Cow<'a, [u8]> {
     if others.iter().any(|other| overlap(list, other)) {
         Cow::Owned(list.to_vec())

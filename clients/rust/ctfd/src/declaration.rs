@@ -1,10 +1,11 @@
-//! How C declares something of a type.
+//! Declarations in C.
 
 use crate::names::show;
 use crate::types::{Kind, Type};
 use std::fmt;
 
-/// A declaration of a name: [`Type::declare`]. Shown, it is `int (*handler)()` or `char text[16]`.
+/// The declaration of a name with a type, from [`Type::declare`]. Its `Display` form is C, such as
+/// `int (*handler)()` or `char text[16]`.
 #[derive(Clone, Debug)]
 pub struct Declaration<'d> {
     of: Option<Type<'d>>,
@@ -16,10 +17,11 @@ impl<'d> Declaration<'d> {
         Declaration { of, name: name.to_vec() }
     }
 
-    /// What stands round the name, and the type that the declaration begins with.
+    /// The type that the declaration begins with, the qualifiers before it, and the text after it,
+    /// which contains the name.
     fn parts(&self) -> (Option<Type<'d>>, Vec<u8>, Vec<u8>) {
         let (mut front, mut made, mut at) = (Vec::new(), self.name.clone(), self.of);
-        let mut of_pointer = Vec::new(); // the qualifiers of the pointer that comes next
+        let mut of_pointer = Vec::new(); // qualifiers of the next pointer
         while let Some(t) = at {
             let kind = t.kind();
             let next = match kind {
@@ -56,7 +58,7 @@ impl<'d> Declaration<'d> {
     }
 }
 
-/// Puts a star in front, with brackets where an array or a function is behind it.
+/// Puts a star in front, and parentheses around it if the pointer is to an array or a function.
 fn point(made: &mut Vec<u8>, to: Option<Type<'_>>) {
     made.insert(0, b'*');
     let kind = past_qualifiers(to).map(Type::kind);
@@ -74,7 +76,7 @@ fn word_of(qualifier: Kind) -> &'static [u8] {
     }
 }
 
-/// Puts a qualifier of a pointer behind the star that comes next, in front of what is there.
+/// Puts a qualifier of a pointer in front of the text; the star of the pointer comes before it.
 fn qualify(made: &mut Vec<u8>, kind: Kind, of: Option<Type<'_>>) {
     let rest = std::mem::take(made);
     made.extend(word_of(kind));
@@ -84,7 +86,7 @@ fn qualify(made: &mut Vec<u8>, kind: Kind, of: Option<Type<'_>>) {
     made.extend(rest);
 }
 
-/// What a qualifier is said of, since C knows no qualified arrays: of an array, its elements.
+/// The type that a qualifier applies to: of an array its elements, since C has no qualified arrays.
 fn element_of(of: Option<Type<'_>>) -> Option<Type<'_>> {
     let mut element = past_qualifiers(of);
     while let Some(array) = element.filter(|t| t.kind() == Kind::Array) {
@@ -93,7 +95,7 @@ fn element_of(of: Option<Type<'_>>) -> Option<Type<'_>> {
     element
 }
 
-/// The type that qualifiers stand round, perhaps more than one.
+/// The type without its qualifiers; `None` for no type.
 fn past_qualifiers(mut of: Option<Type<'_>>) -> Option<Type<'_>> {
     while let Some(t) = of {
         match t.kind() {

@@ -1,4 +1,4 @@
-//! Dictionaries that are open.
+//! Open dictionaries.
 
 use crate::faults::{outcome_of, told_at, Refusal};
 use crate::input_lists::InputLists;
@@ -9,10 +9,10 @@ use std::cell::UnsafeCell;
 use std::fmt;
 use std::iter::FusedIterator;
 
-/// The number of a child's first type.
+/// The number of the first type of a child.
 const FIRST_OF_CHILD: u16 = 32_769;
 
-/// How many bytes a pointer of the program has.
+/// The data model of a program: the size of its pointers.
 #[derive(Clone, Copy, Debug, Default, PartialEq, Eq, Hash)]
 pub enum Model {
     /// 8 bytes.
@@ -22,48 +22,55 @@ pub enum Model {
     Ilp32,
 }
 
-/// What is handed in beside the CTF section.
+/// Options for opening a dictionary: what goes with its CTF section in the program.
 #[derive(Clone, Copy, Debug, Default)]
 pub struct Options<'a> {
     /// The program's symbol table, of ELF64.
     pub symbols: Option<&'a [u8]>,
-    /// The strings of the symbol table, where names of the dictionary may stand too.
+    /// The strings of the symbol table. The dictionary's names may be in them too.
     pub strings: Option<&'a [u8]>,
     /// The data model of the program.
     pub model: Model,
 }
 
-/// A dictionary that was judged and opened. It keeps a copy of what was handed in, or, if it was
-/// opened by [`open_lent`](Dictionary::open_lent), borrows that for `'b`.
+/// An open dictionary. [`open`](Dictionary::open) checks and copies its bytes;
+/// [`open_lent`](Dictionary::open_lent) checks them and borrows them for `'b`.
 pub struct Dictionary<'b> {
     raw: UnsafeCell<raw::Handle>,
-    // The lists that the library reads as long as the handle is open, or none of a draft.
+    // The lists that the library reads as long as the handle is open; `None` for a draft.
     given: Option<InputLists<'b>>,
-    // Those of the parent that it imported.
+    // The lists of the imported parent.
     parents: Option<InputLists<'b>>,
 }
 
-// SAFETY: what is open behind a handle may be asked on any thread, one call at a time. Counts that
-// are for one thread are shared by a child and its parent alone, and no two dictionaries of this
-// crate share one: `import` and `Draft::child` open the parent's lists anew for the child. The type
-// is not `Sync`, since a call borrows what is open to itself.
+// SAFETY: an open dictionary may be used on any thread, one call at a time. Only a child and its
+// parent share counts that are for one thread, and no two dictionaries of this crate share one:
+// `import` and `Draft::child` open the parent's lists anew for the child. The type is not `Sync`,
+// since nothing else may use what is open during a call.
 unsafe impl Send for Dictionary<'_> {}
 
 impl Dictionary<'static> {
-    /// Opens the CTF section of a program: without symbols, and of the data model LP64.
+    /// Opens the CTF section of a program, without symbols, for the data model LP64. The bytes are
+    /// copied.
+    ///
+    /// # Errors
+    ///
+    /// The fault of the first rule that the dictionary breaks, [`TooShort`](crate::Fault::TooShort)
+    /// to [`BadSymtab`](crate::Fault::BadSymtab), with its place; or
+    /// [`Memory`](crate::Fault::Memory).
     pub fn open(ctf: &[u8]) -> Result<Dictionary<'static>, Refusal> {
         Dictionary::open_with(ctf, Options::default())
     }
 
-    /// Opens the CTF section of a program with what stands beside it.
+    /// Opens the CTF section of a program with its symbols and strings. The bytes are copied.
     pub fn open_with(ctf: &[u8], options: Options<'_>) -> Result<Dictionary<'static>, Refusal> {
         Dictionary::over(InputLists::of_copies(ctf, options))
     }
 }
 
 impl<'b> Dictionary<'b> {
-    /// Opens the CTF section of a program with what stands beside it, and copies none of it: for
-    /// files that are mapped. Lists that share bytes with each other are copied.
+    /// Opens the CTF section of a program with its symbols and strings, and borrows the bytes: for
+    /// mapped files. Lists that overlap are copied.
     ///
     /// ```
     /// let bytes = std::fs::read("../../../examples/lua.ctf").unwrap();
@@ -71,7 +78,7 @@ impl<'b> Dictionary<'b> {
     /// assert!(types.find("struct lua_State").is_ok());
     /// ```
     ///
-    /// The bytes are borrowed for as long as the dictionary, or a child of it, is open:
+    /// The bytes are borrowed as long as the dictionary, or a child of it, is open:
     ///
     /// ```compile_fail,E0505
     /// let bytes = std::fs::read("../../../examples/lua.ctf").unwrap();
@@ -89,8 +96,8 @@ impl<'b> Dictionary<'b> {
         let (ctf, symbols, strings) = (given.ctf(), given.symbols(), given.strings());
         let (symbols_at, strings_at) = (symbols.unwrap_or_default(), strings.unwrap_or_default());
         let mut place = 0;
-        // SAFETY: the handle is this function's own and begins empty. The lists share no byte, and
-        // the dictionary keeps them from here on, or their lender does for `'b`; a slice's pointer
+        // SAFETY: the handle is this function's own and initially empty. The lists share no byte.
+        // From here on the dictionary keeps them, or their owner does for `'b`; a slice's pointer
         // is never null.
         let status = unsafe {
             raw::ctfd_open_lent(
@@ -112,13 +119,13 @@ impl<'b> Dictionary<'b> {
         Ok(made)
     }
 
-    /// A handle with nothing open, for a function that opens.
+    /// A handle with nothing open.
     pub(crate) fn none() -> Dictionary<'b> {
         Dictionary { raw: UnsafeCell::new(raw::Handle::NONE), given: None, parents: None }
     }
 
-    /// The same dictionary, opened once more, without a parent: it shares nothing with this one but
-    /// the lists.
+    /// Opens the dictionary once more, without a parent. The new one shares nothing with this one
+    /// but the lists.
     pub(crate) fn again(&self) -> Result<Dictionary<'b>, Refusal> {
         match &self.given {
             Some(given) => Dictionary::over(given.clone()),
@@ -129,45 +136,46 @@ impl<'b> Dictionary<'b> {
         }
     }
 
-    /// Keeps the lists of a parent that the handle was given, as long as it is open.
+    /// Keeps the lists of the handle's parent as long as the handle is open.
     pub(crate) fn keep(&mut self, parent: Dictionary<'b>) {
         self.parents = parent.given.clone();
     }
 
     /// The handle, for one call.
     ///
-    /// A call borrows what is open for as long as it runs, to itself, so none may begin while
-    /// another runs. None does: this type is not `Sync`, and no call calls back.
+    /// While a call runs, nothing else may use what is open, so no other call may begin until it
+    /// ends. None does: this type is not `Sync`, and no call calls back.
     pub(crate) fn handle(&self) -> *mut raw::Handle {
         self.raw.get()
     }
 
-    /// Imports a parent, as it is now, in place of an earlier one. The lists of both are shared;
-    /// the parent is opened once more for this dictionary, which takes as long as
+    /// Imports a parent, in its present state, in place of an earlier one. The lists of both are
+    /// shared, but the parent is opened once more for this dictionary, which takes as long as
     /// [`open_lent`](Dictionary::open_lent).
     pub fn import(&mut self, parent: &Dictionary<'b>) -> Result<(), Refusal> {
         let (own, mut place) = (parent.again()?, 0);
-        // SAFETY: the handles are two, and each is borrowed by nobody else. What is imported reads
-        // lists that are kept from here on.
+        // SAFETY: the handles are two, and nobody else borrows either. The lists of the imported
+        // parent are kept from here on.
         let status = unsafe { raw::ctfd_import(self.handle(), own.handle(), &mut place) };
         told_at(status, place)?;
         self.keep(own);
         Ok(())
     }
 
-    /// How many types it has of its own.
+    /// The number of own types.
     pub fn count(&self) -> usize {
         certain(self.answer_of(raw::ctfd_count)) as usize
     }
 
-    /// Fills rows with its own types, from a number on, and answers how many it has. They count
-    /// from 0 here. Rows behind the last stay.
+    /// Fills rows with the own types from number `from` on, counted from 0, and returns the number
+    /// of all own types. Rows after the last type are unchanged.
     pub fn type_rows(&self, from: usize, rows: &mut [TypeRow]) -> u64 {
         certain(self.fill_rows(raw::ctfd_types, from, rows))
     }
 
-    /// The name that a row says stands at a place of a list, where the row is of a type with a
-    /// number, or of its members or enumerators. None where the lists are a draft's.
+    /// The name to which a row refers: `number` is that of the row's type, or of the type whose
+    /// member or enumerator the row is, `list` and `at` are the row's `name_list` and `name_at`.
+    /// `None` if the lists are those of a draft. Panics if `at` is past the end of the list.
     ///
     /// ```
     /// let types = ctfd::Dictionary::open(&std::fs::read("../../../examples/lua.ctf").unwrap()).unwrap();
@@ -182,21 +190,22 @@ impl<'b> Dictionary<'b> {
         given.as_ref().map(|given| given.name(list, at))
     }
 
-    /// Fills rows with the symbols of the program, from a number on, and answers how many its table
-    /// has: also those that nothing is told of. Rows behind the last stay.
+    /// Fills rows with the symbols of the program from number `from` on, including those without
+    /// type information, and returns the number of all symbols. Rows after the last symbol are
+    /// unchanged.
     pub fn symbol_rows(&self, from: usize, rows: &mut [SymbolRow]) -> u64 {
         certain(self.fill_rows(raw::ctfd_symbols, from, rows))
     }
 
-    /// Fills rows with its labels, from a number on, and answers how many it has. Rows behind the
-    /// last stay.
+    /// Fills rows with the labels from number `from` on, and returns the number of all labels. Rows
+    /// after the last label are unchanged.
     pub fn label_rows(&self, from: usize, rows: &mut [LabelRow]) -> u64 {
         certain(self.fill_rows(raw::ctfd_labels, from, rows))
     }
 
-    /// Fills rows with the numbers of the types that a function of the program takes, by the number
-    /// of its symbol and from an argument on, and answers how many it takes. Rows behind the last
-    /// stay.
+    /// Fills rows with the type numbers of a function's arguments, from argument `from` on, and
+    /// returns the number of all its arguments. `symbol` is the number of the function's symbol.
+    /// Rows after the last argument are unchanged.
     pub fn function_argument_rows(
         &self,
         symbol: u32,
@@ -212,17 +221,17 @@ impl<'b> Dictionary<'b> {
         Ok(count)
     }
 
-    /// Whether its low numbers of types are those of a parent.
+    /// Whether the dictionary is a child. In a child, type numbers below 32769 are the parent's.
     pub fn is_child(&self) -> bool {
         certain(self.answer_of(raw::ctfd_child)) != 0
     }
 
-    /// How many types its parent has, where it imported one.
+    /// The number of types of the imported parent; `None` if none is imported.
     pub fn parent_count(&self) -> Option<usize> {
         self.answer_of(raw::ctfd_parent_count).ok().map(|count| count as usize)
     }
 
-    /// Its data model.
+    /// The data model.
     pub fn model(&self) -> Model {
         match certain(self.answer_of(raw::ctfd_model)) {
             0 => Model::Lp64,
@@ -230,49 +239,50 @@ impl<'b> Dictionary<'b> {
         }
     }
 
-    /// The name of its parent, as its header has it: empty where there is none.
+    /// The name of the parent, from the header; empty if there is none.
     pub fn parent_name(&self) -> Name {
         certain(self.text_of(raw::ctfd_parent_name))
     }
 
-    /// The name of its parent's label, as its header has it.
+    /// The name of the parent's label, from the header; empty if there is none.
     pub fn parent_label(&self) -> Name {
         certain(self.text_of(raw::ctfd_parent_label))
     }
 
-    /// Its own types, in the order of their numbers.
+    /// The own types, in the order of their numbers.
     pub fn types(&self) -> Types<'_> {
         let first = if self.is_child() { u32::from(FIRST_OF_CHILD) } else { 1 };
         Types { of: self, next: first, end: first + self.count() as u32 }
     }
 
-    /// The type of a number.
+    /// The type with a number.
     pub fn get(&self, number: u16) -> Result<Type<'_>, Refusal> {
         Type::get(self, number)
     }
 
-    /// The type of a name, as `struct point *`.
+    /// The type with a name, such as `struct point *`. Of several types, the one with the least
+    /// number, own types first.
     pub fn find(&self, name: impl AsRef<[u8]>) -> Result<Type<'_>, Refusal> {
         Ok(Type::of_answer(self, self.answer_for_name(raw::ctfd_find, name.as_ref())?))
     }
 
-    /// The number of the first symbol of a name.
+    /// The number of the first symbol with a name.
     pub fn symbol(&self, name: impl AsRef<[u8]>) -> Result<u32, Refusal> {
         self.answer_for_name(raw::ctfd_symbol, name.as_ref())
     }
 
-    /// The name of a symbol.
+    /// The name of a symbol, by its number.
     pub fn symbol_name(&self, symbol: u32) -> Result<Name, Refusal> {
         // SAFETY: as in `text_of`.
         text(|at, len, told| unsafe { raw::ctfd_symbol_name(self.handle(), symbol, at, len, told) })
     }
 
-    /// The type of an object of the program, by the number of its symbol.
+    /// The type of an object of the program, by the number of its symbol. `Ok(None)` is no type.
     pub fn object(&self, symbol: u32) -> Result<Option<Type<'_>>, Refusal> {
         Ok(Type::some(self, self.of_symbol(raw::ctfd_object, symbol)?))
     }
 
-    /// What a function of the program returns and takes, by the number of its symbol.
+    /// The signature of a function of the program, by the number of its symbol.
     pub fn function(&self, symbol: u32) -> Result<Function<'_>, Refusal> {
         let raw: raw::Function = self.of_symbol(raw::ctfd_function, symbol)?;
         let mut rows = vec![0; raw.arguments as usize];
@@ -281,18 +291,18 @@ impl<'b> Dictionary<'b> {
         Ok(Function { returns: Type::some(self, raw.ret), arguments, varargs: raw.varargs != 0 })
     }
 
-    /// Its labels, in order.
+    /// The labels, in order.
     pub fn labels(&self) -> Labels<'_> {
         let end = certain(self.answer_of(raw::ctfd_label_count)) as usize;
         Labels { of: self, next: 0, end }
     }
 
-    /// The last type that the first label of a name covers.
+    /// The number of the last type that the first label with a name covers.
     pub fn label(&self, name: impl AsRef<[u8]>) -> Result<u32, Refusal> {
         self.answer_for_name(raw::ctfd_label_last, name.as_ref())
     }
 
-    /// The bytes of its CTF section.
+    /// The bytes of the CTF section.
     pub fn bytes(&self) -> Vec<u8> {
         let mut made = Vec::new();
         loop {
@@ -327,23 +337,23 @@ impl fmt::Debug for Dictionary<'_> {
     }
 }
 
-/// What an open dictionary is not refused.
+/// The result of a call that an open dictionary never refuses.
 fn certain<T>(asked: Result<T, Refusal>) -> T {
     asked.unwrap_or_else(|refused| unreachable!("an open dictionary answers: {refused}"))
 }
 
-/// What a function of the program returns and takes.
+/// The signature of a function of the program.
 #[derive(Clone, Debug)]
 pub struct Function<'d> {
-    /// What it returns, if anything.
+    /// The return type; `None` for void.
     pub returns: Option<Type<'d>>,
     /// The types of its arguments.
     pub arguments: Vec<Option<Type<'d>>>,
-    /// Whether more may follow.
+    /// Whether more arguments may follow.
     pub varargs: bool,
 }
 
-/// The types of a dictionary: [`Dictionary::types`].
+/// An iterator over the own types of a dictionary, from [`Dictionary::types`].
 #[derive(Clone, Debug)]
 pub struct Types<'d> {
     of: &'d Dictionary<'d>,
@@ -382,16 +392,16 @@ impl ExactSizeIterator for Types<'_> {}
 
 impl FusedIterator for Types<'_> {}
 
-/// A label: the types up to `last` were there when it was made.
+/// A label: a mark by the tool that wrote the dictionary. The types up to `last` existed then.
 #[derive(Clone, Debug, PartialEq, Eq)]
 pub struct Label {
     /// Its name.
     pub name: Name,
-    /// The number that the tool which wrote it noted: it need not be that of a type.
+    /// The number of the last type, as the tool wrote it: there may be no such type.
     pub last: u32,
 }
 
-/// The labels of a dictionary: [`Dictionary::labels`].
+/// An iterator over the labels of a dictionary, from [`Dictionary::labels`].
 #[derive(Clone, Debug)]
 pub struct Labels<'d> {
     of: &'d Dictionary<'d>,

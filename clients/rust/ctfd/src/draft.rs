@@ -1,4 +1,4 @@
-//! Dictionaries in the making.
+//! Drafts: dictionaries to which types are added.
 
 use crate::apart::apart;
 use crate::dictionary::{Dictionary, Model};
@@ -7,7 +7,7 @@ use crate::raw;
 use crate::types::{Encoding, Kind};
 use std::ops::Deref;
 
-/// The name of a new type, and whether it is visible to look-ups by it. A `&str` is visible.
+/// The name of a new type, and whether look-ups by name find the type. A `&str` is visible.
 #[derive(Clone, Copy, Debug)]
 pub struct NewName<'a> {
     name: &'a [u8],
@@ -15,12 +15,12 @@ pub struct NewName<'a> {
 }
 
 impl<'a> NewName<'a> {
-    /// A type that look-ups by name find.
+    /// The name of a type that look-ups by name find.
     pub fn visible(name: &'a [u8]) -> NewName<'a> {
         NewName { name, root: true }
     }
 
-    /// A type that they do not find.
+    /// The name of a type that look-ups by name do not find.
     pub fn hidden(name: &'a [u8]) -> NewName<'a> {
         NewName { name, root: false }
     }
@@ -32,8 +32,9 @@ impl<'a> From<&'a str> for NewName<'a> {
     }
 }
 
-/// A dictionary that is made here. It answers of what its last [`update`](Draft::update) made, and
-/// what is added after that is pending. Types are named by their numbers, and 0 is no type.
+/// A dictionary to which you add types. Additions are pending until [`update`](Draft::update); all
+/// methods of [`Dictionary`] see the types of the last update. Types are passed and returned as
+/// numbers; 0 is no type.
 ///
 /// ```
 /// use ctfd::{Draft, Encoding, Model};
@@ -65,7 +66,7 @@ macro_rules! adds_a_reference {
         $(#[$what])*
         pub fn $name<'a>(&mut self, named: impl Into<NewName<'a>>, to: u16) -> Result<u16, Refusal> {
             let NewName { name, root } = named.into();
-            // SAFETY: as `added` says; the name lives for the call.
+            // SAFETY: as `add_type` says; the name lives for the call.
             self.add_type(|handle, t| unsafe {
                 raw::$call(handle, name.as_ptr(), name.len(), root, to, t)
             })
@@ -82,7 +83,7 @@ macro_rules! adds_with_a_size {
             size: u64,
         ) -> Result<u16, Refusal> {
             let NewName { name, root } = named.into();
-            // SAFETY: as `added` says; the name lives for the call.
+            // SAFETY: as `add_type` says; the name lives for the call.
             self.add_type(|handle, t| unsafe {
                 raw::$call(handle, name.as_ptr(), name.len(), root, size, t)
             })
@@ -100,7 +101,7 @@ macro_rules! adds_with_an_encoding {
             size: u64,
         ) -> Result<u16, Refusal> {
             let (NewName { name, root }, is) = (named.into(), encoding);
-            // SAFETY: as `added` says; the name lives for the call.
+            // SAFETY: as `add_type` says; the name lives for the call.
             self.add_type(|handle, t| unsafe {
                 let (at, len) = (name.as_ptr(), name.len());
                 raw::$call(handle, at, len, root, is.encoding, is.offset, is.bits, size, t)
@@ -119,13 +120,13 @@ impl<'b> Draft<'b> {
         Ok(Draft(made))
     }
 
-    /// An empty draft over a parent, which is fixed for good, with the names that its header will
-    /// have for that and for its label.
+    /// An empty draft over a parent, which stays for good. `name` and `label` are the names of the
+    /// parent and of its label for the header.
     pub fn child(parent: &Dictionary<'b>, name: &str, label: &str) -> Result<Draft<'b>, Refusal> {
         let (mut made, own, mut place) = (Dictionary::none(), parent.again()?, 0);
         let label = apart(label.as_bytes(), &[name.as_bytes()]);
-        // SAFETY: the handles are two, and borrowed by nobody else. The texts live for the call and
-        // share no byte. The parent's lists are kept from here on.
+        // SAFETY: the handles are two, and nobody else borrows either. The texts live for the call
+        // and share no byte. The parent's lists are kept from here on.
         let status = unsafe {
             raw::ctfd_create_child(
                 made.handle(),
@@ -142,8 +143,8 @@ impl<'b> Draft<'b> {
         Ok(Draft(made))
     }
 
-    /// The number of a type that is added by a call of ctfd.h, which takes the handle that is this
-    /// value's own, as [`Dictionary::handle`] says, and a place for the number.
+    /// Adds a type by a call of ctfd.h, and returns the type's number. The call takes the handle,
+    /// which is this value's own, as [`Dictionary::handle`] says, and a pointer for the number.
     fn add_type(
         &mut self,
         add: impl FnOnce(*mut raw::Handle, *mut u16) -> u32,
@@ -154,57 +155,58 @@ impl<'b> Draft<'b> {
     }
 
     adds_with_an_encoding!(
-        /// Adds an integer of a size in bytes.
+        /// Adds an integer type, with its size in bytes, and returns its number.
         integer,
         ctfd_add_integer
     );
     adds_with_an_encoding!(
-        /// Adds a number with a point.
+        /// Adds a floating-point type, with its size in bytes, and returns its number.
         float,
         ctfd_add_float
     );
     adds_a_reference!(
-        /// Adds a pointer.
+        /// Adds a pointer to a type, and returns its number.
         pointer,
         ctfd_add_pointer
     );
     adds_a_reference!(
-        /// Adds another name of a type.
+        /// Adds a typedef of a type, and returns its number.
         typedef,
         ctfd_add_typedef
     );
     adds_a_reference!(
-        /// Adds a type with `volatile`.
+        /// Adds a type with `volatile`, and returns its number.
         volatile,
         ctfd_add_volatile
     );
     adds_a_reference!(
-        /// Adds a type with `const`.
+        /// Adds a type with `const`, and returns its number.
         constant,
         ctfd_add_const
     );
     adds_a_reference!(
-        /// Adds a type with `restrict`.
+        /// Adds a type with `restrict`, and returns its number.
         restrict,
         ctfd_add_restrict
     );
     adds_with_a_size!(
-        /// Adds a struct without members; a size of 0 grows with them.
+        /// Adds a struct without members, and returns its number. The size is in bytes; members let
+        /// it grow.
         structure,
         ctfd_add_struct
     );
     adds_with_a_size!(
-        /// Adds a union without members.
+        /// Adds a union without members, with its size in bytes, and returns its number.
         union,
         ctfd_add_union
     );
     adds_with_a_size!(
-        /// Adds an enum without enumerators.
+        /// Adds an enum without enumerators, with its size in bytes, and returns its number.
         enumeration,
         ctfd_add_enum
     );
 
-    /// Adds an array.
+    /// Adds an array of `count` elements of the type `contents`, and returns its number.
     pub fn array<'a>(
         &mut self,
         named: impl Into<NewName<'a>>,
@@ -213,14 +215,14 @@ impl<'b> Draft<'b> {
         count: u32,
     ) -> Result<u16, Refusal> {
         let NewName { name, root } = named.into();
-        // SAFETY: as `added` says; what is lent lives for the call.
+        // SAFETY: as `add_type` says; what is borrowed lives for the call.
         self.add_type(|handle, t| unsafe {
             let (at, len) = (name.as_ptr(), name.len());
             raw::ctfd_add_array(handle, at, len, root, contents, index, count, t)
         })
     }
 
-    /// Adds a function type; a last argument 0 says that more may follow.
+    /// Adds a function type, and returns its number. A last argument 0 means that more may follow.
     pub fn function<'a>(
         &mut self,
         named: impl Into<NewName<'a>>,
@@ -228,7 +230,7 @@ impl<'b> Draft<'b> {
         arguments: &[u16],
     ) -> Result<u16, Refusal> {
         let NewName { name, root } = named.into();
-        // SAFETY: as `added` says; what is lent lives for the call.
+        // SAFETY: as `add_type` says; what is borrowed lives for the call.
         self.add_type(|handle, t| unsafe {
             let (at, len) = (name.as_ptr(), name.len());
             let (args, args_len) = (arguments.as_ptr(), arguments.len());
@@ -236,30 +238,30 @@ impl<'b> Draft<'b> {
         })
     }
 
-    /// Adds the declaration of a struct, a union or an enum.
+    /// Adds a forward declaration of a struct, union or enum, and returns its number.
     pub fn forward<'a>(
         &mut self,
         named: impl Into<NewName<'a>>,
         tag: Kind,
     ) -> Result<u16, Refusal> {
         let NewName { name, root } = named.into();
-        // SAFETY: as `added` says; what is lent lives for the call.
+        // SAFETY: as `add_type` says; what is borrowed lives for the call.
         self.add_type(|handle, t| unsafe {
             raw::ctfd_add_forward(handle, name.as_ptr(), name.len(), root, tag as u32, t)
         })
     }
 
-    /// Adds a type of which nothing is known.
+    /// Adds a type of an unknown kind, and returns its number.
     pub fn unknown<'a>(&mut self, named: impl Into<NewName<'a>>) -> Result<u16, Refusal> {
         let NewName { name, root } = named.into();
-        // SAFETY: as `added` says; what is lent lives for the call.
+        // SAFETY: as `add_type` says; what is borrowed lives for the call.
         self.add_type(|handle, t| unsafe {
             raw::ctfd_add_unknown(handle, name.as_ptr(), name.len(), root, t)
         })
     }
 
-    /// Adds a member to a pending struct or union, at a place in bits, or behind its last member.
-    /// The answer is where it lies.
+    /// Adds a member to a pending struct or union, at an offset in bits, or, without one, after its
+    /// last member. Returns the member's offset in bits.
     pub fn member(
         &mut self,
         of: u16,
@@ -268,7 +270,7 @@ impl<'b> Draft<'b> {
         offset: Option<u64>,
     ) -> Result<u64, Refusal> {
         let mut at = 0;
-        // SAFETY: as `added` says; the name lives for the call.
+        // SAFETY: as `add_type` says; the name lives for the call.
         outcome_of(unsafe {
             raw::ctfd_add_member(
                 self.0.handle(),
@@ -284,8 +286,9 @@ impl<'b> Draft<'b> {
         Ok(at)
     }
 
-    /// Adds a member to a pending struct or union, at a place in bits, and gives the struct or union a
-    /// size in bytes, whatever its members' types are. None may begin behind its end.
+    /// Adds a member to a pending struct or union, at an offset in bits, and sets the size of the
+    /// struct or union, in bytes. The member's type may be incomplete; no member may begin past the
+    /// end.
     pub fn member_at(
         &mut self,
         of: u16,
@@ -295,7 +298,7 @@ impl<'b> Draft<'b> {
         size: u64,
     ) -> Result<(), Refusal> {
         let (at, len) = (name.as_ptr(), name.len());
-        // SAFETY: as `added` says; the name lives for the call.
+        // SAFETY: as `add_type` says; the name lives for the call.
         outcome_of(unsafe {
             raw::ctfd_add_member_at(self.0.handle(), of, at, len, kind, offset, size)
         })
@@ -304,32 +307,32 @@ impl<'b> Draft<'b> {
     /// Adds an enumerator to a pending enum.
     pub fn enumerator(&mut self, of: u16, name: &str, value: i32) -> Result<(), Refusal> {
         let (at, len) = (name.as_ptr(), name.len());
-        // SAFETY: as `added` says; the name lives for the call.
+        // SAFETY: as `add_type` says; the name lives for the call.
         outcome_of(unsafe { raw::ctfd_add_enumerator(self.0.handle(), of, at, len, value) })
     }
 
     /// Adds a label that covers the types up to `last`.
     pub fn label(&mut self, name: &str, last: u32) -> Result<(), Refusal> {
-        // SAFETY: as `added` says; the name lives for the call.
+        // SAFETY: as `add_type` says; the name lives for the call.
         outcome_of(unsafe { raw::ctfd_add_label(self.0.handle(), name.as_ptr(), name.len(), last) })
     }
 
-    /// Makes all that is pending part of the dictionary. Where it is refused it stays pending.
+    /// Writes all pending additions to the dictionary. If it is refused, they stay pending.
     pub fn update(&mut self) -> Result<(), Refusal> {
         let (mut types, mut place) = (0, 0);
-        // SAFETY: as `added` says.
+        // SAFETY: as `add_type` says.
         let status = unsafe { raw::ctfd_update(self.0.handle(), &mut types, &mut place) };
         told_at(status, place)
     }
 
-    /// Drops what is pending.
+    /// Drops all pending additions.
     pub fn discard(&mut self) -> Result<(), Refusal> {
         let mut types = 0;
-        // SAFETY: as `added` says.
+        // SAFETY: as `add_type` says.
         outcome_of(unsafe { raw::ctfd_discard(self.0.handle(), &mut types) })
     }
 
-    /// Takes the dictionary of the last update, as one that is not added to.
+    /// The dictionary of the last update, opened anew, to which nothing can be added.
     pub fn into_dictionary(self) -> Result<Dictionary<'static>, Refusal> {
         Dictionary::open_with(
             &self.bytes(),

@@ -1,8 +1,9 @@
-//! Why a call was refused.
+//! Faults and refusals of calls.
 
 use std::fmt;
 
-/// A fault, as docs/FAULTS.md has them. `scripts/faults.py` writes the lists in this file.
+/// The reason of a refusal, as in docs/FAULTS.md. `scripts/faults.py` writes the lists in this
+/// file.
 #[derive(Clone, Copy, Debug, PartialEq, Eq, Hash)]
 #[non_exhaustive]
 #[repr(u8)]
@@ -135,7 +136,7 @@ pub enum Fault {
     FixedParent = 62,
 }
 
-/// All faults, by their numbers.
+/// All faults, in the order of their codes.
 const FAULTS: [Fault; 63] = [
     Fault::Memory,
     Fault::TooShort,
@@ -202,7 +203,7 @@ const FAULTS: [Fault; 63] = [
     Fault::FixedParent,
 ];
 
-/// What is wrong, and what to do about it, by the numbers of faults.
+/// For each fault, in the order of codes, what is wrong and what to do about it.
 #[rustfmt::skip]
 const TEXTS: [(&str, &str); 63] = [
     (
@@ -465,22 +466,23 @@ const TEXTS: [(&str, &str); 63] = [
 ];
 
 impl Fault {
-    /// What is wrong, in a few words: "no symbol of this name or number".
+    /// A short description of the fault, such as "no symbol of this name or number".
     pub fn sentence(self) -> &'static str {
         TEXTS[usize::from(self.code())].0
     }
 
-    /// What to do about it: "no such symbol: were the symbol table and its strings handed in?".
+    /// Advice on what to do about the fault, such as "no such symbol: were the symbol table and its
+    /// strings handed in?".
     pub fn advice(self) -> &'static str {
         TEXTS[usize::from(self.code())].1
     }
 
-    /// The number of the fault in docs/FAULTS.md.
+    /// The code of the fault, as in docs/FAULTS.md.
     pub fn code(self) -> u16 {
         self as u16
     }
 
-    /// The fault of a number, if there is one.
+    /// The fault with a code; `None` if there is none.
     pub fn from_code(code: u16) -> Option<Fault> {
         FAULTS.get(usize::from(code)).copied()
     }
@@ -492,8 +494,7 @@ impl fmt::Display for Fault {
     }
 }
 
-/// A refusal: a fault, and where it lies, where it has a place (else 0). Shown, it says what is
-/// wrong, and what to do:
+/// A refusal: a fault and its place. Its `Display` form says what is wrong and what to do about it:
 ///
 /// ```
 /// let refused = ctfd::Dictionary::open(b"").map(drop).unwrap_err();
@@ -504,9 +505,9 @@ impl fmt::Display for Fault {
 /// ```
 #[derive(Clone, Copy, Debug, PartialEq, Eq)]
 pub struct Refusal {
-    /// What was wrong.
+    /// The reason for the refusal.
     pub fault: Fault,
-    /// Where: docs/FAULTS.md says what it counts.
+    /// The place of the fault; 0 if it has none. docs/FAULTS.md says what the number counts.
     pub place: u64,
 }
 
@@ -522,7 +523,7 @@ impl fmt::Display for Refusal {
 
 impl std::error::Error for Refusal {}
 
-/// The outcome of a call that answered a status and, where it was refused, a place.
+/// The result of a call that returned a status, and a place for a refusal.
 pub(crate) fn told_at(status: u32, place: u64) -> Result<(), Refusal> {
     match status.checked_sub(1) {
         None => Ok(()),
@@ -534,7 +535,7 @@ pub(crate) fn told_at(status: u32, place: u64) -> Result<(), Refusal> {
     }
 }
 
-/// The outcome of a call without a place.
+/// The result of a call that gives no place.
 pub(crate) fn outcome_of(status: u32) -> Result<(), Refusal> {
     told_at(status, 0)
 }

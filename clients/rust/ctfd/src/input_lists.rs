@@ -1,15 +1,14 @@
-//! The lists that a dictionary is opened over.
+//! The lists that a dictionary is opened from.
 
 use crate::apart::overlap;
 use crate::dictionary::{Model, Options};
 use std::sync::Arc;
 
-/// The lists in which rows say that names stand: `enum ctfd_list`.
+/// The numbers of lists in rows: `enum ctfd_list`.
 const IN_SECTION: u32 = 0;
 const IN_STRINGS: u32 = 1;
 
-/// Three lists that share no byte, and the data model of their program. A clone is of the same
-/// bytes.
+/// Three lists that share no byte, and the data model of the program. Clones have the same bytes.
 #[derive(Clone)]
 pub(crate) struct InputLists<'b> {
     ctf: Bytes<'b>,
@@ -18,7 +17,7 @@ pub(crate) struct InputLists<'b> {
     model: Model,
 }
 
-/// Bytes that stay where they are.
+/// Bytes at an address that does not change.
 #[derive(Clone)]
 enum Bytes<'b> {
     Lent(&'b [u8]),
@@ -48,7 +47,7 @@ impl InputLists<'static> {
 }
 
 impl<'b> InputLists<'b> {
-    /// Lists that are lent; copies, where they share bytes with each other.
+    /// Borrows lists; copies them if they overlap.
     pub(crate) fn of_borrowed(ctf: &'b [u8], options: Options<'b>) -> InputLists<'b> {
         let symbols = options.symbols.unwrap_or_default();
         let strings = options.strings.unwrap_or_default();
@@ -78,7 +77,8 @@ impl<'b> InputLists<'b> {
         self.strings.as_ref().map(Bytes::get)
     }
 
-    /// The name that stands at a place of a list, by the list's number in rows: empty for no list.
+    /// The name at an offset of a list; `list` is the list's number in rows. Empty for other
+    /// numbers.
     pub(crate) fn name(&self, list: u32, at: u64) -> &[u8] {
         let list = match list {
             IN_SECTION => self.ctf(),

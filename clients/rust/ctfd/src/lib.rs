@@ -1,8 +1,8 @@
 //! The types of a C program, from a CTF dictionary (version 2), in process.
 //!
-//! A [`Dictionary`] is judged whole when it is opened, and refused for any fault in it. What it is
-//! asked is answered by the library that `libctfd.a` is, which is proved to answer what the format
-//! says. This crate hands its answers on as types that cannot outlive their dictionary.
+//! [`Dictionary::open`] checks a dictionary in full, and refuses it for any fault. The library
+//! `libctfd.a` answers all further calls; it is proved to give the answers that the format defines.
+//! This crate wraps them in types that cannot outlive their dictionary.
 //!
 //! ```
 //! use ctfd::{Dictionary, Kind};
@@ -21,7 +21,8 @@
 //! # }
 //! ```
 //!
-//! A refusal is a [`Refusal`]: a [`Fault`] by its name in docs/FAULTS.md, and its place.
+//! Sizes and alignments are in bytes, offsets in bits. Errors are of the type [`Refusal`]: a
+//! [`Fault`], with its name in docs/FAULTS.md, and its place.
 //!
 //! ```
 //! use ctfd::{Dictionary, Fault};
@@ -39,7 +40,7 @@
 //! println!("{found}");
 //! ```
 //!
-//! A dictionary may go to another thread, and is asked by one at a time:
+//! A dictionary may move to another thread, but only one thread can use it at a time:
 //!
 //! ```
 //! let types = ctfd::Dictionary::open(&std::fs::read("../../../examples/lua.ctf").unwrap()).unwrap();

@@ -8,15 +8,15 @@ use crate::types::{Kind, Type};
 use std::fmt;
 use std::iter::FusedIterator;
 
-/// A member of a struct or union. Shown, it is its declaration: `struct point *next`, or
-/// `unsigned int flags:3` of a bit-field.
+/// A member of a struct or union. Its `Display` form is its declaration: `struct point *next`, or
+/// `unsigned int flags:3` for a bit-field.
 #[derive(Clone, Copy, Debug, PartialEq, Eq)]
 pub struct Member<'d, N = Name> {
-    /// Its name, empty for a member without one.
+    /// Its name; empty for a member without one.
     pub name: N,
-    /// Where it begins, in bits from the start.
+    /// Its offset from the start of the struct or union, in bits.
     pub offset: u64,
-    /// Its type; none where that is no type.
+    /// Its type; `None` for no type.
     pub of_type: Option<Type<'d>>,
 }
 
@@ -45,22 +45,22 @@ pub struct Enumerator {
     pub value: i32,
 }
 
-/// How many rows are read by one call.
+/// The number of rows that one call reads.
 const AT_ONCE: usize = 16;
 
-/// The items of a list that are left, and some of its rows.
+/// The remaining items of a list, and some of its rows.
 #[derive(Clone, Debug)]
 struct RemainingItems<'d, R> {
     of: Type<'d>,
     next: usize,
     end: usize,
     rows: [R; AT_ONCE],
-    // The number of the first of these rows, where they were read.
+    // The number of the first of these rows, if they were read.
     from: Option<usize>,
 }
 
 impl<'d, R: Row> RemainingItems<'d, R> {
-    /// All items of a type that is of one of these kinds.
+    /// All items of a type, whose kind must be one of these.
     fn all(of: Type<'d>, kinds: &[Kind]) -> Result<RemainingItems<'d, R>, Refusal> {
         let end = of.length()?;
         if !kinds.contains(&of.kind()) {
@@ -90,7 +90,7 @@ impl<'d, R: Row> RemainingItems<'d, R> {
         self.end - self.next
     }
 
-    /// The row of a number, read with those around it.
+    /// The row with a number. It is read together with its neighbours.
     fn row(&mut self, index: usize) -> R {
         let from = index - index % AT_ONCE;
         if self.from != Some(from) {
@@ -101,9 +101,9 @@ impl<'d, R: Row> RemainingItems<'d, R> {
     }
 }
 
-/// Rows of a list of a type.
+/// A row of a type's list.
 trait Row: Copy + Default {
-    /// Fills rows from a number on.
+    /// Fills rows from number `from` on. Returns the length of the whole list.
     fn read(of: Type<'_>, from: usize, rows: &mut [Self]) -> Result<u64, Refusal>;
 }
 
@@ -125,7 +125,7 @@ impl Row for u16 {
     }
 }
 
-/// Says what an item that was counted must be.
+/// The result of a call for an item that exists, which is never refused.
 fn expect_item<T>(item: Result<T, Refusal>) -> T {
     item.unwrap_or_else(|refused| unreachable!("an item that is counted is there: {refused}"))
 }
@@ -167,7 +167,7 @@ macro_rules! list {
 }
 
 list!(
-    /// The members of a struct or union: [`Type::members`].
+    /// An iterator over the members of a struct or union, from [`Type::members`].
     Members,
     Member<'d>,
     MemberRow,
@@ -175,7 +175,7 @@ list!(
 );
 
 list!(
-    /// The enumerators of an enum: [`Type::enumerators`].
+    /// An iterator over the enumerators of an enum, from [`Type::enumerators`].
     Enumerators,
     Enumerator,
     EnumeratorRow,
@@ -183,7 +183,7 @@ list!(
 );
 
 list!(
-    /// The arguments of a function type: [`Type::arguments`].
+    /// An iterator over the arguments of a function type, from [`Type::arguments`].
     Arguments,
     Option<Type<'d>>,
     u16,
@@ -217,7 +217,7 @@ impl<'d> Arguments<'d> {
     }
 }
 
-/// The name that a row of a list of a type says, unless its lists are a draft's.
+/// The name to which a row of a type's list refers; `None` if the lists are those of a draft.
 fn name_of(of: Type<'_>, list: u32, at: u64) -> Option<Name> {
     let name = of.dictionary().name_at(of.number(), list, at)?;
     Some(Name(name.to_vec()))

@@ -1,21 +1,21 @@
-//! Names and other texts that are answered.
+//! Names and other text from the library.
 
 use crate::faults::{outcome_of, Refusal};
 use std::fmt;
 use std::ops::Deref;
 
-/// A name: the bytes that a dictionary has. It is shown as text, with other bytes than plain ones,
-/// and `"` and `\`, as `\x` and two digits, as replies and dumps have them.
+/// A name, as bytes. `Display` shows printable ASCII as it is, and all other bytes, `"` and `\` as
+/// `\x` and two hexadecimal digits, as replies and dumps do.
 #[derive(Clone, Default, PartialEq, Eq, PartialOrd, Ord, Hash)]
 pub struct Name(pub(crate) Vec<u8>);
 
 impl Name {
-    /// The name as text, where its bytes are UTF-8.
+    /// The name as text; `None` if its bytes are not UTF-8.
     pub fn to_str(&self) -> Option<&str> {
         std::str::from_utf8(&self.0).ok()
     }
 
-    /// The bytes, given away.
+    /// The bytes of the name.
     pub fn into_bytes(self) -> Vec<u8> {
         self.0
     }
@@ -53,7 +53,7 @@ impl fmt::Debug for Name {
     }
 }
 
-/// Shows the bytes of a name.
+/// Formats the bytes of a name.
 pub(crate) fn show(bytes: &[u8], to: &mut fmt::Formatter<'_>) -> fmt::Result {
     for &byte in bytes {
         match byte {
@@ -65,12 +65,12 @@ pub(crate) fn show(bytes: &[u8], to: &mut fmt::Formatter<'_>) -> fmt::Result {
     Ok(())
 }
 
-/// How many bytes a text is given room for at first: most names are shorter, and a room that grew
-/// for one long text is not cleared for each one after it.
+/// The initial size of a text buffer, in bytes: most names are shorter, and a buffer that grew for
+/// one long text is not cleared for each text after it.
 const FIRST: usize = 256;
 
-/// Fills a room with a text, which is asked for again where the room was too small. What is asked
-/// writes as much as fits, and tells the whole length.
+/// Fills a buffer with the text that `ask` writes, calling it again if the buffer was too small.
+/// `ask` writes as much as fits, and gives the full length.
 pub(crate) fn fill(
     room: &mut Vec<u8>,
     mut ask: impl FnMut(*mut u8, usize, &mut u64) -> u32,
@@ -87,7 +87,7 @@ pub(crate) fn fill(
     }
 }
 
-/// A text of its own.
+/// The text that `ask` writes, in a buffer of its own.
 pub(crate) fn text(ask: impl FnMut(*mut u8, usize, &mut u64) -> u32) -> Result<Name, Refusal> {
     let mut room = Vec::new();
     fill(&mut room, ask)?;

@@ -1,9 +1,9 @@
 //! The calls of libctfd.a, as clients/c/ctfd.h declares them. scripts/raw.py writes this file.
-#![allow(dead_code)] // it has all of them
+#![allow(dead_code)] // the crate does not use all of them
 
 use std::os::raw::c_void;
 
-/// What is open, or a service of the line protocol: `struct ctfd`, `struct ctfd_service`.
+/// A handle: `struct ctfd`, or `struct ctfd_service`.
 #[repr(C)]
 pub struct Handle {
     pub full: bool,
@@ -11,7 +11,7 @@ pub struct Handle {
 }
 
 impl Handle {
-    /// What each handle begins as.
+    /// The initial value of each handle.
     pub const NONE: Handle = Handle { full: false, at: std::ptr::null_mut() };
 }
 
@@ -22,13 +22,13 @@ pub struct Label {
     pub last: u32,
 }
 
-/// A label by the row. Its name stands in the dictionary's own lists.
+/// A row for a label. The list with its name is the dictionary's own.
 #[repr(C)]
 #[derive(Clone, Copy, Debug, Default, PartialEq, Eq)]
 pub struct LabelRow {
-    /// How many bytes stand in front of its name.
+    /// The offset of its name in the list, in bytes.
     pub name_at: u64,
-    /// The number of the list that its name stands in: `enum ctfd_list`.
+    /// The list that has its name: a number of `enum ctfd_list`.
     pub name_list: u32,
     /// The last type that it covers.
     pub last: u32,
@@ -58,35 +58,35 @@ pub struct Member {
     pub tnum: u16,
 }
 
-/// A member of a struct or union by the row.
+/// A row for a member of a struct or union.
 #[repr(C)]
 #[derive(Clone, Copy, Debug, Default, PartialEq, Eq)]
 pub struct MemberRow {
-    /// Where it begins, in bits.
+    /// Its offset in bits.
     pub offset: u64,
-    /// How many bytes stand in front of its name.
+    /// The offset of its name in the list, in bytes.
     pub name_at: u64,
-    /// The number of the list that its name stands in: `enum ctfd_list`.
+    /// The list that has its name: a number of `enum ctfd_list`.
     pub name_list: u32,
     /// The number of its type.
     pub tnum: u16,
 }
 
-/// An enumerator by the row.
+/// A row for an enumerator.
 #[repr(C)]
 #[derive(Clone, Copy, Debug, Default, PartialEq, Eq)]
 pub struct EnumeratorRow {
-    /// How many bytes stand in front of its name.
+    /// The offset of its name in the list, in bytes.
     pub name_at: u64,
-    /// The number of the list that its name stands in: `enum ctfd_list`.
+    /// The list that has its name: a number of `enum ctfd_list`.
     pub name_list: u32,
     /// Its value.
     pub value: i32,
 }
 
-/// A type of the dictionary's own by the row. What its size, its alignment, what it stands for and
-/// what it refers to are, is told with the status that the call for that alone answers, as
-/// ctfd_size: where that is a refusal, the number is 0.
+/// A row for one of the dictionary's own types. The size, the alignment, the resolved type and the
+/// reference come with the status of the call that gives only this, such as ctfd_size; if it is a
+/// refusal, the number is 0.
 #[repr(C)]
 #[derive(Clone, Copy, Debug, Default, PartialEq, Eq)]
 pub struct TypeRow {
@@ -94,15 +94,15 @@ pub struct TypeRow {
     pub size: u64,
     /// Its alignment in bytes.
     pub align: u64,
-    /// How many members, enumerators or arguments it has.
+    /// The number of its members, enumerators or arguments.
     pub length: u64,
-    /// How many bytes stand in front of the name in its record.
+    /// The offset of the name in its record, in bytes of the list.
     pub name_at: u64,
-    /// The number of the list that the name stands in: `enum ctfd_list`.
+    /// The list that has the name: a number of `enum ctfd_list`.
     pub name_list: u32,
-    /// The number of its kind: `enum ctfd_kind`.
+    /// Its kind: a number of `enum ctfd_kind`.
     pub kind: u32,
-    /// 1 where look-ups by name see it, else 0.
+    /// 1 if look-ups by name find it, else 0.
     pub root: u32,
     /// The status of ctfd_size.
     pub size_status: u32,
@@ -114,33 +114,32 @@ pub struct TypeRow {
     pub reference_status: u32,
     /// Its number.
     pub tnum: u16,
-    /// The number of the type that it stands for.
+    /// The number of the type that it resolves to.
     pub resolved: u16,
     /// The number of the type that it points to, renames or qualifies.
     pub reference: u16,
 }
 
-/// A type in a visit: `type` is that of a member of the struct or union `holder`, which lies in
-/// `depth` others and begins `offset` bits behind the beginning of the outermost: UINT64_MAX past
-/// 64 bits. The lists of its name are those of the dictionary that has the holder. `stands_for` is
-/// what ctfd_resolve gives of the type, and 0 where that is refused. The outermost type comes
-/// first, without a name, at depth 0 and as its own holder.
+/// A row of a visit: a member of the struct or union `holder`. `stands_for` is what ctfd_resolve
+/// gives for the member's type, 0 if that is refused. `offset` is UINT64_MAX past 64 bits. The
+/// lists with the name are those of the dictionary that has `holder`. The outermost type comes
+/// first, with depth 0, without a name, and as its own holder.
 #[repr(C)]
 #[derive(Clone, Copy, Debug, Default, PartialEq, Eq)]
 pub struct VisitRow {
-    /// Where it begins, in bits from the beginning of the outermost.
+    /// Its offset from the beginning of the outermost type, in bits.
     pub offset: u64,
-    /// How many bytes stand in front of its name.
+    /// The offset of its name in the list, in bytes.
     pub name_at: u64,
-    /// The number of the list that its name stands in: `enum ctfd_list`.
+    /// The list that has its name: a number of `enum ctfd_list`.
     pub name_list: u32,
-    /// How many structs and unions it lies in.
+    /// The number of structs and unions around it.
     pub depth: u32,
     /// The number of its type.
     pub tnum: u16,
     /// The number of the struct or union that it is a member of.
     pub holder: u16,
-    /// The type that its type stands for; 0 where that is none.
+    /// The type that its type resolves to; 0 if that is none.
     pub stands_for: u16,
 }
 
@@ -152,19 +151,19 @@ pub struct Function {
     pub ret: u16,
 }
 
-/// A symbol by the row: a type is what a function returns, with the status of ctfd_function, and
-/// else that of an object, with the status of ctfd_object. Where that is a refusal, the type is 0.
-/// Its name stands in the dictionary's own lists.
+/// A row for a symbol. The type is the return type of a function, with the status of ctfd_function,
+/// or else the type of an object, with the status of ctfd_object; if that is a refusal, the type is
+/// 0. The list with its name is the dictionary's own.
 #[repr(C)]
 #[derive(Clone, Copy, Debug, Default, PartialEq, Eq)]
 pub struct SymbolRow {
-    /// How many bytes stand in front of its name.
+    /// The offset of its name in the list, in bytes.
     pub name_at: u64,
-    /// The number of the list that its name stands in: 1, or 2 for none.
+    /// The list that has its name: 1, or 2 if it has none.
     pub name_list: u32,
     /// Its number.
     pub number: u32,
-    /// What it stands for: `enum ctfd_symbol_class`.
+    /// Its class: a number of `enum ctfd_symbol_class`.
     pub symbol_class: u32,
     /// The status of its type.
     pub type_status: u32,

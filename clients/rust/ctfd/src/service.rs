@@ -1,11 +1,11 @@
-//! The line protocol in process.
+//! The line protocol, in process.
 
 use crate::faults::{outcome_of, Fault, Refusal};
 use crate::names::fill;
 use crate::raw;
 use std::fmt;
 
-/// A service that answers lines of JSON as `ctfd serve` does, all its sessions in this process.
+/// A service that answers lines of JSON as `ctfd serve` does; all its sessions are in this process.
 ///
 /// ```
 /// let mut service = ctfd::Service::new().unwrap();
@@ -17,11 +17,11 @@ pub struct Service {
     room: Vec<u8>,
 }
 
-// SAFETY: a service may be asked on any thread, one call at a time; it shares nothing with others.
+// SAFETY: a service may be used on any thread, one call at a time; it shares nothing with others.
 unsafe impl Send for Service {}
 
 impl Service {
-    /// A service in which no session holds anything.
+    /// A service with new sessions.
     pub fn new() -> Result<Service, Refusal> {
         let mut raw = raw::Handle::NONE;
         // SAFETY: the handle is this function's own.
@@ -29,14 +29,13 @@ impl Service {
         Ok(Service { raw, room: Vec::with_capacity(4096) })
     }
 
-    /// Answers a line; neither that nor the reply has a newline at its end. What is refused is told
-    /// by the reply.
+    /// Answers a line. Neither the line nor the reply ends in a newline. Refusals of requests are
+    /// in the reply.
     pub fn answer(&mut self, line: &str) -> Result<&str, Refusal> {
         let (raw, mut is_asked) = (&mut self.raw, false);
         fill(&mut self.room, |at, len, told| {
             if std::mem::replace(&mut is_asked, true) {
-                // SAFETY: the handle is this value's own; `fill` gives room for as many bytes as it
-                // says.
+                // SAFETY: the handle is this value's own; `fill` passes a buffer of `len` bytes.
                 return unsafe { raw::ctfd_reply(raw, at, len, told) };
             }
             // SAFETY: as above; the line lives for the call.
@@ -46,10 +45,10 @@ impl Service {
         Ok(reply.trim_end_matches('\n'))
     }
 
-    /// Answers a line of any bytes, without its newline, and appends the reply with one.
+    /// Answers a line of any bytes, without its newline, and appends the reply with a newline.
     ///
-    /// Memory that is refused for the reply is [`Fault::Memory`], and then nothing is appended:
-    /// the line was answered or not.
+    /// If memory for the reply is refused, the result is [`Fault::Memory`] and nothing is appended;
+    /// the line may have been answered or not.
     ///
     /// ```
     /// let (mut service, mut replies) = (ctfd::Service::new().unwrap(), Vec::new());
@@ -58,15 +57,16 @@ impl Service {
     /// ```
     pub fn answer_into(&mut self, line: &[u8], replies: &mut Vec<u8>) -> Result<(), Refusal> {
         self.append(replies, |service, at, room, len| {
-            // SAFETY: the handle is a service's own, the line is lent for the call, and there is
-            // room for so many bytes.
+            // SAFETY: the handle is a service's own, the line is borrowed for the call, and at `at`
+            // is a buffer of `room` bytes.
             unsafe { raw::ctfd_line(service, line.as_ptr(), line.len(), at, room, len) }
         })
     }
 
-    /// As [`Service::answer_into`], but the line is a session's, whatever its `s` says, and the
-    /// reply names the session that the line names: so nobody speaks for another. A line without
-    /// `s` is answered with the session's number. Session 0 is refused as [`Fault::BadRequest`].
+    /// Answers a line as [`Service::answer_into`] does, but for the given session, whatever the
+    /// line's `s` is, so no client can use another's session. The reply repeats the line's `s`; if
+    /// the line has none, it has the session's number. Session 0 is refused with
+    /// [`Fault::BadRequest`].
     ///
     /// ```
     /// let (mut service, mut replies) = (ctfd::Service::new().unwrap(), Vec::new());
@@ -91,17 +91,18 @@ impl Service {
     pub fn load(&mut self, name: &str, section: &[u8]) -> Result<(), Refusal> {
         let (name, name_len) = (name.as_ptr(), name.len());
         let (at, len) = (section.as_ptr().cast(), section.len());
-        // SAFETY: the handle is this value's own, and name and section are lent for the call.
+        // SAFETY: the handle is this value's own, and name and section are borrowed for the call.
         outcome_of(unsafe { raw::ctfd_load(&mut self.raw, name, name_len, at, len) })
     }
 
-    /// Forgets all that a session holds and has published. Others keep what they took of it.
+    /// Forgets a session: what it has, and what it has published. Other sessions keep what they
+    /// took from it.
     pub fn leave(&mut self, session: u32) -> Result<(), Refusal> {
         // SAFETY: the handle is this value's own.
         outcome_of(unsafe { raw::ctfd_leave(&mut self.raw, session) })
     }
 
-    /// Appends the reply that a call makes.
+    /// Appends the reply of a call.
     fn append(
         &mut self,
         replies: &mut Vec<u8>,
@@ -118,16 +119,16 @@ impl Service {
             // SAFETY: as above, with room for the whole reply.
             outcome_of(unsafe { raw::ctfd_reply(&mut self.raw, at, len, &mut same) })?;
         }
-        // SAFETY: the library wrote so many bytes behind what stands in `replies`.
+        // SAFETY: the library wrote that many bytes after the end of `replies`.
         unsafe { replies.set_len(replies.len() + len) };
         Ok(())
     }
 }
 
-/// The room that a reply is given at first.
+/// The initial size of the buffer for a reply, in bytes.
 const ROOM: usize = 4096;
 
-/// Makes room for so many bytes more.
+/// Makes room for `more` further bytes.
 fn reserve(replies: &mut Vec<u8>, more: usize) -> Result<(), Refusal> {
     replies.try_reserve(more).map_err(|_| Refusal { fault: Fault::Memory, place: 0 })
 }

@@ -1,4 +1,4 @@
-//! Types, and what they are asked.
+//! Types, and questions about them.
 
 use crate::declaration::Declaration;
 use crate::dictionary::Dictionary;
@@ -10,21 +10,21 @@ use crate::visits::Visits;
 use std::fmt;
 use std::hash::{Hash, Hasher};
 
-/// The kinds of types, by their numbers in sys/ctf.h.
+/// The kind of a type, with its number in sys/ctf.h.
 #[derive(Clone, Copy, Debug, PartialEq, Eq, Hash)]
 #[repr(u8)]
 pub enum Kind {
-    /// A type of which nothing is known.
+    /// An unknown kind.
     Unknown = 0,
     /// An integer.
     Integer = 1,
-    /// A number with a point.
+    /// A floating-point number.
     Float = 2,
     /// A pointer.
     Pointer = 3,
     /// An array.
     Array = 4,
-    /// A function.
+    /// A function type.
     Function = 5,
     /// A struct.
     Struct = 6,
@@ -34,7 +34,7 @@ pub enum Kind {
     Enum = 8,
     /// A forward declaration of a struct, union or enum.
     Forward = 9,
-    /// Another name of a type.
+    /// A typedef.
     Typedef = 10,
     /// A type with `volatile`.
     Volatile = 11,
@@ -62,20 +62,21 @@ impl Kind {
         Kind::Restrict,
     ];
 
-    /// The kind of a number that the library answered.
+    /// The kind with a number that the library returned.
     fn of(number: u32) -> Kind {
         Kind::ALL[number as usize]
     }
 }
 
-/// How the value of an integer or a float lies in its storage.
+/// How the value of an integer or a float is stored.
 #[derive(Clone, Copy, Debug, PartialEq, Eq, Hash)]
 pub struct Encoding {
-    /// The format's number: of an integer, 1 signed, 2 character, 4 boolean, 8 varargs, added.
+    /// The number of the encoding in the format. For an integer, a sum of 1 (signed), 2
+    /// (character), 4 (boolean) and 8 (varargs).
     pub encoding: u8,
-    /// How many bits the value lies behind the start of its storage.
+    /// The offset of the value in its storage, in bits.
     pub offset: u8,
-    /// How many bits wide it is.
+    /// The width of the value, in bits.
     pub bits: u16,
 }
 
@@ -86,12 +87,12 @@ pub struct Array<'d> {
     pub contents: Option<Type<'d>>,
     /// The type of its index.
     pub index: Option<Type<'d>>,
-    /// How many elements it has.
+    /// The number of elements.
     pub count: u32,
 }
 
-/// A type of a dictionary, which it borrows. `None` stands for no type, as behind a pointer to
-/// void.
+/// A type of a dictionary, which it borrows. In results, `None` is no type, such as what a pointer
+/// to void points to.
 #[derive(Clone, Copy)]
 pub struct Type<'d> {
     of: &'d Dictionary<'d>,
@@ -119,7 +120,7 @@ impl fmt::Debug for Type<'_> {
     }
 }
 
-/// Shows the type as C spells it, as in a cast.
+/// Formats the type as C spells it, as in a cast.
 impl fmt::Display for Type<'_> {
     fn fmt(&self, to: &mut fmt::Formatter<'_>) -> fmt::Result {
         match self.name() {
@@ -130,17 +131,17 @@ impl fmt::Display for Type<'_> {
 }
 
 impl<'d> Type<'d> {
-    /// The type of a number that an answer had.
+    /// The type with a number that the library returned.
     pub(crate) fn of_answer(of: &'d Dictionary<'d>, number: u16) -> Type<'d> {
         Type { of, number }
     }
 
-    /// The same, where 0 is no type.
+    /// The type with a number that the library returned; `None` for 0, which is no type.
     pub(crate) fn some(of: &'d Dictionary<'d>, number: u16) -> Option<Type<'d>> {
         (number != 0).then_some(Type { of, number })
     }
 
-    /// The type of a number that a caller has.
+    /// The type with a number that a caller passed.
     pub(crate) fn get(of: &'d Dictionary<'d>, number: u16) -> Result<Type<'d>, Refusal> {
         let found = Type { of, number };
         found.answer_of(raw::ctfd_kind)?;
@@ -151,33 +152,33 @@ impl<'d> Type<'d> {
         self.of
     }
 
-    /// Its number.
+    /// The number of the type.
     pub fn number(self) -> u16 {
         self.number
     }
 
-    /// Its kind. A type of a parent that is not imported is of an unknown kind.
+    /// The kind of the type; unknown for a type of a parent that is not imported.
     pub fn kind(self) -> Kind {
         self.answer_of(raw::ctfd_kind).map_or(Kind::Unknown, Kind::of)
     }
 
-    /// Its name as C spells it: `struct point *`.
+    /// The name of the type as C spells it, such as `struct point *`.
     pub fn name(self) -> Result<Name, Refusal> {
         self.text_of(raw::ctfd_name)
     }
 
-    /// The name in its record, without `struct`, `union` or `enum` in front: empty for none.
+    /// The name in the type's record, without `struct`, `union` or `enum`; empty if it has none.
     pub fn declared_name(self) -> Result<Name, Refusal> {
         self.text_of(raw::ctfd_declared_name)
     }
 
-    /// How C declares something of this type: shown, it is `struct point *next`.
+    /// A declaration of `name` with this type, such as `struct point *next`.
     pub fn declare(self, name: impl AsRef<[u8]>) -> Declaration<'d> {
         Declaration::new(Some(self), name.as_ref())
     }
 
-    /// Where a value of it lies and how wide it is, where it is the type of a bit-field: an integer
-    /// narrower than its storage, or a hidden copy of one that is not.
+    /// The offset and width of the value if this is the type of a bit-field: an integer narrower
+    /// than its storage, or a hidden copy of one that is not. Else `None`.
     pub fn bit_field(self) -> Option<Encoding> {
         let integer = self.resolve().ok().flatten()?;
         let (lies, size) = (integer.encoding().ok()?, integer.size().ok()?);
@@ -186,7 +187,8 @@ impl<'d> Type<'d> {
         (is_integer && (!is_whole || integer.is_copy(lies))).then_some(lies)
     }
 
-    /// Whether it is a hidden integer, and one that look-ups see is the same but for that.
+    /// Whether this is a hidden integer, and look-ups find one that differs from it in nothing
+    /// else.
     fn is_copy(self, lies: Encoding) -> bool {
         let seen = self.declared_name().ok().and_then(|name| self.of.find(&name).ok());
         matches!(self.is_root(), Ok(false))
@@ -197,47 +199,51 @@ impl<'d> Type<'d> {
             })
     }
 
-    /// Whether it is visible to look-ups by name.
+    /// Whether look-ups by name find the type.
     pub fn is_root(self) -> Result<bool, Refusal> {
         Ok(self.answer_of(raw::ctfd_root)? != 0)
     }
 
-    /// Its size in bytes.
+    /// The size of the type in bytes. Types without a size, such as forwards, are refused with
+    /// [`Fault::Incomplete`](crate::Fault::Incomplete).
     pub fn size(self) -> Result<u64, Refusal> {
         self.answer_of(raw::ctfd_size)
     }
 
-    /// Its alignment in bytes.
+    /// The alignment of the type in bytes. Refused as [`size`](Type::size).
     pub fn align(self) -> Result<u64, Refusal> {
         self.answer_of(raw::ctfd_align)
     }
 
-    /// The type that it stands for, along typedefs and qualifiers.
+    /// The type that this one resolves to, through typedefs and qualifiers.
     pub fn resolve(self) -> Result<Option<Type<'d>>, Refusal> {
         Ok(Type::some(self.of, self.answer_of(raw::ctfd_resolve)?))
     }
 
-    /// What it points to, renames or qualifies.
+    /// The type that a pointer points to, a typedef renames, or a qualifier qualifies. Other kinds
+    /// are refused with [`Fault::NotReference`](crate::Fault::NotReference).
     pub fn reference(self) -> Result<Option<Type<'d>>, Refusal> {
         Ok(Type::some(self.of, self.answer_of(raw::ctfd_reference)?))
     }
 
-    /// The least pointer to it.
+    /// The pointer to this type with the least number; if there is none, one to the type that it
+    /// resolves to.
     pub fn pointer(self) -> Result<Type<'d>, Refusal> {
         Ok(Type::of_answer(self.of, self.answer_of(raw::ctfd_pointer)?))
     }
 
-    /// What a function type returns.
+    /// The return type of a function type; `Ok(None)` for void.
     pub fn returns(self) -> Result<Option<Type<'d>>, Refusal> {
         Ok(Type::some(self.of, self.answer_of(raw::ctfd_return)?))
     }
 
-    /// What a forward declares: a struct, a union or an enum.
+    /// The kind of type that a forward declares: a struct, a union or an enum.
     pub fn tag(self) -> Result<Kind, Refusal> {
         self.answer_of(raw::ctfd_tag).map(Kind::of)
     }
 
-    /// How the value of an integer or a float is encoded.
+    /// The encoding of an integer or a float. Other kinds are refused with
+    /// [`Fault::WrongKind`](crate::Fault::WrongKind).
     pub fn encoding(self) -> Result<Encoding, Refusal> {
         let raw: raw::Encoding = self.answer_of(raw::ctfd_encoding)?;
         Ok(Encoding {
@@ -247,7 +253,8 @@ impl<'d> Type<'d> {
         })
     }
 
-    /// The parts of an array.
+    /// The parts of an array. Other kinds are refused with
+    /// [`Fault::WrongKind`](crate::Fault::WrongKind).
     pub fn array(self) -> Result<Array<'d>, Refusal> {
         let raw: raw::Array = self.answer_of(raw::ctfd_array)?;
         Ok(Array {
@@ -257,7 +264,7 @@ impl<'d> Type<'d> {
         })
     }
 
-    /// How many members, enumerators or arguments it has.
+    /// The number of members, enumerators or arguments; 0 for kinds without a list.
     pub fn length(self) -> Result<usize, Refusal> {
         Ok(self.answer_of(raw::ctfd_length)? as usize)
     }
@@ -272,13 +279,14 @@ impl<'d> Type<'d> {
         Enumerators::of(self)
     }
 
-    /// The types of the arguments of a function type, in order: a last `None` says that more may
+    /// The types of a function type's arguments, in order; a last `None` means that more may
     /// follow.
     pub fn arguments(self) -> Result<Arguments<'d>, Refusal> {
         Arguments::of(self)
     }
 
-    /// A member by its number, its name lent from a room that is used again and again.
+    /// The member with a number, counted from 0. Its name is borrowed from `room`, a buffer that
+    /// you can use for many calls.
     pub fn member_in<'n>(
         self,
         index: usize,
@@ -287,7 +295,7 @@ impl<'d> Type<'d> {
         let mut raw = raw::Member::default();
         fill(room, |at, len, told| {
             let handle = self.of.handle();
-            // SAFETY: as in `answer_of`; `fill` gives room for as many bytes as it says.
+            // SAFETY: as in `answer_of`; `fill` passes a buffer of `len` bytes.
             let status = unsafe { raw::ctfd_member(handle, self.number, index, at, len, &mut raw) };
             *told = raw.name_len;
             status
@@ -295,23 +303,23 @@ impl<'d> Type<'d> {
         Ok(Member { name: room, offset: raw.offset, of_type: Type::some(self.of, raw.tnum) })
     }
 
-    /// The name of an enumerator by its number.
+    /// The name of the enumerator with a number.
     pub(crate) fn enumerator_name_at(self, index: usize) -> Result<Name, Refusal> {
         let (handle, number, mut value) = (self.of.handle(), self.number, 0);
-        // SAFETY: as in `answer_of`; `text` gives room for as many bytes as it says.
+        // SAFETY: as in `answer_of`; `text` passes a buffer of `len` bytes.
         text(|at, len, told| unsafe {
             raw::ctfd_enumerator(handle, number, index, at, len, &mut value, told)
         })
     }
 
-    /// The name of the first enumerator that has a value.
+    /// The name of the first enumerator with a value.
     pub fn enumerator_name(self, value: i32) -> Result<Name, Refusal> {
         let (handle, number) = (self.of.handle(), self.number);
-        // SAFETY: as in `answer_of`; `text` gives room for as many bytes as it says.
+        // SAFETY: as in `answer_of`; `text` passes a buffer of `len` bytes.
         text(|at, len, told| unsafe { raw::ctfd_enum_name(handle, number, value, at, len, told) })
     }
 
-    /// The value of the first enumerator that has a name.
+    /// The value of the first enumerator with a name.
     pub fn enumerator_value(self, name: impl AsRef<[u8]>) -> Result<i32, Refusal> {
         let (name, mut value) = (name.as_ref(), 0);
         let handle = self.of.handle();
@@ -322,27 +330,28 @@ impl<'d> Type<'d> {
         Ok(value)
     }
 
-    /// Fills rows with the members of a struct or union, from a number on, and answers how many it
-    /// has. Rows behind the last stay.
+    /// Fills rows with the members of a struct or union, from number `from` on, and returns the
+    /// number of all members. Rows after the last member are unchanged.
     pub fn member_rows(self, from: usize, rows: &mut [MemberRow]) -> Result<u64, Refusal> {
         self.fill_rows(raw::ctfd_members, from, rows)
     }
 
-    /// The same of the enumerators of an enum.
+    /// Fills rows with the enumerators of an enum, from number `from` on, and returns the number of
+    /// all enumerators. Rows after the last enumerator are unchanged.
     pub fn enumerator_rows(self, from: usize, rows: &mut [EnumeratorRow]) -> Result<u64, Refusal> {
         self.fill_rows(raw::ctfd_enumerators, from, rows)
     }
 
-    /// Fills rows with the numbers of a function type's arguments as they are stored, a last 0
-    /// where more may follow, from a number on, and answers how many it has. Rows behind the last
-    /// stay.
+    /// Fills rows with the type numbers of a function type's arguments as stored, from number
+    /// `from` on, and returns the number of all arguments; a last 0 means that more may follow.
+    /// Rows after the last argument are unchanged.
     pub fn argument_rows(self, from: usize, rows: &mut [u16]) -> Result<u64, Refusal> {
         self.fill_rows(raw::ctfd_arguments, from, rows)
     }
 
-    /// Fills rows with the type and all that lies in it: the members of the struct or union that
-    /// it stands for, each followed by what lies in that. Answers how many rows that takes, or one
-    /// more than there are.
+    /// Fills rows with the type and all that it contains: the members of the struct or union that
+    /// it resolves to, each followed by all that it contains. Returns the number of rows that this
+    /// takes; if `rows` is shorter, one more than its length.
     pub fn visit_rows(self, rows: &mut [VisitRow]) -> Result<u64, Refusal> {
         let (at, len, mut count) = (rows.as_mut_ptr(), rows.len(), 0);
         let handle = self.of.handle();
@@ -351,7 +360,7 @@ impl<'d> Type<'d> {
         Ok(count)
     }
 
-    /// The type and all that lies in it, each member followed by what lies in that.
+    /// The type and all that it contains, each member followed by all that it contains.
     ///
     /// ```
     /// let types = ctfd::Dictionary::open(&std::fs::read("../../../examples/lua.ctf").unwrap()).unwrap();
@@ -363,7 +372,7 @@ impl<'d> Type<'d> {
         Visits::of(self)
     }
 
-    /// Where the first member of a name lies, in bits, and its type.
+    /// The offset in bits of the first member with a name, and its type.
     pub fn field(self, name: impl AsRef<[u8]>) -> Result<(u64, Option<Type<'d>>), Refusal> {
         let (name, mut offset, mut to) = (name.as_ref(), 0, 0);
         let handle = self.of.handle();
@@ -374,8 +383,8 @@ impl<'d> Type<'d> {
         Ok((offset, Type::some(self.of, to)))
     }
 
-    /// The same of a member of a member, the outermost first. The place of a refusal is the number
-    /// of its step, from 0.
+    /// The offset in bits and the type of a member of a member, by the names of all steps; the
+    /// outermost comes first. The place of a refusal is the number of its step, from 0.
     pub fn path(self, names: &[&[u8]]) -> Result<(u64, Option<Type<'d>>), Refusal> {
         let (mut offset, mut to, mut place) = (0, 0, 0);
         let steps: Vec<u8> =
@@ -397,10 +406,10 @@ impl<'d> Type<'d> {
         Ok((offset, Type::some(self.of, to)))
     }
 
-    /// What a value holds that begins at a bit of some memory, as a debugger shows it.
+    /// The value that begins at bit `offset` of `memory`, as a debugger shows it.
     pub fn show(self, memory: &[u8], offset: u64) -> Result<Name, Refusal> {
-        // SAFETY: as in `answer_of`; the memory lives for the call, and the room, which `text` made, is
-        // another.
+        // SAFETY: as in `answer_of`; the memory lives for the call, and the buffer of `text` does
+        // not overlap it.
         text(|at, len, told| unsafe {
             let handle = self.of.handle();
             let memory_at = memory.as_ptr();

@@ -1,4 +1,4 @@
-//! All that lies in a type.
+//! Visits of a type and all that it contains.
 
 use crate::faults::Refusal;
 use crate::names::Name;
@@ -7,21 +7,21 @@ use crate::types::Type;
 use std::fmt;
 use std::iter::FusedIterator;
 
-/// How many rows are asked for first; then twice as many, each time that there are more.
+/// The first number of rows; it doubles each time that there are more.
 const FIRST: usize = 64;
 
-/// A type in a visit, with where it lies.
+/// A type in a visit: a member, or the outermost type.
 #[derive(Clone, PartialEq, Eq)]
 pub struct VisitedType<'d> {
-    /// The name of the member, empty of the outermost type.
+    /// The name of the member; empty for the outermost type.
     pub name: Name,
-    /// The member's type; none where that is no type.
+    /// The type of the member; `None` for no type.
     pub of_type: Option<Type<'d>>,
-    /// The struct or union that it is a member of; the outermost type is its own.
+    /// The struct or union that it is a member of; for the outermost type, that type itself.
     pub holder: Type<'d>,
-    /// Where it begins, in bits from the beginning of the outermost; none past 64 bits.
+    /// Its offset from the beginning of the outermost type, in bits; `None` past 64 bits.
     pub offset: Option<u64>,
-    /// How many structs and unions it lies in.
+    /// The number of structs and unions around it.
     pub depth: u32,
 }
 
@@ -31,15 +31,16 @@ impl fmt::Debug for VisitedType<'_> {
     }
 }
 
-/// A type and all that lies in it, each member followed by what lies in that: [`Type::visit`].
+/// An iterator over a type and all that it contains, each member followed by all that it contains,
+/// from [`Type::visit`].
 #[derive(Clone, Debug)]
 pub struct Visits<'d> {
     of: Type<'d>,
     rows: Vec<VisitRow>,
-    // How many rows there are, and one more than were asked for where there are more.
+    // The number of rows of the visit; if there are more than were asked for, one more than these.
     count: u64,
     next: usize,
-    // How many members were passed at each depth.
+    // For each depth, the number of members passed.
     passed: Vec<usize>,
 }
 
@@ -60,7 +61,7 @@ impl<'d> Visits<'d> {
         row.then(|| self.rows[self.next])
     }
 
-    /// The name of the member that a row is of, which is the next of its holder.
+    /// The name of a row's member, which is the next one of its holder.
     fn name(&mut self, row: &VisitRow, holder: Type<'d>) -> Name {
         let depth = row.depth as usize;
         self.passed.truncate(depth + 1);

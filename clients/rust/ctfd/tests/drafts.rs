@@ -1,4 +1,4 @@
-//! Dictionaries that are made, and parents that are shared.
+//! Tests of drafts, and of parents that are shared.
 
 use ctfd::{Dictionary, Draft, Encoding, Fault, Kind, LabelRow, Model, NewName};
 

@@ -1,4 +1,4 @@
-//! What is told of lua's types is what a dump of them says.
+//! Compares what the crate returns for lua's types with a dump of them.
 
 use ctfd::{
     Dictionary, EnumeratorRow, Fault, Kind, MemberRow, Model, Options, Service, SymbolRow, Type,
@@ -25,7 +25,7 @@ fn text_of<T: ToString>(answer: Result<T, ctfd::Refusal>) -> String {
     answer.map_or_else(|refused| refused.fault.to_string(), |value| value.to_string())
 }
 
-/// The lines of a dump, without what stands in a record behind the name.
+/// The lines of a dump: of each record only its name and what comes before it.
 fn lines_of_types(types: &Dictionary) -> Vec<String> {
     let mut lines = Vec::new();
     for t in types.types() {
@@ -49,7 +49,7 @@ fn lines_of_types(types: &Dictionary) -> Vec<String> {
     lines
 }
 
-/// The same of the file that `ctfd dump` wrote.
+/// The same lines, from the file that `ctfd dump` wrote.
 fn lines_of_dump() -> Vec<String> {
     let dump = String::from_utf8(read("lua.dump")).unwrap();
     let lines = dump.lines().filter(|line| line.starts_with("type ") || line.starts_with(' '));
@@ -78,8 +78,8 @@ fn types_are_those_of_the_dump() {
 fn declarations_without_a_name_are_names() {
     let types = lua();
     for t in types.types() {
-        // An array of pointers that is qualified as a whole: C qualifies what it holds, and the
-        // protocol's name has the qualifier in front of all.
+        // For a qualified array of pointers: C qualifies the elements, and the protocol's name has
+        // the qualifier at the front.
         let mut name = t.to_string();
         if name.contains(" *const [") {
             name = name.replacen("const const ", "const ", 1);
@@ -121,7 +121,7 @@ fn names_find_their_types() {
     assert_eq!(state.field("none").unwrap_err().fault, Fault::NoMember);
 }
 
-/// The name that stands at a place of the section.
+/// The name at an offset of the section.
 fn name_at(section: &[u8], list: u32, at: u64) -> &[u8] {
     if list == 2 {
         return &[];
@@ -217,12 +217,12 @@ fn rows_of_symbols_say_what_each_call_says() {
     }
 }
 
-/// The number of the type that a type stands for, 0 where that is none.
+/// The number of the type that a type resolves to; 0 if that is none.
 fn stands_for(t: Option<Type<'_>>) -> u16 {
     t.and_then(|t| t.resolve().ok().flatten()).map_or(0, Type::number)
 }
 
-/// What lies in a type, by the single calls, without where names stand.
+/// The rows of what a type contains, from calls for each member, without the offsets of names.
 fn lying_in(t: Type<'_>, offset: u64, depth: u32, rows: &mut Vec<VisitRow>) {
     let Ok(Some(holder)) = t.resolve() else {
         return;

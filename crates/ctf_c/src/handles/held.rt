@@ -21,13 +21,8 @@ impl<T, A: Allocator> Model for Held<T, A> {
     ghost also_shares = { λ h _ κ. held_lent T.row h.at h.value κ };
 }
 
-/// A pointer to nothing.
-fn no_place<T>() -> *mut T {
-    std::ptr::null_mut()
-}
-
 impl<T, A: Allocator> Held<T, A> {
-    /// Nothing, at any place.
+    /// Nothing, at any address.
     fn none_at(at: *mut T, alloc: A) -> Held<T, A>
         ensures { result.value ≡ None }
     {
@@ -38,11 +33,11 @@ impl<T, A: Allocator> Held<T, A> {
     pub fn none(alloc: A) -> Held<T, A>
         ensures { result.value ≡ None }
     {
-        let at = no_place();
+        let at = std::ptr::null_mut();
         Held::none_at(at, alloc)
     }
 
-    /// Holds the value of a box.
+    /// Takes over the value of a box.
     pub fn of(value: Box<T, A>) -> Held<T, A>
     where
         T: Drop,
@@ -52,7 +47,7 @@ impl<T, A: Allocator> Held<T, A> {
         Held { at, alloc }
     }
 
-    /// The box of the value that is held.
+    /// The value, as a box.
     pub fn into_box(self) -> Box<T, A>
         requires { is_some self.value ≡ true }
         ensures { Some result.value ≡ self.value }
@@ -66,7 +61,7 @@ impl<T, A: Allocator> Held<T, A> {
     ghost use Rattle.std.specs.Borrow.{sem};
     ghost use Rattle.ctf_c.specs.handles.Lent.{HeldLends};
 
-    /// The value that is held.
+    /// The value.
     #[inline(always)]
     pub fn get(&self) -> &T
         requires { is_some self.now.value ≡ true }
@@ -75,7 +70,7 @@ impl<T, A: Allocator> Held<T, A> {
         unsafe { &*self.at }
     }
 
-    /// The value that is held, to change it.
+    /// The value, to change it.
     #[inline(always)]
     pub fn get_mut(&mut self) -> &mut T
         requires { is_some self.old.value ≡ true }

@@ -1,11 +1,11 @@
-//! What is held, and whether anything is.
+//! A value on the heap, or nothing, with a flag.
 ghost use Rattle.std.specs.Prelude.{◌≡◌, None, Some, is_some, option_map};
 
 use crate::handles::held::Held;
 use std::alloc::Global;
 use std::mem;
 
-/// A value on the heap, or nothing, and which of both.
+/// A value on the heap, or nothing, with a flag that says which.
 #[repr(C)]
 #[derive(Drop)]
 pub struct OptionBox<T> {
@@ -25,7 +25,7 @@ impl<T> OptionBox<T> {
         }
     }
 
-    /// Holds the value of a box.
+    /// Takes over the value of a box.
     #[inline(always)]
     pub fn of(value: Box<T>) -> OptionBox<T>
     where
@@ -38,7 +38,7 @@ impl<T> OptionBox<T> {
         }
     }
 
-    /// The box of what is held.
+    /// The value as a box, if there is one.
     #[inline(always)]
     pub fn into_box(self) -> Option<Box<T>>
     where
@@ -49,7 +49,7 @@ impl<T> OptionBox<T> {
         if full { Some(held.into_box()) } else { None }
     }
 
-    /// Takes out what is held.
+    /// Takes the value out.
     pub fn take(&mut self, alloc: Global) -> Option<Box<T>>
     where
         T: Drop,
@@ -59,7 +59,7 @@ impl<T> OptionBox<T> {
         mem::replace(self, OptionBox::none(alloc)).into_box()
     }
 
-    /// Holds the value of a box, in place of what was held.
+    /// Takes over the value of a box, in place of the value that was there.
     pub fn hold(&mut self, value: Box<T>)
     where
         T: Drop,
@@ -73,7 +73,7 @@ impl<T> OptionBox<T> {
     ghost use Rattle.std.specs.Borrow.{sem};
     ghost use Rattle.ctf_c.specs.handles.Lent.{OptionBoxLends};
 
-    /// What is held.
+    /// The value, if there is one.
     #[inline(always)]
     pub fn get(&self) -> Option<&T>
         ensures { option_map (λ x. x.now) result ≡ self.now.held.value }
@@ -85,7 +85,7 @@ impl<T> OptionBox<T> {
         }
     }
 
-    /// What is held, to change it.
+    /// The value, to change it, if there is one.
     #[inline(always)]
     pub fn get_mut(&mut self) -> Option<&mut T>
         ensures* writes_back { sem 𝓛 (OptionBoxLends T.row self.entry result) }

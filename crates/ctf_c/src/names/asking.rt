@@ -1,4 +1,4 @@
-//! What is asked of a type by the names and values of its enumerators.
+//! Look-ups of an enumerator by its value or its name.
 ghost use Rattle.std.specs.Prelude.{◌≡◌, Some, option_map};
 ghost use Rattle.std.specs.Result.{result_map_both};
 ghost use Rattle.ctf_check.specs.TypedView.{term_in};
@@ -13,7 +13,7 @@ use ctf_check::Typed;
 use ctf_model::{Fault, placeless};
 use ctf_views::{Enumerator, Variant};
 
-/// What was found, if anything was.
+/// The enumerator that was found; if there is none, the fault.
 fn or_no_member(found: Option<Enumerator<'_>>) -> Result<Enumerator<'_>, Fault>
     ensures { result_map_both enumerator_view (λ f. f) result
         ≡ or_refused NO_MEMBER (option_map enumerator_view found.entry) }

@@ -1,4 +1,4 @@
-//! Fills rows of a caller with the members or enumerators of a type.
+//! Fills a caller's rows with the members or enumerators of a type.
 ghost use Rattle.std.specs.Prelude.{◌≡◌, ◌<◌, length, map, slice_get, Some, IfSome};
 ghost use Rattle.ctf_c.specs.names.Filling.{Fills, FillsFrom, TellsEnumerator, TellsMember};
 ghost use Rattle.ctf_c.specs.names.MembersView.{members_at, tables_behind};
@@ -17,7 +17,7 @@ use ctf_check::{Checked, Typed};
 use ctf_model::{Fault, placeless};
 use ctf_views::{Enumerators, Variant};
 
-/// What is told of an enumerator, from 0.
+/// The row of an enumerator, counted from 0.
 fn enumerator_row(
     dictionary: &Checked<'_>,
     names: &NameRows<'_>,
@@ -38,7 +38,7 @@ fn enumerator_row(
     }
 }
 
-/// What is told of a member, from 0.
+/// The row of a member, counted from 0.
 pub fn member_row(
     dictionary: &Checked<'_>,
     members: &MemberRows<'_>,
@@ -97,7 +97,7 @@ fn fill_members(
     }
 }
 
-/// Fills rows with the enumerators of a type, and answers how many it has.
+/// Fills rows with the enumerators of a type, and returns how many it has.
 pub fn enumerators_into(
     found: &Typed<'_>,
     from: usize,
@@ -119,7 +119,7 @@ pub fn enumerators_into(
     }
 }
 
-/// Fills rows with the members of a type, and answers how many it has.
+/// Fills rows with the members of a type, and returns how many it has.
 pub fn members_into(
     found: &Typed<'_>,
     from: usize,

@@ -1,4 +1,4 @@
-//! Where the names of labels stand.
+//! Where the names of labels are.
 ghost use Rattle.std.specs.Prelude.{◌≡◌, ◌<◌, ◌≤◌, ◌*◌, length, drop, slice_get, IfSome, Some};
 ghost use Rattle.ctf_check.specs.CheckedView.{dictionary_of, lists_of};
 ghost use Rattle.ctf_c.specs.ItemRows.{TellsLabel};
@@ -8,7 +8,7 @@ use crate::names::places::name_position;
 use ctf_check::Checked;
 use ctf_sections::bytes::u32_at;
 
-/// The bytes that a label begins, from 0.
+/// The bytes at which a label begins, counted from 0.
 fn label_at(labels: &[u8], index: usize) -> &[u8]
     requires { 8 * index ≤ length labels.now }
     ensures { result.now ≡ drop (8 * index) labels.now }
@@ -16,7 +16,7 @@ fn label_at(labels: &[u8], index: usize) -> &[u8]
     &labels[8 * index..]
 }
 
-/// What is told of a label, from 0.
+/// The row of a label, counted from 0.
 pub fn label_row(dictionary: &Checked<'_>, index: usize) -> GivenLabelRow
     requires { index < length (dictionary_of dictionary.now).labels }
     ensures { IfSome (slice_get (dictionary_of dictionary.now).labels index)

@@ -1,4 +1,4 @@
-//! The members of a struct or union in their rows: where a name stands, and no byte of it.
+//! The members of a struct or union, read from their rows without reading their names.
 ghost use Rattle.std.specs.Prelude.{◌≡◌, ◌<◌, ◌≤◌, length, slice_get, IfSome};
 ghost use Rattle.ctf_model.specs.format.Record.{member_len as len_of_member};
 ghost use Rattle.ctf_model.specs.format.Spelling.{member_of};
@@ -12,7 +12,7 @@ use ctf_records::{WIDE_MEMBERS, member_len};
 use ctf_sections::Strings;
 use ctf_sections::bytes::{u16_at, u32_at};
 
-/// A member: the reference to its name, its type, and where it begins, in bits.
+/// A member: the reference to its name, its type, and its offset in bits.
 #[derive(Clone, Copy)]
 pub struct MemberRow {
     pub reference: u32,
@@ -20,7 +20,7 @@ pub struct MemberRow {
     pub offset: u64,
 }
 
-/// The members of a struct or union of a size in bytes.
+/// The members of a struct or union, whose size in bytes is known.
 #[derive(Clone, Copy)]
 pub struct MemberRows<'a> {
     bytes: &'a [u8],
@@ -30,7 +30,7 @@ pub struct MemberRows<'a> {
     ghost good: { AreGood (member_of size (tables strings)) (len_of_member size) count bytes.now },
 }
 
-/// Where the member that begins some bytes begins itself, in bits.
+/// The offset in bits of the member at the front of some bytes.
 fn bits_at(size: u64, bytes: &[u8]) -> u64
     requires { len_of_member size ≤ length bytes.now }
     ensures { result ≡ bits_in size bytes.now }

@@ -16,7 +16,7 @@ use ctf_model::Kind;
 use ctf_records::member_len;
 use ctf_views::{Enumerator, Enumerators};
 
-/// The rows of a type's members or enumerators, if it has such.
+/// The rows of a type's members or enumerators, if it has any.
 pub fn name_rows<'a>(found: &Typed<'a>) -> Option<NameRows<'a>>
     ensures names { option_map (λ x. shown_names (shown x.body)) (term_in found.now)
         ≡ Some (option_map names_in result) }
@@ -55,7 +55,7 @@ pub fn member_rows<'a>(found: &Typed<'a>) -> Option<MemberRows<'a>>
     }
 }
 
-/// The first enumerator with a name. Of each other name no more is read than tells it apart.
+/// The first enumerator with a name. Of each other name, only a few bytes are read.
 pub fn first_named<'a>(
     rows: &NameRows<'_>,
     enumerators: &Enumerators<'a>,
@@ -73,7 +73,7 @@ pub fn first_named<'a>(
     None
 }
 
-/// The first enumerator with a value. No other name is read than its own.
+/// The first enumerator with a value. Only its own name is read.
 pub fn first_valued<'a>(enumerators: &Enumerators<'a>, value: i32) -> Option<Enumerator<'a>>
     ensures { option_map enumerator_view result
         ≡ find (λ e. int_eq e.value value) enumerators.now }

@@ -10,7 +10,7 @@ ghost use Rattle.ctf_c.specs.names.Names.{name_at};
 use ctf_sections::Strings;
 use ctf_sections::bytes::u32_at;
 
-/// The rows of a list whose items have names: each begins with the reference to its own.
+/// The rows of a list whose items have names: each row begins with the reference to a name.
 #[derive(Clone, Copy)]
 pub struct NameRows<'a> {
     bytes: &'a [u8],
@@ -21,7 +21,7 @@ pub struct NameRows<'a> {
     ghost wide: { 4 ≤ width },
 }
 
-/// The bytes that a row begins.
+/// The bytes at which a row begins.
 pub fn row_at(bytes: &[u8], width: usize, index: usize) -> &[u8]
     requires { width * index ≤ length bytes.now }
     ensures { result.now ≡ drop (width * index) bytes.now }
@@ -47,7 +47,7 @@ impl<'a> NameRows<'a> {
         }
     }
 
-    /// The reference to the name of an item, from 0.
+    /// The reference to the name of an item, counted from 0.
     pub fn reference(&self, index: usize) -> u32
         requires { index < length (names_in self.now) }
         ensures { named (tables_for self.now) result ≡ slice_get (names_in self.now) index }
@@ -55,7 +55,7 @@ impl<'a> NameRows<'a> {
         u32_at(row_at(self.bytes, self.width, index), 0)
     }
 
-    /// Whether an item has a name. No more of its own is read than that takes.
+    /// Whether an item has this name. No more of its own name is read than that takes.
     pub fn is_name(&self, index: usize, name: &[u8]) -> bool
         requires { index < length (names_in self.now) }
         ensures { result ≡ is_named name.now (slice_get (names_in self.now) index) }

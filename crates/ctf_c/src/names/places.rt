@@ -1,4 +1,4 @@
-//! Where names stand in the lists of a dictionary.
+//! Where names are in the lists of a dictionary.
 ghost use Rattle.std.specs.Prelude.{◌≡◌, ◌<◌, ◌+◌, ◌^◌, ℕ, List, Some};
 ghost use Rattle.ctf_model.specs.format.Header.{fields};
 ghost use Rattle.ctf_model.specs.format.Name.{name as named};
@@ -8,7 +8,7 @@ ghost use Rattle.ctf_c.specs.names.Places.{text_in};
 use ctf_check::Checked;
 use ctf_sections::bytes::u32_at;
 
-/// The number of the CTF section as a list that names stand in.
+/// The number of the CTF section, as a list that contains names.
 pub const IN_CTF: u32 = 0;
 
 /// The number of the strings of the symbol table.
@@ -17,7 +17,7 @@ pub const IN_STRINGS: u32 = 1;
 /// Stands for no list: the name is empty.
 pub const NOWHERE: u32 = 2;
 
-/// Where a name stands: the number of a list, and how many bytes behind its beginning.
+/// Where a name is: the number of a list, and the offset in it.
 #[derive(Clone, Copy)]
 pub struct NamePosition {
     pub list: u32,
@@ -32,7 +32,7 @@ fn strings_begin(dictionary: &Checked<'_>) -> u64
     36 + u64::from(u32_at(dictionary.lists().ctf, 28))
 }
 
-/// Where the name of a reference stands.
+/// Where the name of a reference is.
 pub fn name_position(dictionary: &Checked<'_>, reference: u32) -> NamePosition
     ensures { (name : List ℕ) → named (tables_of dictionary.now) reference ≡ Some name
         → text_in (lists_of dictionary.now) result.list result.at ≡ Some name }

@@ -1,4 +1,4 @@
-//! Where the names of symbols stand.
+//! Where the names of symbols are.
 ghost use Rattle.std.specs.Prelude.{◌≡◌, Some, option_copied};
 ghost use Rattle.ctf_model.specs.format.Lists.{Lists};
 ghost use Rattle.ctf_model.specs.symbols.Symbols.{symbol_name};
@@ -8,7 +8,7 @@ ghost use Rattle.ctf_c.specs.names.Places.{text_in};
 use crate::names::places::{IN_STRINGS, NOWHERE, NamePosition};
 use ctf_sections::end_of_names;
 
-/// The place behind the last name of a symbol table's strings.
+/// The place after the last name in a symbol table's strings.
 pub fn names_end(strs: Option<&[u8]>) -> usize
     ensures { EndsAt (option_copied strs.entry) result }
 {
@@ -18,7 +18,7 @@ pub fn names_end(strs: Option<&[u8]>) -> usize
     }
 }
 
-/// Where the name of a symbol stands, by its offset in strings whose last name ends at a place.
+/// Where the name of a symbol is, by its offset in strings whose last name ends at a place.
 pub fn symbol_position(end: usize, offset: u32) -> NamePosition
     ensures { (s : Lists) → EndsAt s.strs end
         → text_in s result.list result.at ≡ Some (symbol_name s.strs offset) }

@@ -1,4 +1,4 @@
-//! A type that a number names, in the dictionary that has it.
+//! The type of a number, in the dictionary that has it.
 ghost use Rattle.std.specs.Prelude.{◌≡◌, ◌<◌, IfOk, Some, slice_get};
 ghost use Rattle.ctf_check.specs.CheckedView.{dictionary_of, lists_of};
 ghost use Rattle.ctf_check.specs.TypedView.{dictionary_in};
@@ -26,7 +26,7 @@ fn own_type<'a>(dictionary: Checked<'a>, i: usize) -> Result<Typed<'a>, Fault>
     }
 }
 
-/// The type that a number names, in the dictionary that has it.
+/// The type of a number, in the dictionary that has it.
 pub fn held_type<'a>(space: &Space<'a>, t: TypeNum) -> Result<Typed<'a>, Fault>
     ensures found { type_found result ≡ space_type (space_of space.now) t.0 }
     ensures lists { IfOk result (λ x. lists_at (place_for (space_of space.now).own.child t.0)

@@ -1,4 +1,4 @@
-//! Fills rows of a caller with what lies in a type.
+//! Fills a caller's rows with a type and all that it contains.
 ghost use Rattle.std.specs.Prelude.{◌≡◌, ◌<◌, ◌≤◌, ◌+◌, ◌^◌, length, map, set, slice_get, flat_map, Some, IfSome};
 ghost use Rattle.ctf_check.specs.CheckedView.{lists_of, tables_of};
 ghost use Rattle.ctf_model.specs.opened.Open.{space_in};
@@ -16,16 +16,17 @@ use ctf_check::Checked;
 use ctf_model::TypeNum;
 use ctf_open::OpenDictionary;
 
-/// Where a type begins in the outermost one, in bits, how many types it lies in, and how many more
-/// may lie in it.
+/// A type of a visit that resolves to a struct or union: its row, the dictionary that has the
+/// struct or union, its members, and how deep types may be nested in one of these.
 #[derive(Clone, Copy)]
-pub struct Standing {
-    pub offset: u64,
-    pub depth: u32,
-    pub left: u32,
+struct Holder<'a> {
+    row: GivenVisitRow,
+    dictionary: Checked<'a>,
+    members: MemberRows<'a>,
+    left: u32,
 }
 
-/// The number of the type that a type stands for, 0 where that is none.
+/// The number of the type that a type resolves to; 0 if that is no type.
 #[inline(always)]
 pub fn stands_for(dictionary: &OpenDictionary, t: TypeNum) -> TypeNum
     ensures { result.0 ≡ standing_for (space_in dictionary.now) t.0 }
@@ -36,7 +37,7 @@ pub fn stands_for(dictionary: &OpenDictionary, t: TypeNum) -> TypeNum
     }
 }
 
-/// Puts a row, where there is room for it.
+/// Writes a row, if there is room for it.
 #[inline(always)]
 pub fn put(rows: &mut [GivenVisitRow], at: usize, row: GivenVisitRow)
     ensures { rows.new ≡ set rows.old at row }
@@ -46,38 +47,33 @@ pub fn put(rows: &mut [GivenVisitRow], at: usize, row: GivenVisitRow)
     }
 }
 
-/// What is told of a member, from 0, of a struct or union with a number, which is in `of`.
+/// The row of a member, counted from 0.
 #[inline(always)]
-fn visit_row(
-    dictionary: &OpenDictionary,
-    holder: TypeNum,
-    of: &Checked<'_>,
-    members: &MemberRows<'_>,
-    index: usize,
-    at: Standing,
-) -> GivenVisitRow
-    requires inside { index < length (members_at members.now) }
-    requires tables { tables_behind members.now ≡ tables_of of.now }
-    requires deep { at.depth + 1 < 2 ^ 32 }
-    ensures told { IfSome (slice_get (members_at members.now) index)
-        (λ m. TellsVisited (Some (lists_of of.now)) (visit_of holder.0 at.offset at.depth m)
+fn visit_row(dictionary: &OpenDictionary, holder: &Holder<'_>, index: usize) -> GivenVisitRow
+    requires inside { index < length (members_at holder.now.members) }
+    requires tables { tables_behind holder.now.members ≡ tables_of holder.now.dictionary }
+    requires deep { holder.now.row.depth + 1 < 2 ^ 32 }
+    ensures told { IfSome (slice_get (members_at holder.now.members) index)
+        (λ m. TellsVisited (Some (lists_of holder.now.dictionary))
+        (visit_of holder.now.row.stands_for holder.now.row.offset holder.now.row.depth m)
         result) }
     ensures stands { result.stands_for ≡ standing_for (space_in dictionary.now) result.tnum }
 {
-    let member = member_row(of, members, index);
+    let row = holder.row;
+    let member = member_row(&holder.dictionary, &holder.members, index);
     GivenVisitRow {
-        offset: at.offset.saturating_add(member.offset),
+        offset: row.offset.saturating_add(member.offset),
         name_at: member.name_at,
         name_list: member.name_list,
-        depth: at.depth + 1,
+        depth: row.depth + 1,
         tnum: member.tnum,
-        holder: holder.0,
+        holder: row.stands_for,
         stands_for: stands_for(dictionary, TypeNum(member.tnum)).0,
     }
 }
 
-/// Puts a member, and what lies in it, into rows from a number on, and answers the number behind
-/// the last. Where there are fewer rows, that is one more than there are.
+/// Writes a member, and all that it contains, into rows from a number on, and returns the number
+/// after the last. If there are too few rows, that is one more than there are.
 #[inline(always)]
 #[cycle(visits)]
 fn visit_member(
@@ -95,90 +91,69 @@ fn visit_member(
         (count + 1) result (set rows.old count row) rows.new }
 {
     put(rows, count, row);
-    let at = Standing {
-        offset: row.offset,
-        depth: row.depth,
-        left,
-    };
-    visit_inside(
-        dictionary,
-        TypeNum(row.tnum),
-        TypeNum(row.stands_for),
-        at,
-        rows,
-        count + 1,
-    )
+    visit_inside(dictionary, row, left, rows, count + 1)
 }
 
-/// The same of all members of a struct or union with a number.
+/// The same for all members of a struct or union.
 #[inline(always)]
 #[cycle(visits)]
 fn visit_members(
     dictionary: &OpenDictionary,
-    holder: TypeNum,
-    of: &Checked<'_>,
-    members: &MemberRows<'_>,
-    at: Standing,
+    holder: &Holder<'_>,
     rows: &mut [GivenVisitRow],
     count: usize,
 ) -> usize
-    requires tables { tables_behind members.now ≡ tables_of of.now }
-    requires lists { lists_with (Some dictionary.now) holder.0 ≡ Some (lists_of of.now) }
+    requires tables { tables_behind holder.now.members ≡ tables_of holder.now.dictionary }
+    requires lists { lists_with (Some dictionary.now) holder.now.row.stands_for
+        ≡ Some (lists_of holder.now.dictionary) }
     requires room { count ≤ length rows.old + 1 }
-    requires deep { at.depth + 1 + at.left < 2 ^ 32 }
+    requires deep { holder.now.row.depth + 1 + holder.now.left < 2 ^ 32 }
     ensures { FillsOn (TellsIn (Some dictionary.now))
-        (flat_map (placed_with (inside at.left (space_in dictionary.now)) holder.0 at.offset
-        at.depth) (members_at members.now)) count result rows.old rows.new }
+        (flat_map (placed_with (inside holder.now.left (space_in dictionary.now))
+        holder.now.row.stands_for holder.now.row.offset holder.now.row.depth)
+        (members_at holder.now.members)) count result rows.old rows.new }
 {
     let mut count = count;
-    for index in 0..members.len() {
+    for index in 0..holder.members.len() {
         if count > rows.len() {
             return count;
         }
-        let row = visit_row(dictionary, holder, of, members, index, at);
-        count = visit_member(dictionary, row, at.left, rows, count);
+        let row = visit_row(dictionary, holder, index);
+        count = visit_member(dictionary, row, holder.left, rows, count);
     }
     count
 }
 
-/// The same of what lies in a type, which stands for the struct or union `holder`.
+/// The same for all that the type of a row contains, nested at most `left` deep.
 #[cycle(visits)]
 pub fn visit_inside(
     dictionary: &OpenDictionary,
-    t: TypeNum,
-    holder: TypeNum,
-    at: Standing,
+    row: GivenVisitRow,
+    left: u32,
     rows: &mut [GivenVisitRow],
     count: usize,
 ) -> usize
     requires room { count ≤ length rows.old + 1 }
-    requires deep { at.depth + at.left < 2 ^ 32 }
-    requires stands { holder.0 ≡ standing_for (space_in dictionary.now) t.0 }
+    requires deep { row.depth + left < 2 ^ 32 }
+    requires stands { row.stands_for ≡ standing_for (space_in dictionary.now) row.tnum }
     ensures { FillsOn (TellsIn (Some dictionary.now))
-        (inside at.left (space_in dictionary.now) at.offset at.depth t.0)
+        (inside left (space_in dictionary.now) row.offset row.depth row.tnum)
         count result rows.old rows.new }
 {
-    if at.left == 0 {
+    if left == 0 {
         return count;
     }
-    let Ok(found) = held_type(&dictionary.space(), holder) else {
+    let Ok(found) = held_type(&dictionary.space(), TypeNum(row.stands_for)) else {
         return count;
     };
     let Some(members) = member_rows(&found) else {
         return count;
     };
-    let below = Standing {
-        offset: at.offset,
-        depth: at.depth,
-        left: at.left - 1,
+    let holder = Holder {
+        row,
+        dictionary: found.dictionary(),
+        members,
+        left: left - 1,
     };
-    visit_members(
-        dictionary,
-        holder,
-        &found.dictionary(),
-        &members,
-        below,
-        rows,
-        count,
-    )
+    visit_members(dictionary, &holder, rows, count)
 }

@@ -1,4 +1,4 @@
-//! A service: what all sessions hold, and the last reply.
+//! A service: the libraries of all sessions, and the last reply.
 ghost use Rattle.std.specs.Prelude.{◌≡◌, ◌≢◌, ◌≤◌, [], IfOk, Some, ℕ};
 ghost use Rattle.ctf_c.specs.service.Operating.{Leaves, Loads};
 ghost use Rattle.ctf_broker.specs.Table.{library_at};
@@ -33,7 +33,7 @@ impl Model for Service {
 }
 
 impl Service {
-    /// A service in which no session holds anything.
+    /// A service whose sessions are all new.
     pub fn new(alloc: Global) -> Result<Service, AllocError>
         ensures empty { IfOk result (λ s. (session : ℕ)
             → library_at s.libraries session ≡ empty_state) }
@@ -55,7 +55,7 @@ impl Service {
         Machine::step(&mut self.broker, &mut self.scratch, line, &mut self.reply);
     }
 
-    /// Answers a line as a session, whatever number it names, and keeps the reply.
+    /// Answers a line of a given session, whatever number the line names, and keeps the reply.
     pub fn answer_as(&mut self, session: u32, line: &[u8])
         requires { session ≢ 0 }
         ensures { LineStepsAs self.old.libraries session line.now self.new.reply
@@ -71,7 +71,7 @@ impl Service {
         );
     }
 
-    /// Publishes a section for the operator, under a name that has none yet: 0, or the status of
+    /// Publishes a section for the operator, under a name that is not in use: 0, or the status of
     /// its refusal.
     pub fn load(&mut self, name: &PublicationName, ctf: Vec<u8>) -> u32
         ensures { Loads name.now ctf.items result self.old self.new }
@@ -82,7 +82,7 @@ impl Service {
         }
     }
 
-    /// Forgets all that a session holds and has published.
+    /// Forgets a session: all that it has, and all that it has published.
     pub fn leave(&mut self, session: u32)
         ensures { Leaves session self.old self.new }
     {

@@ -29,7 +29,7 @@ fn whole_count(types: &[u8]) -> Option<usize>
     Some(count)
 }
 
-/// The same search, with the number of its ticks, in a ledger that no type stands for before.
+/// The same search, with the number of its ticks, in a new ledger.
 fn count_ticks<L: Ledger>(
     alloc: Global,
     types: &Types<'_>,
@@ -44,8 +44,8 @@ fn count_ticks<L: Ledger>(
     Ok((found, work.count()))
 }
 
-/// The first type that a chain of a sort is too long from, and what it took to find it; none where
-/// a record is not whole, or where the two calls that search find different types.
+/// The first type from which a chain of one sort is too long, and the cost of finding it; none if a
+/// record is not whole, or if the two calls that search find different types.
 fn first(
     alloc: Global,
     types: &[u8],
@@ -65,7 +65,7 @@ fn first(
     Ok(if alike { Some(found) } else { None })
 }
 
-/// The sort of chains that a word stands for.
+/// The sort of chains for a word.
 fn chain_of(answer: &mut Answer, word: &str) -> Chain {
     match word {
         "value" => Chain::ByValue,
@@ -84,7 +84,7 @@ fn put_found(answer: &mut Answer, found: Option<usize>) {
     }
 }
 
-/// Searches a section, in a child or a dictionary of its own, for a chain of a sort.
+/// Searches a section, of a child or another dictionary, for a chain of one sort.
 fn put_first(answer: &mut Answer, counts: bool, words: &mut Words<'_>) {
     let chain = chain_of(answer, words.word());
     let child = words.word() == "child";
@@ -99,7 +99,7 @@ fn put_first(answer: &mut Answer, counts: bool, words: &mut Words<'_>) {
     }
 }
 
-/// Searches rows of numbers, with what that takes.
+/// Searches rows of numbers, and adds the cost of that.
 fn put_searched(answer: &mut Answer, words: &mut Words<'_>) {
     match search_rows(answer.alloc(), words) {
         Ok((found, ticks)) => {
@@ -110,7 +110,7 @@ fn put_searched(answer: &mut Answer, words: &mut Words<'_>) {
     }
 }
 
-/// Where the records of a section begin; then the number and the place of each.
+/// Where the records of a section begin; and the number and the place of each.
 fn put_starts(answer: &mut Answer, types: &[u8]) {
     let Some(count) = whole_count(types) else {
         return answer.fail();

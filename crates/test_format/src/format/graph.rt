@@ -1,4 +1,4 @@
-//! A graph of numbers, for the search that knows nothing of types.
+//! A graph of numbers, for the search, which knows nothing of types.
 ghost use Rattle.std.specs.Prelude.{◌≡◌, ◌<◌, None, length};
 
 use crate::words::Words;
@@ -7,7 +7,7 @@ use std::alloc::{AllocError, Global};
 use std::marker::Brand;
 use std::sync::ledger::{Blank, Ledger};
 
-/// RowGraph of numbers of rows; a number that is no row's leads nowhere.
+/// A graph whose records are rows of numbers; a number that is no row's leads nowhere.
 #[derive(Drop)]
 struct RowGraph {
     rows: Vec<Vec<usize>>,
@@ -51,7 +51,8 @@ impl<L: Ledger> Graph<L> for RowGraph {
     }
 }
 
-/// The first row that leads too far, and what it took to find it, in a ledger of its own.
+/// The first row from which a chain is too long, and the cost of finding it, in a ledger of its
+/// own.
 fn searched_in<L: Ledger>(
     alloc: Global,
     rows: &RowGraph,
@@ -66,8 +67,8 @@ fn searched_in<L: Ledger>(
     Ok((found, work.count()))
 }
 
-/// The first row that leads too far, and what it took to find it. Of each row the last of its 100
-/// numbers is given, and the others lead nowhere.
+/// The first row from which a chain is too long, and the cost of finding it. Only the last of the
+/// 100 numbers of each row is given; the others lead nowhere.
 pub fn search_rows(
     alloc: Global,
     words: &mut Words<'_>,

@@ -6,7 +6,7 @@ use crate::words::Words;
 use ctf_model::{Bytes, Fault, LONGEST_PIECE, Piece, TypeNum, fault_name, placeless};
 use std::alloc::AllocError;
 
-/// What bytes say of themselves, and as vectors and as a piece.
+/// The bytes, and the same bytes as a vector and as a piece.
 fn put_owned(answer: &mut Answer, bytes: Bytes) {
     answer.say(bytes.len());
     answer.say(bytes.is_empty());
@@ -39,7 +39,7 @@ fn put_appended(answer: &mut Answer, words: &mut Words<'_>) {
     answer.say(bytes.len());
 }
 
-/// Where a number's type stands where there is no parent, and in a child.
+/// Where the type with a number is, without a parent and in a child.
 fn put_place(answer: &mut Answer, number: TypeNum) {
     answer.say(number.place(false));
     answer.say(number.place(true));

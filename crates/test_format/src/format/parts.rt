@@ -1,10 +1,10 @@
-//! Bytes out of two parts.
+//! Joins two lists of bytes.
 ghost use Rattle.std.specs.Prelude.{◌≡◌, ◌++◌, IfOk};
 
 use ctf_model::Bytes;
 use std::alloc::{AllocError, Global};
 
-/// A list of bytes: a front, and what stands behind it.
+/// A list of bytes: `front`, and `back` after it.
 pub fn join_bytes(alloc: Global, front: &[u8], back: &[u8]) -> Result<Bytes, AllocError>
     ensures { IfOk result (λ bytes. bytes ≡ front.now ++ back.now) }
 {

@@ -1,10 +1,10 @@
-//! The calls of ctf_records: what records say, and where sections stop being records.
+//! The calls of ctf_records: the parts of records, and where a section has no more records.
 
 use crate::answer::Answer;
 use crate::words::Words;
 use ctf_records::{Record, Records, WIDE_MEMBERS, member_len, record_at, record_numbered};
 
-/// All that a head says.
+/// All parts of a head.
 fn put_head(answer: &mut Answer, record: &Record<'_>) {
     answer.say(record.kind());
     answer.say(record.size());
@@ -16,7 +16,7 @@ fn put_head(answer: &mut Answer, record: &Record<'_>) {
     answer.say(record.name_ref());
 }
 
-/// A record: its number and place, its bytes, its head, and the bytes behind it.
+/// A record: its number and place, its bytes, its head, and the bytes after the head.
 fn put_record(answer: &mut Answer, record: Option<Record<'_>>) {
     let Some(record) = record else {
         return answer.word("none");
@@ -28,7 +28,7 @@ fn put_record(answer: &mut Answer, record: Option<Record<'_>>) {
     answer.bytes(record.rest());
 }
 
-/// The record that an iterator over a section gives after so many.
+/// The record that an iterator over a section yields after so many.
 fn put_next(answer: &mut Answer, section: &[u8], passed: u64) {
     let mut records = Records::new(section);
     for _ in 0..passed {
@@ -41,7 +41,7 @@ fn put_next(answer: &mut Answer, section: &[u8], passed: u64) {
     }
 }
 
-/// How many records a section has, and the fault that reading it ends with.
+/// How many records a section has, and the fault after the last.
 fn put_end(answer: &mut Answer, section: &[u8]) {
     let mut count: u64 = 0;
     for record in Records::new(section) {
@@ -65,7 +65,7 @@ fn put_types(answer: &mut Answer, record: &Record<'_>) {
     }
 }
 
-/// A call on one record, which has all bytes that are given.
+/// A call on one record, which has all the bytes that are given.
 fn of_record(answer: &mut Answer, call: &str, bytes: &[u8]) {
     let Some(record) = record_at(bytes, 0, 1) else {
         return answer.fail();

@@ -35,7 +35,7 @@ fn read(answer: &mut Answer, ctf: &[u8]) {
     }
 }
 
-/// Where the sections stand, and the references of the parent.
+/// Where the sections are, and the references of the parent.
 fn ranges(answer: &mut Answer, ctf: &[u8]) {
     let Ok(header) = Header::read(ctf) else {
         return answer.fail();
@@ -56,7 +56,7 @@ fn put_name(answer: &mut Answer, name: Option<&[u8]>) {
     }
 }
 
-/// Whether so many references name texts, where others were compared before.
+/// Whether references are those of names, with a cache of earlier comparisons.
 fn are_names(answer: &mut Answer, strings: Strings<'_>, words: &mut Words<'_>) {
     let mut places = Places::new();
     let mut others = Differences::kept_in(&mut places);
@@ -80,7 +80,7 @@ fn of_strings(answer: &mut Answer, call: &str, words: &mut Words<'_>) {
     }
 }
 
-/// Whether so many places of a table begin texts, where others were compared before.
+/// Whether texts begin at places of a table, with a cache of earlier comparisons.
 fn are_texts(answer: &mut Answer, words: &mut Words<'_>) {
     let table = words.bytes();
     let mut places = Places::new();

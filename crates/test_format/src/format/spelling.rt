@@ -1,4 +1,4 @@
-//! Records whose names are all there, so that they can be viewed.
+//! Records whose names all exist, so that they can be viewed.
 ghost use Rattle.std.specs.Prelude.{◌≡◌, ◌≤◌, ℕ, IsSome, IsTrue, None, is_none};
 ghost use Rattle.ctf_model.specs.format.Name.{name};
 ghost use Rattle.ctf_model.specs.format.Spelling.{term_of};
@@ -19,7 +19,7 @@ fn names_nothing(strings: Strings<'_>, reference: u32) -> bool
     strings.name(reference).is_none()
 }
 
-/// Whether so many items of a length begin with references that name something.
+/// Whether each of so many items begins with a reference that names something.
 #[tactic(auto, unfolding(ctf_model::specs::rules::Faults::first_nameless, ctf_model::specs::rules::Faults::item_sites))]
 fn are_named(list: &[u8], len: usize, count: usize, strings: Strings<'_>) -> bool
     requires { 4 ≤ len }
@@ -39,7 +39,7 @@ fn are_named(list: &[u8], len: usize, count: usize, strings: Strings<'_>) -> boo
     are_named(rest, len, count - 1, strings)
 }
 
-/// Whether a record's names are there.
+/// Whether a record's names all exist.
 #[tactic(auto, using(crate::proofs::Named::spells))]
 fn is_spelled(record: &Record<'_>, strings: Strings<'_>) -> bool
     ensures { IsTrue result → IsSome (term_of (tables strings.entry) (bytes_of «record».now)) }
@@ -56,7 +56,7 @@ fn is_spelled(record: &Record<'_>, strings: Strings<'_>) -> bool
     }
 }
 
-/// What the one record shows that some bytes are, if its names are there.
+/// The view of the one record in some bytes, if its names all exist.
 pub fn variant_of<'a>(types: &'a [u8], strings: Strings<'a>) -> Option<Variant<'a>> {
     let record = record_at(types, 0, 1)?;
     if record.bytes().len() < types.len() || !is_spelled(&record, strings) {

@@ -1,5 +1,5 @@
-//! The calls of ctf_views, on one record: each word behind it and its tables asks once more of the
-//! same view.
+//! The calls of ctf_views, on one record: each word after the record and its tables asks the same
+//! view again.
 
 use crate::answer::Answer;
 use crate::format::spelling::variant_of;
@@ -10,7 +10,7 @@ use ctf_views::{
     Args, ArrayInfo, Encoding, Enumerator, Member, Members, Row, Rows, Variant, is_variadic,
 };
 
-/// An item of a view, as answers say it.
+/// An item of a view, in the form of an answer.
 trait AnswerItem: Drop {
     fn tell(&self, answer: &mut Answer);
 }
@@ -43,7 +43,7 @@ fn tell<T: AnswerItem>(answer: &mut Answer, item: Option<T>) {
     }
 }
 
-/// Asks of a list that is left; a number asks for the item at that place.
+/// Asks a list for its rest; a number asks for the item with that number.
 fn ask<R: Row>(answer: &mut Answer, rows: &mut Rows<'_, R>, word: &str)
 where
     R::Item: AnswerItem,
@@ -91,7 +91,7 @@ fn put_encoding(answer: &mut Answer, info: Encoding) {
     answer.say(info.bits);
 }
 
-/// Answers what the words ask of a view.
+/// Answers the words that ask a view.
 fn ask_all(answer: &mut Answer, view: Variant<'_>, words: &str) {
     match view {
         Variant::Members(mut members) => {
@@ -122,7 +122,7 @@ fn ask_all(answer: &mut Answer, view: Variant<'_>, words: &str) {
     }
 }
 
-/// Answers a row of ctf_views: a record, its tables, and what is asked of its view.
+/// Answers a row of ctf_views: a record, its tables, and the words that ask its view.
 pub fn answer_call(answer: &mut Answer, words: &mut Words<'_>) {
     let types = words.bytes();
     let own = words.bytes();

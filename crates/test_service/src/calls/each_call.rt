@@ -1,4 +1,4 @@
-//! Runs of which each call of a sort fails in turn, or that end at each bound on reads.
+//! Runs in which each call of a sort fails in turn, or that end at each bound on reads.
 
 use crate::collected::Said;
 use crate::serving::cases::Case;
@@ -9,7 +9,7 @@ use ctf_wire::{Broker, RunFault};
 /// More calls of each sort than any of the runs makes.
 const CALLS: u32 = 600;
 
-/// What is noted of so many lines: up to the bar of the last.
+/// What is noted of the first `lines` replies: up to the bar after the last of these.
 fn noted_of(want: &[u8], lines: usize) -> &[u8] {
     let mut left = lines;
     let mut len: usize = 0;
@@ -24,7 +24,7 @@ fn noted_of(want: &[u8], lines: usize) -> &[u8] {
     want.get(..len).unwrap_or(b"")
 }
 
-/// What is noted after so many reads, where no two lines end in the same.
+/// What is noted after so many reads, if no two lines end in the same read.
 fn noted_after(told: &Exchange, size: usize, reads: u32) -> &[u8] {
     let len = size.wrapping_mul(reads as usize).min(told.input.len());
     let read = told.input.get(..len).unwrap_or(b"");
@@ -34,7 +34,7 @@ fn noted_after(told: &Exchange, size: usize, reads: u32) -> &[u8] {
     )
 }
 
-/// Whether a run is cut off as it has to be by a call, or behind so many reads.
+/// Whether a run ends as it has to if a call fails, or after so many reads.
 fn is_cut(told: &Exchange, size: usize, word: &str, number: u32, ran: &Ran) -> bool {
     let (end, noted) = ran;
     match word {
@@ -53,8 +53,8 @@ fn is_cut(told: &Exchange, size: usize, word: &str, number: u32, ran: &Ran) -> b
     }
 }
 
-/// How many runs are cut off: by the first call of a sort, the second and so on, until one goes on
-/// to its end.
+/// Counts the runs that end early: at the first call of a sort, at the second and so on, until a
+/// run reaches its end.
 pub fn each(said: &mut Said, told: &Exchange, words: &str) {
     let (size, word) = words.split_once(' ').unwrap_or((words, ""));
     let size = size.parse::<usize>().unwrap_or(0);

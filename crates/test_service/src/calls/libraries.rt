@@ -8,7 +8,7 @@ use ctf_protocol::Request;
 use ctf_wire::{Broker, Library, Pool};
 use std::alloc::{AllocError, Global};
 
-/// Asks a library what a line says, and appends the line of its reply.
+/// Asks a library for the answer to a line, and appends the line of its reply.
 fn ask_library(
     alloc: Global,
     out: &mut Vec<u8>,
@@ -29,7 +29,7 @@ fn ask_library(
     }
 }
 
-/// Asks a broker what a line says, and appends the line of its reply.
+/// Asks a broker for the answer to a line, and appends the line of its reply.
 fn ask_broker(
     alloc: Global,
     out: &mut Vec<u8>,
@@ -49,12 +49,12 @@ fn ask_broker(
     }
 }
 
-/// The lines of a text that bytes are.
+/// The lines of some bytes that are text.
 fn lines(bytes: &[u8]) -> &str {
     std::str::from_utf8(bytes).unwrap_or("no text")
 }
 
-/// What a library answers the lines, of whatever session they are.
+/// The replies of a library to the lines, whatever sessions these name.
 pub fn library(said: &mut Said, told: &Exchange) {
     let mut library = Library::new(said.alloc());
     let mut pool = Pool::new(said.alloc());
@@ -65,7 +65,7 @@ pub fn library(said: &mut Said, told: &Exchange) {
     said.front(&told.want, &out);
 }
 
-/// What a broker answers the lines.
+/// The replies of a broker to the lines.
 pub fn broker(said: &mut Said, told: &Exchange) {
     let mut broker = Broker::new(said.alloc());
     let mut out = Vec::new(said.alloc());

@@ -7,7 +7,7 @@ use ctf_protocol::{Bytes, DataModel, Fault, Parts, PublicationName, fault_name};
 use ctf_wire::{Broker, Counts, Loaded};
 use std::alloc::Global;
 
-/// The dictionary of a list.
+/// The dictionary in a list.
 fn open_list(alloc: Global, ctf: &[u8]) -> Option<Loaded> {
     let parts = Parts {
         ctf: Bytes::from_slice(alloc, ctf).ok()?,
@@ -58,7 +58,8 @@ fn load_as(said: &mut Said, broker: &mut Broker, sort: &str, name: &str, ctf: &[
     }
 }
 
-/// The digits of a list; then what it is loaded as, and under which name, or a run over the lines.
+/// A row has the digits of a list; then what it is loaded as, and under which name, or a run over
+/// the lines.
 pub fn load(said: &mut Said, told: &Exchange, words: &str) {
     let (digits, steps) = words.split_once(", ").unwrap_or((words, ""));
     let Ok(ctf) = hex::decode(said.alloc(), digits) else {

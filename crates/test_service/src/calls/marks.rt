@@ -31,7 +31,7 @@ pub fn faults(said: &mut Said) {
     put_end(said, Err(RunFault::Memory));
 }
 
-/// The slot of a number.
+/// The slot with a number.
 pub fn slot(said: &mut Said, words: &str) {
     match SlotNumber::new(words.parse::<u32>().unwrap_or(0)) {
         Some(slot) => said.number(u64::from(slot.get())),

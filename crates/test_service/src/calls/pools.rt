@@ -1,11 +1,11 @@
-//! Dictionaries that are opened again while a pool holds them, or when it holds them no more.
+//! Dictionaries that are opened again while a pool has them, or after it has dropped them.
 
 use crate::collected::Said;
 use ctf_protocol::{Bytes, DataModel, Parts, fault_name};
 use ctf_wire::Pool;
 use std::alloc::{AllocError, Global};
 
-/// The lists of a dictionary: bytes, and those behind them.
+/// The lists of a dictionary: `front`, and `rest` after it.
 fn lists(alloc: Global, front: &[u8], rest: &[u8]) -> Result<Parts, AllocError> {
     let mut ctf = Bytes::from_slice(alloc, front)?;
     ctf.append(rest)?;
@@ -16,8 +16,8 @@ fn lists(alloc: Global, front: &[u8], rest: &[u8]) -> Result<Parts, AllocError> 
     })
 }
 
-/// Opens lists, and says whether the dictionary ends as they do; or how they are refused, and how
-/// many bytes come back.
+/// Opens lists, and reports whether the dictionary ends as they do; or how they are refused, and
+/// how many bytes come back.
 fn put_opened(said: &mut Said, pool: &mut Pool, front: &[u8], rest: &[u8]) {
     let Ok(parts) = lists(said.alloc(), front, rest) else {
         return said.word("no memory");
@@ -32,8 +32,8 @@ fn put_opened(said: &mut Said, pool: &mut Pool, front: &[u8], rest: &[u8]) {
     }
 }
 
-/// Digits of the front of a list, and what stands behind it in each that is opened, a dash where
-/// that is nothing.
+/// A row has the digits of the front of a list, and for each list that is opened the bytes that
+/// follow; a dash for none.
 pub fn pool(said: &mut Said, words: &str) {
     let (digits, steps) = words.split_once(' ').unwrap_or((words, ""));
     let Ok(front) = hex::decode(said.alloc(), digits) else {

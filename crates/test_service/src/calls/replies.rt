@@ -6,10 +6,10 @@ use ctf_lines::{ToLine, memory_line, write_change};
 use ctf_protocol::{Fault, placeless};
 use std::alloc::{AllocError, Global};
 
-/// What stands before the line of a reply.
+/// The text before the line of a reply.
 const BEFORE: &[u8] = b"before ";
 
-/// A line longer than this is told by its length.
+/// Of a line longer than this, only the length is reported.
 const LONG: usize = 1000;
 
 /// The first two of some numbers.
@@ -34,7 +34,7 @@ fn bytes_of(alloc: Global, words: &str) -> Result<Vec<u8>, AllocError> {
     Ok(bytes)
 }
 
-/// The value of a sort.
+/// A value of the given sort.
 fn value<'a>(sort: &str, words: &str, bytes: &'a [u8]) -> Single<'a> {
     match sort {
         "number" => Single::Number(numbers(words).0),
@@ -46,7 +46,7 @@ fn value<'a>(sort: &str, words: &str, bytes: &'a [u8]) -> Single<'a> {
     }
 }
 
-/// What a reply answers: a value, two words, or a refusal of a code at a place.
+/// The outcome of a reply: a value, two words, or a refusal with a code and a place.
 fn outcome<'a>(sort: &str, words: &str, bytes: &'a [u8]) -> Result<Answer<'a>, Fault> {
     match sort {
         "fault" => {
@@ -66,7 +66,7 @@ fn outcome<'a>(sort: &str, words: &str, bytes: &'a [u8]) -> Result<Answer<'a>, F
     }
 }
 
-/// The line of a reply, behind what stands before it.
+/// The line of a reply, after the text before it.
 fn reply_line(alloc: Global, session: u32, sort: &str, words: &str) -> Result<Vec<u8>, AllocError> {
     let mut out = Vec::from_slice(alloc, BEFORE)?;
     let bytes = bytes_of(alloc, words)?;
@@ -75,7 +75,7 @@ fn reply_line(alloc: Global, session: u32, sort: &str, words: &str) -> Result<Ve
     Ok(out)
 }
 
-/// What a change is answered: nothing, a length, a slot and a number of types, or a refusal.
+/// The answer to a change: nothing, a length, a slot and a number of types, or a refusal.
 fn counts(sort: &str, words: &str) -> Result<Counts, Fault> {
     let (first, second) = numbers(words);
     match sort {
@@ -86,7 +86,7 @@ fn counts(sort: &str, words: &str) -> Result<Counts, Fault> {
     }
 }
 
-/// The line of a reply to a change, behind what stands before it.
+/// The line of a reply to a change, after the text before it.
 fn change_line(
     alloc: Global,
     session: u32,
@@ -98,7 +98,7 @@ fn change_line(
     Ok(out)
 }
 
-/// Says a line without its end, or how long it is, which stands behind the text before it.
+/// Reports a line without its newline, or its length, if it comes after the text before it.
 fn put_line(said: &mut Said, written: Result<Vec<u8>, AllocError>) {
     let Ok(written) = written else {
         return said.word("no memory");
@@ -110,7 +110,7 @@ fn put_line(said: &mut Said, written: Result<Vec<u8>, AllocError>) {
     }
 }
 
-/// A session, and what it is answered.
+/// A session, and the outcome of its reply.
 fn parts_of(words: &str) -> (u32, &str, &str) {
     let (session, words) = words.split_once(' ').unwrap_or((words, ""));
     let (sort, words) = words.split_once(' ').unwrap_or((words, ""));

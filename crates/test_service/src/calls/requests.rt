@@ -88,7 +88,7 @@ fn held_word(question: HeldQuestion) -> &'static str {
     }
 }
 
-/// The window that a question asks for: where it begins, and how many it has, if that is said.
+/// The window of a question: its first item and, if stated, its number of items.
 fn put_window(said: &mut Said, window: Window) {
     said.word("from");
     said.number(u64::from(window.from));
@@ -106,7 +106,7 @@ fn put_names(said: &mut Said, names: &Names) {
     }
 }
 
-/// What a question on a type says beside its word.
+/// What a question on a type has besides its word.
 fn put_rest(said: &mut Said, question: &TypeQuestion) {
     match question {
         TypeQuestion::Members(window) => put_window(said, *window),

@@ -18,7 +18,7 @@ pub fn case_of(words: &str) -> Case {
     case
 }
 
-/// Says how a run ended.
+/// Reports how a run ended.
 pub fn put_end(said: &mut Said, end: Result<(), RunFault>) {
     match end {
         Ok(()) => said.word("Ok"),
@@ -26,7 +26,7 @@ pub fn put_end(said: &mut Said, end: Result<(), RunFault>) {
     }
 }
 
-/// Says how a broker's run over the lines ends, and how much of the replies it writes.
+/// Reports how a broker's run over the lines ends, and how much of the replies it writes.
 pub fn put_run(said: &mut Said, broker: &mut Broker, told: &Exchange, case: Case) {
     let (end, written) = served_in(said.alloc(), broker, &told.input, case);
     put_end(said, end);
@@ -39,7 +39,7 @@ pub fn run(said: &mut Said, told: &Exchange, words: &str) {
     put_run(said, &mut broker, told, case_of(words));
 }
 
-/// A run in a case, and then once more where no call fails.
+/// A run in a case, and then another in which no call fails.
 pub fn again(said: &mut Said, told: &Exchange, words: &str) {
     let mut broker = Broker::new(said.alloc());
     let case = case_of(words);

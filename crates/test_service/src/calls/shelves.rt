@@ -53,8 +53,8 @@ impl Sink for Shelf {
     }
 }
 
-/// What is on the shelf after a run, where some bytes wait there before it: each piece with a bar
-/// behind it, and what waits.
+/// What is on the shelf after a run, if some bytes wait there before it: each flushed piece with a
+/// bar after it, and the bytes that wait.
 fn on_shelf(alloc: Global, before: &[u8], input: &[u8]) -> Result<Vec<u8>, AllocError> {
     let mut source = FromReader::new(input);
     let mut shelf = Shelf {
@@ -73,7 +73,7 @@ fn on_shelf(alloc: Global, before: &[u8], input: &[u8]) -> Result<Vec<u8>, Alloc
     Ok(out)
 }
 
-/// What is on the shelf after a run, behind a text that waited there.
+/// What is on the shelf after a run, after a text that waited there.
 pub fn put_shelf(said: &mut Said, told: &Exchange, before: &str) {
     let Ok(shelf) = on_shelf(said.alloc(), before.as_bytes(), &told.input) else {
         return said.word("no memory");

@@ -1,4 +1,4 @@
-//! How the streams of a run go on, and which of their calls fail.
+//! The size of a run's reads, and which of its calls fail.
 
 /// How many bytes a read gives, how many reads are allowed, and the numbers of the calls that fail,
 /// counted from 1.

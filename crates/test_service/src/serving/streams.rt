@@ -37,7 +37,7 @@ impl Read for Pieces<'_> {
     }
 }
 
-/// Takes 5 bytes a call, and may note each flush that went well by a bar.
+/// Takes 5 bytes in each call, and may note each flush that succeeded by a bar.
 #[derive(Drop)]
 pub struct Notes {
     pub bytes: Vec<u8>,

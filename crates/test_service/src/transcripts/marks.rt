@@ -4,7 +4,7 @@
 
 use std::alloc::{AllocError, Global};
 
-/// What a mark with an `n` stands for: `n`, `n+1` or `8n`.
+/// The value of a mark with an `n`: `n`, `n+1` or `8n`.
 fn figure(factor: &str, plus: &str, number: u32) -> u32 {
     let factor = factor.parse::<u32>().unwrap_or(1);
     let plus = plus.parse::<u32>().unwrap_or(0);
@@ -19,7 +19,7 @@ fn repeat(out: &mut Vec<u8>, text: &str, times: usize) -> Result<(), AllocError>
     Ok(())
 }
 
-/// Appends what a mark stands for.
+/// Appends the value of a mark.
 fn put_mark(alloc: Global, out: &mut Vec<u8>, mark: &str, number: u32) -> Result<(), AllocError> {
     if let Some((times, text)) = mark.split_once(' ') {
         return repeat(out, text, times.parse::<usize>().unwrap_or(0));
@@ -30,7 +30,7 @@ fn put_mark(alloc: Global, out: &mut Vec<u8>, mark: &str, number: u32) -> Result
     out.extend_from_slice(digits.as_bytes())
 }
 
-/// Appends a text with what its marks stand for in the pass of a number, and its end.
+/// Appends a line, with the values of its marks in the pass with a number.
 pub fn put_marked(
     alloc: Global,
     out: &mut Vec<u8>,

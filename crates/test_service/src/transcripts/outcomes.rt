@@ -1,9 +1,9 @@
-//! Lines that go in, and the replies that are wanted.
+//! Input lines, and the replies that are expected.
 
 use crate::serving::serve_all;
 use std::alloc::{AllocError, Global};
 
-/// Lines that go in, and the replies that are wanted.
+/// Input lines, and the replies that are expected.
 #[derive(Drop)]
 pub struct Exchange {
     pub input: Vec<u8>,
@@ -24,7 +24,7 @@ impl Exchange {
         self.want.extend_from_slice(&more.want)
     }
 
-    /// Whether a run that begins with the lines writes just the replies.
+    /// Whether a run over the lines writes exactly the replies.
     pub fn are_answered(&self, alloc: Global) -> bool {
         let (end, written) = serve_all(alloc, &self.input);
         end.is_ok() && written.as_slice() == self.want.as_slice()

@@ -1,7 +1,7 @@
-/* beside_ctfd ROUNDS SEED: random additions by libctf's calls and, the same, by ctfd.h: numbers,
- * refusals, and then all answers and the bytes are the same. A child in the making stands over the
- * parent in each round. Names of types are those that the written bytes have once they are opened,
- * since ctfd.h spells qualified arrays of pointers otherwise. */
+/* beside_ctfd ROUNDS SEED: random additions through libctf's calls, and the same through ctfd.h.
+ * The numbers and refusals are equal, and then all answers and the bytes. Each round makes a parent
+ * and a child of it. Names of types are compared with those of the opened bytes, since ctfd.h
+ * spells qualified arrays of pointers differently. */
 #include "ctfd_libctf.h"
 
 #include "random.h"
@@ -9,7 +9,7 @@
 #include <limits.h>
 #include <string.h>
 
-/* One dictionary, made twice. */
+/* A dictionary that is made twice. */
 struct pair {
     ctf_file_t *file;
     struct ctfd *draft;
@@ -18,7 +18,7 @@ struct pair {
     unsigned char kinds[65536];
 };
 
-/* The number that a call of libctf gave, or its fault below 0; the same of one of ctfd.h. */
+/* The result of a libctf call, or its fault as a negative number; `drafted` is for ctfd.h. */
 static long given(const struct pair *pair, long number)
 {
     return number == CTF_ERR ? -(long)ctf_fault(pair->file) : number;
@@ -29,7 +29,7 @@ static long drafted(enum ctfd_status status, long number)
     return status == CTFD_OK ? number : -(long)status;
 }
 
-/* Mostly a type that is there: of the parent, of its own, one that isn't there, or none. */
+/* Usually an existing type, its own or the parent's; sometimes one that does not exist, or 0. */
 static ctf_id_t some_type(const struct pair *pair)
 {
     unsigned choice = below(20);
@@ -173,7 +173,7 @@ static void add_type(struct pair *pair)
     }
 }
 
-/* A type of the pair that may get members or enumerators, mostly. */
+/* Usually a type of the pair that may get members or enumerators. */
 static ctf_id_t some_holder(const struct pair *pair)
 {
     ctf_id_t in = 1;
@@ -188,7 +188,8 @@ static ctf_id_t some_holder(const struct pair *pair)
     return below(30) == 0 ? some_type(pair) : in;
 }
 
-/* A member whose type comes behind its holder would form a cycle, unless it is a pointer. */
+/* Adds a member or enumerator. A member's type must precede its struct, unless it is a pointer:
+ * this avoids cycles. */
 static void add_item(struct pair *pair)
 {
     char name[8];
@@ -216,7 +217,7 @@ static void add_item(struct pair *pair)
         given(pair, ctf_add_member(pair->file, in, name, to, offset)));
 }
 
-/* ---- answers */
+/* ---- questions */
 
 static void ask_numbers(const struct pair *pair, ctf_id_t t, uint32_t *kind)
 {
@@ -240,7 +241,7 @@ static void ask_numbers(const struct pair *pair, ctf_id_t t, uint32_t *kind)
         given(pair, ctf_type_align(pair->file, t)));
 }
 
-/* Members by their names, of structs and unions without members that have none. */
+/* Asks for members by name, if all members of the struct or union have one. */
 static void ask_members(const struct pair *pair, ctf_id_t t)
 {
     struct ctfd_member member;
@@ -285,7 +286,7 @@ static void look_up(const struct pair *pair, ctf_id_t t, uint32_t kind)
     same("a look-up", t, drafted(status, to), given(pair, ctf_lookup_by_name(pair->file, text)));
 }
 
-/* A pointer that is found leads there; which of several is libctf's own choice. */
+/* A pointer that is found points to the type; libctf chooses which of several. */
 static void ask_pointer(const struct pair *pair, ctf_id_t t)
 {
     uint16_t to = 0;
@@ -298,7 +299,7 @@ static void ask_pointer(const struct pair *pair, ctf_id_t t)
     same("what the pointer leads to", t, 1, leads == t || leads == ctf_type_resolve(pair->file, t));
 }
 
-/* The bytes, and the names that they have once they are opened. */
+/* Compares the bytes, and the names of types with those that the opened bytes give. */
 static void ask_bytes(const struct pair *pair, ctf_file_t *parent)
 {
     const void *data = NULL;
@@ -349,7 +350,7 @@ static void ask_all(const struct pair *pair, ctf_file_t *parent)
     ask_bytes(pair, parent);
 }
 
-/* Adds, updates and asks; false where the update is refused, by both for the same fault. */
+/* Adds, updates and asks. Returns false if both refuse the update, for the same fault. */
 static bool fill(struct pair *pair, ctf_file_t *parent)
 {
     unsigned i, count = 1 + below(120);

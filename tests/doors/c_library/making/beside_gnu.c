@@ -1,10 +1,10 @@
-/* beside_gnu ROUNDS SEED: random calls of GNU's header that make dictionaries and ask of them. What
- * they answer is printed: compiled for libctfd and for GNU's own library, the same is printed.
+/* beside_gnu ROUNDS SEED: random calls of GNU's header that make dictionaries and ask about them,
+ * with their results printed. Compiled with libctfd and with GNU's own library, it prints the same.
  *
- * Left out is where GNU's library (2.40) is wrong: stated offsets of first members and of members of
- * unions, which it puts at 0; members in front of others, behind which a struct gets smaller; what
- * stands behind an enum, which has no bits there; names of functions and arrays, which are not as C
- * spells them. */
+ * It avoids what GNU's library (2.40) gets wrong: explicit offsets of first members and of members
+ * of unions, which it changes to 0; members placed before others, after which a struct gets
+ * smaller; members after an enum, which has no bits there; and names of functions and arrays, which
+ * it does not spell as C does. */
 #include <ctf-api.h>
 
 #include "random.h"
@@ -23,7 +23,7 @@ static ctf_dict_t *made[BOTH];
 static ctf_id_t types[BOTH][MOST];
 static int count[BOTH];
 
-/* Types of a child count from 100,000 on, in both libraries. */
+/* A type's number, with those of a child numbered from 100,000 in both libraries. */
 static long number_of(ctf_id_t type)
 {
     if (type == CTF_ERR)
@@ -134,7 +134,7 @@ static ctf_id_t add_tagged(ctf_dict_t *to, unsigned kind, const char *name)
     }
 }
 
-/* Adds a type; 0 where there is none yet that it could lead to. */
+/* Adds a type; returns 0 if there is no type yet to which it could refer. */
 static ctf_id_t add_type(int which)
 {
     ctf_dict_t *to = made[which];
@@ -156,8 +156,8 @@ static ctf_id_t add_type(int which)
     }
 }
 
-/* Whether a type may be a member of another: it has a size, comes before it, and is one whose place
- * GNU's library gets right. */
+/* Whether a type may be a member of another: it has a size, precedes it, and GNU's library places
+ * it correctly. */
 static int may_be_member(ctf_dict_t *of, ctf_id_t type, ctf_id_t in)
 {
     int stands_for = ctf_type_kind(of, ctf_type_resolve(of, type));
@@ -220,7 +220,7 @@ static void step(void)
     }
 }
 
-/* Types of the child behind a snapshot go. */
+/* Rolls the child back to a snapshot, and prints which of its types are left. */
 static void roll_back(ctf_snapshot_id_t to, int were)
 {
     int i;

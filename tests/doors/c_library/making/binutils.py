@@ -1,16 +1,18 @@
 #!/usr/bin/env python3
-"""Compiles binutils' own tests of libctf over libctfd.so by clients/c/gnu/ctf-api.h, each program
-unchanged, and compares what it prints with what binutils wants.
+"""Runs binutils' own tests of libctf with libctfd.so, through clients/c/gnu/ctf-api.h: each program
+is compiled unchanged, and its output compared with the one that binutils expects.
 
 usage: tests/doors/c_library/making/binutils.py LIBRARIES CONVERT [SOURCES]
 
-LIBRARIES is the folder of libctfd.so, CONVERT the command ctfd-convert, which writes the dictionaries
-of the tests' sources from `gcc -g`, where binutils' compiler would write GNU's format. SOURCES is the
-folder of the sources of binutils 2.40. Without it they are got from Debian by apt-get, into a folder
-that goes again; where they can't be had, a line says so, and the status is 0.
+LIBRARIES is the folder of libctfd.so. CONVERT is the command ctfd-convert, which writes the
+dictionaries of the tests' sources from `gcc -g`, instead of binutils' compiler, which would write
+GNU's format. SOURCES is the folder of the sources of binutils 2.40. By default they are downloaded
+from Debian with apt-get, into a temporary folder; if that fails, a line says so, and the status is
+0.
 
-Two of the 17 want what version 2 of the format has not: a dictionary for each unit of a program.
-Prints a line for each that does not pass; the status is 1 where another one than these two failed.
+Two of the 17 tests need something that version 2 of the format does not have: a dictionary for each
+unit of a program. Prints a line for each test that fails; the status is 1 if a test other than
+these two failed.
 """
 from __future__ import annotations
 
@@ -24,7 +26,7 @@ from pathlib import Path
 from typing import Optional
 
 TOP = Path(__file__).resolve().parents[4]
-# In these a type differs between two units, and is asked for in the dictionary of one.
+# In these, a type differs between two units, and is looked up in the dictionary of one.
 OF_UNITS = {"ambiguous-struct", "pptrtab"}
 VERSION = "2.40-2"
 
@@ -34,8 +36,8 @@ def run(*words: object, folder: Optional[Path] = None) -> subprocess.CompletedPr
                           stdin=subprocess.DEVNULL, capture_output=True, timeout=300, check=False)
 
 
-def downloaded(work: Path) -> Optional[Path]:
-    """The testsuite from Debian's source package; None where that can't be had."""
+def download(work: Path) -> Optional[Path]:
+    """The test suite from Debian's source package, or None if it cannot be downloaded."""
     if not shutil.which("apt-get"):
         return None
     lists, here = work / "lists", work / "sources"
@@ -61,7 +63,7 @@ def downloaded(work: Path) -> Optional[Path]:
 
 @dataclass
 class Case:
-    """A test: a program, the sources of what it reads, and the lines that it is to print."""
+    """A test: a program, the sources of what it reads, and the expected lines."""
 
     path: Path
     words: dict[str, list[str]] = field(default_factory=dict)
@@ -89,17 +91,17 @@ class Case:
         return self.path.parent / self.words.get("lookup", [f"{self.name}.c"])[0]
 
 
-class Failed(Exception):
-    """Why a test does not pass."""
+class Failure(Exception):
+    """The reason why a test fails."""
 
 
 def must(done: subprocess.CompletedProcess[str], what: str) -> None:
     if done.returncode != 0:
-        raise Failed(f"{what}: {done.stderr.strip()[-300:]}")
+        raise Failure(f"{what}: {done.stderr.strip()[-300:]}")
 
 
 def compiled_sources(case: Case, work: Path) -> Path:
-    """What the test reads: linked as it wants it, with debug information."""
+    """The file that the test reads: linked as the test says, with debug information."""
     sources = [case.path.parent / name for name in case.words["source"]]
     out = work / f"{case.name}.so"
     if "link" in case.words or "link_flags" in case.words:
@@ -115,7 +117,7 @@ def compiled_sources(case: Case, work: Path) -> Path:
 
 
 def judge(case: Case, work: Path, libraries: Path, convert: Path) -> None:
-    """Raises Failed where a test does not print what it is to print."""
+    """Runs a test. Raises Failure if its output is not the expected one."""
     program = work / case.name
     must(run("gcc", f"-I{work}", f"-I{TOP / 'clients' / 'c' / 'gnu'}", case.program,
              f"-L{libraries}", "-lctfd", f"-Wl,-rpath,{libraries}", "-o", program), "the program")
@@ -126,9 +128,9 @@ def judge(case: Case, work: Path, libraries: Path, convert: Path) -> None:
     done = run(program, *read)
     seen = done.stdout.splitlines()
     if done.returncode != 0 or done.stderr:
-        raise Failed(f"status {done.returncode}: {done.stderr.strip()}")
+        raise Failure(f"status {done.returncode}: {done.stderr.strip()}")
     if len(seen) != len(case.wanted) or not all(map(re.fullmatch, case.wanted, seen)):
-        raise Failed(f"it printed {seen}, and not {case.wanted}")
+        raise Failure(f"it printed {seen}, and not {case.wanted}")
 
 
 def main() -> int:
@@ -140,7 +142,7 @@ def main() -> int:
     with tempfile.TemporaryDirectory() as folder:
         work = Path(folder)
         try:
-            sources = Path(sys.argv[3]).resolve() if len(sys.argv) > 3 else downloaded(work)
+            sources = Path(sys.argv[3]).resolve() if len(sys.argv) > 3 else download(work)
         except subprocess.TimeoutExpired:
             sources = None
         cases = sorted(sources.glob("libctf/testsuite/*/*.lk")) if sources else []
@@ -153,7 +155,7 @@ def main() -> int:
             case = Case.read(path)
             try:
                 judge(case, work, libraries, convert)
-            except Failed as why:
+            except Failure as why:
                 failed.add(f"{path.parent.name}/{case.name}")
                 print(f"{path.parent.name}/{case.name}: {why}")
     others = {name for name in failed if name.split("/")[1] not in OF_UNITS}

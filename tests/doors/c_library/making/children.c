@@ -1,6 +1,6 @@
-/* children - an opened child of a dictionary in the making sees what that gets, while it is walked
- * too; and the bytes of a child in the making say what was answered, whatever its parent has got
- * since. */
+/* children - an opened child of a dictionary in the making sees the additions to it, even during a
+ * walk; and the bytes of a child in the making agree with the answers given, whatever was added to
+ * its parent since. */
 #include "ctfd_libctf.h"
 
 #include "../common.h"
@@ -24,7 +24,7 @@ static struct parent new_parent(void)
     return made;
 }
 
-/* A child as its bytes say it, over the parent. */
+/* Opens the bytes of a child, and imports the parent. */
 static ctf_file_t *reopened(
     ctf_file_t *child, const struct parent *parent, char *block, size_t room)
 {
@@ -43,7 +43,7 @@ static ctf_file_t *reopened(
     return opened;
 }
 
-/* A child with an array of the parent's struct, written and opened. */
+/* Writes and opens a child with an array of the parent's struct. */
 static ctf_file_t *open_child(
     const struct parent *parent, ctf_id_t *array, char *block, size_t room)
 {
@@ -57,7 +57,7 @@ static ctf_file_t *open_child(
     return opened;
 }
 
-/* Adds a member to the parent's struct while the child goes through it. */
+/* Adds a member to the parent's struct while the child iterates over it. */
 static int grow(const char *name, ctf_id_t type, ulong_t offset, void *arg)
 {
     const struct parent *parent = (const struct parent *)arg;
@@ -109,8 +109,8 @@ static int same_member(const char *name, ctf_id_t type, ulong_t offset, void *ar
     return 0;
 }
 
-/* The child's struct and union were made when the parent's had 4 bytes. Before the parent's grows
- * and after that, and with a member behind it, they are written as they answer. */
+/* The child's struct and union are made when the parent's struct has 4 bytes. Before that grows,
+ * after it, and with another member added, the written bytes agree with the answers. */
 static void grown_parents(void)
 {
     struct parent parent = new_parent();
@@ -145,7 +145,7 @@ static void grown_parents(void)
     ctf_close(parent.file);
 }
 
-/* 30,000 pending types of one name, and forwards among them, cost what others do; the last counts. */
+/* Of 30,000 pending types with one name, forwards among them, a look-up finds the last. */
 static void many_of_one_name(void)
 {
     ctf_file_t *file = ctf_create(NULL);

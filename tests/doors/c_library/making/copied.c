@@ -1,5 +1,5 @@
-/* copied CTF: each type of a dictionary is copied into one in the making by ctf_add_type, and
- * answers as it did. A second copy is the first one. */
+/* copied CTF: copies each type of a dictionary into one in the making by ctf_add_type; the copies
+ * give the same answers. Copying a type again returns the first copy. */
 #include "ctfd_libctf.h"
 
 #include "random.h"

@@ -1,4 +1,4 @@
-/* random.h - numbers that are the same for the same seed, and comparisons that are counted. */
+/* random.h - a random sequence that depends only on the seed, and counted comparisons. */
 #ifndef MAKING_RANDOM_H
 #define MAKING_RANDOM_H
 
@@ -14,7 +14,7 @@ static inline void seed(unsigned long long number)
     state = 88172645463325252ull + 77 * number;
 }
 
-/* A number below a bound. */
+/* A random number below a bound. */
 static inline unsigned below(unsigned bound)
 {
     state ^= state << 13;
@@ -23,7 +23,7 @@ static inline unsigned below(unsigned bound)
     return (unsigned)((state >> 11) % bound);
 }
 
-/* Counts a comparison, and shows the first that differ. */
+/* Counts a comparison, and prints the first ones that differ. */
 static inline void same(const char *what, long type, long long wanted, long long seen)
 {
     compared++;

@@ -1,5 +1,5 @@
-/* refused CTF: one life of a parent, a child and a copied type, with each allocation refused in turn:
- * the call says that memory was refused, and the same call again does what it would have done. */
+/* refused CTF: makes a parent, a child and a copied type, with each allocation refused in turn: the
+ * call reports out of memory, and when repeated does what it would have done. */
 #include "ctfd_libctf.h"
 
 #include <limits.h>
@@ -37,7 +37,7 @@ void *__wrap_realloc(void *block, size_t size)
     return is_refused() ? NULL : __real_realloc(block, size);
 }
 
-/* Makes a call, and once more where memory was refused to it. */
+/* Makes a call, and repeats it if it failed because memory was refused. */
 #define TRY(file, call) \
     __extension__({ \
         long before_ = refusals, got_ = (long)(call); \
@@ -154,7 +154,7 @@ int main(int argc, char **argv)
     long i, before;
     if (target == NULL)
         return 1;
-    /* What the target keeps of what it is asked is there from the second life on. */
+    /* The first run fills the target's caches; from the second one on they are there. */
     live(target);
     sum = 0;
     live(target);

@@ -1,6 +1,6 @@
 /* reopened ROUNDS SEED: random additions, updates, discards, deletions and promotions in a parent
- * and its child, by libctf's calls. Now and then both are written: what the bytes answer once they
- * are opened is what the dictionaries in the making answer. */
+ * and its child, through libctf's calls. Now and then both are written, and the opened bytes give
+ * the same answers as the dictionaries in the making. */
 #include "ctfd_libctf.h"
 
 #include "random.h"
@@ -23,7 +23,7 @@ static ctf_id_t number(int which, unsigned place)
     return (ctf_id_t)((which == CHILD ? 32769 : 1) + place);
 }
 
-/* A type that a dictionary may name. */
+/* A type to which a dictionary may refer. */
 static ctf_id_t some_type(int which)
 {
     int of = which == CHILD && below(2) != 0 ? CHILD : PARENT;
@@ -108,7 +108,7 @@ static void compare(ctf_file_t *wanted, ctf_file_t *seen, ctf_id_t t)
         ctf_type_compat(seen, t, wanted, t));
 }
 
-/* A copy of the bytes of one in the making, opened; NULL where it can't be written. */
+/* Opens a copy of a dictionary's bytes; NULL if it cannot be written. */
 static ctf_file_t *reopened(int which, char **copy)
 {
     const void *data = NULL;
@@ -186,8 +186,8 @@ static ctf_id_t add_type(int which)
     }
 }
 
-/* Members lead to older types, or through pointers. A child's may be of the parent's types, whose
- * sizes change later. */
+/* Members are of older types, or of pointers. Members in a child may be of the parent's types,
+ * whose sizes change later. */
 static void add_item(int which)
 {
     ctf_file_t *to = made[which];

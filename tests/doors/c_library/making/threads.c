@@ -1,4 +1,4 @@
-/* threads - eight threads, each with dictionaries of its own in the making. */
+/* threads - eight threads, each with its own dictionaries in the making. */
 #include "ctfd_libctf.h"
 
 #include <limits.h>

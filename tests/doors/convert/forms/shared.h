@@ -1,4 +1,4 @@
-/* What both units of the program have in common. */
+/* Shared by both units of the program. */
 #include <stddef.h>
 typedef unsigned int u32;
 typedef unsigned char byte;

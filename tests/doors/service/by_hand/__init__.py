@@ -1,4 +1,4 @@
-"""Tests of a built ctfd on dictionaries that are put together by hand.
+"""Tests of a built ctfd with dictionaries that are built by hand.
 
-They are judged, opened and asked as any other.
+They are checked, opened and asked like any other.
 """

@@ -1,4 +1,4 @@
-"""A service that is asked line by line, and what it answers of dictionaries."""
+"""A service that is asked line by line, and helpers to hand dictionaries in."""
 from __future__ import annotations
 
 import json
@@ -9,26 +9,26 @@ from typing import Any, NamedTuple, Optional, Union
 
 from .dictionaries import Dictionary
 
-# How many bytes of a list one line hands in.
+# The number of bytes of a list that one line hands in.
 PIECE_BYTES = 262_144
 
 
 class Fault(NamedTuple):
-    """A refusal: its name, and the place that it names."""
+    """A refusal: the fault's name and place."""
 
     name: str
     place: int = 0
 
 
 class Service:
-    """`ctfd serve`, and one session of it."""
+    """A `ctfd serve`, and one session of it."""
 
     def __init__(self) -> None:
         self.process = subprocess.Popen([os.environ["CTFD"], "serve"], stdin=subprocess.PIPE,
                                         stdout=subprocess.PIPE)
 
     def ask(self, op: str, **fields: Any) -> Union[dict[str, Any], Fault]:
-        """What is answered to one line: the answer, or the fault."""
+        """The answer to one line, or the fault."""
         assert self.process.stdin and self.process.stdout
         line = json.dumps({"s": 1, "op": op, **fields}) + "\n"
         self.process.stdin.write(line.encode())
@@ -40,7 +40,7 @@ class Service:
         return answer
 
     def stage(self, ctf: bytes, sym: Optional[bytes] = None, strs: Optional[bytes] = None) -> None:
-        """Hands in lists, in place of those that are staged."""
+        """Stages lists, in place of those staged before."""
         self.ask("clear")
         for section, data in (("ctf", ctf), ("sym", sym), ("str", strs)):
             if data is not None:
@@ -56,7 +56,7 @@ class Service:
 
 
 class OverService(unittest.TestCase):
-    """Tests that ask a service of their own."""
+    """Tests with a service of their own."""
 
     def setUp(self) -> None:
         self.service = Service()
@@ -65,18 +65,18 @@ class OverService(unittest.TestCase):
     def ask(self, op: str, **fields: Any) -> Union[dict[str, Any], Fault]:
         return self.service.ask(op, **fields)
 
-    def judged(self, dictionary: Union[Dictionary, bytes], sym: Optional[bytes] = None,
-               strs: Optional[bytes] = None) -> Optional[Fault]:
-        """The rule that lists break first; None where they break none."""
+    def first_fault(self, dictionary: Union[Dictionary, bytes], sym: Optional[bytes] = None,
+                    strs: Optional[bytes] = None) -> Optional[Fault]:
+        """The first rule that the lists break, or None."""
         ctf = dictionary.bytes() if isinstance(dictionary, Dictionary) else dictionary
         self.service.stage(ctf, sym, strs)
         answer = self.ask("check")
         return answer if isinstance(answer, Fault) else None
 
-    def opened(self, dictionary: Union[Dictionary, bytes], sym: Optional[bytes] = None,
-               strs: Optional[bytes] = None) -> int:
-        """The number of the slot of lists that break no rule."""
-        self.assertIsNone(self.judged(dictionary, sym, strs))
+    def open_lists(self, dictionary: Union[Dictionary, bytes], sym: Optional[bytes] = None,
+                   strs: Optional[bytes] = None) -> int:
+        """Opens lists that break no rule. Returns the number of the slot."""
+        self.assertIsNone(self.first_fault(dictionary, sym, strs))
         answer = self.ask("open")
         assert isinstance(answer, dict)
         number: int = answer["d"]

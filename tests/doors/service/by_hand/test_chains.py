@@ -1,4 +1,4 @@
-"""How long a chain of types may be, and types that lead back to themselves."""
+"""The longest allowed chain of types, and types that form cycles."""
 from __future__ import annotations
 
 import struct
@@ -13,7 +13,7 @@ BY_VALUE, BY_DECLARATOR = "ValueDeep", "DeclDeep"
 
 @dataclass(frozen=True)
 class Step:
-    """How a record leads to a type, and the fault of a chain of too many such steps."""
+    """A way in which a record refers to a type, and the fault of a chain of too many such steps."""
 
     fault: str
     to: Callable[[int], bytes]
@@ -35,7 +35,8 @@ QUALIFIERS = tuple(
 
 
 def line(step: Step, count: int, base: int = 0) -> bytes:
-    """An integer, and types that each lead to the one in front: the last leads `count` steps on."""
+    """An integer, and types that each refer to the previous one; from the last there are `count`
+    steps."""
     return INTEGER + b"".join(step.to(base + i + 1) for i in range(count))
 
 
@@ -43,7 +44,7 @@ class Chains(OverService):
     """A chain has at most 512 steps."""
 
     def fault_in(self, types: bytes) -> Fault | None:
-        return self.judged(Dictionary(types))
+        return self.first_fault(Dictionary(types))
 
     def test_lines_that_lead_back(self) -> None:
         for step in STEPS:
@@ -52,7 +53,7 @@ class Chains(OverService):
                 self.assertEqual(self.fault_in(line(step, count)), Fault(step.fault, 514))
 
     def test_lines_that_lead_onwards(self) -> None:
-        """The chain begins at its first record, behind an integer that is not in it."""
+        """The chain begins at its first record, after an integer that is not in it."""
         for step in STEPS:
             for count, wanted in ((512, None), (513, Fault(step.fault, 2)),
                                   (600, Fault(step.fault, 2))):
@@ -60,22 +61,22 @@ class Chains(OverService):
                 self.assertEqual(self.fault_in(types), wanted)
 
     def test_lines_of_children(self) -> None:
-        """Its own types count from 0x8001, and chains lead to no type of its parent."""
+        """A child's own types count from 0x8001; chains do not include types of its parent."""
         for step in STEPS:
             for base, count, wanted in ((0x8000, 512, None), (0x8000, 513, Fault(step.fault, 514)),
                                         (0, 600, None)):
                 child = Dictionary(line(step, count, base), b"\0p\0", parname=1)
-                self.assertEqual(self.judged(child), wanted)
+                self.assertEqual(self.first_fault(child), wanted)
 
     def test_a_wide_struct(self) -> None:
-        """Behind a line a struct of 1023 members: all lead to its end, or only the last."""
+        """A struct of 1023 members after a line: all refer to its end, or only the last one."""
         for others in (1, 0x1FF, 0x200):
             for count, wanted in ((511, None), (512, Fault(BY_VALUE, 514))):
                 struct_ = head(Kind.STRUCT, 4, 1023) + 1022 * member(others) + member(count + 1)
                 self.assertEqual(self.fault_in(line(MEMBER, count) + struct_), wanted)
 
     def test_fans(self) -> None:
-        """Many pointers to the end of a line, and each level a struct of sixteen members."""
+        """Many pointers to the end of a line; and levels of structs with sixteen members."""
         for count, wanted in ((511, None), (512, Fault(BY_DECLARATOR, 514))):
             types = line(POINTER, count) + 1000 * POINTER.to(count + 1)
             self.assertEqual(self.fault_in(types), wanted)
@@ -84,7 +85,7 @@ class Chains(OverService):
             self.assertEqual(self.fault_in(line(sixteen, count)), wanted)
 
     def test_other_steps_do_not_count(self) -> None:
-        """An argument and the index of an array are no steps, and a pointer is none by value."""
+        """Arguments and the index of an array are no steps, and a pointer is none by value."""
         types = line(POINTER, 512) + head(Kind.FUNCTION, 0, 2) + struct.pack("<HH", 0x201, 0x201)
         types += head(Kind.ARRAY) + struct.pack("<HHI", 0, 0x201, 1) + MEMBER.to(0x201)
         self.assertIsNone(self.fault_in(types))
@@ -100,19 +101,19 @@ class Chains(OverService):
 
 
 class Cycles(OverService):
-    """Types that lead back to themselves have chains without end."""
+    """Types that form a cycle have endless chains."""
 
     def test_cycles(self) -> None:
-        """Behind an integer, each type leads to the next and the last to the first."""
+        """After an integer, each type refers to the next, and the last to the first."""
         for step in (POINTER, RETURNED, TYPEDEF, *QUALIFIERS):
             for count in (1, 2, 3, 511, 512, 513, 514):
                 types = INTEGER + b"".join(step.to(i + 2) for i in range(1, count)) + step.to(2)
-                self.assertEqual(self.judged(Dictionary(types)), Fault(step.fault, 2))
+                self.assertEqual(self.first_fault(Dictionary(types)), Fault(step.fault, 2))
 
     def test_a_cycle_of_structs(self) -> None:
-        """Only the last of the members of the last of many structs leads back."""
+        """Of many structs, only the last member of the last one leads back."""
         lead_on = b"".join(
             head(Kind.STRUCT, 4, 3) + member(1) + member(1) + member(i + 3) for i in range(100))
         for back, wanted in ((1, None), (3, Fault(BY_VALUE, 2))):
             types = INTEGER + lead_on + head(Kind.STRUCT, 4, 2) + member(1) + member(back)
-            self.assertEqual(self.judged(Dictionary(types)), wanted)
+            self.assertEqual(self.first_fault(Dictionary(types)), wanted)

@@ -1,4 +1,5 @@
-"""Which types of its parent a child needs: the greatest number that it names, told by an import."""
+"""The types of its parent that a child needs: the greatest number that it refers to, found by an
+import."""
 from __future__ import annotations
 
 from typing import Optional
@@ -6,7 +7,7 @@ from typing import Optional
 from .dictionaries import NAMES, PROGRAM, Dictionary, Kind, head, of_program
 from .service import Fault, OverService
 
-# A child's records, and the type that they need.
+# A child's records, and the number of the parent's type that they need.
 ROWS = (
     ("", 0),
     # a pointer to nothing; to the last number of a parent
@@ -27,15 +28,15 @@ ROWS = (
 
 
 class Needs(OverService):
-    """Over an empty parent, an import is refused at the type that is needed."""
+    """With an empty parent, an import is refused at the type that is needed."""
 
     def setUp(self) -> None:
         super().setUp()
-        self.parent = self.opened(Dictionary())
+        self.parent = self.open_lists(Dictionary())
 
-    def needed(self, child: Dictionary, sym: Optional[bytes] = None,
-               strs: Optional[bytes] = None) -> int:
-        answer = self.ask("import", d=self.opened(child, sym, strs), parent=self.parent)
+    def needs(self, child: Dictionary, sym: Optional[bytes] = None,
+              strs: Optional[bytes] = None) -> int:
+        answer = self.ask("import", d=self.open_lists(child, sym, strs), parent=self.parent)
         if isinstance(answer, Fault):
             self.assertEqual(answer.name, "ParentShort")
             return answer.place
@@ -44,16 +45,16 @@ class Needs(OverService):
     def test_records(self) -> None:
         for types, wanted in ROWS:
             child = Dictionary(bytes.fromhex(types), b"\0p\0", parname=1)
-            self.assertEqual(self.needed(child), wanted, types)
+            self.assertEqual(self.needs(child), wanted, types)
 
     def test_the_greatest(self) -> None:
         pointers = [head(Kind.POINTER, to) for to in (0x8002, 3, 0x12, 0, 0x11, 0x8001)]
         child = Dictionary(b"".join(pointers), b"\0p\0", parname=1)
-        self.assertEqual(self.needed(child), 0x12)
+        self.assertEqual(self.needs(child), 0x12)
         types = head(Kind.UNKNOWN) + b"".join(head(Kind.POINTER, to) for to in (1, 2, 0, 1))
-        self.assertEqual(self.needed(Dictionary(types, b"\0p\0", parname=1)), 2)
-        # the same numbers name its own types where the dictionary is no child
-        own = self.opened(Dictionary(types, b"\0p\0"))
+        self.assertEqual(self.needs(Dictionary(types, b"\0p\0", parname=1)), 2)
+        # the same numbers are its own types if the dictionary is not a child
+        own = self.open_lists(Dictionary(types, b"\0p\0"))
         self.assertEqual(self.ask("import", d=own, parent=self.parent), Fault("NotChild"))
 
     def test_symbols(self) -> None:
@@ -62,6 +63,6 @@ class Needs(OverService):
                 (b"\x09\0", b"\x01\x28\x0a\0\x03\0", 10),
                 (b"\x09\0", b"\x02\x28\x01\0\x0b\0\0\0\xff\xff", 11)):
             child = of_program(objects, functions, parname=1)
-            self.assertEqual(self.needed(child, PROGRAM, NAMES), wanted)
+            self.assertEqual(self.needs(child, PROGRAM, NAMES), wanted)
             # without its symbols it needs none
-            self.assertEqual(self.needed(child, None, NAMES), 0)
+            self.assertEqual(self.needs(child, None, NAMES), 0)

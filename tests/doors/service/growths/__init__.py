@@ -1,1 +1,1 @@
-"""Memory that is refused: each call of a service for it, in turn."""
+"""Refuses memory to a service, at each of its requests for it in turn."""

@@ -1,4 +1,4 @@
-"""The library that refuses memory to a service."""
+"""Compiles the library that refuses memory to a service."""
 from __future__ import annotations
 
 import shutil
@@ -10,7 +10,7 @@ import pytest
 
 @pytest.fixture(scope="session")
 def refusing(tmp_path_factory: pytest.TempPathFactory) -> str:
-    """refuse.c, compiled, to be preloaded."""
+    """The compiled refuse.c, to be preloaded."""
     if not shutil.which("cc"):
         pytest.skip("no C compiler here")
     made = tmp_path_factory.mktemp("growths") / "refuse.so"

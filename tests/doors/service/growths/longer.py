@@ -1,4 +1,4 @@
-"""Two longer runs, each of all words of the protocol."""
+"""Two longer runs, each with all words of the protocol."""
 from __future__ import annotations
 
 import json
@@ -14,7 +14,7 @@ SLOT_WORDS = ("labels", "info", "model")
 
 
 def hand_in(session: int, name: str, piece: int = 1 << 18) -> Iterator[bytes]:
-    """A program of the examples: its lists by pieces, judged, and opened."""
+    """Hands in a program of the examples in pieces, checks it, and opens it."""
     for section in ("ctf", "sym", "str"):
         whole = Path(TOP, "examples", f"{name}.{section}").read_bytes()
         for at in range(0, len(whole), piece):
@@ -24,7 +24,7 @@ def hand_in(session: int, name: str, piece: int = 1 << 18) -> Iterator[bytes]:
 
 
 def ask_of_type(session: int, d: int, t: int) -> Iterator[bytes]:
-    """Every question on a type."""
+    """Every question about a type."""
     for word in TYPE_WORDS:
         yield ask(session, word, d=d, t=t)
     yield ask(session, "path", d=d, t=t, names=["x"])
@@ -34,7 +34,7 @@ def ask_of_type(session: int, d: int, t: int) -> Iterator[bytes]:
 def ask_of_slot(
     session: int, d: int, text: str, symbol: str = "none", data: int = 0, code: int = 0
 ) -> Iterator[bytes]:
-    """Every question on a slot as a whole, and on what it holds."""
+    """Every question about a slot as a whole, and about its content."""
     for word in SLOT_WORDS:
         yield ask(session, word, d=d)
     yield ask(session, "find", d=d, text=text)
@@ -46,7 +46,7 @@ def ask_of_slot(
 
 
 def add_types(session: int, d: int, base: int) -> Iterator[bytes]:
-    """One addition of each sort; the first type gets a number one above `base`."""
+    """One addition of each sort; the first type has the number `base` + 1."""
 
     def add(what: str, **fields: object) -> bytes:
         return ask(session, "add", d=d, what=what, **fields)
@@ -73,7 +73,7 @@ def add_types(session: int, d: int, base: int) -> Iterator[bytes]:
 
 
 def a_real_program() -> Iterator[bytes]:
-    """One session asks of all of a program's types, and makes a dictionary over it."""
+    """One session asks about all of a program's types, and makes a dictionary over it."""
     yield from hand_in(1, "lua", 4096)
     for t in range(1, 527, 25):
         yield from ask_of_type(1, 1, t)
@@ -100,7 +100,7 @@ def a_real_program() -> Iterator[bytes]:
 
 
 def make_parent(session: int) -> Iterator[bytes]:
-    """A draft that is updated twice, and published between."""
+    """A draft that is updated twice, and published in between."""
     yield ask(session, "create", model="ilp32")
     yield from add_types(session, 1, 0)
     yield ask(session, "update", d=1)
@@ -113,7 +113,7 @@ def make_parent(session: int) -> Iterator[bytes]:
 
 
 def stand_over(session: int, owner: int) -> Iterator[bytes]:
-    """A session takes a parent, makes a child over it, takes that too, and imports the one."""
+    """A session takes a parent, makes a child over it, takes that too, and imports it."""
     yield ask(session, "take", owner=owner, name="base")
     yield ask(session, "create", parent=1, parname="base", model="ilp32")
     yield from add_types(session, 2, 0x8000)
@@ -129,7 +129,8 @@ def stand_over(session: int, owner: int) -> Iterator[bytes]:
 
 
 def many_sessions() -> Iterator[bytes]:
-    """Sessions that meet: one makes the parent that two others stand over, line by line in turn."""
+    """Sessions that meet: one makes the parent that two others use, with their lines
+    alternating."""
     yield from make_parent(1)
     for one, other in zip(stand_over(2, 1), stand_over(3, 1)):
         yield one
@@ -150,14 +151,14 @@ def many_sessions() -> Iterator[bytes]:
 
 
 def words() -> list[str]:
-    """The words of the protocol, from the table of docs/PROTOCOL.md."""
+    """The words of the protocol, from the table in docs/PROTOCOL.md."""
     text = Path(TOP, "docs", "PROTOCOL.md").read_text(encoding="utf-8")
     table = text.split("\n## The words at a glance\n")[1].split("\n## ")[0]
     return re.findall(r"^\| \[`([a-z]+)`\]\(#\1\) \|", table, re.MULTILINE)
 
 
 def longer_runs() -> Iterator[Run]:
-    """The two, each of which has every word."""
+    """The two runs, after a check that each has every word."""
     for run in (a_real_program, many_sessions):
         lines = tuple(run())
         missing = set(words()) - {json.loads(line)["op"] for line in lines}

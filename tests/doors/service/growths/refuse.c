@@ -1,12 +1,12 @@
 /* Refuses memory: a library that is preloaded into ctfd, for tests/doors/service/growths.
  *
- * The calls that ask for memory are counted from 1, from the first read of standard input on, or
- * from the program's start on where REFUSE_AT_START is not 0. Those from the number REFUSE_FROM on,
- * REFUSE_COUNT of them, are answered as where there is none. At the end a line on standard error
- * tells how many there were and how many were refused.
+ * Counts the calls that allocate memory, from 1, after the first read of standard input, or from
+ * the program's start if REFUSE_AT_START is not 0. REFUSE_COUNT calls, from number REFUSE_FROM on,
+ * fail as if there were no memory. At exit, prints on standard error how many calls there were and
+ * how many were refused.
  *
- * The calls of glibc below have no other names that a preloaded library could use before it can
- * look any up.
+ * The functions of glibc below are called by their internal names, since a preloaded library cannot
+ * look up the others before it allocates memory.
  */
 #include <errno.h>
 #include <stddef.h>
@@ -23,7 +23,7 @@ void *__libc_memalign(size_t alignment, size_t size);
 static int counts;
 static unsigned long first, many, asked, refused;
 
-/* Counts a call, and says whether it is refused. */
+/* Counts a call, and returns whether it is refused. */
 static int is_refused(void)
 {
     if (!counts)

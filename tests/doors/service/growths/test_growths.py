@@ -1,18 +1,18 @@
-"""Running out of memory changes nothing else: each call of a built ctfd for memory is refused.
+"""Running out of memory changes nothing else: each request of a built ctfd for memory is refused.
 
-The program is what `make` or `rt run` built; one of `rt try` has an allocator of its own.
-The runs are those of crates/test_service/data and examples/*.jsonl, and two longer ones of all
-words; behind each stand questions on what it leaves. At each call for memory in turn, from the
-first read of standard input on, that call is refused, and in another run that one and the 39
-behind it. Wanted is
+The program must be built by `make` or `rt run`; one of `rt try` has its own allocator. The runs are
+those of crates/test_service/data and examples/*.jsonl, and two longer ones with all words; each is
+followed by questions about the state that it leaves. Each request for memory in turn, from the
+first read of standard input on, is refused, and in another run this one and the next 39. Then
 
-- that the program ends with status 0, and has one reply for each line;
-- that all replies but those of Memory are those that the other lines have in a run of their own,
-  in which nothing is refused, and that no line of such a run is answered Memory;
-- that Memory stands in session 0 or in the line's own;
-- that what takes no memory once its line is read is not answered Memory then.
+- the program ends with status 0, and has one reply for each line;
+- all replies except those with Memory are those that the other lines have in a run of their own,
+  in which nothing is refused, and no line of such a run has the reply Memory;
+- Memory is for session 0 or for the line's own;
+- lines that need no memory after they are read do not get the reply Memory then.
 
-Of a long run only each k-th call is taken, for a k that goes by their number; --whole takes all.
+For a long run only each k-th request is tried, with a k that depends on their number; --whole tries
+all.
 """
 from __future__ import annotations
 
@@ -26,17 +26,19 @@ from typing import Any, Iterator, Sequence
 
 import pytest
 
-from ..runs import Ended, Run, ask, examples, joined, serve, transcripts
+from ..runs import RunOutcome, Run, ask, examples, stream_of, serve, transcripts
 from .longer import longer_runs
 
-# How many calls are refused in a row, and at how many calls of a run at most, without --whole.
+# The numbers of consecutive refusals, and the greatest number of tried requests of a run, without
+# --whole.
 ROWS = (1, 40)
 SHARE = 150
 WHOLE = {"from": 0, "count": 1_048_576}
 STRANGER = 4_294_967_295
 MEMORY = b'{"fault":{"code":0,"name":"Memory","place":0},"s":'
 TOLD = re.compile(r"refuse: ([0-9]+) asked, ([0-9]+) refused\n")
-# Words that take no memory once their line is read, the latter in a session that holds something.
+# Words that need no memory after their line is read; those of GIVING_BACK only in a session that
+# holds something.
 QUIET = {"kind", "array", "encoding", "reference", "resolve", "size", "align", "pointer", "find"}
 GIVING_BACK = {"clear", "close", "reset", "withdraw", "discard"}
 GETTING = {"part", "open", "create", "take"}
@@ -45,12 +47,12 @@ Lines = Sequence[bytes]
 
 
 class Wrong(Exception):
-    """What is wrong with the answers to a run."""
+    """An error in the replies to a run."""
 
 
 @dataclass(frozen=True)
-class Served:
-    """What a run was answered, and how many calls for memory there were and were refused."""
+class Replies:
+    """The replies to a run, and the numbers of requests for memory and of refusals."""
 
     replies: Lines
     asked: int
@@ -59,30 +61,30 @@ class Served:
 
 @dataclass(frozen=True)
 class Service:
-    """The program, with the library that refuses it memory."""
+    """The program, with the library that refuses memory."""
 
     program: str
     library: str
 
-    def run(self, lines: Lines, first: int = 0, many: int = 0) -> Served:
-        """What lines are answered where so many calls are refused from the first on, or none."""
+    def run(self, lines: Lines, first: int = 0, many: int = 0) -> Replies:
+        """The replies to lines if `many` requests for memory are refused from number `first` on."""
         words = {"LD_PRELOAD": self.library, "REFUSE_FROM": str(first), "REFUSE_COUNT": str(many)}
-        return served(len(lines), serve(self.program, joined(lines), words))
+        return replies_of(len(lines), serve(self.program, stream_of(lines), words))
 
 
-def served(lines: int, ended: Ended) -> Served:
-    """What stands in the output of a run over so many lines, if it ended well."""
+def replies_of(lines: int, ended: RunOutcome) -> Replies:
+    """The replies in the output of a run of `lines` lines. Raises Wrong if it did not end well."""
     told = TOLD.fullmatch(ended.err)
     if ended.status != 0 or not told:
         raise Wrong(f"status {ended.status}, and {ended.err!r} on standard error")
     *replies, rest = ended.out.split(b"\n")
     if len(replies) != lines or rest:
         raise Wrong(f"{len(replies)} replies to {lines} lines, and then {rest!r}")
-    return Served(replies, int(told[1]), int(told[2]))
+    return Replies(replies, int(told[1]), int(told[2]))
 
 
-def said(line: bytes) -> dict[str, Any]:
-    """What a line says, or nothing where it is no object."""
+def reply_in(line: bytes) -> dict[str, Any]:
+    """The content of a line; empty if it is no object."""
     try:
         value = json.loads(line)
     except ValueError:
@@ -91,10 +93,10 @@ def said(line: bytes) -> dict[str, Any]:
 
 
 def questions_afterwards(lines: Lines, replies: Lines) -> Iterator[bytes]:
-    """What tells of the state that a run leaves: of each stage, slot, draft and publication."""
+    """Questions about the state that a run leaves: each stage, slot, draft and publication."""
     slots, published = set(), set()
     for line, reply in zip(lines, replies):
-        request, answer = said(line), said(reply).get("ok")
+        request, answer = reply_in(line), reply_in(reply).get("ok")
         if answer and "d" in answer:
             slots.add((request["s"], answer["d"]))
         if request.get("op") == "publish" and answer is not None:
@@ -112,7 +114,7 @@ def questions_afterwards(lines: Lines, replies: Lines) -> Iterator[bytes]:
 
 
 def apart(reply: bytes, wanted: bytes) -> str:
-    """Where a reply differs from the one that is wanted."""
+    """The difference between a reply and the expected one."""
     at = next((at for at, two in enumerate(zip(reply, wanted)) if two[0] != two[1]), 0)
     here = slice(max(at - 20, 0), at + 60)
     return f"{reply[here]!r}; without them {wanted[here]!r}, from byte {here.start} on"
@@ -123,14 +125,14 @@ def is_memory(reply: bytes) -> bool:
 
 
 def surely_holds(session: int, lines: Lines, replies: Lines) -> bool:
-    """Whether a session that was answered so has got something, and given back nothing since.
+    """Whether a session with these replies has got something, and given back nothing since.
 
-    A part without bytes leaves a session as it was, which may be as a new one: that holds nothing.
+    A part without bytes leaves a session unchanged, which may be a new one that holds nothing.
     """
     for line, reply in zip(reversed(lines), reversed(replies)):
-        request = said(line)
+        request = reply_in(line)
         word = request.get("op")
-        if request.get("s") != session or "ok" not in said(reply) or request.get("bytes") == "":
+        if request.get("s") != session or "ok" not in reply_in(reply) or request.get("bytes") == "":
             continue
         if word in GETTING | GIVING_BACK:
             return word in GETTING
@@ -138,21 +140,21 @@ def surely_holds(session: int, lines: Lines, replies: Lines) -> bool:
 
 
 class Trial:
-    """A run with the questions behind it, and what it is answered where lines are left out."""
+    """A run followed by questions, and its replies if lines are left out."""
 
     def __init__(self, service: Service, run: Run) -> None:
         replies = service.run(run.lines).replies
         self.service = service
         self.lines = [*run.lines, *questions_afterwards(run.lines, replies)]
-        self.known: dict[tuple[int, ...], Served] = {}
+        self.known: dict[tuple[int, ...], Replies] = {}
         self.calls = self.without(()).asked
 
     def others(self, gone: tuple[int, ...]) -> list[int]:
         """The numbers of the lines that are not left out."""
         return sorted(set(range(len(self.lines))) - set(gone))
 
-    def without(self, gone: tuple[int, ...]) -> Served:
-        """What is answered where some lines are left out and no memory is refused."""
+    def without(self, gone: tuple[int, ...]) -> Replies:
+        """The replies if some lines are left out and no memory is refused."""
         if gone not in self.known:
             kept = [self.lines[number] for number in self.others(gone)]
             self.known[gone] = self.service.run(kept)
@@ -161,7 +163,8 @@ class Trial:
         return self.known[gone]
 
     def refuse(self, first: int, many: int) -> int:
-        """Refuses some calls, and answers how many lines were answered Memory."""
+        """Refuses some requests for memory, and returns the number of lines with the reply
+        Memory."""
         served = self.service.run(self.lines, first, many)
         if served.refused == 0:
             raise Wrong(f"{served.asked} calls, and none refused")
@@ -175,8 +178,9 @@ class Trial:
         return len(gone)
 
     def judge_memory(self, number: int, replies: Lines) -> None:
-        """Refuses Memory in a session that is not the line's, or where none is taken."""
-        request, session = said(self.lines[number]), said(replies[number])["s"]
+        """Raises Wrong for Memory in a session that is not the line's, or for a line that needs
+        none."""
+        request, session = reply_in(self.lines[number]), reply_in(replies[number])["s"]
         if session not in (0, request.get("s")):
             raise Wrong(f"Memory in session {session}, for {self.shortly(number)}")
         word, before = request.get("op"), (self.lines[:number], replies[:number])
@@ -184,14 +188,14 @@ class Trial:
             raise Wrong(f"Memory, where none is taken, for {self.shortly(number)}")
 
     def shortly(self, number: int) -> str:
-        """A line as it stands in a message."""
+        """The beginning of a line, for a message."""
         return repr(self.lines[number][:80])
 
 
 def stride(calls: int, share: int) -> int:
-    """The least k, 1 or a prime, for which each k-th of so many calls is at most a share of them.
+    """The least k, 1 or a prime, for which each k-th request is at most `share` requests.
 
-    A prime falls on other calls of each line, where lines have as many.
+    A prime hits different requests of each line, if lines have equal numbers of them.
     """
     k = 1
     while calls > share * k or any(k % factor == 0 for factor in range(2, k)):
@@ -201,7 +205,7 @@ def stride(calls: int, share: int) -> int:
 
 @dataclass(frozen=True)
 class Counts:
-    """How much was tried, and what was wrong."""
+    """The numbers of requests and trials, and the errors."""
 
     calls: int
     tried: int
@@ -209,8 +213,8 @@ class Counts:
     wrong: Sequence[str]
 
 
-def tried(service: Service, run: Run, share: int) -> Counts:
-    """Refuses the calls of a run in turn, as far as its share goes."""
+def try_calls(service: Service, run: Run, share: int) -> Counts:
+    """Refuses a run's requests for memory in turn, as many as its share allows."""
     try:
         trial = Trial(service, run)
     except Wrong as why:
@@ -230,14 +234,14 @@ RUNS = [*transcripts(), *examples(), *longer_runs()]
 
 
 def try_numbered(service: Service, number: int, share: int) -> Counts:
-    """Tries the run of a number."""
-    return tried(service, RUNS[number], share)
+    """Tries the run with this number."""
+    return try_calls(service, RUNS[number], share)
 
 
 @pytest.fixture(scope="module")
 def counts(request: pytest.FixtureRequest, program: str, refusing: str,
            whole: bool) -> Iterator[dict[int, AsyncResult[Counts]]]:
-    """What trying the runs that are wanted gives, by number: two at a time, the longest first."""
+    """The results of the selected runs, by number: two at a time, the longest first."""
     service = Service(program, refusing)
     assert service.run(RUNS[0].lines).asked, "it asks the C library for no memory: by `rt try`?"
     wanted = {item.callspec.params["number"] for item in request.session.items

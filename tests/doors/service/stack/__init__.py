@@ -1,1 +1,1 @@
-"""As little stack as docs/LIMITS.md says is enough."""
+"""Tests the stack size that docs/LIMITS.md says is enough."""

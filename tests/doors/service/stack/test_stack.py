@@ -1,12 +1,12 @@
-"""Asks what goes deepest with as little stack as docs/LIMITS.md says is enough.
+"""Runs the deepest requests with the stack size that docs/LIMITS.md says is enough.
 
-Each case is a dictionary or a draft as deep as the format's rules let it be, and one layer deeper,
-which is refused; a child as deep as its parent; or a line of brackets. A service answers its lines
-under `ulimit -s` of the KiB that are enough as it does without. Where there is a C compiler and an
-archive of the library, a thread with a stack of as much (thread.c) answers them too.
+Each case is a dictionary or a draft of the greatest depth that the rules allow, and one layer
+deeper, which is refused; a child as deep as its parent; or a line of brackets. With that limit
+(`ulimit -s`), a service gives the same replies as without. If there are a C compiler and an archive
+of the library, a thread with a stack of that size (thread.c) answers the lines too.
 
-`PYTHONPATH=tests python3 -m doors.service.stack.test_stack PROGRAM` tells the least stack that each
-case works with, in steps of 4 KiB.
+`PYTHONPATH=tests python3 -m doors.service.stack.test_stack PROGRAM` prints the least stack with
+which each case works, in steps of 4 KiB.
 """
 from __future__ import annotations
 
@@ -25,9 +25,9 @@ import pytest
 
 from parts import TOP, library
 
-from ..runs import ask, joined
+from ..runs import ask, stream_of
 
-# What docs/LIMITS.md and clients/c/ctfd.h say that is enough, in KiB.
+# The size in KiB that is enough according to docs/LIMITS.md and clients/c/ctfd.h.
 ENOUGH = 256
 STEP, MOST = 4, 8192
 LAYERS = 512
@@ -53,20 +53,20 @@ def of_types(body: bytes, parname: int, strings: bytes) -> bytes:
 
 
 def dictionary(types: Iterable[bytes]) -> bytes:
-    """An integer, and types behind it."""
+    """An integer, followed by types."""
     return of_types(record(INTEGER, 0, 4, INT) + b"".join(types), 0, b"\0")
 
 
 def child(types: Iterable[bytes]) -> bytes:
-    """A dictionary over another one."""
+    """A child."""
     return of_types(b"".join(types), 1, b"\0parent\0")
 
 
-# ---- types over the one of a number
+# ---- types that refer to another one by number
 
 
 def aggregate(kind: int, count: int) -> Callable[[int], bytes]:
-    """A struct or union whose last member is the one that goes on."""
+    """A struct or union whose last member continues the chain."""
     first = struct.pack("<IHH", 0, 1, 0) * (count - 1)
     return lambda t: record(kind, count, 4, first + struct.pack("<IHH", 0, t, 0))
 
@@ -76,16 +76,16 @@ def array(t: int) -> bytes:
 
 
 def function(t: int) -> bytes:
-    """A function that takes and returns what it stands over."""
+    """A function that takes and returns the type below it."""
     return record(FUNCTION, 2, t, struct.pack("<HH", t, 0))
 
 
 def taking(t: int) -> bytes:
-    """A function that takes it and returns an integer."""
+    """A function that takes the type below it and returns an integer."""
     return record(FUNCTION, 2, 1, struct.pack("<HH", t, 0))
 
 
-def plain(kind: int) -> Callable[[int], bytes]:
+def plain_type(kind: int) -> Callable[[int], bytes]:
     return lambda t: record(kind, 0, t)
 
 
@@ -98,16 +98,16 @@ VALUES = {
     "structs of two members": turns(aggregate(STRUCT, 2)),
     "unions": turns(aggregate(UNION, 2)),
     "arrays": turns(array),
-    "typedefs": turns(plain(TYPEDEF)),
-    "constants": turns(plain(CONST)),
-    "structs of arrays of typedefs": turns(aggregate(STRUCT, 2), array, plain(TYPEDEF)),
+    "typedefs": turns(plain_type(TYPEDEF)),
+    "constants": turns(plain_type(CONST)),
+    "structs of arrays of typedefs": turns(aggregate(STRUCT, 2), array, plain_type(TYPEDEF)),
 }
 DECLARATIONS = {
-    "pointers": turns(plain(POINTER)),
-    "pointers to arrays": turns(array, plain(POINTER)),
-    "pointers to constants": turns(plain(CONST), plain(POINTER)),
-    "functions that return pointers to functions": turns(function, plain(POINTER)),
-    "functions that take pointers to functions": turns(taking, plain(POINTER)),
+    "pointers": turns(plain_type(POINTER)),
+    "pointers to arrays": turns(array, plain_type(POINTER)),
+    "pointers to constants": turns(plain_type(CONST), plain_type(POINTER)),
+    "functions that return pointers to functions": turns(function, plain_type(POINTER)),
+    "functions that take pointers to functions": turns(taking, plain_type(POINTER)),
 }
 
 
@@ -119,35 +119,35 @@ def chain(over: Callable[[int, int], bytes], layers: int) -> bytes:
     return dictionary(over(i, 1 + i) for i in range(layers))
 
 
-def asked(layers: int, **words: dict[str, object]) -> list[bytes]:
-    """Words that go down a type, asked of some of them, of the top too."""
+def word_requests(layers: int, **words: dict[str, object]) -> list[bytes]:
+    """Requests that descend into a type, for several types, the top one included."""
     return [ask(1, word, d=1, t=t, **fields)
             for t in (layers + 1, layers, layers // 2) for word, fields in words.items()]
 
 
-def shown(layers: int) -> list[bytes]:
-    return asked(layers, show={"bytes": "0000000000000000", "offset": 0})
+def show_requests(layers: int) -> list[bytes]:
+    return word_requests(layers, show={"bytes": "0000000000000000", "offset": 0})
 
 
 def questions(layers: int) -> list[bytes]:
-    return asked(layers, name={}, size={}, align={}, resolve={}, pointer={},
-                 path={"names": [""] * layers})
+    return word_requests(layers, name={}, size={}, align={}, resolve={}, pointer={},
+                         path={"names": [""] * layers})
 
 
 def deep_types() -> Iterable[Case]:
-    """Types as deep as they may be, and one layer deeper, which is refused."""
+    """Types of the greatest allowed depth, and one layer deeper, which is refused."""
     for name, over in {**VALUES, **DECLARATIONS}.items():
         for layers in (LAYERS, LAYERS + 1):
             opened = handed_in(chain(over, layers))
             yield Case(f"{layers} {name}", opened + questions(layers))
-            yield Case(f"{layers} {name}, shown", opened + shown(layers))
+            yield Case(f"{layers} {name}, shown", opened + show_requests(layers))
     yield Case("32,000 structs in each other", handed_in(chain(VALUES["structs"], 32_000)))
     yield Case("32,000 pointers", handed_in(chain(DECLARATIONS["pointers"], 32_000)))
 
 
 def deep_drafts() -> Iterable[Case]:
-    """Structs in each other, a member at the bottom, one on top, and an update. They are put into
-    each other from the bottom, or from the top, so that all above get deeper with each."""
+    """Nested structs, with a member at the bottom, one on top, and an update. They are nested from
+    the bottom up, or from the top down, which makes all above deeper with each step."""
     for layers in (LAYERS, LAYERS + 1):
         for end, places in (("bottom", range(layers)), ("top", range(layers - 1, -1, -1))):
             lines = [ask(1, "create"),
@@ -159,21 +159,21 @@ def deep_drafts() -> Iterable[Case]:
                       ask(1, "update", d=1)]
             name = f"a draft of {layers} structs in each other from the {end}"
             yield Case(name, lines + questions(layers))
-            yield Case(f"{name}, shown", lines + shown(layers))
+            yield Case(f"{name}, shown", lines + show_requests(layers))
 
 
 def above(first: int, count: int, held: int) -> list[bytes]:
-    """So many structs, each of which contains the one before it, and the first of them another one;
-    they have the numbers from the first one's on."""
+    """`count` structs with numbers from `first` on, each of which contains the previous one; the
+    first contains `held`."""
     numbers = [held, *range(first, first + count)]
     return [ask(1, "add", d=1, what="member", t=outer, type=inner)
             for inner, outer in zip(numbers, numbers[1:])]
 
 
 def circled_drafts() -> Iterable[Case]:
-    """Structs in each other, as many as there may be, where one of them then comes into the first.
-    All that are in this circle get deeper until nothing is known of their depth, and then all above
-    it do: those that contain one of the circle, or as many others."""
+    """Drafts of the greatest number of nested structs, one of which is then put into the first. The
+    structs in this cycle become deeper until their depth is unknown; then so do those that contain
+    one of them, which are the remaining nested structs or as many others."""
     for last in (2, 3, LAYERS // 2, LAYERS):
         for others in (0, LAYERS - 1):
             lines = [ask(1, "create")]
@@ -185,7 +185,7 @@ def circled_drafts() -> Iterable[Case]:
 
 
 def deep_children() -> Iterable[Case]:
-    """A type over the deepest one of a parent, as deep again."""
+    """Types as deep as allowed on top of the deepest type of a parent."""
     for name, over in {**VALUES, **DECLARATIONS}.items():
         top = 0x8000 + LAYERS
         below = [1 + LAYERS, *range(0x8001, top)]
@@ -201,14 +201,14 @@ def deep_children() -> Iterable[Case]:
 
 
 def found_by_name() -> Case:
-    """Long names that are written in a question."""
+    """Long names in a question."""
     stars = "int" + "*" * 500_000
     return Case("names of 500,000 stars",
                 handed_in(dictionary([])) + [ask(1, "find", d=1, text=stars)])
 
 
-def bracketed() -> Case:
-    """Lines of brackets in each other."""
+def bracket_lines() -> Case:
+    """Lines of nested brackets."""
     lines = [b'{"s":1,"op":"clear","x":' + b"[" * n + b"]" * n + b"}"
              for n in (126, 127, 500_000)]
     lines += [b'{"s":1,"op":"clear","x":' + b'{"a":' * n + b"1" + b"}" * n + b"}"
@@ -218,33 +218,33 @@ def bracketed() -> Case:
 
 def cases() -> list[Case]:
     return [*deep_types(), *deep_drafts(), *circled_drafts(), *deep_children(), found_by_name(),
-            bracketed()]
+            bracket_lines()]
 
 
-# ---- who answers
+# ---- services and threads
 
 
 @dataclass(frozen=True)
 class Answering:
-    """A command that answers lines with so many KiB of stack."""
+    """A command that answers lines. `command` gives its words for a stack size in KiB."""
 
     name: str
     command: Callable[[int], Sequence[str]]
     is_bounded: bool
 
     def answers(self, case: Case, kibibytes: int) -> bytes:
-        """What is replied with so much stack, and how that ends."""
+        """The replies with a stack of this size, and the exit status."""
 
-        def bound() -> None:
+        def set_limit() -> None:
             if self.is_bounded:
                 resource.setrlimit(resource.RLIMIT_STACK, (kibibytes * 1024, kibibytes * 1024))
 
-        done = subprocess.run(self.command(kibibytes), input=joined(case.lines),
-                              capture_output=True, preexec_fn=bound, env={}, check=False)
+        done = subprocess.run(self.command(kibibytes), input=stream_of(case.lines),
+                              capture_output=True, preexec_fn=set_limit, env={}, check=False)
         return done.stdout + b"status %d\n" % done.returncode
 
     def least(self, case: Case, wanted: bytes) -> int:
-        """The least stack of so many KiB that a case works with."""
+        """The least stack in KiB with which a case works."""
         low, high = 0, MOST
         while high - low > STEP:
             middle = (low + high) // 2 // STEP * STEP
@@ -263,7 +263,7 @@ def a_service(program: str) -> Answering:
 
 
 def a_thread(folder: Path) -> Answering:
-    """thread.c, compiled into a folder over the archive. Raises CalledProcessError."""
+    """thread.c, compiled into a folder with the archive. Raises CalledProcessError."""
     made, archive = folder / "thread", library().with_name("libctfd.a")
     subprocess.run(["cc", "-std=gnu11", "-O2", "-Wall", "-Wextra", "-Werror",
                     f"-I{TOP / 'clients' / 'c'}", "-o", str(made),
@@ -292,7 +292,7 @@ def test_thread(program: str, thread: Answering, name: str) -> None:
 
 
 def least(program: str) -> Iterator[str]:
-    """A line for each case, with the least stack that it works with."""
+    """A line for each case, with the least stack with which it works."""
     with tempfile.TemporaryDirectory() as folder:
         service = a_service(os.path.abspath(program))
         for case in CASES.values():

@@ -1,6 +1,6 @@
-/* Answers the lines of standard input by ctfd_line, on a thread of its own, and prints the replies.
+/* Answers the lines on standard input with ctfd_line, in its own thread, and prints the replies.
  * usage: thread KIB
- * The thread has a stack of KIB kibibytes, which it shares with nothing but its own few values.
+ * The thread's stack has KIB kibibytes, and holds little besides the library's frames.
  */
 #include <ctfd.h>
 #include <limits.h>

@@ -1,1 +1,1 @@
-"""Streams that give little, break or never end."""
+"""Streams that move few bytes, break or never end."""

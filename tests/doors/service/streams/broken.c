@@ -1,16 +1,16 @@
 /* Breaks streams: a library that is preloaded into ctfd, for tests/doors/service/streams.
  *
- * A read of standard input gives at most READ_SIZE bytes, and a write to standard output takes at
- * most WRITE_SIZE. They are counted from 1. The read of the number READ_FAILS, and the write of the
- * number WRITE_FAILS, fails with the error FAILS_BY; the write of the number WRITE_EMPTY takes no
- * bytes and does not fail. Where READS_TOLD is not 0, a line on standard error before each read
- * tells how many bytes were written by then. At the end a line tells how many of each there were.
+ * A read of standard input returns at most READ_SIZE bytes, and a write to standard output takes at
+ * most WRITE_SIZE. Both are counted from 1. Read number READ_FAILS, and write number WRITE_FAILS,
+ * fail with the error FAILS_BY; write number WRITE_EMPTY takes no bytes and does not fail. If
+ * READS_TOLD is not 0, a line on standard error before each read says how many bytes were written
+ * so far. At exit, a line says how many reads and writes there were.
  *
- * READ_BOUND, where it is not 0, takes the place of the program's own bound on reads. That is a
- * number in its code, 2^40: an instruction `movabs $0x10000000000, %r` with a comparison of two
- * registers right behind it, which has to be there once. (A number that is put together from a
- * tag and other bytes may be the same, and is compared with nothing.) Else a line says how often
- * it is there, and the status is NO_BOUND.
+ * READ_BOUND, if it is not 0, replaces the program's own bound on reads. That is a number in its
+ * code, 2^40: an instruction `movabs $0x10000000000, %r`, immediately followed by a comparison of
+ * two registers, which must be there exactly once. (A number made of a tag and other bytes may have
+ * the same value, but no comparison follows it.) Otherwise a line says how often it is there, and
+ * the exit status is NO_BOUND.
  */
 #define _GNU_SOURCE
 #include <errno.h>
@@ -29,7 +29,7 @@
 static unsigned long read_size, write_size, read_fails, write_fails, write_empty, fails_by;
 static unsigned long reads, writes, written, reads_told;
 
-/* Where numbers of 2^40 stand in the program's code. */
+/* The first 2^40 that was found in the program's code, and how many there are. */
 struct found {
     unsigned char *first;
     unsigned long count;
@@ -72,7 +72,7 @@ ssize_t write(int file, const void *buffer, size_t size)
     return taken;
 }
 
-/* Finds `movabs $0x10000000000, %r` and `cmp %r, %r` in a piece of code: two bytes, the number in
+/* Finds `movabs $0x10000000000, %r` followed by `cmp %r, %r` in code: two bytes, the number in
  * eight, and three bytes. */
 static void find_in(unsigned char *code, size_t size, struct found *found)
 {
@@ -88,7 +88,7 @@ static void find_in(unsigned char *code, size_t size, struct found *found)
     }
 }
 
-/* Looks through the program's own code, which is told of first. */
+/* Searches the program's own code, which dl_iterate_phdr passes first. */
 static int find_bounds(struct dl_phdr_info *program, size_t size, void *found)
 {
     (void)size;
@@ -101,7 +101,7 @@ static int find_bounds(struct dl_phdr_info *program, size_t size, void *found)
     return 1;
 }
 
-/* Puts another bound on reads in the place of the program's own. */
+/* Replaces the program's own bound on reads. */
 static void put_bound(uint64_t bound)
 {
     struct found found = { NULL, 0 };

@@ -1,17 +1,17 @@
-"""What the calls of a run move where none fails, from its input and its output alone."""
+"""Computes what each call of a run without failures moves, from its input and output alone."""
 from __future__ import annotations
 
 from dataclasses import dataclass
 from itertools import islice
 from typing import Iterable, Iterator
 
-# Replies wait until the lines of a read are answered, unless so many bytes wait before a line.
+# Replies wait until the lines of a read are answered, unless this many bytes wait before a line.
 BATCH = 65_536
 
 
 @dataclass(frozen=True)
 class Sizes:
-    """How many bytes a read gives at most, and how many a write takes."""
+    """The number of bytes that a read returns at most, and that a write accepts."""
 
     read: int
     write: int
@@ -19,7 +19,7 @@ class Sizes:
 
 @dataclass(frozen=True)
 class Point:
-    """How far a run has come: how many calls it has made, and how many bytes it has written."""
+    """A point of a run: the numbers of calls made, and of bytes written."""
 
     reads: int
     writes: int
@@ -27,7 +27,7 @@ class Point:
 
 
 def batches(lengths: Iterable[int]) -> Iterator[int]:
-    """The lengths of what is sent at once, of replies with these lengths."""
+    """The lengths of what is sent at once, for replies of these lengths."""
     waiting = 0
     for length in lengths:
         if waiting >= BATCH:
@@ -39,10 +39,10 @@ def batches(lengths: Iterable[int]) -> Iterator[int]:
 
 
 class Course:
-    """How far a run has come before each of its reads, and before each of its writes.
+    """The points of a run before each of its reads and writes.
 
-    The lines that a read ends are answered before the next one. The last read meets the end, and a
-    line without a newline is answered behind it.
+    The lines that a read completes are answered before the next read. The last read meets the end;
+    a line without a newline is answered after it.
     """
 
     def __init__(self, given: bytes, honest: bytes, sizes: Sizes) -> None:
@@ -61,7 +61,7 @@ class Course:
         return Point(len(self.reads), len(self.writes), self.written)
 
     def send(self, lengths: list[int], most: int) -> None:
-        """Writes replies, a batch after the other."""
+        """Writes replies, batch by batch."""
         for batch in batches(lengths):
             for at in range(0, batch, most):
                 self.writes.append(self.point())

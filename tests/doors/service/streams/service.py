@@ -1,4 +1,4 @@
-"""The program over broken streams, and what was seen of it."""
+"""Runs the program on broken streams, and records the outcome."""
 from __future__ import annotations
 
 import re
@@ -9,15 +9,15 @@ from .course import Point, Sizes
 
 TOLD = re.compile(r"broken: ([0-9]+) reads, ([0-9]+) writes\n")
 BEFORE_READ = re.compile(r"broken: ([0-9]+) bytes before a read\n")
-# The status of a program whose bound on reads could not be found, and what is said of it.
+# The status if the program's bound on reads could not be found, with a message.
 NO_BOUND = 99
 
 
 @dataclass(frozen=True)
-class Told:
-    """How a run over broken streams ended, what it wrote, and how many calls there were.
+class StreamOutcome:
+    """The outcome of a run on broken streams: its status, its output, and the number of calls.
 
-    `before_reads` has how many bytes were written before each read, where that was asked for.
+    `before_reads` has the number of bytes written before each read, if it was asked for.
     """
 
     status: int
@@ -28,10 +28,10 @@ class Told:
     before_reads: list[int]
 
     def came_to(self, end: Point, out: bytes) -> bool:
-        """Whether it made so many calls, and wrote just so many bytes of an output."""
+        """Whether it made this many calls, and wrote exactly this part of an output."""
         return (self.reads, self.writes, self.out) == (end.reads, end.writes, out[: end.written])
 
-    def ended(self, status: int, err: str) -> bool:
+    def has_ended(self, status: int, err: str) -> bool:
         return (self.status, self.err) == (status, err)
 
 
@@ -42,8 +42,8 @@ class Service:
     program: str
     library: str
 
-    def run(self, given: bytes, sizes: Sizes, **breaks: int) -> Told:
-        """How a run ends where each call moves some bytes, and one of them may fail."""
+    def run(self, given: bytes, sizes: Sizes, **breaks: int) -> StreamOutcome:
+        """Runs the program with calls that move few bytes, and of which one may fail."""
         numbers = {"READ_SIZE": sizes.read, "WRITE_SIZE": sizes.write, **breaks}
         words = {name: str(number) for name, number in numbers.items()}
         ended = serve(self.program, given, {"LD_PRELOAD": self.library, **words})
@@ -52,16 +52,16 @@ class Service:
             raise AssertionError(f"{self.program} runs without {self.library}: {ended}")
         before = [int(count) for count in BEFORE_READ.findall(ended.err)]
         err = BEFORE_READ.sub("", ended.err.replace(told[0], ""))
-        return Told(ended.status, ended.out, err, int(told[1]), int(told[2]), before)
+        return StreamOutcome(ended.status, ended.out, err, int(told[1]), int(told[2]), before)
 
     def why_unbounded(self) -> str:
-        """Why no other bound on reads can be put into the program, or nothing."""
+        """The reason why another bound on reads cannot be put into the program, or ""."""
         ended = serve(self.program, b"", {"LD_PRELOAD": self.library, "READ_BOUND": "1"})
         return ended.err.strip() if ended.status == NO_BOUND else ""
 
 
 class Report:
-    """Counts what was tried, and prints what was wrong."""
+    """Counts trials, and prints errors."""
 
     def __init__(self) -> None:
         self.tried = self.wrong = 0

@@ -1,22 +1,22 @@
-"""How a built ctfd takes streams that give little, break, or never end, and bounds on reads.
+"""Runs a built ctfd on streams that move few bytes, break, or never end, and with bounds on reads.
 
-The runs are the first example and some transcripts, by reads of 7 bytes and writes of 5; and four
-longer ones, the two transcripts of the most lines and the two that growths has: by reads of 256
-bytes and writes of 64, and by reads as long as the program asks for and writes of 1,000. course.py
-computes from the input and the output what each call has to move.
+The runs are the first example and some transcripts, with reads of 7 bytes and writes of 5; and four
+longer ones, the two longest transcripts and the two of growths: with reads of 256 bytes and writes
+of 64, and with reads as long as the program asks for and writes of 1,000. course.py computes from
+the input and the output what each call should move.
 
-- Where no call fails the output is as in whole pieces. Before each read the replies to all lines
-  so far are written, which is what a flush of standard output comes to.
-- Each read fails in turn, by an error and by an interruption: wanted are the replies to the lines
-  that were read whole, `ctfd: Read`, status 3, and no call behind it.
-- Each write fails in turn, in the same ways and by taking no bytes: wanted are the bytes of the
-  writes before it, `ctfd: Write`, status 3, and no call behind it.
-- Each bound on reads below those that the run needs, in place of the 2^40 in the program's code:
-  wanted are so many reads, the replies to the lines that they ended, `ctfd: ReadBound` and status
-  3. The bound that is just enough, and one more, change nothing.
+- If no call fails, the output is the same. Before each read, the replies to all lines so far are
+  written, which is the effect of flushing standard output.
+- Each read fails in turn, with an error and with an interruption. Then the output has the replies
+  to the lines that were read completely, and `ctfd: Read`; the status is 3, and no call follows.
+- Each write fails in turn, in the same ways and by accepting no bytes. Then the output has the
+  bytes of the writes before it, and `ctfd: Write`; the status is 3, and no call follows.
+- Each bound on reads below the number that the run needs replaces the 2^40 in the program's code.
+  Then there are that many reads, the replies to the lines that they completed, `ctfd: ReadBound`
+  and status 3. The least sufficient bound, and one more, change nothing.
 
-Not reached are a bound of 0, since the program's loop compares behind a read, and a flush that
-fails, since flushing standard output calls nothing. crates/test_service has tests of both.
+Two cases are not reached: a bound of 0, since the program's loop compares after a read, and a flush
+that fails, since flushing standard output makes no call. crates/test_service tests both.
 """
 from __future__ import annotations
 
@@ -32,7 +32,7 @@ from typing import Callable, Iterator
 import pytest
 
 from ..growths.longer import longer_runs
-from ..runs import TOP, Run, joined, serve, transcripts
+from ..runs import TOP, Run, stream_of, serve, transcripts
 from .course import Course, Point, Sizes
 from .service import Report, Service
 
@@ -40,10 +40,10 @@ ERRORS = (errno.EIO, errno.EINTR)
 SMALL = Sizes(7, 5)
 TRANSCRIPTS = ("each kind is added", "names of declared types", "no request",
                "what is published is taken")
-# The longer runs are read by pieces of some lines, and then by as much as the program asks for.
+# The longer runs are read in pieces of some lines, and then with as much as the program asks for.
 LONGER = (Sizes(256, 64), Sizes(65_536, 1000))
 FAILED = 3
-# Of a longer run each read and each write would fail in turn for minutes.
+# For a longer run, letting each read and write fail in turn would take minutes.
 MOST_LINES = 5_000
 
 Job = Callable[[], Report]
@@ -51,7 +51,7 @@ Job = Callable[[], Report]
 
 @dataclass(frozen=True)
 class Case:
-    """An input, what comes out where nothing is broken, and how many bytes a call moves."""
+    """An input, the output if nothing is broken, and the number of bytes that a call moves."""
 
     service: Service
     name: str
@@ -68,16 +68,17 @@ class Case:
         return self.course.point()
 
     def judge(self, fault: str, end: Point, **breaks: int) -> Report:
-        """Wants a run to make the calls up to a point, and to end there by a fault or well."""
+        """Runs the service. Checks that it makes the calls up to a point, and that it ends there
+        with the fault, or with status 0 if there is none."""
         report = Report()
         told = self.service.run(self.given, self.sizes, **breaks)
         status, err = (FAILED, f"ctfd: {fault}\n") if fault else (0, "")
-        well = told.ended(status, err) and told.came_to(end, self.honest)
+        well = told.has_ended(status, err) and told.came_to(end, self.honest)
         report.add(f"{self.name}, {self.sizes}, {breaks}, wanted {end}", well, told)
         return report
 
     def judge_honest(self) -> Report:
-        """Few bytes a call change nothing; before each read all replies so far are written."""
+        """Few bytes per call change nothing; before each read, all replies so far are written."""
         report = self.judge("", self.end)
         told = self.service.run(self.given, self.sizes, READS_TOLD=1)
         wanted = [point.written for point in self.course.reads]
@@ -85,7 +86,7 @@ class Case:
         return report
 
     def failures(self) -> Iterator[Job]:
-        """Each call fails in turn: the failed one is the last of its sort."""
+        """Each call fails in turn; the failed one is the last of its sort."""
         for number, point in enumerate(self.course.reads, 1):
             end = replace(point, reads=number)
             for error in ERRORS:
@@ -97,8 +98,8 @@ class Case:
             yield partial(self.judge, "Write", end, WRITE_EMPTY=number)
 
     def bounds(self) -> Iterator[Job]:
-        """Each bound below the reads that are needed ends the run before the next read; the bounds
-        from there on change nothing."""
+        """Each bound below the number of needed reads ends the run before the next read; greater
+        bounds change nothing."""
         needed = len(self.course.reads)
         for bound in range(1, needed):
             yield partial(self.judge, "ReadBound", self.course.reads[bound], READ_BOUND=bound)
@@ -107,23 +108,23 @@ class Case:
 
 
 def longest(runs: Iterator[Run], many: int) -> list[Run]:
-    """The runs of the most lines, but for those of more than `MOST_LINES`."""
+    """The runs with the most lines, except for those with more than `MOST_LINES`."""
     fit = (run for run in runs if len(run.lines) <= MOST_LINES)
     return sorted(fit, key=lambda run: len(run.lines))[-many:]
 
 
 def inputs() -> Iterator[tuple[str, bytes, Sizes]]:
-    """What goes in: the first run, also without its last newline, and some of the transcripts; then
-    longer runs, the two longest transcripts and the two of all words."""
+    """The inputs: the first run, also without its last newline, and some of the transcripts; then
+    longer runs, the two longest transcripts and the two with all words."""
     first = (TOP / "examples" / "first.jsonl").read_bytes()
     small = {"first.jsonl": first, "first.jsonl without its last newline": first[:-1]}
     chosen = (run for run in transcripts() if run.title in TRANSCRIPTS)
-    small.update((run.title, joined(run.lines)) for run in chosen)
+    small.update((run.title, stream_of(run.lines)) for run in chosen)
     for name, given in small.items():
         yield name, given, SMALL
     for run in (*longest(transcripts(), 2), *longer_runs()):
         for sizes in LONGER:
-            yield f"{run.title}, {sizes.read} and {sizes.write}", joined(run.lines), sizes
+            yield f"{run.title}, {sizes.read} and {sizes.write}", stream_of(run.lines), sizes
 
 
 INPUTS = {name: (given, sizes) for name, given, sizes in inputs()}
@@ -131,7 +132,7 @@ INPUTS = {name: (given, sizes) for name, given, sizes in inputs()}
 
 @pytest.fixture(scope="module")
 def service(program: str, tmp_path_factory: pytest.TempPathFactory) -> Service:
-    """The program, with broken.c compiled, which breaks its streams."""
+    """The program, with the compiled broken.c, which breaks its streams."""
     if not shutil.which("cc"):
         pytest.skip("no C compiler here")
     made = tmp_path_factory.mktemp("streams") / "broken.so"
@@ -141,7 +142,7 @@ def service(program: str, tmp_path_factory: pytest.TempPathFactory) -> Service:
 
 
 def wrong(jobs: Iterator[Job]) -> int:
-    """How much was wrong in all that is to be done, two at a time."""
+    """The number of errors in all jobs, run two at a time."""
     with ThreadPoolExecutor(2) as two:
         return sum(report.wrong for report in two.map(lambda job: job(), list(jobs)))
 

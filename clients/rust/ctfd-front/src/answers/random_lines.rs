@@ -1,8 +1,9 @@
-//! Whatever a line is, it is answered as the connection's session or as none.
+//! Tests that each line is answered as the connection's session or as none, whatever the line is.
 //!
-//! Random lines, valid and broken, are given to a service as they are, in which each session that a
-//! line could name has a dictionary; and to the front's, in which the connection's alone has one.
-//! The replies are the same, but that a line without a session is answered as the connection's.
+//! Random lines, valid and broken, are passed unchanged to a service in which each session that a
+//! line may name has a dictionary; and to the front's service, in which only the connection's
+//! session has one. The replies are equal, except that a line without a session is answered as the
+//! connection's.
 
 use super::*;
 use crate::members::Members;
@@ -71,11 +72,11 @@ const NUMBERS: [&str; 11] = [
     "true",
     "123456789012345678901234567890",
 ];
-/// Numbers that look random, the same in each run.
+/// Pseudo-random numbers, the same in each run.
 struct Chance(u64);
 
 impl Chance {
-    /// One below a bound.
+    /// A number below a bound.
     fn below(&mut self, bound: usize) -> usize {
         self.0 ^= self.0 << 13;
         self.0 ^= self.0 >> 7;
@@ -88,7 +89,7 @@ impl Chance {
     }
 }
 
-/// A line made of pieces; a whole one with some changes; or an object.
+/// A line made of pieces, a whole line with some changes, or an object.
 fn line(chance: &mut Chance) -> String {
     match chance.below(3) {
         0 => (0..=chance.below(14)).map(|_| chance.of(&PIECES)).collect(),
@@ -111,7 +112,7 @@ fn mutated_line(chance: &mut Chance) -> String {
     text
 }
 
-/// A request whose session stands anywhere in it, perhaps many times.
+/// A request with its session anywhere in it, perhaps several times.
 fn request(chance: &mut Chance) -> String {
     let mut members = vec![r#""op":"info""#.to_owned(), r#""d":1"#.to_owned()];
     for _ in 0..chance.below(6) {
@@ -144,7 +145,7 @@ fn value(chance: &mut Chance, depth: usize) -> String {
     }
 }
 
-/// What a service replies in which whatever session a line names has a dictionary.
+/// The reply of a service in which each session that a line names has a dictionary.
 fn own_reply(own: &mut Service, line: &[u8]) -> Vec<u8> {
     let mut reply = Vec::new();
     own.answer_into(line, &mut reply).unwrap();
@@ -157,7 +158,7 @@ fn own_reply(own: &mut Service, line: &[u8]) -> Vec<u8> {
     reply
 }
 
-/// Hands a dictionary in to a session.
+/// Opens a dictionary in a session.
 fn hand_in(service: &mut Service, session: u32) {
     for request in [
         format!(r#"{{"s":{session},"op":"part","section":"ctf","bytes":"{INT}"}}"#),
@@ -183,7 +184,7 @@ fn random_lines_are_answered_as_the_session_or_as_none() {
         if replies == wanted {
             continue;
         }
-        // One without a session has the connection's, and no other line differs.
+        // A line without a session has the connection's; no other line differs.
         nameless += 1;
         let members: Vec<_> = Members::of(line.as_bytes()).collect();
         assert!(fault_of(&wanted) == Some(Fault::BadRequest), "{line}");

@@ -1,5 +1,5 @@
-//! Shares of a shard's time, in a world whose clock is a number: a service that takes as long as
-//! each asker says, and askers that always have a line, or ask again some time after a reply.
+//! A simulation of shares of time, whose clock is a number: each client states how long its
+//! requests take, and always has a line, or sends one some time after a reply.
 
 use super::*;
 
@@ -9,20 +9,20 @@ const SECOND: Duration = Duration::from_secs(1);
 const SMALL: Duration = Duration::from_micros(10);
 const DEAR: Duration = Duration::from_millis(500);
 
-/// One that asks.
+/// A simulated client.
 struct Asking {
     user: u32,
     costs: Duration,
-    /// What is between a reply and the next line; none where lines always wait.
+    /// The time between a reply and the next line; `None` if lines always wait.
     pause: Option<Duration>,
     begins: Duration,
-    /// Since when its line waits.
+    /// The time since which its line waits.
     since: Option<Duration>,
     served: Duration,
     waits: Vec<Duration>,
 }
 
-/// One that asks from the beginning, and always has a line.
+/// A client that begins at once, and always has a line.
 fn asking(user: u32, costs: Duration) -> Asking {
     let (served, waits) = (Duration::ZERO, Vec::new());
     Asking { user, costs, pause: None, begins: Duration::ZERO, since: None, served, waits }
@@ -40,7 +40,8 @@ impl Asking {
     }
 }
 
-/// Lets all ask until a moment; what each was served, and how long it waited.
+/// Runs the simulation until a moment. Returns for each client the time that it was served, and its
+/// waits.
 fn after(until: Duration, mut all: Vec<Asking>) -> Vec<Asking> {
     let (mut turns, start, mut now) = (Turns::new(), Instant::now(), Duration::ZERO);
     for (token, one) in all.iter().enumerate() {
@@ -78,7 +79,7 @@ fn after(until: Duration, mut all: Vec<Asking>) -> Vec<Asking> {
     all
 }
 
-/// Whether two times differ by at most so much.
+/// Whether two times differ by at most `by`.
 fn is_near(time: Duration, wanted: Duration, by: Duration) -> bool {
     time.abs_diff(wanted) <= by
 }

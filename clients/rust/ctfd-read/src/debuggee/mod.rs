@@ -1,5 +1,5 @@
-//! A program as the debug file beside it needs it: its header, sections, segments, symbols, code
-//! and build.
+//! The parts of a program that its debug file needs: header, sections, segments, symbols, code and
+//! build-id.
 
 mod symbols;
 
@@ -13,25 +13,26 @@ use object::elf::{self, FileHeader32, FileHeader64};
 use object::read::elf::{FileHeader, ProgramHeader, SectionHeader};
 use object::{Endianness, Object as _, SectionIndex};
 
-/// The bytes of a symbol of ELF64, which is what the library takes.
+/// The size of an ELF64 symbol, in bytes. The library takes such symbols.
 const ENTRY: usize = 24;
-/// Names may overlap: they are read for so many times the bytes of their table and its entries.
+/// Names may overlap: those that are read may have this many times the bytes of their table and its
+/// entries.
 const MOST_TIMES: u64 = 64;
-/// More sections are numbered elsewhere than in their symbols.
+/// With more sections than these, symbols do not have the numbers of theirs.
 const MOST_SECTIONS: usize = 0xff00;
 
-/// What the header of a file says.
+/// The fields of a file's header.
 #[derive(Clone, Copy, Debug)]
 pub struct Head {
-    /// What the file is: an object file, a program, a library.
+    /// The type of the file, such as object file, program or library.
     pub kind: u16,
     /// Its machine.
     pub machine: u16,
-    /// Where the program begins.
+    /// The address of the entry point.
     pub entry: u64,
-    /// Flags of its machine.
+    /// Flags of the machine.
     pub flags: u32,
-    /// The system that it is for.
+    /// The system that the file is for.
     pub system: u8,
 }
 
@@ -40,26 +41,26 @@ pub struct Head {
 pub struct Section<'a> {
     /// Its name.
     pub name: &'a [u8],
-    /// What it holds.
+    /// Its type.
     pub kind: u32,
     /// Its flags.
     pub flags: u64,
-    /// Where it is in memory.
+    /// Its address in memory.
     pub address: u64,
-    /// Where it is in the file.
+    /// Its offset in the file.
     pub offset: u64,
-    /// Its bytes.
+    /// Its size in bytes.
     pub size: u64,
-    /// The section that it names.
+    /// The number of the section that it links to.
     pub link: u32,
-    /// Of a symbol table, how many are local.
+    /// For a symbol table, the number of local symbols.
     pub info: u32,
-    /// How it is aligned.
+    /// Its alignment.
     pub align: u64,
 }
 
 impl Section<'_> {
-    /// Whether it is in memory as the program runs.
+    /// Whether it is in memory when the program runs.
     pub fn is_loaded(&self) -> bool {
         self.flags & u64::from(elf::SHF_ALLOC) != 0
     }
@@ -69,20 +70,20 @@ impl Section<'_> {
     }
 }
 
-/// A part of a file that is put into memory.
+/// A part of a file that is loaded into memory.
 #[derive(Clone, Copy, Debug)]
 pub struct Segment {
-    /// Its flags: whether it is read, written, executed.
+    /// Its flags: readable, writable, executable.
     pub flags: u32,
-    /// Where it is in the file.
+    /// Its offset in the file.
     pub offset: u64,
-    /// Where it is in memory.
+    /// Its address in memory.
     pub address: u64,
     /// Its physical address.
     pub physical: u64,
-    /// Its bytes in memory.
+    /// Its size in memory, in bytes.
     pub size: u64,
-    /// How it is aligned.
+    /// Its alignment.
     pub align: u64,
 }
 
@@ -91,16 +92,16 @@ pub struct Debuggee<'a> {
     image: &'a Image,
     /// Its header.
     pub head: Head,
-    /// Its data model, by its class.
+    /// Its data model, from its ELF class.
     pub model: Model,
-    /// Its sections; the first is none.
+    /// Its sections; the first is the empty one.
     pub sections: Vec<Section<'a>>,
-    /// What is put into memory.
+    /// The segments that are loaded.
     pub segments: Vec<Segment>,
 }
 
 impl<'a> Debuggee<'a> {
-    /// The program of an ELF file.
+    /// Reads the program in an ELF file.
     pub fn of(image: &'a Image) -> Result<Debuggee<'a>> {
         let parse = || {
             let file = image.elf()?;
@@ -146,7 +147,7 @@ impl<'a> Debuggee<'a> {
         Ok(Debuggee { image, head, model, sections: sections_of(header, endian, data)?, segments })
     }
 
-    /// The file, as a line on it begins.
+    /// The path of the file, for messages.
     pub fn path(&self) -> String {
         self.image.path().display().to_string()
     }
@@ -156,18 +157,18 @@ impl<'a> Debuggee<'a> {
         self.image
     }
 
-    /// Whether it is an object file or a kernel's module, whose sections have no addresses.
+    /// Whether it is an object file or a kernel module, whose sections have no addresses.
     pub fn is_relocatable(&self) -> bool {
         self.head.kind == elf::ET_REL
     }
 
-    /// What tells the build; empty where nothing does.
+    /// The build-id; empty if there is none.
     pub fn build_id(&self) -> &'a [u8] {
         self.image.elf().and_then(|file| Ok(file.build_id()?)).ok().flatten().unwrap_or_default()
     }
 
-    /// Whether another file is of the same build: by the build ids, where both have one, and by what
-    /// is loaded and where.
+    /// Whether another file is of the same build: the build-ids are equal, if both have one, and
+    /// the loaded sections are the same.
     pub fn is_same_build(&self, other: &Debuggee<'_>) -> bool {
         let (own, others) = (self.build_id(), other.build_id());
         if !own.is_empty() && !others.is_empty() && own != others {
@@ -176,18 +177,18 @@ impl<'a> Debuggee<'a> {
         self.loaded_sections().eq(other.loaded_sections())
     }
 
-    /// The names, addresses and sizes of the sections that are loaded.
+    /// The names, addresses and sizes of the loaded sections.
     fn loaded_sections(&self) -> impl Iterator<Item = (&'a [u8], u64, u64)> + '_ {
         let loaded = self.sections.iter().filter(|one| one.is_loaded());
         loaded.map(|one| (one.name, one.address, one.size))
     }
 
-    /// The number of the first section of a name.
+    /// The number of the first section with a name.
     pub fn section_of(&self, name: &str) -> Option<usize> {
         self.sections.iter().position(|one| one.name == name.as_bytes())
     }
 
-    /// The number of the symbol table that a section names; None where it names none.
+    /// The number of the symbol table that a section links to; `None` if it links to none.
     pub fn linked_table(&self, link: u32) -> Option<usize> {
         let at = usize::try_from(link).ok()?;
         self.sections.get(at).is_some_and(Section::is_symbol_table).then_some(at)
@@ -203,7 +204,7 @@ impl<'a> Debuggee<'a> {
         found.map_err(|()| Error(format!("{}: a section is cut off", self.path())))
     }
 
-    /// The names that go with a symbol table.
+    /// The string table of a symbol table.
     pub fn strings(&self, table: &Section<'_>) -> Result<&'a [u8]> {
         match self.sections.get(table.link as usize).filter(|_| table.link != 0) {
             Some(strings) => self.bytes(strings),
@@ -211,8 +212,9 @@ impl<'a> Debuggee<'a> {
         }
     }
 
-    /// Bytes of the program in its file, none where they are not in it. An address counts in a
-    /// section of an object file.
+    /// At most `length` bytes of the program at an address, from its file; empty if they are not in
+    /// it. In an object file, the address counts from the beginning of the section with the number
+    /// `section`.
     pub fn code(&self, address: u64, length: u64, section: u16) -> &'a [u8] {
         use object::ReadRef as _;
         let listed = match section {

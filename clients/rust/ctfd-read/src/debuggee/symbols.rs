@@ -1,4 +1,5 @@
-//! The symbols of a program: its functions and objects, and its tables as the library takes them.
+//! The symbols of a program: its functions and objects, and its tables in the form that the library
+//! takes.
 
 use super::{Debuggee, Section, ENTRY, MOST_TIMES};
 use crate::bytes::Names;
@@ -9,31 +10,31 @@ use object::read::elf::{FileHeader, Sym as _};
 use object::{pod, Endianness};
 use std::borrow::Cow;
 
-/// What is told of no program: the ends of a table.
+/// Names of marks that a linker adds: dictionaries have no entries for them.
 const MARKS: [&[u8]; 2] = [b"_START_", b"_END_"];
 
-/// A function or object of a program, by its symbol.
+/// A function or object of a program.
 #[derive(Clone, Copy, Debug)]
 pub struct ProgramSymbol<'a> {
-    /// Its number in the table.
+    /// The number of its symbol in the table.
     pub number: u32,
-    /// Its name without a version.
+    /// Its name, without a version.
     pub name: &'a [u8],
-    /// Its address; in an object file that in its section.
+    /// Its address; in an object file, the offset in its section.
     pub address: u64,
-    /// Its bytes.
+    /// Its size in bytes.
     pub size: u64,
     /// Whether it is a function.
     pub is_function: bool,
-    /// Whether other source files see it.
+    /// Whether other source files can refer to it.
     pub is_global: bool,
-    /// The source file of one that is seen nowhere else, where the table tells it.
+    /// The source file of a local symbol, if the table names it; else empty.
     pub source: &'a [u8],
     /// The number of its section.
     pub section: u16,
 }
 
-/// The entry of a table: of either class.
+/// An entry of a symbol table, of 32 or 64 bits.
 struct Entry {
     name: u32,
     address: u64,
@@ -46,7 +47,7 @@ struct Entry {
 }
 
 impl<'a> Debuggee<'a> {
-    /// The bytes of one symbol in a table.
+    /// The size of an entry of a symbol table, in bytes.
     pub fn entry_size(&self) -> usize {
         match self.model {
             Model::Lp64 => size_of::<elf::Sym64<Endianness>>(),
@@ -62,7 +63,7 @@ impl<'a> Debuggee<'a> {
         }
     }
 
-    /// A symbol table as the library takes it: one of ELF64.
+    /// A symbol table in the form that the library takes: that of ELF64.
     pub fn wide_table(&self, table: &Section<'_>) -> Result<Cow<'a, [u8]>> {
         if self.model == Model::Lp64 {
             return Ok(Cow::Borrowed(self.bytes(table)?));
@@ -79,14 +80,16 @@ impl<'a> Debuggee<'a> {
         Ok(Cow::Owned(made))
     }
 
-    /// The functions and objects of a table of which a dictionary may tell something, in its order.
+    /// The functions and objects of a table for which a dictionary can have types, in the table's
+    /// order.
     pub fn symbols(&self, table: &Section<'_>) -> Result<Vec<ProgramSymbol<'a>>> {
         let names = Names(self.strings(table)?);
         symbols_of(&self.entries(table)?, names).map_err(|error| error.of(self.path()))
     }
 }
 
-/// The same of the lists that go with a dictionary, whose table is one of ELF64.
+/// The functions and objects of a table that was passed along with a dictionary, in the form of
+/// ELF64.
 pub fn listed_symbols<'a>(table: &[u8], strings: &'a [u8]) -> Result<Vec<ProgramSymbol<'a>>> {
     symbols_of(&entries_of::<FileHeader64<Endianness>>(table)?, Names(strings))
 }
@@ -115,7 +118,7 @@ fn symbols_of<'a>(entries: &[Entry], names: Names<'a>) -> Result<Vec<ProgramSymb
 }
 
 impl Entry {
-    /// Whether a dictionary has an entry for it.
+    /// Whether a dictionary has an entry for the symbol.
     fn is_described(&self, name: &[u8]) -> bool {
         let is_nothing =
             self.kind == elf::STT_OBJECT && self.section == elf::SHN_ABS && self.address == 0;
@@ -125,7 +128,7 @@ impl Entry {
 
     fn symbol<'a>(&self, number: u32, name: &'a [u8], source: &'a [u8]) -> ProgramSymbol<'a> {
         let is_local = self.bind == elf::STB_LOCAL;
-        // What has external linkage in C may be local in a linked file.
+        // A symbol with external linkage in C may be local in a linked file.
         let is_hidden = matches!(self.other & 3, elf::STV_INTERNAL | elf::STV_HIDDEN);
         ProgramSymbol {
             number,
@@ -140,7 +143,7 @@ impl Entry {
     }
 }
 
-/// As many entries of a table as are whole.
+/// The entries of a table that are complete.
 fn entries_of<F: FileHeader<Endian = Endianness>>(bytes: &[u8]) -> Result<Vec<Entry>> {
     let endian = Endianness::Little;
     let count = bytes.len() / size_of::<F::Sym>();

@@ -1,5 +1,5 @@
-//! Classes of C++ and types of Rust, as far as a struct of C tells them: their sizes, data members
-//! and bases, and where these are. What C has no form for is told as a loss.
+//! Classes of C++ and types of Rust, as structs of C: their sizes, data members and bases, with the
+//! offsets of these. What C cannot express is recorded as a loss.
 
 use crate::dwarf::types::{is_of_class, location, natural, size, Reader};
 use crate::dwarf::units::Entry;
@@ -23,7 +23,7 @@ const OF_MEMBER: &str =
                          stands in its place";
 
 impl<'d, 'a> Reader<'d, 'a> {
-    /// Reads what is other than in C of a type that C++ or Rust has; whether that is all of it.
+    /// Reads a type of C++ or Rust that C does not have. Returns whether the record is complete.
     pub(super) fn read_beyond_c(
         &mut self,
         entry: &Entry<'d, 'a>,
@@ -49,7 +49,7 @@ impl<'d, 'a> Reader<'d, 'a> {
                 made.size = if is_function { 2 * pointer } else { pointer };
             }
             dw::DW_TAG_base_type if size(entry)? == Some(0) => {
-                // The types of Rust that have one value, or none.
+                // Types of Rust with one value, or none.
                 made.kind = Kind::Struct;
                 made.tag = Kind::Struct;
             }
@@ -58,7 +58,7 @@ impl<'d, 'a> Reader<'d, 'a> {
         Ok(true)
     }
 
-    /// The data members of a class, and its bases, each under its own name.
+    /// The data members of a class, and its bases as members with the names of their classes.
     fn class_members(&mut self, entry: &Entry<'d, 'a>) -> Result<Box<[Member<'a>]>> {
         let mut made = Vec::new();
         let mut lost = Vec::new();

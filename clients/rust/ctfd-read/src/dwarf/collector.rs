@@ -1,4 +1,4 @@
-//! All units of a program: read many at a time, and joined one after the other in their order.
+//! Reads all units of a program, many at a time, and joins them in order.
 
 use crate::descriptions::{Descriptions, SymbolFilter};
 use crate::dwarf::groups::groups;
@@ -21,9 +21,9 @@ use std::collections::{BTreeMap, HashMap, HashSet};
 use std::ops::Range;
 use std::sync::atomic::{AtomicUsize, Ordering};
 
-/// How often all is read: again where a tag turned out to have several definitions.
+/// How many times everything is read at most: again if a tag turns out to have several definitions.
 const MOST_ROUNDS: usize = 3;
-/// Files with fewer bytes of entries are read in less time than it takes to find their tags first.
+/// Files with fewer bytes of entries than this are read faster than their tags could be found.
 const WORTH_TAGS: usize = 1 << 24;
 
 enum Outcome<'a> {
@@ -32,7 +32,7 @@ enum Outcome<'a> {
     Nothing,
 }
 
-/// What all units told so far.
+/// The types and symbols of all units so far.
 #[derive(Default)]
 pub struct Collector<'a> {
     joiner: Joiner<'a>,
@@ -43,7 +43,7 @@ pub struct Collector<'a> {
     foreign: BTreeMap<String, usize>,
 }
 
-/// What some units told, joined.
+/// The joined types and symbols of some units.
 struct Group<'a> {
     piece: Piece<'a>,
     conflicts: HashSet<u64>,
@@ -52,7 +52,7 @@ struct Group<'a> {
     foreign: Vec<DwLang>,
 }
 
-/// Reads all units of some files, each with the name that a refusal has in front.
+/// Reads all units of some files; each file has the name that errors begin with.
 pub fn collect<'a>(
     files: &[(Debug<'a>, String)],
     filter: &SymbolFilter<'_>,
@@ -80,8 +80,8 @@ pub fn collect<'a>(
     refuse("its types can't be distinguished")
 }
 
-/// Refuses a dictionary that does not tell what the units of some files do; how many types of theirs
-/// were compared.
+/// Refuses dictionaries that differ from the types in the units of some files. Returns the number
+/// of types compared.
 pub fn verify(
     files: &[(Debug<'_>, String)],
     is_ilp32: bool,
@@ -106,7 +106,7 @@ pub fn verify(
 }
 
 impl<'a> Collector<'a> {
-    /// Reads all units of a program: many at a time, joined one after the other in their order.
+    /// Reads all units of a file, many at a time, and joins them in order.
     fn read(
         &mut self,
         debug: &Debug<'a>,
@@ -150,7 +150,7 @@ impl<'a> Collector<'a> {
         told.into_iter().for_each(|told| self.symbols.tell(told));
     }
 
-    /// The table, with what is told of symbols, and the types that are wanted for themselves.
+    /// The table with all types and the types of symbols, and the numbers of the named types.
     pub fn finish(
         self,
         wanted: &Symbols<'_>,
@@ -192,8 +192,8 @@ impl<'a> Collector<'a> {
 }
 
 impl<'a> Group<'a> {
-    /// Reads some units and joins them, in the thread that reads them: what is left of each is freed
-    /// where it was made.
+    /// Reads some units and joins them in the same thread, so that the rest of each unit is freed
+    /// by the thread that allocated it.
     fn read(
         numbers: Range<usize>,
         read: impl Fn(usize, &JoinedEntries) -> Result<Outcome<'a>>,
@@ -225,7 +225,7 @@ impl<'a> Group<'a> {
         Ok(Group { piece, conflicts, unit_types: all.with_numbers(&to), units, foreign })
     }
 
-    /// What a single unit told, as it is: it is joined but once, with those before it.
+    /// The group of a single unit, which needs no joining of its own.
     fn of_unit(outcome: Outcome<'a>, tags: &SingleTags) -> Group<'a> {
         let (unit, foreign) = match outcome {
             Outcome::Nothing => (None, Vec::new()),
@@ -239,7 +239,7 @@ impl<'a> Group<'a> {
     }
 }
 
-/// What a unit tells, and the units that it imports.
+/// Reads a unit and the units that it imports.
 fn read_unit<'a>(
     debug: &Debug<'a>,
     number: usize,
@@ -268,7 +268,7 @@ fn read_unit<'a>(
     Ok(Outcome::OfC(reader.unit_types))
 }
 
-/// How a language is called.
+/// The name of a language.
 fn language_name(language: DwLang) -> String {
     let name = match language.0 {
         0x16 => "Go",

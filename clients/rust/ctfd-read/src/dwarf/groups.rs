@@ -1,26 +1,26 @@
-//! How the units of a program are divided among threads.
+//! Divides the units of a program among threads.
 //!
-//! What is joined in one thread need not be joined one after the other with what others read, so
-//! groups are large, and those at the end smaller: then all threads end at about the same time. A
-//! unit as large as a group is one by itself. They depend on the program alone, not on the number of
-//! threads.
+//! The units of a group are joined in one thread, and groups are joined one after another, so
+//! groups are large. Those at the end are smaller, so that all threads end at about the same time.
+//! A unit that is as large as a group has a group to itself. The groups depend only on the program,
+//! not on the number of threads.
 
 use crate::dwarf::units::Debug;
 use std::ops::Range;
 
-/// How many units a group has at most.
+/// The most units of a group.
 const MOST_UNITS: usize = 16;
-/// Which part of the bytes that are left one group has at most, but for small groups.
+/// A group gets units until it has this part, an eighth, of the remaining bytes.
 const SHARE: u64 = 8;
-/// A group of fewer bytes gets a further unit.
+/// A group with fewer bytes than these gets another unit.
 const LEAST_BYTES: u64 = 1 << 17;
 
-/// The numbers of the units in each group.
+/// The groups, as ranges of unit numbers.
 pub(super) fn groups(debug: &Debug<'_>) -> Vec<Range<usize>> {
     of_bytes(&(0..debug.units()).map(|number| debug.unit_bytes(number)).collect::<Vec<_>>())
 }
 
-/// The same, by the bytes of each unit.
+/// The groups, from the size of each unit in bytes.
 fn of_bytes(bytes: &[u64]) -> Vec<Range<usize>> {
     let mut left: u64 = bytes.iter().sum();
     let (mut made, mut begin) = (Vec::new(), 0);

@@ -1,4 +1,4 @@
-//! The units that dwz made of what several have in common, and which unit imports each first.
+//! The partial units that dwz made of what several units share, and which unit imports each first.
 
 use crate::dwarf::units::{Debug, Entry, Unit};
 use crate::error::Result;
@@ -6,7 +6,8 @@ use gimli::constants as dw;
 use rayon::prelude::*;
 use std::collections::{HashMap, HashSet};
 
-/// For each unit those that dwz made of what several have in common, and that it imports first.
+/// For each unit the partial units that it imports before any other unit does; all by their
+/// offsets.
 pub(super) fn imports(debug: &Debug<'_>) -> Result<HashMap<u64, Vec<u64>>> {
     let numbers = 0..debug.units();
     let mut made = HashMap::new();
@@ -45,7 +46,7 @@ pub(super) fn imports(debug: &Debug<'_>) -> Result<HashMap<u64, Vec<u64>>> {
     Ok(made)
 }
 
-/// The units that one imports.
+/// The offsets of the units that a unit imports.
 fn imported_units<'a>(debug: &Debug<'a>, unit: &Unit<'a>) -> Result<Vec<u64>> {
     let mut made = Vec::new();
     let top = Entry::top(unit)?;

@@ -1,13 +1,13 @@
-//! What many threads make and one after the other is taken in, in the order of its places.
+//! A queue: many threads make its items, which are taken one after another in order.
 
 use crate::error::{Error, Result};
 use std::collections::BTreeMap;
 use std::sync::{Condvar, Mutex, MutexGuard, PoisonError};
 
-/// How far a thread goes ahead of what is taken in.
+/// How many places a thread may be ahead of the next item to be taken.
 pub(super) const MOST_AHEAD: usize = 16;
 
-/// A line of things, each of which `take` takes in its turn, in whichever thread has the time.
+/// A queue of items. Whichever thread is free passes them to `take`, in order.
 pub(super) struct Line<T, F> {
     waiting: Mutex<Waiting<T>>,
     has_moved: Condvar,
@@ -18,7 +18,7 @@ struct Waiting<T> {
     by_place: BTreeMap<usize, Result<T>>,
     next: usize,
     is_taken: bool,
-    /// What the first thing in the line is that failed.
+    /// The error of the first item that failed.
     failed: Option<Error>,
 }
 
@@ -28,8 +28,8 @@ impl<T, F: FnMut(T)> Line<T, F> {
         Line { waiting: Mutex::new(waiting), has_moved: Condvar::new(), take: Mutex::new(take) }
     }
 
-    /// Makes what stands at a place in the line, and takes in what has its turn. Waits where it is
-    /// far ahead of that. Whether more is wanted.
+    /// Makes the item at a place in the line, and passes on the items whose turn it is. Waits if
+    /// the place is far ahead of these. Returns whether more items are wanted.
     pub fn put(&self, place: usize, make: impl FnOnce() -> Result<T>) -> bool {
         let _leaving = Leaving(self);
         let made = make();
@@ -45,7 +45,7 @@ impl<T, F: FnMut(T)> Line<T, F> {
         waited.unwrap_or_else(PoisonError::into_inner).failed.is_none()
     }
 
-    /// Takes in what has its turn, while others go on to put more into the line.
+    /// Takes all items whose turn it is, while other threads may add more.
     fn take_all<'l>(
         &'l self,
         mut waiting: MutexGuard<'l, Waiting<T>>,
@@ -70,14 +70,14 @@ impl<T, F: FnMut(T)> Line<T, F> {
         waiting
     }
 
-    /// Whether all went well.
+    /// The first error, if any item failed.
     pub fn finish(self) -> Result<()> {
         let waiting = self.waiting.into_inner().unwrap_or_else(PoisonError::into_inner);
         waiting.failed.map_or(Ok(()), Err)
     }
 }
 
-/// Lets nobody wait for what a thread that panics would have made.
+/// A guard that wakes the waiting threads if the thread that makes an item panics.
 struct Leaving<'l, T, F>(&'l Line<T, F>);
 
 impl<T, F> Drop for Leaving<'_, T, F> {

@@ -1,4 +1,4 @@
-//! Debug information in DWARF, of versions 2 to 5.
+//! Debug information in DWARF, versions 2 to 5.
 
 mod classes;
 pub mod collector;

@@ -1,4 +1,4 @@
-//! What types of C++ and Rust are called: by the namespaces and classes that they stand in.
+//! Names of types of C++ and Rust, with their namespaces and classes.
 
 use crate::dwarf::units::{Debug, Entry, Unit};
 use crate::error::Result;
@@ -9,20 +9,20 @@ use std::collections::HashMap;
 use std::hash::BuildHasherDefault;
 
 const NO_NAMESPACE: &[u8] = b"(anonymous namespace)";
-/// A prefix that is longer is cut off: names of templates that stand in each other double.
+/// Longer prefixes are truncated: the names of nested templates double in length.
 const LONGEST: usize = 1 << 12;
 
-/// The languages of which types are read.
+/// The languages whose types are read.
 #[derive(Clone, Copy, Debug, PartialEq, Eq)]
 pub enum Language {
     /// C.
     C,
-    /// C++ or Rust, whose types stand in namespaces and classes.
+    /// C++ or Rust, whose types are in namespaces and classes.
     Scoped,
 }
 
 impl Language {
-    /// That of a number in a unit; None where its types are not read.
+    /// The language with a number in DWARF; `None` if its types are not read.
     pub fn of(language: gimli::DwLang) -> Option<Language> {
         match language.0 {
             0x01 | 0x02 | 0x0c | 0x12 | 0x1d | 0x2c | 0x3e => Some(Language::C),
@@ -31,14 +31,14 @@ impl Language {
         }
     }
 
-    /// That of a unit; C where it says none.
+    /// The language of a unit; C if it names none.
     pub fn of_unit(unit: &Unit<'_>) -> Result<Option<Language>> {
         let said = Entry::top(unit)?.constant(dw::DW_AT_language);
         Ok(said.map_or(Some(Language::C), |said| Language::of(gimli::DwLang(said as u16))))
     }
 }
 
-/// For each type of a unit what its name has in front.
+/// For each type of a unit, the prefix of its name.
 #[derive(Default)]
 pub struct Prefixes {
     known: Vec<Vec<u8>>,
@@ -46,7 +46,7 @@ pub struct Prefixes {
 }
 
 impl Prefixes {
-    /// Those of a unit.
+    /// The prefixes of the types of a unit.
     pub fn of<'a>(debug: &Debug<'a>, unit: &Unit<'a>) -> Result<Prefixes> {
         let mut made = Prefixes { known: vec![Vec::new()], ..Prefixes::default() };
         let mut outer = Vec::new();
@@ -72,7 +72,7 @@ impl Prefixes {
                     _ if is_scope(tag) => {
                         let entry = Entry::read(unit, offset)?;
                         match &*made.full_name(debug, &entry)? {
-                            b"" => prefix, // one without a name adds nothing to others
+                            b"" => prefix, // an entry without a name adds nothing
                             name => made.add(name),
                         }
                     }
@@ -89,11 +89,11 @@ impl Prefixes {
         self.known.len() - 1
     }
 
-    /// The name of an entry of the unit with all that it stands in.
+    /// The name of an entry of the unit, with its namespaces and classes.
     pub fn full_name<'a>(&self, debug: &Debug<'a>, entry: &Entry<'_, 'a>) -> Result<Cow<'a, [u8]>> {
         let mut name = debug.name(entry)?;
         let mut offset = entry.offset;
-        // A class that is defined outside of what declares it is called as it is there.
+        // A class that is defined outside of its declaration has the name of the declaration.
         let declared = debug.target(entry, dw::DW_AT_specification)?;
         if let Some(declared) = declared.filter(|one| one.unit.start == entry.unit.start) {
             name = debug.name(&declared)?;
@@ -115,7 +115,7 @@ impl Prefixes {
     }
 }
 
-/// Whether what stands in an entry is called by it.
+/// Whether an entry gives a prefix to the names of the entries in it.
 pub fn is_scope(tag: DwTag) -> bool {
     matches!(
         tag,

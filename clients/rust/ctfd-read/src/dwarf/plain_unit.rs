@@ -1,12 +1,12 @@
-//! A unit of debug information as far as its types and symbols need it: without its lines, whose
-//! tables of files take longer to read than many a unit does.
+//! A unit of debug information, without its line table, which takes longer to read than many a unit
+//! does: types and symbols do not need it.
 
 use crate::dwarf::units::Slice;
 use gimli::{constants as dw, Attribute, AttributeValue, DebugAddrBase, DebugLocListsBase};
 use gimli::{DebugRngListsBase, DebugStrOffsetsBase, Dwarf, Result, Unit, UnitHeader, UnitType};
 use std::sync::Arc;
 
-/// The unit of a header, which has the bases by which its attributes are read.
+/// The unit of a header, with the bases by which its attributes are read.
 pub(super) fn plain_unit<'a>(
     dwarf: &Dwarf<Slice<'a>>,
     header: UnitHeader<Slice<'a>>,
@@ -28,7 +28,7 @@ pub(super) fn plain_unit<'a>(
     Ok(unit)
 }
 
-/// The same before its entry is read.
+/// A unit whose first entry is not read yet.
 fn bare_unit<'a>(
     dwarf: &Dwarf<Slice<'a>>,
     header: UnitHeader<Slice<'a>>,
@@ -52,7 +52,7 @@ fn bare_unit<'a>(
     })
 }
 
-/// Takes an attribute in that says where the unit's part of a section begins.
+/// Stores an attribute that gives the base of the unit's part of a section.
 fn take_base<'a>(unit: &mut Unit<Slice<'a>>, attribute: &Attribute<Slice<'a>>) {
     match attribute.value() {
         AttributeValue::DebugStrOffsetsBase(base) => unit.str_offsets_base = base,

@@ -1,8 +1,8 @@
-//! What stands in a unit, in its functions and in the blocks of these.
+//! The entries of a unit, of its functions, and of their blocks.
 //!
-//! A unit that is most of a program is gone through by several threads, each from an entry on that
-//! stands in the unit itself: siblings lead there. Where a thread does not come to just the entry
-//! that the next began with, siblings are wrong, and one thread goes through all.
+//! Several threads walk a unit that is most of a program, each from another entry at the top level;
+//! attributes of siblings lead to these. If a thread does not arrive at the entry where the next
+//! one began, the siblings are wrong, and one thread walks the whole unit.
 
 use crate::dwarf::names::{self, Language};
 use crate::dwarf::units::{behind, entries_behind, Unit};
@@ -10,24 +10,24 @@ use crate::error::Result;
 use gimli::{constants as dw, Abbreviation, AttributeValue, DwAt, DwForm, DwTag, UnitOffset};
 use rayon::prelude::*;
 
-/// What stands in a unit, function or block that begins at an offset.
+/// The entries of a unit, function or block that begins at an offset.
 pub struct Scope {
     pub offset: UnitOffset,
     pub entries: Vec<Listed>,
-    /// Whether it is a class, whose functions and objects are told elsewhere.
+    /// Whether it is a class, whose functions and objects are described elsewhere.
     is_class: bool,
 }
 
-/// An entry: where it begins, and its tag.
+/// An entry: its offset and its tag.
 pub struct Listed {
     pub offset: UnitOffset,
     pub tag: DwTag,
-    /// Where the type of an argument begins, if it says that and is in the same unit; else 0.
+    /// The offset of an argument's type, if it is in the same unit; else 0.
     of: u32,
 }
 
 impl Listed {
-    /// Where the type of an argument begins; None where its entry has to be read for that.
+    /// The offset of an argument's type; `None` if its entry has to be read for that.
     pub fn type_offset(&self) -> Option<UnitOffset> {
         (self.of != 0).then_some(UnitOffset(self.of as usize))
     }
@@ -40,9 +40,9 @@ impl Scope {
     }
 }
 
-/// What stands in the unit itself, its functions and the blocks of these, in order of their
-/// beginnings: types that are looked up by name, objects, functions, arguments. In C++ and Rust
-/// namespaces and classes have such too. At most so many threads go through it.
+/// The entries of the unit, its functions and their blocks, ordered by where these begin: types
+/// that are looked up by name, objects, functions and arguments. In C++ and Rust also those of
+/// namespaces and classes. At most `threads` threads walk the unit.
 pub fn scopes(unit: &Unit<'_>, language: Language, threads: usize) -> Result<Vec<Scope>> {
     let mut raw = unit.inner.entries_raw(None)?;
     let offset = raw.next_offset();
@@ -62,8 +62,8 @@ pub fn scopes(unit: &Unit<'_>, language: Language, threads: usize) -> Result<Vec
     Ok(walk(first, None)?.unwrap_or_default())
 }
 
-/// Entries of the unit itself, about as far from each other, at which threads begin: the first, and
-/// further ones.
+/// Entries at the top level at about equal distances, at which threads begin; the first entry is
+/// one of them.
 fn beginnings(unit: &Unit<'_>, first: UnitOffset, threads: usize) -> Vec<UnitOffset> {
     let (mut made, mut last) = (vec![first], first);
     let step = unit.bytes() / threads.max(1);
@@ -90,7 +90,8 @@ fn beginnings(unit: &Unit<'_>, first: UnitOffset, threads: usize) -> Vec<UnitOff
     made
 }
 
-/// What threads find that begin at these entries; None where one does not end where the next began.
+/// Walks in parallel from each of these entries, and joins the scopes found; `None` if a walk does
+/// not end where the next began.
 fn in_pieces(
     starts: &[UnitOffset],
     walk: impl Fn(UnitOffset, Option<UnitOffset>) -> Result<Option<Vec<Scope>>> + Sync,
@@ -110,14 +111,14 @@ fn in_pieces(
     Ok(Some(made))
 }
 
-/// A way through entries of a unit, and the scopes on it.
+/// A walk through entries of a unit, with the scopes found.
 struct Walk<'u, 'a> {
     unit: &'u Unit<'a>,
     is_scoped: bool,
     made: Vec<Scope>,
-    /// Those around `inner`.
+    /// The scopes around `inner`.
     outer: Vec<Option<usize>>,
-    /// The scope that the next entry is in; None within what is no scope.
+    /// The scope of the next entry; `None` within an entry that is no scope.
     inner: Option<usize>,
 }
 
@@ -127,8 +128,8 @@ impl<'u, 'a> Walk<'u, 'a> {
         Walk { unit, is_scoped, made: vec![whole], outer: Vec::new(), inner: Some(0) }
     }
 
-    /// Goes from an entry of the unit itself to the end, or just to another; None where it doesn't
-    /// come there.
+    /// Walks from an entry at the top level to the end of the unit, or to `until`; `None` if it
+    /// does not arrive there.
     fn through(
         mut self,
         from: UnitOffset,
@@ -154,8 +155,8 @@ impl<'u, 'a> Walk<'u, 'a> {
         Ok(until.is_none().then_some(self.made))
     }
 
-    /// Reads over the attributes of an entry, and keeps it where it can be wanted. Where to go on if
-    /// what is in it is left out.
+    /// Skips the attributes of an entry, and lists the entry if it may be needed. Returns the
+    /// offset of its sibling if its children are skipped.
     fn pass(
         &mut self,
         offset: UnitOffset,
@@ -192,8 +193,8 @@ impl<'u, 'a> Walk<'u, 'a> {
 
 type Entries<'u, 'a> = gimli::EntriesRaw<'u, 'u, crate::dwarf::units::Slice<'a>>;
 
-/// The place, among the attributes of a shape, of the location by which alone a variable tells
-/// whether it is an object.
+/// The index, among the attributes of a shape, of the location that decides whether a variable is
+/// an object; `None` if something else decides.
 fn location_of_local(shape: &Abbreviation) -> Option<usize> {
     if shape.tag() != dw::DW_TAG_variable || shape.has_children() {
         return None;
@@ -211,7 +212,8 @@ fn location_of_local(shape: &Abbreviation) -> Option<usize> {
     found
 }
 
-/// Reads over attributes, of which that at a place is a location: whether it begins with an address.
+/// Skips attributes, of which the one at an index is a location. Returns whether the location
+/// begins with an address.
 fn has_address(shape: &Abbreviation, place: usize, raw: &mut Entries<'_, '_>) -> Result<bool> {
     let specs = shape.attributes();
     raw.skip_attributes(&specs[..place])?;
@@ -227,7 +229,7 @@ fn has_address(shape: &Abbreviation, place: usize, raw: &mut Entries<'_, '_>) ->
     }))
 }
 
-/// The place, among the attributes of a shape, of the type of an argument that has nothing in it.
+/// The index, among the attributes of a shape, of the type of an argument without children.
 fn type_of_argument(shape: &Abbreviation) -> Option<usize> {
     if shape.tag() != dw::DW_TAG_formal_parameter || shape.has_children() {
         return None;
@@ -235,7 +237,8 @@ fn type_of_argument(shape: &Abbreviation) -> Option<usize> {
     shape.attributes().iter().position(|one| one.name() == dw::DW_AT_type)
 }
 
-/// Reads over attributes, of which that at a place is a type: where that begins in the unit, or 0.
+/// Skips attributes, of which the one at an index is a type. Returns the offset of the type in the
+/// unit; 0 if it is elsewhere.
 fn argument_type(shape: &Abbreviation, place: usize, raw: &mut Entries<'_, '_>) -> Result<u32> {
     let specs = shape.attributes();
     raw.skip_attributes(&specs[..place])?;
@@ -247,7 +250,7 @@ fn argument_type(shape: &Abbreviation, place: usize, raw: &mut Entries<'_, '_>) 
     })
 }
 
-/// Whether entries of a shape can be wanted: of variables those that may be objects, of enums those
+/// Whether entries of a shape may be needed: of variables those that may be objects, of enums those
 /// that name something.
 fn is_listed(shape: &Abbreviation, is_in_class: bool) -> bool {
     let form =

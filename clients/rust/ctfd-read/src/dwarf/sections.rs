@@ -1,5 +1,5 @@
-//! The sections of debug information: of a program, of the common file that dwz made, and of the
-//! .dwo files, or the packages of these, that `-gsplit-dwarf` leaves the greater part in.
+//! The sections of debug information: those of a program, of the common file that dwz made, and of
+//! the .dwo files or packages in which `-gsplit-dwarf` leaves most of it.
 
 use crate::dwarf::plain_unit::plain_unit;
 use crate::dwarf::units::Slice;
@@ -12,46 +12,46 @@ use std::borrow::Cow;
 use std::collections::HashMap;
 use std::path::{Path, PathBuf};
 
-/// The sections of a file, borrow_all where they are not compressed.
+/// The sections of a file, borrowed unless they are compressed.
 pub type OwnedSections<'a> = gimli::Dwarf<Cow<'a, [u8]>>;
 
-/// A unit that stands for another in a .dwo file has one entry: longer ones are none.
+/// A skeleton unit, which stands for one in a .dwo file, has only one entry: longer units are none.
 const LONGEST_SKELETON: usize = 4096;
 
 /// The sections of a program, of dwz's common file if there is one, and of .dwo files.
 pub struct Sections<'a> {
-    /// Those of the program.
+    /// The program's sections.
     pub main: OwnedSections<'a>,
-    /// Those of dwz's common file.
+    /// The sections of dwz's common file.
     pub common: Option<OwnedSections<'a>>,
     /// The byte order of all of them.
     pub endian: RunTimeEndian,
-    /// Those of .dwo files and packages.
+    /// The .dwo files and packages.
     pub splits: Vec<Split>,
-    /// By the offset of a unit that stands for another, which that is.
+    /// The skeleton units, by offset.
     pub skeletons: HashMap<u64, Skeleton>,
 }
 
-/// A unit that stands for one in a .dwo file.
+/// A skeleton unit: it stands for a unit in a .dwo file.
 pub struct Skeleton {
-    /// The place of the file among all.
+    /// The index of the .dwo file in `splits`.
     pub split: usize,
-    /// What tells the unit in it.
+    /// The identifier of the unit in that file.
     pub id: DwoId,
-    /// The name of the file, as the unit has it.
+    /// The file's name, as in the skeleton unit.
     pub name: String,
 }
 
-/// A .dwo file, or a package of such.
+/// A .dwo file, or a package of them.
 pub struct Split {
-    /// Where it is.
+    /// The path of the file.
     pub path: PathBuf,
     data: HashMap<&'static str, Vec<u8>>,
     is_package: bool,
     endian: RunTimeEndian,
 }
 
-/// The sections as gimli reads them.
+/// The sections, in the form that gimli reads.
 pub fn borrow_all<'a>(
     sections: &'a OwnedSections<'a>,
     endian: RunTimeEndian,
@@ -60,8 +60,8 @@ pub fn borrow_all<'a>(
 }
 
 impl<'a> Sections<'a> {
-    /// Those of a file, and of the others that it names: dwz's, which is looked for beside it and in
-    /// some folders, and .dwo files. The tables of lines are among them where they are wanted.
+    /// Loads the sections of a file and of those that it names: dwz's common file, which is looked
+    /// for beside it and in `folders`, and .dwo files. Line tables are included if `has_lines`.
     pub fn load(image: &'a Image, folders: &[PathBuf], has_lines: bool) -> Result<Self> {
         let file = image.elf()?;
         let mut needed = needed_of(image, &file, has_lines);
@@ -88,12 +88,12 @@ impl<'a> Sections<'a> {
         Ok(sections)
     }
 
-    /// Whether some of it is in other files.
+    /// Whether other files have parts of the debug information.
     pub fn goes_on(&self) -> bool {
         self.common.is_some() || !self.splits.is_empty()
     }
 
-    /// The place of the .dwo file of a unit, or of the package that has it.
+    /// The index of the .dwo file of a unit, or of the package that has it.
     fn split_of(
         &mut self,
         image: &Image,
@@ -142,8 +142,8 @@ const NEEDED: [SectionId; 9] = [
     SectionId::DebugTypes,
 ];
 
-/// These of a file, and its lines where they are wanted; the first in gimli's order that can't be
-/// had refuses it.
+/// The needed sections of a file, and its lines if they are wanted. If some can't be read, the
+/// first in gimli's order gives the error.
 fn needed_of<'a>(
     image: &'a Image,
     file: &Elf<'a>,
@@ -158,14 +158,14 @@ fn needed_of<'a>(
     made
 }
 
-/// What a unit says of the .dwo file that it stands for.
+/// The path and the ID of a .dwo file, as its skeleton unit has them.
 struct DwoName {
     name: String,
     folder: String,
     id: DwoId,
 }
 
-/// The units of a program that stand for others, by their offsets.
+/// The skeleton units of a program, with their offsets.
 fn named_splits(dwarf: &gimli::Dwarf<Slice<'_>>) -> Result<Vec<(u64, DwoName)>> {
     let mut found = Vec::new();
     let mut units = dwarf.units();
@@ -200,7 +200,7 @@ fn named_splits(dwarf: &gimli::Dwarf<Slice<'_>>) -> Result<Vec<(u64, DwoName)>> 
     Ok(found)
 }
 
-/// What tells a unit that is divided: its header has it, or, before DWARF 5, its entry.
+/// The identifier of a split unit: from its header or, before DWARF 5, its first entry.
 pub fn dwo_id<'a>(
     dwarf: &gimli::Dwarf<Slice<'a>>,
     header: &UnitHeader<Slice<'a>>,
@@ -236,13 +236,13 @@ const SPLIT: [SectionId; 13] = [
     SectionId::DebugTypes,
 ];
 
-/// Whether the index of a package lists something: GNU's dwp writes one of no slots too.
+/// Whether the index of a package lists anything: GNU's dwp also writes one without slots.
 fn has_slots(index: &[u8]) -> bool {
     index.get(12..16).is_some_and(|slots| slots != [0; 4])
 }
 
 impl Split {
-    /// The sections of a file that another names; None where it is not there, or is no ELF file.
+    /// Loads a file that another names; `None` if it does not exist or is no ELF file.
     fn load(path: &Path) -> Result<Option<Split>> {
         let Some(image) = Image::open_linked(path) else { return Ok(None) };
         let Ok(file) = image.elf() else { return Ok(None) };
@@ -262,8 +262,8 @@ impl Split {
         Ok(EndianSlice::new(data.map_or(&[][..], Vec::as_slice), self.endian))
     }
 
-    /// The parts of it that a unit is in: all of a .dwo file; of a package the unit's own, and with
-    /// the first unit all type units.
+    /// The parts of the file that have a unit: all of a .dwo file; of a package the unit's own part
+    /// and, if `has_types`, all type units.
     pub fn parts<'a>(
         &'a self,
         main: &gimli::Dwarf<Slice<'a>>,

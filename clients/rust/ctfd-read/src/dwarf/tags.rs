@@ -1,8 +1,8 @@
-//! Which tags of a program have a single definition, found before its types are read.
+//! Finds the tags of a program with a single definition, before its types are read.
 //!
-//! A unit that only declares such a tag is then joined with those that define it at once. What is
-//! compared here is only the size and the line of each definition: `join` compares them in full, and
-//! names the tags that turn out to have several.
+//! A unit that only declares such a tag can be joined at once with those that define it. This
+//! module compares only the size and the line of each definition; `join` compares definitions in
+//! full, and gives the tags that turn out to have several.
 
 use crate::dwarf::names::{Language, Prefixes};
 use crate::dwarf::scopes::scopes;
@@ -19,7 +19,7 @@ type Definitions = HashMap<u64, Definition, BuildHasherDefault<NumberHasher>>;
 /// The size and the line of a definition.
 type Definition = (i128, i128);
 
-/// Stands for a tag whose definitions differ.
+/// The mark of a tag whose definitions differ.
 const SEVERAL: Definition = (-1, -1);
 
 /// The tags with a single definition, by their keys.
@@ -29,7 +29,8 @@ pub struct SingleTags {
 }
 
 impl SingleTags {
-    /// Those of some files together. What can't be read is left out: reading its types refuses it.
+    /// The tags of some files together. Units that can't be read are skipped: reading their types
+    /// reports the error.
     pub fn of<'d, 'a: 'd>(files: impl IntoIterator<Item = &'d Debug<'a>>) -> SingleTags {
         let mut all = Definitions::default();
         for debug in files {
@@ -46,7 +47,7 @@ impl SingleTags {
         SingleTags { keys: single.map(|(key, _)| key).collect() }
     }
 
-    /// The key of a type's tag; 0 where it has none, or one with several definitions.
+    /// The key of a type's tag; 0 if it has none, or one with several definitions.
     pub fn key(&self, record: &Record<'_>) -> u64 {
         let is_of_tag =
             record.kind.is_aggregate() || matches!(record.kind, Kind::Enum | Kind::Forward);
@@ -61,19 +62,19 @@ impl SingleTags {
         }
     }
 
-    /// Leaves tags out.
+    /// Removes tags.
     pub fn remove(&mut self, keys: impl IntoIterator<Item = u64>) {
         for key in keys {
             self.keys.remove(&key);
         }
     }
 
-    /// Leaves all out.
+    /// Removes all tags.
     pub fn clear(&mut self) {
         self.keys.clear();
     }
 
-    /// Some structs.
+    /// Tags of structs, for tests.
     #[cfg(test)]
     pub fn of_structs(names: &[&str]) -> SingleTags {
         let keys = names.iter().map(|name| tag_key(Kind::Struct, name.as_bytes())).collect();
@@ -81,7 +82,7 @@ impl SingleTags {
     }
 }
 
-/// What stands for a tag in tables.
+/// The key of a tag.
 fn tag_key(kind: Kind, name: &[u8]) -> u64 {
     let mut hasher = ahash::AHasher::new_with_keys(3, 4);
     (kind, name).hash(&mut hasher);
@@ -103,7 +104,7 @@ fn add_one(made: &mut Definitions, key: u64, definition: Definition) {
     }
 }
 
-/// The definitions in a unit and its functions.
+/// Adds the definitions in a unit and its functions.
 fn add<'a>(debug: &Debug<'a>, unit: &Unit<'a>, made: &mut Definitions) -> crate::error::Result<()> {
     let Some(language) = Language::of_unit(unit)? else { return Ok(()) };
     let prefixes = match language {

@@ -1,4 +1,4 @@
-//! The types of C in a program's debug information, as a table.
+//! Reads the types of C in a program's debug information, as a table.
 
 use crate::descriptions::{Description, Signature, Statement, SymbolFilter};
 use crate::dwarf::names::{Language, Prefixes};
@@ -15,7 +15,8 @@ use std::collections::HashMap;
 use std::hash::BuildHasherDefault;
 use std::rc::Rc;
 
-/// A declaration, an abstract function and a copy of it are three; damage may form a cycle.
+/// A chain has at most three entries: a declaration, an abstract function and a copy of it. Damage
+/// may form a cycle.
 const LONGEST_CHAIN: usize = 16;
 const LONGEST_TYPE: usize = 512;
 
@@ -23,25 +24,26 @@ const SIGNED: u8 = 1;
 const CHARACTER: u8 = 2;
 const BOOLEAN: u8 = 4;
 
-/// Reads one unit, with those that it imports. An entry has a number from when it is first named.
+/// A reader of one unit, and of the units that it imports. An entry gets its number when it is
+/// first referred to.
 pub(super) struct Reader<'d, 'a> {
     pub(super) debug: &'d Debug<'a>,
     asked: &'d SymbolFilter<'d>,
     is_ilp32: bool,
-    /// What was read for units before it.
+    /// The entries that were read for earlier units.
     joined: &'d JoinedEntries,
-    /// The start of the unit that is read.
+    /// The start of the unit.
     start: u64,
     pub(super) unit_types: UnitTypes<'a>,
-    /// The key of the entry of which a record is made.
+    /// The key of the entry that is being read.
     entry: u64,
     numbers: HashMap<u64, u32, BuildHasherDefault<NumberHasher>>,
     todo: Vec<(&'d Unit<'a>, UnitOffset, u32)>,
     index: u32,
-    /// Room for the parts of a type, until their number is known.
+    /// Buffers for the parts of a type, until their number is known.
     members: Vec<Member<'a>>,
     enumerators: Vec<Enumerator<'a>>,
-    /// For each unit that types were read from what their names have in front; None in C.
+    /// For each unit with types, the prefixes of their names; `None` in C.
     prefixes: HashMap<u64, Option<Rc<Prefixes>>, BuildHasherDefault<NumberHasher>>,
 }
 
@@ -71,7 +73,7 @@ impl<'d, 'a> Reader<'d, 'a> {
         }
     }
 
-    /// The types, functions and objects in a unit and in its functions.
+    /// Reads the types, functions and objects in a unit and in its functions.
     pub(super) fn unit(&mut self, unit: &'d Unit<'a>) -> Result<()> {
         let is_scoped = self.prefixes(unit)?.is_some();
         let language = if is_scoped { Language::Scoped } else { Language::C };
@@ -94,7 +96,7 @@ impl<'d, 'a> Reader<'d, 'a> {
         self.finish()
     }
 
-    /// Reads all that was named and not read yet.
+    /// Reads all entries that were referred to, and that were not read yet.
     fn finish(&mut self) -> Result<()> {
         while let Some((unit, offset, number)) = self.todo.pop() {
             self.entry = unit.key(offset);
@@ -114,7 +116,7 @@ impl<'d, 'a> Reader<'d, 'a> {
         self.known_number(key).unwrap_or_else(|| self.fresh_number(unit, key))
     }
 
-    /// The number of an entry that was named before, by this unit or one before it.
+    /// The number of an entry that was referred to before, by this unit or an earlier one.
     #[inline]
     fn known_number(&mut self, key: u64) -> Option<u32> {
         if let Some(&known) = self.numbers.get(&key) {
@@ -127,7 +129,7 @@ impl<'d, 'a> Reader<'d, 'a> {
         Some(made)
     }
 
-    /// A number for an entry, which is read later.
+    /// Numbers an entry, to be read later.
     fn fresh_number(&mut self, unit: &'d Unit<'a>, key: u64) -> u32 {
         let made = self.add(Record::unknown());
         self.numbers.insert(key, made);
@@ -138,7 +140,7 @@ impl<'d, 'a> Reader<'d, 'a> {
         made
     }
 
-    /// The number of the type that an entry names; 0 where it names none.
+    /// The number of an entry's type; 0 if it has none.
     pub(super) fn of(&mut self, entry: &Entry<'d, 'a>) -> Result<u32> {
         match self.debug.key(entry, dw::DW_AT_type)? {
             Some(key) => self.of_key(entry.unit, key),
@@ -146,7 +148,7 @@ impl<'d, 'a> Reader<'d, 'a> {
         }
     }
 
-    /// The number of the entry of a key; `near` is the unit in which it most often is.
+    /// The number of the entry with a key; `near` is the unit that most often has it.
     fn of_key(&mut self, near: &'d Unit<'a>, key: u64) -> Result<u32> {
         if let Some(known) = self.known_number(key) {
             return Ok(known);
@@ -222,7 +224,7 @@ impl<'d, 'a> Reader<'d, 'a> {
         Ok(Member { name, of, offset, width })
     }
 
-    /// Where a member begins, in bits.
+    /// The offset of a member in bits.
     fn offset(
         &self,
         whole: &Entry<'d, 'a>,
@@ -233,7 +235,7 @@ impl<'d, 'a> Reader<'d, 'a> {
             return Ok(bits);
         }
         let begins = 8 * location(member)?;
-        // gcc says a wrong DW_AT_bit_offset in a union where the type is less aligned.
+        // gcc writes a wrong DW_AT_bit_offset in a union if the type is less aligned.
         let from_the_left = member.constant(dw::DW_AT_bit_offset);
         match (from_the_left, width) {
             (Some(left), Some(width)) if whole.tag != dw::DW_TAG_union_type => {
@@ -250,7 +252,7 @@ impl<'d, 'a> Reader<'d, 'a> {
         }
     }
 
-    /// The bytes of what an entry has as its type.
+    /// The size of an entry's type in bytes.
     fn size_of(&self, entry: &Entry<'d, 'a>) -> Result<i128> {
         let mut next = self.debug.target(entry, dw::DW_AT_type)?;
         for _ in 0..LONGEST_TYPE {
@@ -275,7 +277,8 @@ impl<'d, 'a> Reader<'d, 'a> {
         Ok(listed)
     }
 
-    /// An array, the outermost of several dimensions; the others get numbers here.
+    /// The record of an array: the outermost, if there are several dimensions; the inner arrays are
+    /// added here.
     fn array(&mut self, entry: &Entry<'d, 'a>) -> Result<Record<'a>> {
         if entry.has(dw::DW_AT_GNU_vector) {
             self.lost("a vector: CTF has none; an array of its elements stands in its place");
@@ -296,7 +299,7 @@ impl<'d, 'a> Reader<'d, 'a> {
         Ok(made)
     }
 
-    /// The type by which an array is indexed; without one it is the type of sizes.
+    /// The index type of an array; by default the type of sizes.
     fn index(&mut self, range: Option<&Entry<'d, 'a>>) -> Result<u32> {
         let found = range.map_or(Ok(0), |one| self.of(one))?;
         if found != 0 {
@@ -313,7 +316,7 @@ impl<'d, 'a> Reader<'d, 'a> {
         Ok(self.index)
     }
 
-    /// How many elements a dimension has; 0 where that is not said.
+    /// The number of elements of a dimension; 0 if it is not given.
     fn count(&mut self, dimension: &Entry<'d, 'a>) -> Result<u64> {
         for (name, more) in [(dw::DW_AT_count, 0), (dw::DW_AT_upper_bound, 1)] {
             if !dimension.has(name) {
@@ -334,7 +337,7 @@ impl<'d, 'a> Reader<'d, 'a> {
         Ok(0)
     }
 
-    /// What a function takes, which stands in an entry, and returns, which another one says.
+    /// The record of a function, with the arguments of one entry and the return type of another.
     fn function_of(&mut self, whole: &Entry<'d, 'a>, of: &Entry<'d, 'a>) -> Result<Record<'a>> {
         let mut made = Record::new(Kind::Function, Cow::Borrowed(b""));
         made.of = self.of(of)?;
@@ -353,7 +356,7 @@ impl<'d, 'a> Reader<'d, 'a> {
         Ok(made)
     }
 
-    /// The same, where what stands in its entry is listed.
+    /// The type of a function, if the entries in the function's entry are listed.
     fn function_in(
         &mut self,
         unit: &'d Unit<'a>,
@@ -379,7 +382,7 @@ impl<'d, 'a> Reader<'d, 'a> {
         Ok(made)
     }
 
-    /// The type of an argument, which an entry of its declaration may say.
+    /// The type of an argument, or that of its abstract origin.
     fn argument(&mut self, entry: &Entry<'d, 'a>) -> Result<u32> {
         let mut found = None;
         for _ in 0..LONGEST_CHAIN {
@@ -405,7 +408,7 @@ impl<'d, 'a> Reader<'d, 'a> {
         ));
     }
 
-    /// What a class has in it that is nothing known.
+    /// Records the loss of an entry in a class that is unknown.
     pub(super) fn lost_part(&mut self, whole: &Entry<'d, 'a>, part: &Entry<'d, 'a>) -> Result<()> {
         let name = self.debug.name(whole)?;
         self.lost(&format!(
@@ -428,7 +431,7 @@ impl<'d, 'a> Reader<'d, 'a> {
 
     fn variable(&mut self, entry: Entry<'d, 'a>) -> Result<()> {
         let place = self.place(&entry);
-        let is_whole = entry.has(dw::DW_AT_location); // of a thread's own too, without an address
+        let is_whole = entry.has(dw::DW_AT_location); // also for thread-locals, without an address
         let is_seen = entry.has(dw::DW_AT_external) || entry.has(dw::DW_AT_specification);
         if !is_whole && !is_seen {
             return Ok(());
@@ -454,7 +457,7 @@ impl<'d, 'a> Reader<'d, 'a> {
         Ok(())
     }
 
-    /// The address of an object.
+    /// The address of an object; `None` if it has none.
     fn place(&self, entry: &Entry<'d, 'a>) -> Option<u64> {
         let said = entry.block(dw::DW_AT_location)?;
         let mut rest = gimli::EndianSlice::new(said.get(1..)?, self.debug.endian);
@@ -496,8 +499,8 @@ impl<'d, 'a> Reader<'d, 'a> {
         Ok(())
     }
 
-    /// An entry of a function or object, and those that say what it does not: the declaration of a
-    /// definition, and what a copy of an inlined function is a copy of.
+    /// The entries of a function or object: the given one, and those that complete it, which are
+    /// the declaration of a definition and the original of an inlined copy.
     fn chain(&self, entry: Entry<'d, 'a>) -> Result<Vec<Entry<'d, 'a>>> {
         let mut made = vec![entry];
         for _ in 0..LONGEST_CHAIN {
@@ -514,8 +517,8 @@ impl<'d, 'a> Reader<'d, 'a> {
         refuse("its debug information is damaged: DW_AT_specification or DW_AT_abstract_origin forms a cycle")
     }
 
-    /// The name of the first entry that has one. Outside of C it is that of its symbol, where an
-    /// entry has such too; in C declarations name the symbol that a header puts in its place.
+    /// The name of the first entry that has one. In C++ and Rust, it is the linkage name if an
+    /// entry has one; in C, declarations have as linkage name the symbol that a header substitutes.
     fn symbol_name(&mut self, chain: &[Entry<'d, 'a>]) -> Result<Cow<'a, [u8]>> {
         let is_scoped = self.prefixes(chain[0].unit)?.is_some();
         let listed: &[_] = match is_scoped {
@@ -530,7 +533,7 @@ impl<'d, 'a> Reader<'d, 'a> {
         Ok(Cow::Borrowed(b""))
     }
 
-    /// What names of types in a unit have in front; None in C.
+    /// The prefixes for names of types in a unit; `None` in C.
     fn prefixes(&mut self, unit: &Unit<'a>) -> Result<Option<Rc<Prefixes>>> {
         if let Some(known) = self.prefixes.get(&unit.start) {
             return Ok(known.clone());
@@ -544,13 +547,13 @@ impl<'d, 'a> Reader<'d, 'a> {
     }
 }
 
-/// The entry that says the type of a function or object: a definition before what declares it,
+/// The entry that gives the type of a function or object: a definition before its declaration,
 /// which may lack the length of an array.
 fn type_source<'e, 'd, 'a>(chain: &'e [Entry<'d, 'a>]) -> Option<&'e Entry<'d, 'a>> {
     chain.iter().find(|one| one.has(dw::DW_AT_type))
 }
 
-/// Whether an entry is one that classes have, as a member or beside the members.
+/// Whether an entry with a tag may be part of a class.
 pub(super) fn is_of_class(tag: DwTag) -> bool {
     let is_type = kind(tag) != Kind::Unknown;
     is_type
@@ -585,7 +588,7 @@ fn kind(tag: DwTag) -> Kind {
         dw::DW_TAG_structure_type | dw::DW_TAG_class_type => Kind::Struct,
         dw::DW_TAG_union_type => Kind::Union,
         dw::DW_TAG_enumeration_type => Kind::Enum,
-        // gcc writes references in C too: what a block of OpenMP is handed.
+        // gcc writes references in C too, for the arguments of OpenMP blocks.
         dw::DW_TAG_pointer_type | dw::DW_TAG_reference_type | dw::DW_TAG_rvalue_reference_type => {
             Kind::Pointer
         }
@@ -601,7 +604,7 @@ fn kind(tag: DwTag) -> Kind {
     }
 }
 
-/// A number that no damage made negative or too large.
+/// A number as unsigned; refused if damage made it negative or too large.
 pub(super) fn natural(value: i128) -> Result<u64> {
     match u64::try_from(value) {
         Ok(value) if value < 1 << 63 => Ok(value),
@@ -637,7 +640,7 @@ fn base(entry: &Entry<'_, '_>, made: &mut Record<'_>) -> Result<()> {
     Ok(())
 }
 
-/// The byte at which a member begins; older DWARF has an expression for it.
+/// The offset of a member in bytes. Older DWARF has an expression for it.
 pub(super) fn location(member: &Entry<'_, '_>) -> Result<i128> {
     let Some(said) = member.block(dw::DW_AT_data_member_location) else {
         return Ok(member.constant(dw::DW_AT_data_member_location).unwrap_or(0));

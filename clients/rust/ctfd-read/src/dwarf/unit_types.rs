@@ -1,7 +1,8 @@
-//! What one unit tells, and what several units that are read one after the other need not read again.
+//! The types and symbols of one unit, and those parts of units read in sequence that need not be
+//! read again.
 //!
-//! A unit may name types in others: those that dwz took out of it, and those of the functions that a
-//! compiler optimised as it linked. Such entries are read for the first unit that names them.
+//! A unit may refer to types in other units: those that dwz moved out of it, and those of functions
+//! that were optimized at link time. Such entries are read for the first unit that refers to them.
 
 use crate::descriptions::{Statement, Statements};
 use crate::join::NumberHasher;
@@ -9,31 +10,31 @@ use crate::table::Record;
 use std::collections::HashMap;
 use std::hash::BuildHasherDefault;
 
-/// What one unit tells.
+/// The types and symbols of one unit.
 #[derive(Default)]
 pub(super) struct UnitTypes<'a> {
     pub records: Vec<Record<'a>>,
-    /// Numbers of records that stand for what a unit before it read, and the numbers that this has
-    /// among what is joined.
+    /// For each record of an entry that an earlier unit read, its number here and its number among
+    /// the joined types.
     pub joined: Vec<(u32, u32)>,
-    /// The keys of entries of other units that it read, and its numbers for them.
+    /// The keys of entries in other units that this one read, and its numbers for them.
     pub shared: Vec<(u64, u32)>,
     pub roots: Vec<u32>,
     pub told: Vec<Statement>,
     pub losses: Vec<Loss>,
 }
 
-/// Something that CTF can't hold.
+/// A construct that CTF cannot represent.
 pub(super) struct Loss {
-    /// The key of the entry that says it.
+    /// The key of the entry with the construct.
     pub entry: u64,
-    /// The start of the unit for which that was read.
+    /// The start of the unit for which the entry was read.
     pub unit: u64,
     pub line: String,
 }
 
 impl<'a> UnitTypes<'a> {
-    /// The same with other numbers for what it names, without its records.
+    /// Maps the type numbers of roots and symbols. The records are left as they are.
     pub fn with_numbers(mut self, to: &[u32]) -> UnitTypes<'a> {
         self.roots.iter_mut().for_each(|n| *n = to[*n as usize]);
         self.told.iter_mut().for_each(|one| one.said.renumber(|n| to[n as usize]));
@@ -41,7 +42,7 @@ impl<'a> UnitTypes<'a> {
     }
 }
 
-/// What some units tell that were joined, but for their records: each thing once.
+/// The roots, symbols and losses of several joined units, without duplicates.
 #[derive(Default)]
 pub(super) struct JoinedUnits {
     roots: Numbers,
@@ -50,21 +51,21 @@ pub(super) struct JoinedUnits {
 }
 
 impl JoinedUnits {
-    /// Takes in what a unit tells, with the numbers of what is joined.
+    /// Adds those of a unit, which has the numbers of joined types.
     pub fn extend(&mut self, unit: UnitTypes<'_>) {
         self.roots.extend(&unit.roots);
         self.statements.extend(unit.told);
         self.losses.extend(unit.losses);
     }
 
-    /// All of it, with other numbers.
+    /// All of it, with its numbers mapped by `to`.
     pub fn with_numbers<'a>(self, to: &[u32]) -> UnitTypes<'a> {
         let (roots, told, losses) = (self.roots.listed, self.statements.listed, self.losses);
         UnitTypes { roots, told, losses, ..UnitTypes::default() }.with_numbers(to)
     }
 }
 
-/// Numbers of types, each once.
+/// Numbers of types, without duplicates.
 #[derive(Default)]
 pub(super) struct Numbers {
     pub listed: Vec<u32>,
@@ -72,7 +73,7 @@ pub(super) struct Numbers {
 }
 
 impl Numbers {
-    /// Takes further ones in.
+    /// Adds those numbers that are new.
     pub fn extend(&mut self, numbers: &[u32]) {
         for &number in numbers {
             let place = number as usize;
@@ -86,8 +87,8 @@ impl Numbers {
     }
 }
 
-/// The entries that were read for a unit in which they are not, by their keys, with the numbers that
-/// their types have among what is joined.
+/// The entries that were read for another unit than their own: their keys, each with the number of
+/// its type in the joined table.
 #[derive(Default)]
 pub(super) struct JoinedEntries {
     numbers: HashMap<u64, u32, BuildHasherDefault<NumberHasher>>,
@@ -101,13 +102,14 @@ impl JoinedEntries {
         self.numbers.get(&key).copied()
     }
 
-    /// Takes in what a unit read of others, of whose numbers `to` says what they became.
+    /// Adds the entries of other units that a unit read; `to` maps the unit's numbers.
     pub fn extend(&mut self, shared: &[(u64, u32)], to: &[u32]) {
         self.numbers.extend(shared.iter().map(|&(key, number)| (key, to[number as usize])));
     }
 }
 
-/// The losses of some debug information, each told once however many units name the entry.
+/// The losses of some debug information. Each is reported once, however many units refer to its
+/// entry.
 #[derive(Default)]
 pub(super) struct Losses {
     pub lines: Vec<String>,
@@ -116,14 +118,14 @@ pub(super) struct Losses {
 }
 
 impl Losses {
-    /// Takes in those of some units.
+    /// Adds the losses of some units.
     pub fn extend(&mut self, losses: Vec<Loss>) {
         let units = &mut self.units;
         let is_of_first = |loss: &Loss| *units.entry(loss.entry).or_insert(loss.unit) == loss.unit;
         self.lines.extend(losses.into_iter().filter(is_of_first).map(|loss| loss.line));
     }
 
-    /// Those of another file come next, whose entries have keys of their own.
+    /// Prepares for the next file, whose entries have their own keys.
     pub fn end_file(&mut self) {
         self.units.clear();
     }

@@ -1,7 +1,7 @@
-//! Debug information: the files that it is spread over, the units in them, and their entries.
+//! Debug information: the files that have it, their units, and the entries of these.
 //!
-//! Each entry of all files has a number of its own, its key: which file and which section it is in,
-//! and its place there.
+//! Each entry has a key, which is unique among all files: the number of its file, its section, and
+//! its offset in that.
 
 use crate::dwarf::line::MOST_AHEAD;
 use crate::dwarf::plain_unit::plain_unit;
@@ -20,22 +20,23 @@ pub type Slice<'a> = EndianSlice<'a, RunTimeEndian>;
 pub type Attribute<'a> = gimli::Attribute<Slice<'a>>;
 pub type Lines<'a> = gimli::IncompleteLineProgram<Slice<'a>>;
 
-/// From this bit on a key has the number of a file.
+/// The lowest bit of the file's number in a key.
 const FILE: u32 = 40;
-/// The bit of a key that says that an entry is in .debug_types.
+/// The bit of a key for entries in .debug_types.
 const TYPES: u64 = 1 << (FILE - 1);
 /// The number of dwz's common file.
 const COMMON: u64 = 1;
 
-/// How many bytes may be looked at again: so many, and so many times each that is there.
+/// The limit on bytes that are read repeatedly: `LEAST_WORK`, plus `TIMES_WORK` for each byte of
+/// the sections.
 const LEAST_WORK: usize = 16 << 20;
 const TIMES_WORK: usize = 64;
-/// Names that are no longer take no more than the entries that have them.
+/// Names up to this length do not count: they take no more time than the entries that have them.
 const SHORT_NAME: usize = 64;
-/// How many bytes it counts for to look at an entry.
+/// The bytes that count for reading an entry.
 const STEP: usize = 16;
 
-/// The bytes from which on a unit is worth several threads.
+/// Units of at least this many bytes are read by several threads.
 const WORTH_THREADS: usize = 1 << 17;
 
 /// A unit that is not opened yet.
@@ -43,12 +44,12 @@ struct Slot<'a> {
     header: UnitHeader<Slice<'a>>,
     start: u64,
     end: u64,
-    /// The start of the unit of the program that stands for this one, which is in a .dwo file.
+    /// The start of the skeleton unit in the program, for a unit in a .dwo file.
     skeleton: Option<u64>,
     opened: OnceLock<Result<Box<Unit<'a>>>>,
 }
 
-/// A unit. `start` is the key of its first byte, and `end` that of the byte behind it.
+/// A unit. `start` is the key of its first byte, and `end` the key after its last.
 pub struct Unit<'a> {
     pub inner: gimli::Unit<Slice<'a>>,
     pub start: u64,
@@ -68,15 +69,15 @@ impl Unit<'_> {
         self.start + offset.0 as u64
     }
 
-    /// How many bytes it has.
+    /// The size of the unit in bytes.
     pub fn bytes(&self) -> usize {
         (self.end - self.start) as usize
     }
 }
 
-/// The debug information of a program with that of all files that it is spread over: the program's
-/// own, dwz's common one, and those of .dwo files. `order` has the units that are read, in their
-/// order, as places among all, which stand by their keys.
+/// The debug information of a program, from all files that have it: the program, dwz's common file,
+/// and .dwo files. `slots` has all units, ordered by their keys; `order` has the indexes of those
+/// that are read, in order.
 pub struct Debug<'a> {
     files: Vec<gimli::Dwarf<Slice<'a>>>,
     has_common: bool,
@@ -85,7 +86,7 @@ pub struct Debug<'a> {
     slots: Vec<Slot<'a>>,
     order: Vec<usize>,
     signatures: HashMap<u64, u64>,
-    /// How many bytes may still be looked at again.
+    /// How many more bytes may be read repeatedly.
     left: AtomicI64,
 }
 
@@ -120,7 +121,7 @@ impl<'a> Debug<'a> {
         Ok(debug)
     }
 
-    /// All units: those of the program, in place of a skeleton those that it stands for.
+    /// Adds all units of the program; each skeleton is replaced by the units that it stands for.
     fn take_units(&mut self, sections: &'a Sections<'a>) -> Result<()> {
         let mut ordered: Vec<u64> = Vec::new();
         let mut met = HashSet::new();
@@ -143,8 +144,8 @@ impl<'a> Debug<'a> {
         Ok(())
     }
 
-    /// The units that a skeleton stands for: those of its .dwo file, or its own in a package of such
-    /// files, from which the type units come with the first.
+    /// The units that a skeleton stands for: those of its .dwo file, or its own in a package, whose
+    /// type units come with the first.
     fn split_units(
         &mut self,
         sections: &'a Sections<'a>,
@@ -182,7 +183,7 @@ impl<'a> Debug<'a> {
         Ok(own)
     }
 
-    /// How many units are read.
+    /// The number of units that are read.
     pub fn units(&self) -> usize {
         self.order.len()
     }
@@ -195,12 +196,12 @@ impl<'a> Debug<'a> {
         &self.slots[self.order[number]]
     }
 
-    /// The start of the unit of a number.
+    /// The start of the unit with a number.
     pub fn start(&self, number: usize) -> u64 {
         self.slot(number).start
     }
 
-    /// How many bytes the unit of a number has.
+    /// The size of the unit with a number, in bytes.
     pub fn unit_bytes(&self, number: usize) -> u64 {
         let slot = self.slot(number);
         slot.end - slot.start
@@ -210,7 +211,7 @@ impl<'a> Debug<'a> {
         self.slot(number).header.version()
     }
 
-    /// Whether the header of a unit of DWARF 5 says that dwz made it.
+    /// Whether a unit is a partial unit of DWARF 5, as dwz writes them.
     pub fn is_partial(&self, number: usize) -> bool {
         self.slot(number).header.type_() == UnitType::Partial
     }
@@ -219,14 +220,15 @@ impl<'a> Debug<'a> {
         &self.files[file as usize]
     }
 
-    /// How many bytes its entries have.
+    /// The size of all entries in bytes.
     pub fn entry_bytes(&self) -> usize {
         self.files.iter().map(|file| file.debug_info.reader().len()).sum()
     }
 
-    /// How many threads go through a unit: of a program with more units than threads one, else as
-    /// many of all as the unit has of the entries. A thread that waits for the others may read
-    /// another unit meanwhile, so there are so few that none waits for its turn.
+    /// The number of threads that walk a unit: one if the program has more units than there are
+    /// threads, else a share in proportion to the unit's part of the entries. A thread that waits
+    /// for the others may read another unit meanwhile, so several are used only if there are so few
+    /// units that none waits for its turn.
     pub fn threads_for(&self, unit: &Unit<'a>) -> usize {
         let threads = rayon::current_num_threads();
         if unit.bytes() < WORTH_THREADS || self.units() > threads.min(MOST_AHEAD) {
@@ -235,7 +237,7 @@ impl<'a> Debug<'a> {
         (threads * unit.bytes()).div_ceil(self.entry_bytes().max(1)).min(threads)
     }
 
-    /// How many bytes the sections have that types are read from.
+    /// The size of the sections with types, in bytes.
     fn all_bytes(&self) -> usize {
         let bytes = |file: &gimli::Dwarf<Slice<'a>>| {
             file.debug_info.reader().len()
@@ -246,7 +248,7 @@ impl<'a> Debug<'a> {
         self.files.iter().map(bytes).sum()
     }
 
-    /// Counts entries that may have been looked at before. Refuses more than any program needs.
+    /// Counts entries that may have been read before. Refuses more than any program needs.
     pub fn count_entries(&self, entries: usize) -> Result<()> {
         self.count_bytes(entries.saturating_mul(STEP))
     }
@@ -263,17 +265,17 @@ impl<'a> Debug<'a> {
         Ok(())
     }
 
-    /// How many units all files have.
+    /// The number of units in all files.
     pub fn slot_count(&self) -> usize {
         self.slots.len()
     }
 
-    /// The unit of a place among those of all files, opened for who asks alone.
+    /// Opens the unit with an index among those of all files, for the caller alone.
     pub fn open_place(&self, place: usize) -> Result<Unit<'a>> {
         self.open_slot(&self.slots[place])
     }
 
-    /// The unit of a number, opened for who asks alone.
+    /// Opens the unit with a number, for the caller alone.
     pub fn open(&self, number: usize) -> Result<Unit<'a>> {
         self.open_slot(self.slot(number))
     }
@@ -288,7 +290,7 @@ impl<'a> Debug<'a> {
         Ok(Unit { inner, start: slot.start, end: slot.end })
     }
 
-    /// The unit in which an entry is, opened once for all.
+    /// The unit that contains an entry. It is opened once and shared.
     pub fn unit_of(&self, key: u64) -> Result<&Unit<'a>> {
         let number = self.slots.partition_point(|slot| slot.start <= key);
         let slot = number.checked_sub(1).map(|number| &self.slots[number]);
@@ -301,13 +303,13 @@ impl<'a> Debug<'a> {
         }
     }
 
-    /// The entry of a key; `near` is the unit in which it most often is.
+    /// The entry with a key; `near` is the unit that most often has it.
     pub fn entry<'d>(&'d self, near: &'d Unit<'a>, key: u64) -> Result<Entry<'d, 'a>> {
         let unit = if near.has(key) { near } else { self.unit_of(key)? };
         Entry::read(unit, UnitOffset((key - unit.start) as usize))
     }
 
-    /// The key of the entry that an attribute names, without reading it.
+    /// The key of the entry that an attribute refers to, without reading the entry.
     pub fn key(&self, entry: &Entry<'_, 'a>, name: DwAt) -> Result<Option<u64>> {
         let Some(value) = entry.value(name) else { return Ok(None) };
         Ok(Some(match value {
@@ -322,7 +324,7 @@ impl<'a> Debug<'a> {
         }))
     }
 
-    /// The entry that an attribute names.
+    /// The entry that an attribute refers to.
     pub fn target<'d>(
         &'d self,
         entry: &Entry<'d, 'a>,
@@ -331,7 +333,7 @@ impl<'a> Debug<'a> {
         self.key(entry, name)?.map(|key| self.entry(entry.unit, key)).transpose()
     }
 
-    /// The name of an entry, empty without one.
+    /// The name of an entry; empty if it has none.
     pub fn name(&self, entry: &Entry<'_, 'a>) -> Result<Cow<'a, [u8]>> {
         self.text(entry, dw::DW_AT_name)
     }
@@ -348,13 +350,13 @@ impl<'a> Debug<'a> {
         Ok(Cow::Borrowed(found.slice()))
     }
 
-    /// The table of a unit's lines, where it has one and lines were wanted.
+    /// The line table of a unit; `None` if it has none or lines were not loaded.
     pub fn lines(&self, unit: &Unit<'a>) -> Result<Option<Lines<'a>>> {
         Ok(self.dwarf(unit.file()).unit(unit.inner.header)?.line_program)
     }
 
-    /// The name of a source file that a unit's entries have a number of, without folders; empty
-    /// where it has none.
+    /// The name of the source file with a number in a unit, without folders; empty if there is
+    /// none.
     pub fn file_name(
         &self,
         unit: &Unit<'a>,
@@ -369,14 +371,14 @@ impl<'a> Debug<'a> {
         Ok(&path[folder..])
     }
 
-    /// An address of the program.
+    /// The address that an attribute's value gives.
     pub fn address(&self, entry: &Entry<'_, 'a>, value: AttributeValue<Slice<'a>>) -> Option<u64> {
         let dwarf = self.dwarf(entry.unit.file());
         dwarf.attr_address(&entry.unit.inner, value).ok().flatten()
     }
 
-    /// The addresses where a function and its parts begin, in most cases its own first; none where
-    /// it is declared or inlined alone.
+    /// The addresses at which a function and its parts begin, in most cases the function's own
+    /// first; none if it is only declared or inlined.
     pub fn starts(&self, entry: &Entry<'_, 'a>) -> Result<Vec<u64>> {
         let low = entry.value(dw::DW_AT_low_pc);
         if let Some(at) = low.and_then(|value| self.address(entry, value)) {
@@ -420,7 +422,7 @@ fn slots<'a>(
     Ok(made)
 }
 
-/// The attributes that are looked at. Each has the bit of its place here in an `Attributes`.
+/// The attributes that are read. Each has the bit of its index here in an `Attributes`.
 const LOOKED_AT: [DwAt; 28] = [
     dw::DW_AT_name,
     dw::DW_AT_type,
@@ -452,10 +454,10 @@ const LOOKED_AT: [DwAt; 28] = [
     dw::DW_AT_GNU_dwo_name,
 ];
 
-/// Some of them.
+/// A set of these attributes.
 type Attributes = u32;
 
-/// The bits by the attributes' numbers, as far as these are small.
+/// The bits of attributes whose numbers are below 128.
 const BITS: [Attributes; 128] = {
     let (mut bits, mut place) = ([0; 128], 0);
     while place < LOOKED_AT.len() {
@@ -467,7 +469,7 @@ const BITS: [Attributes; 128] = {
     bits
 };
 
-/// The bit of an attribute; 0 for those that are not looked at.
+/// The bit of an attribute; 0 for those that are not read.
 #[inline]
 const fn bit(name: DwAt) -> Attributes {
     match name {
@@ -478,20 +480,20 @@ const fn bit(name: DwAt) -> Attributes {
     }
 }
 
-/// Where a type is declared, which few ask.
+/// The line and the file of a declaration, which are seldom needed.
 const LINE: Attributes = bit(dw::DW_AT_decl_line);
 const FILE_NUMBER: Attributes = bit(dw::DW_AT_decl_file);
-/// All but these.
+/// All attributes but these two.
 const KEPT: Attributes = !(LINE | FILE_NUMBER);
-/// What tells the type of an argument.
+/// The attributes that give the type of an argument.
 const OF_ARGUMENT: Attributes = bit(dw::DW_AT_type) | bit(dw::DW_AT_abstract_origin);
 
-/// An entry with those of its attributes that are looked at.
+/// An entry, with those of its attributes that are read.
 pub struct Entry<'d, 'a> {
     pub unit: &'d Unit<'a>,
     pub offset: UnitOffset,
     pub tag: DwTag,
-    /// Which attributes `said` has.
+    /// The attributes that `said` has.
     has: Attributes,
     said: SmallVec<[Attribute<'a>; 4]>,
     has_children: bool,
@@ -503,17 +505,17 @@ impl<'d, 'a> Entry<'d, 'a> {
         Entry::read_kept(unit, offset, KEPT)
     }
 
-    /// An argument, with what tells its type alone.
+    /// Reads an argument, with only the attributes that give its type.
     pub fn read_argument(unit: &'d Unit<'a>, offset: UnitOffset) -> Result<Entry<'d, 'a>> {
         Entry::read_kept(unit, offset, OF_ARGUMENT)
     }
 
-    /// The same with the line of its declaration too.
+    /// Reads an entry, with the line of its declaration too.
     pub fn read_with_line(unit: &'d Unit<'a>, offset: UnitOffset) -> Result<Entry<'d, 'a>> {
         Entry::read_kept(unit, offset, KEPT | LINE)
     }
 
-    /// The same with the file of its declaration too.
+    /// Reads an entry, with the file of its declaration too.
     pub fn read_with_file(unit: &'d Unit<'a>, offset: UnitOffset) -> Result<Entry<'d, 'a>> {
         Entry::read_kept(unit, offset, KEPT | FILE_NUMBER)
     }
@@ -530,12 +532,12 @@ impl<'d, 'a> Entry<'d, 'a> {
         }
     }
 
-    /// The entry that has all others of a unit in it.
+    /// The top entry of a unit, which contains all others.
     pub fn top(unit: &'d Unit<'a>) -> Result<Entry<'d, 'a>> {
         Entry::read(unit, unit.inner.entries_raw(None)?.next_offset())
     }
 
-    /// Reads the attributes behind the number of an abbreviation.
+    /// Reads the attributes of an entry, after its abbreviation code.
     fn read_on(
         unit: &'d Unit<'a>,
         offset: UnitOffset,
@@ -568,19 +570,19 @@ impl<'d, 'a> Entry<'d, 'a> {
         }
     }
 
-    /// Whether it has an attribute, of those that are looked at.
+    /// Whether it has an attribute, one of those that are read.
     #[inline]
     pub fn has(&self, name: DwAt) -> bool {
         self.has & bit(name) != 0
     }
 
-    /// What an attribute has, by its form alone.
+    /// The raw value of an attribute.
     #[inline]
     pub fn value(&self, name: DwAt) -> Option<AttributeValue<Slice<'a>>> {
         self.find(name).map(Attribute::raw_value)
     }
 
-    /// A number that an attribute has; None where it has none, or another sort of value.
+    /// The number that is an attribute's value; `None` if it has none, or another kind of value.
     #[inline]
     pub fn constant(&self, name: DwAt) -> Option<i128> {
         Some(match self.value(name)? {
@@ -594,7 +596,7 @@ impl<'d, 'a> Entry<'d, 'a> {
         })
     }
 
-    /// The bytes of an expression.
+    /// The bytes of an attribute that is an expression.
     #[inline]
     pub fn block(&self, name: DwAt) -> Option<&'a [u8]> {
         match self.value(name)? {
@@ -604,22 +606,23 @@ impl<'d, 'a> Entry<'d, 'a> {
         }
     }
 
-    /// The entries in this one, in order, without those in them.
+    /// The direct children of the entry, in order.
     pub fn children(&self) -> Result<Children<'d, 'a, impl Fn(DwTag) -> bool>> {
         self.children_of(|_| true)
     }
 
-    /// Those of some tags: of all others no attribute is looked at.
+    /// The direct children with certain tags. The others are skipped without reading their
+    /// attributes.
     pub fn children_of<W: Fn(DwTag) -> bool>(&self, is_wanted: W) -> Result<Children<'d, 'a, W>> {
         let raw = self.has_children.then(|| self.unit.inner.entries_raw(Some(self.inside)));
         Ok(Children { unit: self.unit, raw: raw.transpose()?, depth: 0, steps: 0, is_wanted })
     }
 }
 
-/// The entries in another one, as they are read.
+/// An iterator over the children of an entry.
 pub struct Children<'d, 'a, W> {
     unit: &'d Unit<'a>,
-    /// None behind the last.
+    /// `None` after the last.
     raw: Option<gimli::EntriesRaw<'d, 'd, Slice<'a>>>,
     depth: usize,
     steps: usize,
@@ -639,7 +642,7 @@ impl<'d, 'a, W: Fn(DwTag) -> bool> Iterator for Children<'d, 'a, W> {
 }
 
 impl<'d, 'a, W: Fn(DwTag) -> bool> Children<'d, 'a, W> {
-    /// How many entries were looked at so far.
+    /// The number of entries passed so far.
     pub fn steps(&self) -> usize {
         self.steps
     }
@@ -667,7 +670,7 @@ impl<'d, 'a, W: Fn(DwTag) -> bool> Children<'d, 'a, W> {
     }
 }
 
-/// The entries of a unit from one on, which an entry says is behind all that is in it.
+/// The entries of a unit from an offset on, which an entry gives as that of its sibling.
 pub(super) fn entries_behind<'d, 'a>(
     unit: &'d Unit<'a>,
     raw: &gimli::EntriesRaw<'d, 'd, Slice<'a>>,
@@ -679,7 +682,7 @@ pub(super) fn entries_behind<'d, 'a>(
     Ok(unit.inner.entries_raw(Some(behind))?)
 }
 
-/// Reads over attributes; where what is behind all that is in the entry begins, if it says that.
+/// Skips attributes. Returns the offset of the entry's sibling, if it gives one.
 pub(super) fn behind(
     shape: &Abbreviation,
     raw: &mut gimli::EntriesRaw<'_, '_, Slice<'_>>,

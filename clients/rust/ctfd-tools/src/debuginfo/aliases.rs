@@ -1,7 +1,9 @@
-//! Names for types whose own name leads to another: `struct dict__17` is type 17, a `struct dict`.
+//! Aliases: names for types whose own name finds another type. `struct dict__17` is type 17, a
+//! `struct dict`.
 //!
-//! Source files may have types of one name that differ, and a debugger that meets several takes any
-//! of them. So the first that is not hidden has the name, and the others have it with their number.
+//! Source files may have different types of one name, and a debugger that meets several takes any
+//! of them. So the first that is not hidden keeps the name, and the number is appended to the names
+//! of the others.
 
 use super::widths::is_narrow;
 use crate::types::catalog::{Catalog, Number};
@@ -11,7 +13,7 @@ use std::collections::HashMap;
 const MOST_NAMES: usize = 40;
 const MOST_OF_A_NAME: usize = 3;
 
-/// What look-ups know a type by: the word struct, union or enum, if it has one, and its name.
+/// What look-ups find a type by: `struct`, `union`, `enum` or an empty word, and its name.
 type Key = (&'static str, Vec<u8>);
 
 /// A type with a name.
@@ -24,8 +26,8 @@ struct NamedType {
 }
 
 impl NamedType {
-    /// Whether its name leads elsewhere. A declaration stands for the type that is found; and a
-    /// narrow integer for the one of full width, where there is none for itself.
+    /// Whether the type needs an alias. A root forward does not: its name finds the definition. Nor
+    /// does a narrow integer whose name finds no type.
     fn is_other(&self, plain: &HashMap<&Key, &NamedType>) -> bool {
         match plain.get(&self.key) {
             None if self.is_narrow => false,
@@ -35,15 +37,15 @@ impl NamedType {
     }
 }
 
-/// The names of the types to which their own does not lead.
+/// The aliases of the types that need one.
 pub struct Aliases {
     by_number: HashMap<Number, Vec<u8>>,
-    /// Each name that stands for several types, with the others' names, in the order of look-ups.
+    /// Each name that several types have, with the aliases of the others, in the order of look-ups.
     shared: Vec<(String, Vec<String>)>,
 }
 
 impl Aliases {
-    /// Those among some types of a catalog, which are in the order of look-ups.
+    /// The aliases for some types of a catalog, which are in the order of look-ups.
     pub fn new(catalog: &Catalog<'_>, listed: &[Number]) -> Aliases {
         let types = named_types(catalog, listed);
         let mut plain: HashMap<&Key, &NamedType> = HashMap::new();
@@ -71,12 +73,12 @@ impl Aliases {
         made
     }
 
-    /// The name of a type that its own does not lead to.
+    /// The alias of a type, if it needs one.
     pub fn get(&self, number: Number) -> Option<&[u8]> {
         self.by_number.get(&number).map(Vec::as_slice)
     }
 
-    /// A line on names that do not stand for one type; None where each does.
+    /// A line on names that several types have; None if there are none.
     pub fn line(&self) -> Option<String> {
         let each = |(name, others): &(String, Vec<String>)| {
             format!("{name} (also {})", some_of(others, MOST_OF_A_NAME))
@@ -91,13 +93,13 @@ impl Aliases {
     }
 }
 
-/// The name of a type, or of an enumerator of it, with its number.
+/// The name of a type, or of one of its enumerators, with the type's number appended.
 pub fn alias(name: &[u8], number: Number) -> Vec<u8> {
     [name, format!("__{number}").as_bytes()].concat()
 }
 
-/// The types with a name, without the integers that bit-fields have, of no more bits than another of
-/// their name.
+/// The types with a name, without the narrow copies of integers that bit-fields have: those with no
+/// more bits than another root integer of their name.
 fn named_types(catalog: &Catalog<'_>, listed: &[Number]) -> Vec<NamedType> {
     let widest = widest(catalog, listed);
     let name = |&number: &Number| {
@@ -116,7 +118,7 @@ fn named_types(catalog: &Catalog<'_>, listed: &[Number]) -> Vec<NamedType> {
     listed.iter().filter_map(name).collect()
 }
 
-/// Of the integers that look-ups see, the first that has most bits of each name, and these.
+/// For each name, the first root integer with the most bits, and their number.
 fn widest<'c>(catalog: &'c Catalog<'_>, listed: &[Number]) -> HashMap<&'c [u8], (Number, u16)> {
     let mut made: HashMap<&[u8], (Number, u16)> = HashMap::new();
     for &number in listed {
@@ -141,7 +143,7 @@ fn spelling_of(word: &str, name: &[u8]) -> String {
     }
 }
 
-/// Some names, and how many more there are.
+/// At most `most` names, and how many more there are.
 fn some_of(names: &[String], most: usize) -> String {
     let mut listed: Vec<String> = names.iter().take(most).cloned().collect();
     if names.len() > most {

@@ -1,5 +1,6 @@
-//! The places of arguments: those in registers have one as the function begins, and up to the end of
-//! `endbr64; push %rbp; mov %rsp,%rbp`, where a breakpoint stops; those on the stack everywhere.
+//! Locations of arguments. Arguments in registers have one from a function's first byte to the end
+//! of `endbr64; push %rbp; mov %rsp,%rbp`, where breakpoints stop; arguments on the stack have one
+//! throughout the function.
 
 use super::entries::{Entries, Entry};
 use super::passing::{Passing, Place};
@@ -14,22 +15,22 @@ const PUSH: &[u8] = b"\x55";
 const MOVES: [&[u8]; 2] = [b"\x48\x89\xe5", b"\x48\x8b\xec"];
 const LONGEST_ENTRY: u64 = 8;
 
-/// Where the functions of a program of x86-64 find their arguments.
+/// The locations of arguments in a program for x86-64.
 pub struct Arguments<'p, 'c, 'd> {
     program: &'p Debuggee<'p>,
     passing: Passing<'c, 'd>,
 }
 
-/// What is said of an argument's place.
+/// The location of an argument.
 pub enum ArgumentPlace {
-    /// Where it is as long as the function runs.
+    /// Valid as long as the function runs.
     Everywhere(Expression),
-    /// Where it is at some addresses.
+    /// Valid at some addresses.
     Somewhere(Location),
 }
 
 impl ArgumentPlace {
-    /// Says it of an argument.
+    /// Sets the location of an argument.
     pub fn set(self, entries: &mut Entries, argument: Entry) {
         match self {
             ArgumentPlace::Everywhere(place) => entries.set(argument, DW_AT_location, place),
@@ -43,12 +44,13 @@ impl ArgumentPlace {
 }
 
 impl<'p, 'c, 'd> Arguments<'p, 'c, 'd> {
-    /// Those of a program whose types are in a catalog.
+    /// The locations for a program whose types are in a catalog.
     pub fn new(program: &'p Debuggee<'p>, catalog: &'c Catalog<'d>) -> Arguments<'p, 'c, 'd> {
         Arguments { program, passing: Passing::new(catalog) }
     }
 
-    /// The place of each argument, where it is known. Those of lists count from a base.
+    /// The location of each argument, or None if it is not known. Addresses in location lists are
+    /// relative to `base`.
     pub fn places(
         &self,
         function: &TypedSymbol<'_>,
@@ -67,7 +69,8 @@ impl<'p, 'c, 'd> Arguments<'p, 'c, 'd> {
         listed.map(|place| place.and_then(placed)).collect()
     }
 
-    /// How many bytes behind a function's start its arguments are where they were.
+    /// The number of bytes from a function's start on in which its arguments are still in
+    /// registers.
     fn entry_length(&self, function: &TypedSymbol<'_>) -> u64 {
         let code = self.program.code(function.address(), LONGEST_ENTRY, function.section());
         let rest = code.strip_prefix(ENDBR).unwrap_or(code);
@@ -79,7 +82,7 @@ impl<'p, 'c, 'd> Arguments<'p, 'c, 'd> {
     }
 }
 
-/// A place at the first bytes of a function.
+/// A location valid in the first `length` bytes of a function.
 fn location(function: &TypedSymbol<'_>, base: u64, length: u64, data: Expression) -> Location {
     match function.is_relocated() {
         true => Location::StartLength { begin: function.behind(0, 8), length, data },

@@ -1,8 +1,8 @@
 //! The ELF file that is written: a program's sections without their bytes, and debug information.
 //!
-//! It is what `objcopy --only-keep-debug` leaves of a program, so debuggers take it for that:
-//! sections have the names, order, addresses and sizes of the program's, its notes (the build id)
-//! are there, and its symbols.
+//! Debuggers take it for what `objcopy --only-keep-debug` keeps of the program: its sections have
+//! the program's names, order, addresses and sizes, and it has the program's notes (with the
+//! build-id) and symbols.
 
 use super::numbering::{local_count, section_and_address, WrittenSections};
 use super::sections::{DebugSection, RelocationKind};
@@ -22,15 +22,15 @@ const LONGEST_ALIGN: u64 = 16;
 const DICTIONARY: &[u8] = b".SUNW_ctf";
 const ALIGN_OF_DICTIONARY: u64 = 4;
 
-/// The bytes of a section in the file that is written.
+/// The bytes of a section in the output.
 enum Bytes<'a> {
-    /// None: it is as long as the program's.
+    /// No bytes: the section only has the size of the program's.
     None,
     Some(Cow<'a, [u8]>),
     Relocations(&'a [Rel], bool),
 }
 
-/// A section that is written.
+/// A section of the output.
 struct OutputSection<'a> {
     name: Cow<'a, [u8]>,
     header: SectionHeader,
@@ -63,7 +63,7 @@ impl<'a> OutputSection<'a> {
         made
     }
 
-    /// The room that it takes in a file of some class.
+    /// The number of bytes that the section takes in the file.
     fn length(&self, model: Model) -> usize {
         match &self.bytes {
             Bytes::None => 0,
@@ -77,8 +77,8 @@ impl<'a> OutputSection<'a> {
     }
 }
 
-/// A file beside a program. The symbols may come from another copy of it, and the dictionary may
-/// stand in it too.
+/// A debug file for a program. The symbols may come from another copy of the program; the
+/// dictionary is added if given.
 pub fn beside(
     program: &Debuggee<'_>,
     symbols: &Debuggee<'_>,
@@ -112,8 +112,8 @@ pub fn beside(
     file(program.model, &program.head, &program.segments, listed)
 }
 
-/// The section of a dictionary, compressed as CTF has it. It links to the symbol table of a number,
-/// where its entries go by that.
+/// The section of a dictionary, compressed as CTF defines. It links to the symbol table of index
+/// `table` if the dictionary's symbols are in the order of `.symtab`.
 fn of_dictionary<'a>(
     ctf: &'a [u8],
     symbols: &Debuggee<'_>,
@@ -129,12 +129,12 @@ fn of_dictionary<'a>(
     Ok(made)
 }
 
-/// A file of types alone.
+/// A file with types only.
 pub fn of_types(model: Model, debug: &[DebugSection]) -> Result<Vec<u8>> {
     file(model, &head_of(model), &[], debug.iter().map(OutputSection::of_debug).collect())
 }
 
-/// The header of a file that is of no program.
+/// The header of a file that belongs to no program.
 fn head_of(model: Model) -> Head {
     let machine = match model {
         Model::Lp64 => elf::EM_X86_64,
@@ -143,7 +143,7 @@ fn head_of(model: Model) -> Head {
     Head { kind: elf::ET_EXEC, machine, entry: 0, flags: 0, system: 0 }
 }
 
-/// A file of a dictionary and of the symbols that go with it, a table and its names.
+/// A file with a dictionary, and its symbols if given: a table and its strings.
 pub fn of_dictionary_alone(
     model: Model,
     ctf: &[u8],
@@ -165,7 +165,7 @@ pub fn of_dictionary_alone(
     file(model, &head_of(model), &[], listed)
 }
 
-/// A section of the program: a note as it is, and of others what they take in memory.
+/// A section of the program. A note keeps its bytes; other sections only their size in memory.
 fn program_section<'a>(program: &Debuggee<'a>, section: &Section<'a>) -> Result<OutputSection<'a>> {
     let is_note = section.kind == elf::SHT_NOTE;
     let bytes = match is_note {
@@ -181,7 +181,7 @@ fn program_section<'a>(program: &Debuggee<'a>, section: &Section<'a>) -> Result<
     Ok(made)
 }
 
-/// The symbols with the sections' new numbers, and their names.
+/// The symbol table with the new section numbers, and its strings.
 fn symbol_table<'a>(
     program: &Debuggee<'_>,
     symbols: &Debuggee<'a>,
@@ -195,8 +195,8 @@ fn symbol_table<'a>(
         let (at, old, address) = section_and_address(entry, symbols.model);
         let new = match old {
             0 | SHN_LORESERVE.. => old,
-            // A symbol of a section that is not written has no address: it goes to the table itself,
-            // which is not in memory either.
+            // The section of this symbol is not written, so the symbol gets the number of the table
+            // itself, which has no address either.
             _ => written.number_of(old, address).unwrap_or(place as u16),
         };
         entry[at..at + 2].copy_from_slice(&new.to_le_bytes());
@@ -210,7 +210,7 @@ fn symbol_table<'a>(
     Ok([made, OutputSection::new(&b".strtab"[..], elf::SHT_STRTAB, strings)])
 }
 
-/// The places of a section that get addresses, by the numbers of the symbol table and of the section.
+/// The relocations of a section, by the indices of the symbol table and of the section.
 fn relocations(
     section: &DebugSection,
     is_rela: bool,
@@ -241,7 +241,7 @@ fn relocation_size(model: Model, is_rela: bool) -> usize {
     (if is_rela { 3 } else { 2 }) * word_of(model) as usize
 }
 
-/// The file of these sections.
+/// The bytes of a file with these sections.
 fn file(
     model: Model,
     head: &Head,
@@ -282,7 +282,7 @@ fn file(
     Ok(made)
 }
 
-/// Gives a section its number and its place.
+/// Gives a section its index, offset and size.
 fn reserve(writer: &mut Writer<'_>, one: &mut OutputSection<'_>, model: Model) {
     writer.reserve_section_index();
     let length = one.length(model);
@@ -306,7 +306,7 @@ fn write_bytes(writer: &mut Writer<'_>, one: &OutputSection<'_>) {
     }
 }
 
-/// A segment of the program, of which nothing is in the file.
+/// The program header of a segment, with no bytes in the file.
 fn program_header(one: &Segment) -> ProgramHeader {
     ProgramHeader {
         p_type: elf::PT_LOAD,

@@ -1,4 +1,5 @@
-//! Entries of DWARF in the making: units, entries and their attributes, and how names are written.
+//! Entries of DWARF before they are written: units, entries and attributes, and how names are
+//! stored.
 
 use crate::types::crowded::CROWDED;
 use crate::types::text::printable;
@@ -10,21 +11,20 @@ use gimli::{DwAte, DwLang, Encoding, Format};
 use std::collections::{HashMap, HashSet};
 
 const VERSION: u16 = 5;
-/// Names may share their bytes in a dictionary, and each is written by itself: they may have so many
-/// times the bytes that were read, and some more.
+/// Names may overlap in a dictionary, but each is written separately: they may take this many times
+/// the bytes of the input, plus `AT_LEAST`.
 const TIMES: usize = 16;
 const AT_LEAST: usize = 1 << 20;
-/// How many entries are written at most: each takes a few hundred bytes of memory.
+/// The most entries that are written: each takes a few hundred bytes of memory.
 const MOST_ENTRIES: usize = 4_000_000;
-/// The bytes of a reference to a name that stands in `.debug_str`.
+/// The size of a reference to a name in `.debug_str`, in bytes.
 const REFERENCE: usize = 4;
 
-/// An entry, by its unit.
+/// An entry, with its unit.
 #[derive(Clone, Copy, Debug)]
 pub struct Entry {
-    /// The unit.
     pub unit: UnitId,
-    /// The entry in it.
+    /// The entry in the unit.
     pub at: UnitEntryId,
 }
 
@@ -37,40 +37,40 @@ pub struct Entries {
 }
 
 impl Entries {
-    /// None so far. The names of files of so many bytes will be written.
+    /// No entries. `bytes` is the size of the input, which limits the bytes of names.
     pub fn new(address_size: u8, bytes: usize) -> Entries {
         let encoding = Encoding { format: Format::Dwarf32, version: VERSION, address_size };
         let name_bytes_left = Some(bytes.saturating_mul(TIMES).saturating_add(AT_LEAST));
         Entries { dwarf: Dwarf::new(), encoding, count: 0, name_bytes_left }
     }
 
-    /// The bytes of an address.
+    /// The size of an address, in bytes.
     pub fn address_size(&self) -> u8 {
         self.encoding.address_size
     }
 
-    /// A new unit, behind those that are there: its own entry.
+    /// Adds a unit, and returns its root entry.
     pub fn add_unit(&mut self) -> Entry {
         let unit = self.dwarf.units.add(Unit::new(self.encoding, LineProgram::none()));
         Entry { unit, at: self.dwarf.units.get(unit).root() }
     }
 
-    /// A unit that has begun.
+    /// The unit with this id.
     pub fn unit(&mut self, unit: UnitId) -> &mut Unit {
         self.dwarf.units.get_mut(unit)
     }
 
-    /// A new entry within another.
+    /// Adds an entry as a child of another.
     pub fn add(&mut self, parent: Entry, tag: DwTag) -> Entry {
         self.count += 1;
         let at = match self.count <= MOST_ENTRIES {
             true => self.unit(parent.unit).add(parent.at, tag),
-            false => parent.at, // which is refused in the end
+            false => parent.at, // `finish` refuses it
         };
         Entry { unit: parent.unit, at }
     }
 
-    /// Says something of an entry.
+    /// Sets an attribute of an entry.
     pub fn set(&mut self, entry: Entry, name: DwAt, value: impl Into<Value>) {
         let value = match value.into() {
             Value::Plain(value) => value,
@@ -85,7 +85,8 @@ impl Entries {
         self.unit(entry.unit).get_mut(entry.at).set(name, value);
     }
 
-    /// All that was said, with names in as few bytes as there are; refused where it is too much.
+    /// The finished DWARF, with names stored in the fewest bytes. Refuses too many entries, or too
+    /// many bytes of names.
     pub fn finish(mut self) -> Result<Dwarf> {
         if self.name_bytes_left.is_none() {
             return refuse(CROWDED);
@@ -96,7 +97,7 @@ impl Entries {
     }
 }
 
-/// Refuses more entries than are written.
+/// Refuses more entries than can be written.
 pub fn judge_count(count: usize) -> Result<()> {
     match count > MOST_ENTRIES {
         true => refuse(format!(
@@ -107,24 +108,24 @@ pub fn judge_count(count: usize) -> Result<()> {
     }
 }
 
-/// What is said by an attribute.
+/// The value of an attribute.
 pub enum Value {
     /// A reference to an entry.
     Entry(Entry),
-    /// A name, without what a terminal obeys: debuggers print it as it is.
+    /// A name, escaped since debuggers print it as it is.
     Name(Vec<u8>),
     /// Anything else.
     Plain(AttributeValue),
 }
 
 impl Value {
-    /// A name.
+    /// A name, with control characters escaped.
     pub fn name(name: &[u8]) -> Value {
-        // No name has a zero byte: it ends at the first.
+        // No name has a zero byte, which would end it.
         Value::Name(printable(name).into_owned().into_bytes())
     }
 
-    /// That something is so.
+    /// The value of a flag that is set.
     pub fn present() -> Value {
         Value::Plain(AttributeValue::FlagPresent)
     }
@@ -184,7 +185,7 @@ impl From<RangeListId> for Value {
     }
 }
 
-/// Moves the names to `.debug_str`, each once, that take fewer bytes there with all references.
+/// Moves names to `.debug_str` if they take fewer bytes there, references included.
 fn share_names(dwarf: &mut Dwarf) {
     let units: Vec<UnitId> = (0..dwarf.units.count()).map(|at| dwarf.units.id(at)).collect();
     let mut counts: HashMap<&[u8], usize> = HashMap::new();
@@ -219,7 +220,7 @@ fn share_names(dwarf: &mut Dwarf) {
     }
 }
 
-/// The entries of a unit, each in front of those within it.
+/// The entries of a unit, each before its children.
 fn entries_of(unit: &Unit) -> Vec<UnitEntryId> {
     let mut listed = vec![unit.root()];
     let mut at = 0;
@@ -235,7 +236,7 @@ mod tests {
     use super::*;
     use gimli::constants::{DW_AT_byte_size, DW_AT_name, DW_TAG_base_type};
 
-    /// The value of each name of some entries, and whether it stands in `.debug_str`.
+    /// For each name, whether it is in `.debug_str`.
     fn shared_names(names: &[&str]) -> Vec<bool> {
         let mut entries = Entries::new(8, 100);
         let unit = entries.add_unit();
@@ -258,7 +259,7 @@ mod tests {
         assert_eq!(shared_names(&["only_one_has_this_name"]), [false]);
         assert_eq!(shared_names(&["abc", "abc", "abc", "abc"]), [false; 4]);
         assert_eq!(shared_names(&["long_name", "long_name"]), [true; 2]);
-        assert_eq!(shared_names(&["length", "length"]), [false; 2]); // 14 bytes, and 15 by references
+        assert_eq!(shared_names(&["length", "length"]), [false; 2]); // 14 bytes; 15 with references
     }
 
     #[test]

@@ -1,4 +1,4 @@
-//! The files that a debug file is made of, and how they go together.
+//! The input files of a debug file, and checks that they belong together.
 
 use super::debug_file;
 use super::options::Words;
@@ -16,7 +16,7 @@ use std::path::Path;
 
 const NAME_IT: &str = "name the program before it was stripped by --symbols";
 
-/// The files that a command line names.
+/// The input files.
 pub struct Files {
     file: Image,
     program: Option<Image>,
@@ -24,8 +24,8 @@ pub struct Files {
 }
 
 impl Files {
-    /// Opens them, and refuses those that do not go together. A program without types is asked for
-    /// in stores, where some are named.
+    /// Opens the files, and refuses those that do not belong together. If the program has no types
+    /// and stores are given, these are asked for its types.
     pub fn open(words: &Words) -> Outcome<Files> {
         let open = |path: &Option<std::path::PathBuf>| path.as_deref().map(Image::open).transpose();
         let file = Image::open(&words.file)?;
@@ -40,7 +40,7 @@ impl Files {
         Ok(made)
     }
 
-    /// A dictionary by itself, the program that it is of, and another copy of that.
+    /// The files for a dictionary by itself, its program, and perhaps another copy of the program.
     pub fn of_images(dictionary: Image, program: Image, symbols: Option<Image>) -> Files {
         Files { file: dictionary, program: Some(program), symbols }
     }
@@ -65,14 +65,14 @@ impl Files {
         Err(Failure::Refused(why))
     }
 
-    /// The program; None for a section by itself.
+    /// The program; None if only a section is given.
     pub fn debuggee(&self) -> Outcome<Option<Debuggee<'_>>> {
         let image = self.program.as_ref().unwrap_or(&self.file);
         Ok(image.is_elf().then(|| Debuggee::of(image)).transpose()?)
     }
 
-    /// The copy of the program that has its symbols, where another is named. One of another build
-    /// is refused.
+    /// The copy of the program that has its symbols, if one is given. A copy of another build is
+    /// refused.
     pub fn copy(&self, program: Option<&Debuggee<'_>>) -> Outcome<Option<Debuggee<'_>>> {
         let Some(image) = &self.symbols else { return Ok(None) };
         let copy = Debuggee::of(image)?;
@@ -86,7 +86,7 @@ impl Files {
         }
     }
 
-    /// The dictionary, with the data model that the words and the program say.
+    /// The dictionary, with the data model of the options or the program.
     pub fn dictionary(
         &self,
         wanted: Option<Model>,
@@ -108,12 +108,13 @@ impl Files {
         Ok(found)
     }
 
-    /// Whether the symbols may be others than those that the section of the dictionary names.
+    /// Whether the symbols may differ from those that the dictionary's section links to.
     fn has_others(&self) -> bool {
         self.program.is_some() || self.symbols.is_some()
     }
 
-    /// Gives a dictionary the symbols of a program for which it was written; else says why not.
+    /// Adds the symbols of a program to the dictionary that was written for them. Otherwise the
+    /// result has the reason.
     pub fn add_symbols<'a>(
         &self,
         found: &mut LibraryInput<'a>,
@@ -163,8 +164,8 @@ fn has_dictionary(file: &Image) -> Outcome<bool> {
     Ok(SECTIONS.iter().any(|name| file.section_of(name).is_some()))
 }
 
-/// The dictionary that a store has of a program, and a copy of the program with the symbols that go
-/// with it, where it has some.
+/// The dictionary that a store has for a program, and a copy of the program with the symbols for
+/// it, if the store has them.
 fn of_stores(program: &Image, stores: &Elsewhere) -> Outcome<Option<(Image, Option<Image>)>> {
     let program = Debuggee::of(program)?;
     let Some(found) = stores.find(program.build_id())? else { return Ok(None) };
@@ -185,17 +186,17 @@ fn of_stores(program: &Image, stores: &Elsewhere) -> Outcome<Option<(Image, Opti
     Ok(Some((image(handed.ctf.into_owned()), copy.map(image))))
 }
 
-/// By what the entries of a dictionary know the symbols of a program.
+/// How the entries of a dictionary identify the symbols of a program.
 pub enum Numbers<'a> {
-    /// By their numbers in a table.
+    /// By their indices in a table.
     ByNumber(Section<'a>),
-    /// By their names, which are those of a table.
+    /// By their names in a table.
     ByName(Section<'a>),
-    /// By nothing, and why, in a line; empty where nothing need be said.
+    /// Not at all. The line says why; it is empty if there is nothing to report.
     None(String),
 }
 
-/// That types alone are written of a program, and why.
+/// The message that only types are written for a program, and why.
 pub fn without_symbols(program: &Debuggee<'_>, why: &str) -> String {
     format!(
         "{}: {why}, so the types are written, and nothing of its symbols: {NAME_IT}",
@@ -203,7 +204,7 @@ pub fn without_symbols(program: &Debuggee<'_>, why: &str) -> String {
     )
 }
 
-/// Refuses a dictionary of another data model than its program.
+/// Refuses a dictionary whose data model is not its program's.
 fn judge_program(found: &LibraryInput<'_>, path: &Path, program: &Debuggee<'_>) -> Outcome<()> {
     let word = |model| match model {
         Model::Ilp32 => "ilp32",
@@ -221,7 +222,8 @@ fn judge_program(found: &LibraryInput<'_>, path: &Path, program: &Debuggee<'_>) 
     }
 }
 
-/// The symbols of a dictionary that names none: those that its section links to, else .symtab.
+/// Adds symbols to a dictionary that names no table: those that its section links to, else
+/// `.symtab`.
 fn add_unnamed<'a>(
     found: &mut LibraryInput<'a>,
     program: &Debuggee<'a>,
@@ -237,7 +239,7 @@ fn add_unnamed<'a>(
     }
 }
 
-/// Gives a dictionary a table, and the names that go with it.
+/// Adds a symbol table and its strings to a dictionary.
 fn add_table<'a>(
     found: &mut LibraryInput<'a>,
     program: &Debuggee<'a>,

@@ -47,7 +47,7 @@ use symbols::{by_name, by_number, TypedSymbol};
 use types::Selection;
 use units::{Contents, Producer};
 
-/// The command; its exit status.
+/// Runs the command, and returns its exit status.
 pub fn main(words: Vec<OsString>) -> ExitCode {
     let words = Words::parse(words);
     if standard::is_output_closed() {
@@ -65,27 +65,25 @@ pub fn main(words: Vec<OsString>) -> ExitCode {
     }
 }
 
-/// A debug file, and what should be known of it.
+/// A debug file, with what to print about it.
 pub struct DebugFile {
-    /// The file.
+    /// The bytes of the file.
     pub bytes: Vec<u8>,
-    /// What is in it.
+    /// How much is in it.
     pub counts: Counts,
-    /// Of its symbols.
+    /// A note on its symbols.
     note: Option<String>,
-    /// Of names that stand for several types.
+    /// A note on names that several types have.
     names: Option<String>,
     build_id: Vec<u8>,
 }
 
-/// How much a debug file tells.
+/// How many types and symbols a debug file has.
 #[derive(Clone, Copy, Debug, Default, PartialEq, Eq)]
 pub struct Counts {
-    /// Types.
     pub types: usize,
     /// Variables and constants.
     pub objects: usize,
-    /// Functions.
     pub functions: usize,
 }
 
@@ -117,7 +115,7 @@ fn run(words: &Words) -> Outcome<()> {
     Ok(lines.flush()?)
 }
 
-/// Where debuggers look for the debug file of a program with a build id.
+/// The path where debuggers look for the debug file of a program with a build-id.
 fn in_folder(folder: &Path, build_id: &[u8]) -> Outcome<PathBuf> {
     let digits: String = build_id.iter().map(|byte| format!("{byte:02x}")).collect();
     if digits.len() < 4 {
@@ -135,14 +133,14 @@ fn in_folder(folder: &Path, build_id: &[u8]) -> Outcome<PathBuf> {
     Ok(place.join(format!("{rest}.debug")))
 }
 
-/// Makes a debug file, once the library has accepted what it is made of.
+/// Makes a debug file. Fails if the library refuses the dictionary.
 fn debug_file_of(words: &Words) -> Outcome<DebugFile> {
     let files = Files::open(words)?;
     judge_output(words)?;
     debug_file_from(words, &files)
 }
 
-/// The debug file of a program with a name, with the dictionary in it or without.
+/// The debug file of a program, with or without the dictionary in it. `name` is the program's.
 pub fn of_files(name: &Path, files: &Files, has_dictionary: bool) -> Outcome<DebugFile> {
     debug_file_from(&Words::of_program(name, has_dictionary), files)
 }
@@ -175,7 +173,7 @@ fn debug_file_from(words: &Words, files: &Files) -> Outcome<DebugFile> {
     })
 }
 
-/// Refuses a file that can't be written, or that is read too.
+/// Refuses an output that cannot be written, or that is also an input.
 fn judge_output(words: &Words) -> Outcome<()> {
     if words.is_folder {
         return Ok(());
@@ -184,7 +182,7 @@ fn judge_output(words: &Words) -> Outcome<()> {
     Ok(output::judge(&words.output)?)
 }
 
-/// Refuses a dictionary whose names share their bytes.
+/// Refuses a dictionary whose names overlap.
 fn judge_names(path: &Path, opened: &OpenDictionary<'_, '_>) -> Outcome<()> {
     match is_crowded(opened.catalog) || opened.parent.is_some_and(has_crowded_names) {
         true => Err(Failure::Refused(format!("{}: {CROWDED}", display_path(path)))),
@@ -200,15 +198,15 @@ fn model_of(catalog: &Catalog<'_>) -> Model {
     }
 }
 
-/// The bytes of all dictionaries and of the strings beside them.
+/// The bytes of all dictionaries and of their strings.
 fn length_of(opened: &OpenDictionary<'_, '_>) -> usize {
     opened.catalog.volumes().iter().chain(opened.parent).map(|volume| volume.lists.length()).sum()
 }
 
-/// The symbols that have types, or why nothing is said of any, in a line; empty where nothing need be.
+/// The symbols that have types; or a line on why there are none, empty if none is needed.
 type Symbols<'a> = Result<Vec<TypedSymbol<'a>>, String>;
 
-/// What a debug file is made of beside the types.
+/// What a debug file is made from, besides the types.
 struct Parts<'w, 'a> {
     words: &'w Words,
     program: Option<&'w Debuggee<'a>>,
@@ -243,7 +241,7 @@ impl<'a> Parts<'_, 'a> {
         })
     }
 
-    /// The sections of DWARF, compressed where that is wanted.
+    /// The sections of DWARF, compressed if wanted.
     fn sections(
         &self,
         opened: &OpenDictionary<'_, '_>,
@@ -271,7 +269,7 @@ impl<'a> Parts<'_, 'a> {
         Ok(made)
     }
 
-    /// The symbols of which the dictionary says something; else why there are none.
+    /// The symbols that have types in the dictionary; else a line on why there are none.
     fn typed_symbols(&self, opened: &OpenDictionary<'_, '_>) -> Outcome<Symbols<'a>> {
         let (program, table) = match (self.symbols, &self.numbers) {
             (Some(program), Numbers::ByNumber(table) | Numbers::ByName(table)) => (program, table),
@@ -295,7 +293,7 @@ impl<'a> Parts<'_, 'a> {
         }))
     }
 
-    /// Where units come from: a source file with the name of the program.
+    /// The producer of the units; their name is that of the program with `.types.c` appended.
     fn producer(&self) -> Producer {
         let name = self.words.file.file_name().unwrap_or_default().as_bytes();
         Producer {

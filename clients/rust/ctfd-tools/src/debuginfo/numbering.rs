@@ -1,18 +1,18 @@
-//! The numbers that a program's sections have in the debug file beside it, by what symbols know them.
+//! The section numbers of a program's symbols in its debug file.
 
 use ctfd::Model;
 use ctfd_read::debuggee::{Debuggee, Section};
 use object::elf;
 use std::collections::HashMap;
 
-/// Bytes in front of the fields of a symbol that say its section.
+/// The offset of the section number in a symbol, in bytes.
 const SECTION_IN_64: usize = 6;
 const SECTION_IN_32: usize = 14;
-/// The same of the byte that says who sees it.
+/// The offset of the byte with a symbol's binding.
 const BINDING_IN_64: usize = 4;
 const BINDING_IN_32: usize = 12;
 
-/// Where an entry of a symbol table has the number of its section, that number, and its address.
+/// The offset of the section number in a symbol, that number, and the symbol's address.
 pub fn section_and_address(entry: &[u8], model: Model) -> (usize, u16, u64) {
     let number = |at: usize| u16::from_le_bytes([entry[at], entry[at + 1]]);
     let word = |at: usize| u64::from(number(at)) | u64::from(number(at + 2)) << 16;
@@ -22,7 +22,7 @@ pub fn section_and_address(entry: &[u8], model: Model) -> (usize, u16, u64) {
     }
 }
 
-/// How many symbols a table of entries of some size begins with that its own file alone sees.
+/// The number of local symbols at the start of a table whose entries have `size` bytes.
 pub fn local_count(table: &[u8], size: usize, model: Model) -> u32 {
     let at = match model {
         Model::Lp64 => BINDING_IN_64,
@@ -32,22 +32,23 @@ pub fn local_count(table: &[u8], size: usize, model: Model) -> u32 {
     table.chunks_exact(size).take_while(is_local).count() as u32
 }
 
-/// The sections of a program that are written, by what its symbols know them.
+/// The sections of a program that are written, as its symbols refer to them.
 #[allow(clippy::enum_variant_names)]
 pub enum WrittenSections<'s> {
-    /// Another copy of the program has the symbols, in which sections have other numbers and the
+    /// The symbols come from another copy of the program, whose sections have other numbers but the
     /// same names.
     ByName(&'s [Section<'s>], HashMap<&'s [u8], u16>),
-    /// The symbols stand apart from the program, where numbers say nothing: the addresses of its
-    /// sections in order, each with its end and its number.
+    /// The symbols come without their sections, so their section numbers mean nothing: the start,
+    /// end and number of each section, in order of addresses.
     ByAddress(Vec<(u64, u64, u16)>),
-    /// The same of an object file, which has no addresses: a store's symbols have the numbers that
-    /// are written.
+    /// The same for an object file, which has no addresses: the symbols have the written numbers,
+    /// up to this one.
     ByNumber(u16),
 }
 
 impl<'s> WrittenSections<'s> {
-    /// Those of a program, by their old numbers, for the symbols of a file.
+    /// The written sections of a program, for the symbols of a file. `numbers` maps old numbers to
+    /// new ones.
     pub fn new(
         program: &'s Debuggee<'_>,
         symbols: &'s Debuggee<'_>,
@@ -63,7 +64,7 @@ impl<'s> WrittenSections<'s> {
         if program.is_relocatable() {
             return WrittenSections::ByNumber(numbers.len() as u16);
         }
-        // What each thread has a copy of takes no room among the addresses.
+        // Thread-local sections take no room in the address space.
         let has_room = |section: &Section<'_>| section.flags & u64::from(elf::SHF_TLS) == 0;
         let placed = written.filter(|(section, _)| has_room(section)).map(|(section, number)| {
             (section.address, section.address.saturating_add(section.size), number)
@@ -73,7 +74,7 @@ impl<'s> WrittenSections<'s> {
         WrittenSections::ByAddress(placed)
     }
 
-    /// The number that the section of a symbol is written by; None where it is not written.
+    /// The new number of a symbol's section; None if the section is not written.
     pub fn number_of(&self, old: u16, address: u64) -> Option<u16> {
         match self {
             WrittenSections::ByName(sections, numbers) => {

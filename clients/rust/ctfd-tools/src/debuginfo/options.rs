@@ -1,4 +1,4 @@
-//! The words of `ctfd-debuginfo`: the file, the debug file to write, and what is known beside them.
+//! The command line of `ctfd-debuginfo`.
 
 use crate::arguments;
 use crate::wrong_words;
@@ -18,34 +18,34 @@ asked for by its build-id if CTFD_STORE or --store names a store. OUT is what ob
 the program if it had debug information. Arguments are called arg0, arg1, ..,
 and have places where a function begins.";
 
-/// What a command line says.
+/// The values of the command line.
 pub struct Words {
     /// The program, or its types.
     pub file: PathBuf,
-    /// The debug file, or a folder of such.
+    /// The debug file to write, or a folder for it.
     pub output: PathBuf,
     /// Whether the output is a folder.
     pub is_folder: bool,
     /// The copy of the program that still has its symbol table.
     pub symbols: Option<PathBuf>,
-    /// The program that the types belong to, where the file is a section.
+    /// The program that the types belong to, if the file is a section.
     pub program: Option<PathBuf>,
     /// The parent of the dictionary.
     pub parent: Option<PathBuf>,
     /// Whether arguments have names and places.
     pub has_arguments: bool,
-    /// Whether sections are compressed where that makes them smaller.
+    /// Whether to compress sections that this makes smaller.
     pub is_compressed: bool,
-    /// The data model, where it is asked for.
+    /// The data model, if it is given.
     pub model: Option<Model>,
-    /// Whether the dictionary stands in the debug file.
+    /// Whether the dictionary is added to the debug file.
     pub has_dictionary: bool,
-    /// Who is asked for the types of a program that has none.
+    /// The stores to ask if the program has no types.
     pub elsewhere: Elsewhere,
 }
 
 impl Words {
-    /// Those by which all that is known of a program is written, perhaps with its dictionary.
+    /// The options that write everything known about a program, with or without its dictionary.
     pub fn of_program(path: &Path, has_dictionary: bool) -> Words {
         Words {
             file: path.to_owned(),
@@ -62,7 +62,7 @@ impl Words {
         }
     }
 
-    /// Those of a command line. What is wrong with it is told, and ends the process.
+    /// Parses the command line. A wrong one ends the process with a message.
     pub fn parse(words: Vec<OsString>) -> Words {
         let matches = wrong_words::parse_words(options(), words);
         let path = |name: &str| matches.get_one::<PathBuf>(name).cloned();

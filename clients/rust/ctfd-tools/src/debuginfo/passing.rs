@@ -1,8 +1,8 @@
 //! Where a function finds its arguments, by the calling convention of x86-64 (System V).
 //!
-//! CTF says what a function takes and not where. The convention says where, as the function begins.
-//! On i386 compilers call functions that one file has for itself in ways of their own, and options
-//! change how others are called, so no place is told there.
+//! CTF has the types of arguments, but not their locations; the convention gives them for the start
+//! of a function. On i386 compilers call a file's static functions in ways of their own, and
+//! options change how others are called, so no locations are given there.
 
 use crate::types::catalog::{Catalog, Number, Record, Signature};
 use ctfd::Kind;
@@ -25,12 +25,13 @@ const VECTORS: [Register; 8] = [
 ];
 const WORD: u64 = 8;
 const LONGEST_IN_REGISTERS: u64 = 2 * WORD;
-/// No argument is longer, and no stack has so many of them that their sum is too large to count.
+/// The size limit of an argument, so that the offsets of arguments on the stack do not overflow.
 const LONGEST: u64 = 1 << 40;
-/// A struct of 16 bytes holds no more bit-fields; one of a hostile dictionary may hold any number.
+/// The most parts of a struct that are visited. A struct of 16 bytes has fewer bit-fields, but one
+/// in a hostile dictionary may have any number.
 const MOST_PARTS: usize = 1000;
 
-/// The class of eight bytes of an argument, the weaker first.
+/// The class of an eightbyte of an argument; of two classes, the later one wins.
 #[derive(Clone, Copy, Debug, PartialEq, Eq, PartialOrd, Ord)]
 enum Class {
     Vector,
@@ -38,8 +39,8 @@ enum Class {
     Memory,
 }
 
-/// How a type is passed: the class of each eight bytes, none for memory; and its bytes and alignment
-/// there.
+/// How a type is passed: the class of each eightbyte, none if it is passed in memory, and its size
+/// and alignment on the stack, in bytes.
 #[derive(Clone, Debug)]
 struct Passage {
     classes: Vec<Class>,
@@ -57,27 +58,27 @@ impl Passage {
     }
 }
 
-/// Where an argument is as its function begins.
+/// The location of an argument at its function's start.
 pub enum Place {
-    /// In registers: there alone.
+    /// In registers, at the start only.
     Registers(Expression),
-    /// On the stack, for as long as the function runs.
+    /// On the stack, as long as the function runs.
     Stack(Expression),
 }
 
-/// How the types of a catalog are passed; each is looked at once.
+/// How the types of a catalog are passed, with a cache.
 pub struct Passing<'c, 'd> {
     catalog: &'c Catalog<'d>,
     known: RefCell<HashMap<Number, Option<Passage>>>,
 }
 
 impl<'c, 'd> Passing<'c, 'd> {
-    /// That of a catalog's types.
+    /// An empty cache for a catalog.
     pub fn new(catalog: &'c Catalog<'d>) -> Passing<'c, 'd> {
         Passing { catalog, known: RefCell::new(HashMap::new()) }
     }
 
-    /// A place for each argument; None from the first on of which it is not known.
+    /// The location of each argument; None from the first one on that is not known.
     pub fn places(&self, function: &Signature) -> Vec<Option<Place>> {
         let mut made: Vec<Option<Place>> = self.known_places(function);
         made.resize_with(function.arguments.len(), || None);
@@ -117,7 +118,7 @@ impl<'c, 'd> Passing<'c, 'd> {
         made
     }
 
-    /// How a type is passed; None where that is not known.
+    /// How a type is passed; None if that is not known.
     fn of(&self, number: Number) -> Option<Passage> {
         let end = self.catalog.resolve(number);
         if let Some(known) = self.known.borrow().get(&end) {
@@ -128,7 +129,7 @@ impl<'c, 'd> Passing<'c, 'd> {
         found
     }
 
-    /// Whether the caller hands in where the value goes; None where that is not known.
+    /// Whether the caller passes the address of the return value; None if that is not known.
     fn is_returned_in_memory(&self, returned: Number) -> Option<bool> {
         let end = self.catalog.resolve(returned);
         match self.catalog.record(end).is_aggregate() {
@@ -168,7 +169,8 @@ impl<'c, 'd> Passing<'c, 'd> {
         Some(Passage { classes: Vec::new(), size, align: self.align(number) })
     }
 
-    /// The class of each eight bytes of a struct, by all that it holds: the stronger of two.
+    /// The class of each eightbyte of a struct, by its offset in eightbytes. None if it is not
+    /// known, or if the struct has too many parts.
     fn classes(&self, number: Number) -> Option<BTreeMap<u64, Class>> {
         let mut found = BTreeMap::new();
         let mut waiting = vec![(number, 0u64)];
@@ -198,7 +200,7 @@ impl<'c, 'd> Passing<'c, 'd> {
         None
     }
 
-    /// Adds those of what holds nothing else.
+    /// Adds the classes of a type that is no struct, union or array. None if they are not known.
     fn add_classes(
         &self,
         number: Number,
@@ -221,7 +223,7 @@ impl<'c, 'd> Passing<'c, 'd> {
             }
             _ => return None,
         };
-        // Of a bit-field its own bytes say where it is.
+        // A bit-field counts where its own bits begin, not where its storage does.
         if let (Kind::Integer, Some(lies)) = (record.kind, record.encoding) {
             if lies.bits > 0 && u64::from(lies.bits) < 8 * size {
                 size = 1;
@@ -238,7 +240,7 @@ impl<'c, 'd> Passing<'c, 'd> {
         Some(())
     }
 
-    /// How a type is aligned on the stack: to 16 where it holds what is aligned so.
+    /// The alignment of a type on the stack: 16 if it contains a number of 16 bytes, else 8.
     fn align(&self, number: Number) -> u64 {
         let (mut known, mut waiting) = (HashSet::new(), vec![number]);
         while let Some(one) = waiting.pop() {
@@ -262,7 +264,7 @@ impl<'c, 'd> Passing<'c, 'd> {
     }
 }
 
-/// What is in registers: in one, or in one for each eight bytes.
+/// The location of an argument in one register, or in one for each eightbyte.
 fn in_registers(taken: &[Register], size: u64) -> Expression {
     let mut made = Expression::new();
     for (&register, before) in taken.iter().zip((0..).step_by(WORD as usize)) {

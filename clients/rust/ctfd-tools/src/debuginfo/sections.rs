@@ -1,4 +1,4 @@
-//! Sections of DWARF: their bytes, and in an object file the places in them that get addresses.
+//! Sections of DWARF: their bytes and, in an object file, their relocations.
 
 use ctfd::Model;
 use ctfd_read::debuggee::Debuggee;
@@ -13,17 +13,17 @@ use object::write::elf::Rel;
 use object::{pod, Endianness::Little};
 use std::io::Write as _;
 
-/// How the object files of a machine have places that get addresses.
+/// The relocations of addresses in a machine's object files.
 #[derive(Clone, Copy, Debug)]
 pub struct RelocationKind {
-    /// The number of the kind that fills in an address.
+    /// The relocation type of an absolute address.
     number: u32,
-    /// Whether what is added stands in the table, and not in the place itself.
+    /// Whether the addend is in the relocation, rather than in the relocated bytes.
     pub is_rela: bool,
 }
 
 impl RelocationKind {
-    /// That of a program's machine, where it is known.
+    /// The relocations for a program's machine, if it is known.
     pub fn of(program: &Debuggee<'_>) -> Option<RelocationKind> {
         let (number, is_rela) = match (program.head.machine, program.model) {
             (elf::EM_X86_64, Model::Lp64) => (elf::R_X86_64_64, true),
@@ -39,7 +39,7 @@ impl RelocationKind {
     }
 }
 
-/// A section of DWARF in the making.
+/// A section of DWARF while it is written.
 #[derive(Clone)]
 struct SectionWriter {
     bytes: EndianVec<LittleEndian>,
@@ -83,19 +83,19 @@ impl Writer for SectionWriter {
     }
 }
 
-/// A section that is written.
+/// A finished section.
 pub struct DebugSection {
-    /// Its name.
     pub name: &'static str,
-    /// Its bytes, a header in front of those that are compressed.
+    /// Its bytes; if they are compressed, a header comes first.
     pub bytes: Vec<u8>,
-    /// Whether they are compressed.
+    /// Whether the bytes are compressed.
     pub is_compressed: bool,
-    /// The places in it that get addresses.
+    /// Its relocations.
     pub relocations: Vec<Rel>,
 }
 
-/// All sections of a debug file. Relocations are of a kind, where there are any.
+/// The sections of a debug file that are not empty, `.debug_info` first. `kind` is needed if there
+/// are relocations.
 pub fn of_dwarf(dwarf: &mut Dwarf, kind: Option<RelocationKind>) -> Result<Vec<DebugSection>> {
     let bytes = EndianVec::new(LittleEndian);
     let mut sections = Sections::new(SectionWriter { bytes, kind, relocations: Vec::new() });
@@ -116,7 +116,7 @@ pub fn of_dwarf(dwarf: &mut Dwarf, kind: Option<RelocationKind>) -> Result<Vec<D
     Ok(made)
 }
 
-/// Compresses a section where that makes it smaller.
+/// Compresses a section if that makes it smaller.
 pub fn compress(section: &mut DebugSection, model: Model) -> Result<()> {
     let mut encoder = ZlibEncoder::new(header(section.bytes.len(), model), Compression::default());
     let packed = encoder.write_all(&section.bytes).and_then(|()| encoder.finish())?;
@@ -127,7 +127,7 @@ pub fn compress(section: &mut DebugSection, model: Model) -> Result<()> {
     Ok(())
 }
 
-/// What stands in front of so many bytes that are compressed.
+/// The header of a compressed section that unpacks to `size` bytes.
 fn header(size: usize, model: Model) -> Vec<u8> {
     let kind = U32::new(Little, elf::ELFCOMPRESS_ZLIB);
     match model {

@@ -1,4 +1,4 @@
-//! The functions and objects of a program with their types, which its dictionary says.
+//! The functions and objects of a program, with their types from its dictionary.
 
 use crate::types::catalog::{Catalog, Signature, SymbolAnswer};
 use ctfd_read::debuggee::ProgramSymbol;
@@ -12,41 +12,40 @@ const COPIES: [&[u8]; 6] =
     [b".isra.", b".constprop.", b".part.", b".cold", b".lto_priv.", b".localalias"];
 const ALIAS: &[u8] = b".localalias";
 
-/// A symbol with what a dictionary says of it. Of a program that is linked, `section` is 0.
+/// A symbol with its type.
 pub struct TypedSymbol<'a> {
     symbol: ProgramSymbol<'a>,
     is_relocated: bool,
-    /// What is said of it.
+    /// Its type, or a function's signature.
     pub description: SymbolAnswer,
 }
 
 impl<'a> TypedSymbol<'a> {
-    /// Its name.
     pub fn name(&self) -> &'a [u8] {
         self.symbol.name
     }
 
-    /// Its address; in an object file that in its section.
+    /// Its address; in an object file, the offset in its section.
     pub fn address(&self) -> u64 {
         self.symbol.address
     }
 
-    /// Its bytes.
+    /// Its size in bytes.
     pub fn size(&self) -> u64 {
         self.symbol.size
     }
 
-    /// Whether other source files see it.
+    /// Whether it is visible in other source files.
     pub fn is_global(&self) -> bool {
         self.symbol.is_global
     }
 
-    /// The source file of one that is seen nowhere else, where that is known.
+    /// The source file of a local symbol, if known; else empty.
     pub fn source(&self) -> &'a [u8] {
         self.symbol.source
     }
 
-    /// The section in which its address counts; 0 where it counts in none.
+    /// The number of its section in an object file; 0 in a linked program.
     pub fn section(&self) -> u16 {
         if self.is_relocated {
             self.symbol.section
@@ -55,12 +54,12 @@ impl<'a> TypedSymbol<'a> {
         }
     }
 
-    /// Whether its address is filled in as its file is loaded.
+    /// Whether its address is relocated.
     pub fn is_relocated(&self) -> bool {
         self.is_relocated
     }
 
-    /// The address so many bytes behind it, which has no more bits than a pointer.
+    /// The address `count` bytes after its start, truncated to the size of an address.
     pub fn behind(&self, count: u64, address_size: u8) -> Address {
         match self.is_relocated {
             true => Address::Symbol { symbol: self.symbol.number as usize, addend: count as i64 },
@@ -71,7 +70,7 @@ impl<'a> TypedSymbol<'a> {
         }
     }
 
-    /// What a function takes and returns.
+    /// The signature of a function; None for an object.
     pub fn signature(&self) -> Option<&Signature> {
         match &self.description {
             SymbolAnswer::Function(signature) => Some(signature),
@@ -79,18 +78,18 @@ impl<'a> TypedSymbol<'a> {
         }
     }
 
-    /// Whether it is another name of a function, which linkers made.
+    /// Whether it is another name of a function, made by a linker.
     pub fn is_alias(&self) -> bool {
         find(self.name(), ALIAS).is_some()
     }
 
-    /// Whether it is a copy of a function, which may take its arguments elsewhere.
+    /// Whether it is a copy of a function, which may take its arguments differently.
     pub fn is_copy(&self) -> bool {
         COPIES.iter().any(|mark| find(self.name(), mark).is_some())
     }
 
-    /// Its name as C has it: without what compilers append to tell copies of functions, and
-    /// variables of functions, from others.
+    /// Its name in C: without what compilers append to the names of copies of functions, and of
+    /// static variables in functions.
     pub fn declared_name(&self) -> &'a [u8] {
         without_mark(self.name())
     }
@@ -113,7 +112,7 @@ fn find(name: &[u8], mark: &[u8]) -> Option<usize> {
     name.windows(mark.len()).position(|part| part == mark)
 }
 
-/// What a dictionary says of symbols that it knows by their numbers in a table.
+/// The symbols with types, for a dictionary that identifies symbols by their indices in a table.
 pub fn by_number<'a>(
     catalog: &Catalog<'_>,
     symbols: &[ProgramSymbol<'a>],
@@ -126,7 +125,8 @@ pub fn by_number<'a>(
     in_order(listed.collect())
 }
 
-/// What a dictionary says of symbols whose names it has itself, for names that no two symbols have.
+/// The symbols with types, for a dictionary that has the names of its symbols. Names that several
+/// symbols have are left out.
 pub fn by_name<'a>(
     catalog: &Catalog<'_>,
     own: &Symbols<'_>,
@@ -146,14 +146,14 @@ pub fn by_name<'a>(
     in_order(listed.collect())
 }
 
-/// What a dictionary says of a symbol; None where it has no type.
+/// The type or signature of a symbol; None if it has none.
 fn description_of(catalog: &Catalog<'_>, number: u32, is_function: bool) -> Option<SymbolAnswer> {
     let told = catalog.told_of(number)?;
     let is_typed = !matches!(told, SymbolAnswer::Object(0));
     (is_typed && is_function == matches!(told, SymbolAnswer::Function(_))).then_some(told)
 }
 
-/// Objects that have a place, then each function once.
+/// Objects with an address, then functions without duplicates.
 fn in_order(listed: Vec<TypedSymbol<'_>>) -> Vec<TypedSymbol<'_>> {
     let (functions, mut made): (Vec<_>, Vec<_>) =
         listed.into_iter().partition(|one| one.signature().is_some());

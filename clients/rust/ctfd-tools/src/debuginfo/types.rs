@@ -1,4 +1,4 @@
-//! The types of a dictionary and of its parent as entries of DWARF.
+//! The types of a dictionary and its parent as entries of DWARF.
 
 use super::aliases::{alias, Aliases};
 use super::entries::{Entries, Entry, Value};
@@ -9,34 +9,34 @@ use gimli::constants::*;
 use gimli::DwTag;
 use std::collections::{HashMap, HashSet};
 
-/// What the kinds of integers and floats are, by the numbers of their encodings.
+/// Flags and values of encodings of integers and floats.
 const SIGNED: u8 = 1;
 const CHARACTER: u8 = 2;
 const BOOLEAN: u8 = 4;
 const COMPLEX: [u8; 3] = [3, 4, 5];
 const IMAGINARY: [u8; 3] = [10, 11, 12];
-/// How C's `_Atomic` is a name in CTF.
+/// The start of the name of a typedef that stands for C's `_Atomic`.
 const ATOMIC: &[u8] = b"_Atomic(";
-/// How many dimensions or qualifiers one entry has.
+/// The most dimensions or qualifiers of one entry.
 const DEEPEST: usize = 64;
 
-/// Which types are written, under which names.
+/// The types that are written, and their names.
 pub struct Selection<'c, 'd> {
-    /// The types.
+    /// The catalog that has the types.
     pub catalog: &'c Catalog<'d>,
-    /// Names for types whose own leads to another.
+    /// Aliases of types whose name finds another type.
     pub aliases: Aliases,
     widths: Widths<'c, 'd>,
     clashes: HashSet<&'c [u8]>,
 }
 
 impl<'c, 'd> Selection<'c, 'd> {
-    /// All of a catalog but those for which a wider one stands.
+    /// All types of a catalog, except narrow ones that have a type of full width.
     pub fn new(catalog: &'c Catalog<'d>) -> Selection<'c, 'd> {
         let widths = Widths::new(catalog);
         let parents = catalog.all().filter(|&n| !catalog.is_own(n));
         let is_written = |n: &Number| widths.full_width(*n) == *n;
-        // Look-ups go to a child's types first.
+        // Look-ups try a child's types first.
         let listed: Vec<Number> = catalog.own_numbers().chain(parents).filter(is_written).collect();
         let aliases = Aliases::new(catalog, &listed);
         let mut made = Selection { catalog, aliases, widths, clashes: HashSet::new() };
@@ -48,12 +48,12 @@ impl<'c, 'd> Selection<'c, 'd> {
         self.catalog.all().filter(|&n| self.widths.full_width(n) == n)
     }
 
-    /// The types that look-ups by name see, and those without a name.
+    /// The types that look-ups by name find, and those without a name.
     pub fn visible_types(&self) -> impl Iterator<Item = Number> + use<'_, 'c, 'd> {
         self.written_types().filter(|&n| !self.is_hidden(n))
     }
 
-    /// The types that have a name by which another is found.
+    /// The types with a name by which look-ups do not find them.
     pub fn hidden_types(&self) -> impl Iterator<Item = Number> + use<'_, 'c, 'd> {
         self.written_types().filter(|&n| self.is_hidden(n))
     }
@@ -63,7 +63,7 @@ impl<'c, 'd> Selection<'c, 'd> {
         !record.name.is_empty() && !record.is_root
     }
 
-    /// The enumerators that have several values, if the name of an enum leads to another.
+    /// The enumerators that have several values, if some enum has an alias.
     fn clashes(&self) -> HashSet<&'c [u8]> {
         let enums: Vec<Number> =
             self.written_types().filter(|&n| self.catalog.kind(n) == Kind::Enum).collect();
@@ -78,7 +78,7 @@ impl<'c, 'd> Selection<'c, 'd> {
         values.filter(differs).map(|one| &one.name[..]).collect()
     }
 
-    /// The type that stands for another; 0 for void.
+    /// The type of full width for another type; 0 for void.
     fn stand_in(&self, number: Number) -> Number {
         let number = self.widths.full_width(number);
         if self.is_void(number) {
@@ -95,9 +95,8 @@ impl<'c, 'd> Selection<'c, 'd> {
     }
 }
 
-/// Writes types.
+/// Writes types as entries.
 pub struct TypeWriter<'w, 'c, 'd> {
-    /// All entries.
     pub entries: Entries,
     selection: &'w Selection<'c, 'd>,
     /// The entry of each type.
@@ -105,7 +104,7 @@ pub struct TypeWriter<'w, 'c, 'd> {
 }
 
 impl<'w, 'c, 'd> TypeWriter<'w, 'c, 'd> {
-    /// One that has written nothing.
+    /// A writer without types.
     pub fn new(selection: &'w Selection<'c, 'd>, entries: Entries) -> TypeWriter<'w, 'c, 'd> {
         TypeWriter { entries, selection, by_number: HashMap::new() }
     }
@@ -114,7 +113,8 @@ impl<'w, 'c, 'd> TypeWriter<'w, 'c, 'd> {
         self.selection.catalog
     }
 
-    /// Makes room in a unit for types, which others may name before they are written.
+    /// Adds an empty entry to a unit for each type, so that others can refer to it before it is
+    /// written.
     pub fn begin(&mut self, unit: Entry, listed: impl Iterator<Item = Number>) {
         for number in listed.filter(|&number| !self.selection.is_void(number)) {
             let tag = tag_of(self.catalog().record(number));
@@ -122,7 +122,7 @@ impl<'w, 'c, 'd> TypeWriter<'w, 'c, 'd> {
         }
     }
 
-    /// Writes the types for which there is room, in the order of their numbers.
+    /// Writes the types that have entries, in the order of their numbers.
     pub fn write_all(&mut self) {
         for number in self.catalog().all() {
             if let Some(&entry) = self.by_number.get(&number) {
@@ -158,8 +158,8 @@ impl<'w, 'c, 'd> TypeWriter<'w, 'c, 'd> {
         }
     }
 
-    /// Says a type's name. A debugger that meets several types of one name takes any, so those to
-    /// which the name does not lead have another.
+    /// Sets a type's name: its alias, if it has one. A debugger that meets several types of one
+    /// name takes any of them.
     fn name(&mut self, entry: Entry, number: Number) {
         let own = &self.catalog().record(number).name[..];
         let name = self.selection.aliases.get(number).unwrap_or(own);
@@ -168,7 +168,7 @@ impl<'w, 'c, 'd> TypeWriter<'w, 'c, 'd> {
         }
     }
 
-    /// Says which type an entry is of; nothing for void.
+    /// Sets the type of an entry; void is left out.
     pub fn refer(&mut self, entry: Entry, number: Number) {
         if let Some(&to) = self.by_number.get(&self.selection.stand_in(number)) {
             self.entries.set(entry, DW_AT_type, to);
@@ -186,7 +186,7 @@ impl<'w, 'c, 'd> TypeWriter<'w, 'c, 'd> {
         self.entries.set(entry, DW_AT_encoding, encoding);
     }
 
-    /// An array of so many elements; one of arrays is one entry with all its dimensions.
+    /// Writes an array. Nested arrays become one entry with several dimensions.
     fn array(&mut self, entry: Entry, number: Number, elements: u64) {
         let catalog = self.catalog();
         let index = catalog.index(number);
@@ -233,7 +233,8 @@ impl<'w, 'c, 'd> TypeWriter<'w, 'c, 'd> {
         }
     }
 
-    /// Says where a member lies; one of a union that is no bit-field lies at its start.
+    /// Sets the offset of a member. Without one it is 0, as for a union's members that are no
+    /// bit-fields.
     fn place(&mut self, member: Entry, part: &Part<'_>, is_in_struct: bool) {
         let catalog = self.catalog();
         let end = catalog.resolve(part.of);
@@ -268,8 +269,9 @@ impl<'w, 'c, 'd> TypeWriter<'w, 'c, 'd> {
         }
     }
 
-    /// The type of an object of so many bytes whose type is an array without a length: one with the
-    /// length that the bytes tell, which is written into the object's unit. None of other objects.
+    /// An array type with a length, for an object whose type is an array without one. The length
+    /// follows from the object's size in bytes; the type is added to the object's unit. None for
+    /// other objects.
     pub fn whole_array(&mut self, unit: Entry, mut number: Number, size: u64) -> Option<Entry> {
         let catalog = self.catalog();
         let mut qualifiers = Vec::new();

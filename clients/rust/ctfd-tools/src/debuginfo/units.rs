@@ -1,9 +1,8 @@
 //! The units of a debug file: the types and symbols of a program as DWARF.
 //!
-//! The first unit has the types that look-ups by name see, and the symbols. Source files that have
-//! each a name for themselves have a unit each, so that a debugger takes that of the file in which
-//! the program stands. The last unit has the types that are hidden because another is found by their
-//! name.
+//! The first unit has the types that look-ups by name find, and the symbols. Source files whose
+//! static symbols share a name have a unit each, so that a debugger takes the symbol of the file in
+//! which the program is stopped. The last unit has the hidden types, which look-ups do not find.
 
 use super::arguments::Arguments;
 use super::entries::{judge_count, Entries, Entry, Value};
@@ -15,8 +14,8 @@ use gimli::constants::*;
 use gimli::write::{Address, Dwarf, Expression, Range, RangeList};
 use std::collections::{HashMap, HashSet};
 
-/// What is told of where units come from: the program that wrote them, and the name of a source
-/// file. gdb takes the language from how that ends.
+/// The origin of the units: the program that wrote them, and the name of a source file. gdb takes
+/// the language from the end of that name.
 pub struct Producer {
     /// The program that wrote them.
     pub program: String,
@@ -24,19 +23,18 @@ pub struct Producer {
     pub name: Vec<u8>,
 }
 
-/// What is written of a program.
+/// The contents of a debug file.
 pub struct Contents<'w, 'c, 'd, 'a> {
-    /// Its types.
+    /// The types.
     pub selection: &'w Selection<'c, 'd>,
-    /// Its symbols.
     pub symbols: &'w [TypedSymbol<'a>],
-    /// Where its functions find their arguments, if that is written.
+    /// The locations of arguments, if they are written.
     pub arguments: Option<&'w Arguments<'w, 'c, 'd>>,
-    /// Where units come from.
+    /// The origin of the units.
     pub producer: &'w Producer,
 }
 
-/// Addresses from the start of a function on.
+/// An address range that begins at the start of a function.
 #[derive(Clone, Copy)]
 struct Span<'s, 'a> {
     low: &'s TypedSymbol<'a>,
@@ -51,7 +49,7 @@ struct Part<'s, 'a> {
 }
 
 impl<'w, 'a> Contents<'w, '_, '_, 'a> {
-    /// How many entries it takes, but for the dimensions of arrays.
+    /// The number of entries, not counting the dimensions of arrays.
     fn entry_count(&self) -> usize {
         let of_type = |number| {
             let parts = self.selection.catalog.get(number).and_then(|of| of.length().ok());
@@ -64,7 +62,7 @@ impl<'w, 'a> Contents<'w, '_, '_, 'a> {
         types + self.symbols.iter().map(of_symbol).sum::<usize>()
     }
 
-    /// All of it as DWARF.
+    /// The contents as DWARF.
     pub fn write(&self, entries: Entries) -> Result<Dwarf> {
         judge_count(self.entry_count())?;
         let listed: Vec<&TypedSymbol<'a>> =
@@ -171,7 +169,7 @@ impl<'w, 'a> Contents<'w, '_, '_, 'a> {
     }
 }
 
-/// Says the addresses of a unit; that from which its lists count.
+/// Sets the addresses of a unit, and returns the base address of its location lists.
 fn set_ranges(entries: &mut Entries, unit: Entry, spans: &[Span<'_, '_>]) -> u64 {
     let Some(first) = spans.first() else { return 0 };
     let base = if first.low.is_relocated() { 0 } else { first.low.address() };
@@ -196,8 +194,8 @@ fn set_ranges(entries: &mut Entries, unit: Entry, spans: &[Span<'_, '_>]) -> u64
     base
 }
 
-/// The symbols by the source files whose units they stand in, that of all first. A file that has a
-/// name for itself that another file has too has a unit.
+/// The symbols by unit, beginning with the common unit. A source file has a unit of its own if one
+/// of its static names occurs in another file too.
 fn parts_of<'s, 'a>(symbols: &[&'s TypedSymbol<'a>]) -> Vec<Part<'s, 'a>> {
     let mut sources: HashMap<&[u8], HashSet<&'a [u8]>> = HashMap::new();
     for one in symbols.iter().filter(|one| !one.source().is_empty()) {
@@ -220,14 +218,15 @@ fn parts_of<'s, 'a>(symbols: &[&'s TypedSymbol<'a>]) -> Vec<Part<'s, 'a>> {
     made
 }
 
-/// The source file of each symbol, none where it is not known. A function that all files see is told
-/// to be of none: it is of the file whose own functions are before it and behind it.
+/// The source file of each symbol, empty if not known. The symbol table has none for a global
+/// function: it gets the file of the static functions before and after it, if these are of one
+/// file.
 fn sources_of<'a>(symbols: &[&TypedSymbol<'a>]) -> Vec<&'a [u8]> {
     let mut made: Vec<&[u8]> = symbols.iter().map(|one| one.source()).collect();
     let is_function = |&n: &usize| symbols[n].signature().is_some();
     let mut code: Vec<usize> = (0..symbols.len()).filter(is_function).collect();
     code.sort_by_key(|&n| (symbols[n].section(), symbols[n].address()));
-    let mut between = Vec::new(); // those behind the last function that a file has for itself
+    let mut between = Vec::new(); // global functions since the last static one
     let mut last: (u16, &[u8]) = (0, &[]);
     for n in code {
         if made[n].is_empty() {
@@ -244,7 +243,7 @@ fn sources_of<'a>(symbols: &[&TypedSymbol<'a>]) -> Vec<&'a [u8]> {
     made
 }
 
-/// Says the addresses of each part's code: functions that follow each other are one span.
+/// Sets the address ranges of each part's code; adjacent functions of one part share a range.
 fn set_spans(parts: &mut [Part<'_, '_>]) {
     let mut code: Vec<(usize, &TypedSymbol<'_>)> = Vec::new();
     for (place, part) in parts.iter().enumerate() {

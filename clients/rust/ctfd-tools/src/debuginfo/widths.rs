@@ -1,22 +1,22 @@
-//! Bit-fields: the types that were declared, in place of the narrow ones that CTF has for them.
+//! Declared types of bit-fields, in place of the narrow ones that CTF has for them.
 
 use crate::types::catalog::{is_renaming, Catalog, Number};
 use ctfd::Kind;
 use std::cell::RefCell;
 use std::collections::HashMap;
 
-/// What a type of full width has in common with the narrow one that stands for it: its kind, its
-/// name, and what it names, or its size.
+/// What a type of full width has in common with a narrow one: its kind, its name, and the type that
+/// it refers to, or its size.
 type Key<'c> = (Kind, &'c [u8], u64);
 
-/// Which type a narrow one stands for.
+/// The types of full width for narrow ones.
 pub struct Widths<'c, 'd> {
     catalog: &'c Catalog<'d>,
     known: HashMap<Key<'c>, Number>,
     wide: RefCell<HashMap<Number, Number>>,
 }
 
-/// Whether a type is an integer that has fewer bits than its storage, or stands for such a one.
+/// Whether a type resolves to an integer with fewer bits than its storage.
 pub fn is_narrow(catalog: &Catalog<'_>, number: Number) -> bool {
     let end = catalog.resolve(number);
     let record = catalog.record(end);
@@ -25,7 +25,7 @@ pub fn is_narrow(catalog: &Catalog<'_>, number: Number) -> bool {
 }
 
 impl<'c, 'd> Widths<'c, 'd> {
-    /// Those of a catalog.
+    /// The types of full width in a catalog.
     pub fn new(catalog: &'c Catalog<'d>) -> Widths<'c, 'd> {
         let mut known: HashMap<Key<'c>, Number> = HashMap::new();
         for number in catalog.all() {
@@ -46,7 +46,7 @@ impl<'c, 'd> Widths<'c, 'd> {
         Widths { catalog, known, wide: RefCell::new(HashMap::new()) }
     }
 
-    /// The type of full width for a narrow one; itself where there is none.
+    /// The type of full width for a narrow one; the type itself if there is none.
     pub fn full_width(&self, number: Number) -> Number {
         if number == 0 || !is_narrow(self.catalog, number) {
             return number;

@@ -1,7 +1,7 @@
-//! A baseline: what an earlier build of a library exported, and its types, in a file to keep.
+//! Baselines: files with what an earlier build of a library exported, and its types.
 //!
-//! It is the library without its code and data: what it exports, and its debug information,
-//! compressed, so that all that can be asked of the library can be asked of it.
+//! A baseline is the library without code and data. Its exports and its debug information,
+//! compressed, answer all that can be asked of the library.
 
 use super::options::Words;
 use crate::output::{self, with_sections};
@@ -11,7 +11,7 @@ use ctfd_read::baseline::{debug_sections, has_code, OF_EXPORTS};
 use ctfd_read::image::Image;
 use std::path::Path;
 
-/// Refuses a baseline that is not there, where it isn't to be written, and one that is not named.
+/// Refuses `--update` without `--baseline`, and a missing baseline without `--update`.
 pub fn judge(words: &Words) -> Outcome<()> {
     if words.is_updated && !words.has_baseline {
         let said = "--update goes with --baseline, which names the file that is written";
@@ -29,7 +29,7 @@ pub fn judge(words: &Words) -> Outcome<()> {
     Ok(())
 }
 
-/// Refuses to write over the file itself, or over another library.
+/// Refuses to write over the new file itself, or over another program or library.
 fn judge_old(words: &Words) -> Outcome<()> {
     let refused = |why: &str| Err(Failure::Refused(format!("{}: {why}", display_path(&words.old))));
     let real = |path: &Path| path.canonicalize().unwrap_or_else(|_| path.to_owned());

@@ -1,5 +1,5 @@
-//! The new types of a name of which an old one may be the same: found at once, since a file may
-//! have thousands of one name.
+//! The new types of one name, for matching with the old ones. A hash finds equal types, since a
+//! file may have thousands of one name.
 
 use super::side::Side;
 use crate::types::catalog::Number;
@@ -8,19 +8,19 @@ use std::collections::hash_map::DefaultHasher;
 use std::collections::{HashMap, VecDeque};
 use std::hash::{Hash, Hasher};
 
-/// How many with the same sum are compared.
+/// How many types with the same hash are compared.
 const TRIES: usize = 4;
 
-/// The new types of a name.
+/// The new types of one name.
 pub struct Candidates<'c> {
     listed: &'c [Number],
     is_left: Vec<bool>,
-    /// Their places by their sums; none of a single one, which is compared at once.
+    /// Their indices by their hashes; empty for a single type, which is compared without one.
     by_sum: HashMap<u64, VecDeque<usize>>,
 }
 
 impl<'c> Candidates<'c> {
-    /// Those types of a side.
+    /// The given types of a side.
     pub fn new(side: &Side<'_, '_>, listed: &'c [Number]) -> Candidates<'c> {
         let mut by_sum: HashMap<u64, VecDeque<usize>> = HashMap::new();
         if listed.len() > 1 {
@@ -31,7 +31,7 @@ impl<'c> Candidates<'c> {
         Candidates { listed, is_left: vec![true; listed.len()], by_sum }
     }
 
-    /// Takes the first that is the same as an old type; whether there is one.
+    /// Takes the first type that is the same as an old one. Returns whether there is one.
     pub fn take(
         &mut self,
         side: &Side<'_, '_>,
@@ -55,14 +55,14 @@ impl<'c> Candidates<'c> {
         taken.is_some()
     }
 
-    /// Those that were not taken, in order.
+    /// The types that were not taken, in order.
     pub fn remaining(self) -> impl Iterator<Item = Number> + 'c {
         let listed = self.listed.iter().copied().zip(self.is_left);
         listed.filter(|(_, is_left)| *is_left).map(|(number, _)| number)
     }
 }
 
-/// A number that two types have in common which do not differ.
+/// A hash that is equal for types that do not differ.
 fn sum(side: &Side<'_, '_>, number: Number) -> u64 {
     let mut parts: Vec<u64> = Vec::new();
     let mut add = |part: &dyn Fn(&mut DefaultHasher)| {
@@ -80,7 +80,7 @@ fn sum(side: &Side<'_, '_>, number: Number) -> u64 {
             add(&|to| one.hash(to));
         }
     }
-    parts.sort_unstable(); // members may stand in any order
+    parts.sort_unstable(); // members may be in any order
     let mut hasher = DefaultHasher::new();
     (record.kind as u32, side.catalog.size(number), side.flags(number)).hash(&mut hasher);
     if record.kind == Kind::Typedef {

@@ -1,7 +1,7 @@
-//! What differs between the types of two dictionaries, as an engineer would say it.
+//! Differences between the types of two dictionaries.
 //!
-//! Types are matched by kind and name. A change breaks where a program that was built for the old
-//! types goes wrong with the new: sizes, offsets, the values of enumerators, what functions take
+//! Types are matched by kind and name. A change breaks if a program built for the old types goes
+//! wrong with the new: a change of sizes, offsets, values of enumerators, or of what functions take
 //! and return.
 
 use super::candidates::Candidates;
@@ -14,24 +14,24 @@ use crate::types::text::printable;
 use ctfd::Kind;
 use std::collections::{HashMap, HashSet};
 
-/// The old and the new types.
+/// The types of the old and the new file.
 #[derive(Clone, Copy)]
 pub struct Sides<'s, 'o, 'n> {
-    /// The old.
+    /// The old side.
     pub before: &'s Side<'s, 'o>,
-    /// The new.
+    /// The new side.
     pub after: &'s Side<'s, 'n>,
 }
 
 impl Sides<'_, '_, '_> {
-    /// All changes: of the old types in their order, then what was added.
+    /// All changes: those of the old types in order, then the added types.
     pub fn changes(&self) -> Vec<Change> {
         let (before, after) = (self.before, self.after);
         let mut made = Vec::new();
         for (key, numbers) in before.own.iter() {
             let others = after.get(key);
             if is_of_base(key.0) && others.is_none() {
-                continue; // what was of it is of another now, which is told
+                continue; // its uses have another type now, and are reported
             }
             made.extend(self.changes_of(key, numbers, others.unwrap_or_default()));
         }
@@ -43,7 +43,7 @@ impl Sides<'_, '_, '_> {
         made
     }
 
-    /// The types of one name: equal ones first, then the others in order.
+    /// The changes of the types of one key: equal types are matched first, the others in order.
     fn changes_of(&self, key: &Key, old: &[Number], new: &[Number]) -> Vec<Change> {
         let mut candidates = Candidates::new(self.after, new);
         let is_same = |old: Number, new: Number| self.differences(old, new).is_empty();
@@ -55,7 +55,7 @@ impl Sides<'_, '_, '_> {
         }
         let mut left = candidates.remaining().peekable();
         if left.peek().is_none() && !new.is_empty() {
-            return Vec::new(); // of several of one name some are gone: what was there still is
+            return Vec::new(); // some of several types of this name are gone, but not all
         }
         let changed = |number: Number| {
             let (fate, said, other) = match left.next() {
@@ -68,7 +68,7 @@ impl Sides<'_, '_, '_> {
         rest.into_iter().map(changed).collect()
     }
 
-    /// What differs in two types of one key.
+    /// The differences between two types of one key.
     fn differences(&self, old: Number, new: Number) -> Vec<Difference> {
         let (before, after) = (self.before.kind(old), self.after.kind(new));
         if before != after {
@@ -89,7 +89,7 @@ impl Sides<'_, '_, '_> {
         }
     }
 
-    /// What differs in the enumerators, matched by name.
+    /// The differences between the enumerators, matched by name.
     pub fn enums(&self, old: Number, new: Number) -> Vec<Difference> {
         let sizes = (self.before.catalog.size(old), self.after.catalog.size(new));
         let mut said = Vec::from_iter(size(sizes.0, sizes.1));
@@ -139,12 +139,12 @@ impl Sides<'_, '_, '_> {
     }
 }
 
-/// The values of an enum by their names; of several of one name the last counts.
+/// The values of an enum by their names; for a repeated name, the last one.
 fn by_name<'v>(values: &[(&'v [u8], i128)]) -> HashMap<&'v [u8], i128> {
     values.iter().copied().collect()
 }
 
-/// The names of an enum's values in their order.
+/// The names of an enum's values in order, without duplicates.
 fn each_once<'v>(values: &[(&'v [u8], i128)]) -> impl Iterator<Item = &'v [u8]> {
     let mut seen = HashSet::new();
     let names: Vec<&[u8]> = values.iter().map(|(name, _)| *name).collect();
@@ -159,7 +159,7 @@ fn addition(side: &Side<'_, '_>, key: &Key, number: Number) -> Change {
     Change { pair: Some((0, number)), ..change }
 }
 
-/// A forward on one side, or a name that has changed its kind.
+/// The difference between two kinds: a forward on one side, or a name that changed its kind.
 fn other_kind(before: Option<Kind>, after: Option<Kind>) -> Difference {
     if before == Some(Kind::Forward) {
         return Difference::harmless("defined", "only declared before, now defined");
@@ -171,7 +171,7 @@ fn other_kind(before: Option<Kind>, after: Option<Kind>) -> Difference {
     Difference::breaking("kind", format!("{was} -> {now}")).from(Datum::text(was), Datum::text(now))
 }
 
-/// Whether a change of what a typedef names is told of that by itself.
+/// Whether changes of the type that a typedef names are reported for that type itself.
 fn is_told(side: &Side<'_, '_>, mut number: Number) -> bool {
     while is_renaming(side.catalog.kind(number)) && side.key(number).is_none() {
         number = side.catalog.record(number).of;

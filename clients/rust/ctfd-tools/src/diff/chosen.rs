@@ -1,4 +1,5 @@
-//! Which types and symbols are told: those of some names, without those that are left out.
+//! The selection of the types and symbols to report: those with wanted names, unless they are left
+//! out.
 
 use super::changes::Sides;
 use super::differences::Difference;
@@ -14,7 +15,7 @@ use ctfd_read::error::{reason, Error};
 use ctfd_read::exports::{Export, ExportKind};
 use std::path::Path;
 
-/// What a command line says of that.
+/// The selection of a command line.
 pub struct Chosen {
     wanted: Option<Meaning>,
     left_out: Meaning,
@@ -23,8 +24,8 @@ pub struct Chosen {
 }
 
 impl Chosen {
-    /// The names or patterns that are wanted, all where there are none, but those in some files, and
-    /// what public headers do not define.
+    /// The selection: wanted names or patterns (all names if none are given), without those in
+    /// suppression files, and without types that the public headers do not define.
     pub fn new(words: &Words) -> Outcome<Chosen> {
         let wanted = Meaning::of(words.names.iter().flat_map(|name| patterns_of(name)));
         let mut left_out = Vec::new();
@@ -42,28 +43,28 @@ impl Chosen {
         Ok(Chosen { wanted, left_out: Meaning::of(left_out), suppressions, headers })
     }
 
-    /// Whether it has to be known in which files types are defined.
+    /// Whether the selection depends on the source files in which types are defined.
     pub fn has_sources(&self) -> bool {
         self.headers.iter().any(Option::is_some) || self.suppressions.has_sources()
     }
 
-    /// Whether that of the old file has to be known.
+    /// Whether it depends on the source files of the old types.
     pub fn needs_old(&self) -> bool {
         self.headers[0].is_some() || self.suppressions.has_sources()
     }
 
-    /// Whether that of the new file has to be.
+    /// Whether it depends on the source files of the new types.
     pub fn needs_new(&self) -> bool {
         self.headers[0].is_none() && self.headers[1].is_some()
     }
 
-    /// Whether a type or symbol is left out by its name.
+    /// Whether the name of a type or symbol is left out.
     fn leaves_out(&self, label: &[u8]) -> bool {
         is_meant(label, &self.left_out)
     }
 }
 
-/// The same of two files.
+/// The selection for two files.
 pub struct Choice<'c> {
     chosen: &'c Chosen,
     names: FileNames,
@@ -71,7 +72,8 @@ pub struct Choice<'c> {
 }
 
 impl<'c> Choice<'c> {
-    /// What is said of two files of some paths and sonames, whose types are defined in some files.
+    /// The selection for two files, by their paths and sonames, and the source files of their
+    /// types.
     pub fn new(
         chosen: &'c Chosen,
         paths: [&Path; 2],
@@ -81,12 +83,12 @@ impl<'c> Choice<'c> {
         Choice { chosen, names: FileNames::new(paths, sonames), sources }
     }
 
-    /// Whether nothing of the two is told.
+    /// Whether the two files are left out altogether.
     pub fn leaves_out_all(&self) -> bool {
         self.names.are_left_out(&self.chosen.suppressions)
     }
 
-    /// Whether a symbol is left out, which has changed so.
+    /// Whether a change of a symbol is left out.
     pub fn leaves_out_symbol(&self, label: &[u8], one: &Export<'_>, change: SymbolChange) -> bool {
         let is_function = one.kind == ExportKind::Function;
         let named = SymbolNamed { name: one.name, version: one.version, is_function, change };
@@ -94,12 +96,12 @@ impl<'c> Choice<'c> {
             || self.chosen.suppressions.leaves_out_symbol(&named, &self.names)
     }
 
-    /// The same of one whose version is not known.
+    /// The same for a symbol whose version is not known.
     pub fn leaves_out_named(&self, named: &SymbolNamed<'_>) -> bool {
         self.chosen.suppressions.leaves_out_symbol(named, &self.names)
     }
 
-    /// Whether a pair of types is left out, with all that it alone leads to.
+    /// Whether a pair of types is left out, with all types that only it leads to.
     pub fn leaves_out_pair(&self, sides: &Sides<'_, '_, '_>, label: &str, pair: Pair) -> bool {
         let suppressions = &self.chosen.suppressions;
         self.is_hidden(sides, pair)
@@ -107,7 +109,7 @@ impl<'c> Choice<'c> {
             || suppressions.leaves_out_type(sides.before, pair.0, self.sources[0], &self.names)
     }
 
-    /// Whether no public header defines a pair of types.
+    /// Whether the public headers do not define a pair of types.
     pub fn is_hidden(&self, sides: &Sides<'_, '_, '_>, pair: Pair) -> bool {
         match &self.chosen.headers {
             [Some(headers), _] => headers.hide(sides.before, pair.0, self.sources[0]),
@@ -116,20 +118,20 @@ impl<'c> Choice<'c> {
         }
     }
 
-    /// Leaves differences of a pair of types out that are not told.
+    /// Removes the differences of a pair of types that are left out.
     pub fn prune(&self, sides: &Sides<'_, '_, '_>, pair: Pair, said: &mut Vec<Difference>) {
         let suppressions = &self.chosen.suppressions;
         suppressions.prune(sides.before, pair.0, self.sources[0], &self.names, said);
     }
 
-    /// Whether a type or symbol is told.
+    /// Whether changes of a type or symbol are reported.
     pub fn has(&self, label: &[u8]) -> bool {
         let is_wanted = self.chosen.wanted.as_ref().is_none_or(|wanted| is_meant(label, wanted));
         is_wanted && !self.chosen.leaves_out(label)
     }
 }
 
-/// The patterns of a file, a name or pattern on each line. `#` begins a comment.
+/// The patterns of a file, which has a name or pattern on each line. `#` begins a comment.
 fn listed_patterns(bytes: &[u8]) -> Vec<Vec<u8>> {
     let without_comment = |line: &'_ [u8]| {
         let end = line.iter().position(|&byte| byte == b'#').unwrap_or(line.len());
@@ -139,7 +141,7 @@ fn listed_patterns(bytes: &[u8]) -> Vec<Vec<u8>> {
     lines.filter(|line| !line.is_empty()).flat_map(|line| patterns_of(&line)).collect()
 }
 
-/// Whether a type or symbol is meant, by its name with the word in front or without.
+/// Whether the name of a type or symbol matches, with or without the word before it.
 fn is_meant(label: &[u8], meaning: &Meaning) -> bool {
     let word = label.iter().position(|&byte| byte == b' ').map_or(0, |blank| blank + 1);
     meaning.has(label) || meaning.has(&label[word..])

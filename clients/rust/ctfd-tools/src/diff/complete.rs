@@ -1,13 +1,14 @@
-//! What of two files is not compared, since CTF does not hold it, a line each.
+//! Reports on what is not compared, since CTF cannot represent it, one line each.
 
 use std::collections::{HashMap, HashSet};
 
 const LEFT_OUT: &str = "left out";
 
-/// A file as a line on it begins, and lines on what is lost of it, each as often as it is.
+/// How messages name a file, and lines on its losses, each as often as it occurs.
 pub type Lost<'l> = (&'l str, &'l [String]);
 
-/// Lines on what is not compared: what is left out of one, and what is lost of one alone.
+/// Lines on what is not compared: what is left out of a file, and losses that one file has more
+/// often than the other.
 pub fn incomparable(old: Lost<'_>, new: Lost<'_>) -> Vec<String> {
     let mut made = Vec::new();
     for (one, other) in [(old, new), (new, old)] {

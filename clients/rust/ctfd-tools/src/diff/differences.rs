@@ -1,4 +1,5 @@
-//! What is told of a difference: of each type or symbol what differs, and who reaches it.
+//! Differences and changes as they are reported: what differs in a type or symbol, and which
+//! symbols reach it.
 
 use super::structure::Pair;
 use crate::types::json::{list, text, Object};
@@ -6,22 +7,18 @@ use crate::types::text::printable;
 use ctfd::Kind;
 use std::fmt;
 
-/// A number, a text or a truth that was, or is; offsets are in bits.
+/// An old or new number, text or truth value; offsets are in bits.
 #[derive(Clone, Debug, Default, PartialEq)]
 pub enum Datum {
-    /// None.
+    /// No value.
     #[default]
     Nothing,
-    /// A number.
     Number(i128),
-    /// A text.
     Text(Vec<u8>),
-    /// Whether something is so.
     Truth(bool),
 }
 
 impl Datum {
-    /// A text.
     pub fn text(text: impl AsRef<[u8]>) -> Datum {
         Datum::Text(text.as_ref().to_vec())
     }
@@ -31,19 +28,19 @@ impl Datum {
         Datum::Number(number.into())
     }
 
-    /// An offset or a number of bits, which stays far below the half of what the type holds.
+    /// An offset or a number of bits; these are far below `i128::MAX`.
     pub fn bits(bits: u128) -> Datum {
         Datum::Number(i128::try_from(bits).unwrap_or(i128::MAX))
     }
 
-    /// A size, where there is one.
+    /// A size, if there is one.
     pub fn size(size: Option<u64>) -> Datum {
         size.map_or(Datum::Nothing, Datum::number)
     }
 }
 
 impl fmt::Display for Datum {
-    /// As JSON.
+    /// Writes JSON.
     fn fmt(&self, formatter: &mut fmt::Formatter<'_>) -> fmt::Result {
         match self {
             Datum::Nothing => formatter.write_str("null"),
@@ -54,25 +51,25 @@ impl fmt::Display for Datum {
     }
 }
 
-/// One thing that differs.
+/// A single difference.
 #[derive(Clone, Debug, PartialEq)]
 pub struct Difference {
-    /// What sort of difference it is.
+    /// The word or words for this sort of difference.
     pub what: &'static str,
-    /// The same as a person reads it.
+    /// The difference for a person to read.
     pub text: String,
-    /// Whether programs that were built for the old go wrong with the new.
+    /// Whether programs built for the old break with the new.
     pub breaks: bool,
-    /// The member, enumerator, argument or symbol that it is about.
+    /// The member, enumerator, argument or symbol that differs.
     pub name: Vec<u8>,
-    /// What was.
+    /// The old value.
     pub old: Datum,
-    /// What is.
+    /// The new value.
     pub new: Datum,
 }
 
 impl Difference {
-    /// Something that breaks.
+    /// A difference that breaks, without a name or values.
     pub fn breaking(what: &'static str, text: impl Into<String>) -> Difference {
         Difference {
             what,
@@ -84,23 +81,24 @@ impl Difference {
         }
     }
 
-    /// Something that does not break.
+    /// A difference that does not break, without a name or values.
     pub fn harmless(what: &'static str, text: impl Into<String>) -> Difference {
         Difference { breaks: false, ..Difference::breaking(what, text) }
     }
 
-    /// Says what it is about.
+    /// Sets the name.
     pub fn of(self, name: impl AsRef<[u8]>) -> Difference {
         Difference { name: name.as_ref().to_vec(), ..self }
     }
 
-    /// Says what was and what is.
+    /// Sets the old and the new value.
     pub fn from(self, old: Datum, new: Datum) -> Difference {
         Difference { old, new, ..self }
     }
 
-    /// Whether it is of members that are new, gone or moved between two bits. Members that move
-    /// together are told by the first: where they end is not known.
+    /// Whether members were added, removed or moved between two bits. Moves count only in ranges up
+    /// to the end of the struct: a difference may report several members by the first, and does not
+    /// have the offset of the last.
     pub fn is_between(&self, from: u128, to: u128) -> bool {
         let is_within = |datum: &Datum| match datum {
             Datum::Number(bit) => u128::try_from(*bit).is_ok_and(|bit| (from..=to).contains(&bit)),
@@ -125,7 +123,7 @@ impl Difference {
     }
 }
 
-/// A change of how many bytes there are.
+/// A change of a size in bytes.
 pub fn size(old: Option<u64>, new: Option<u64>) -> Option<Difference> {
     let shown = |size: Option<u64>| size.map_or("None".to_owned(), |size| size.to_string());
     let text = format!("size {} -> {}", shown(old), shown(new));
@@ -136,9 +134,7 @@ pub fn size(old: Option<u64>, new: Option<u64>) -> Option<Difference> {
 /// Symbols that lead to a type by the same steps.
 #[derive(Clone, Debug)]
 pub struct Reach {
-    /// Their names.
     pub symbols: Vec<Vec<u8>>,
-    /// The steps.
     pub steps: Vec<String>,
 }
 
@@ -157,14 +153,11 @@ impl fmt::Display for Reach {
     }
 }
 
-/// What became of a type or symbol.
+/// What happened to a type or symbol.
 #[derive(Clone, Copy, Debug, PartialEq, Eq)]
 pub enum Fate {
-    /// It is new.
     Added,
-    /// It is gone.
     Removed,
-    /// It is another.
     Changed,
 }
 
@@ -178,25 +171,25 @@ impl Fate {
     }
 }
 
-/// All that differs of one type or symbol.
+/// All differences of one type or symbol.
 #[derive(Clone, Debug)]
 pub struct Change {
-    /// How it is called.
+    /// Its name, after the word for its kind.
     pub label: String,
     /// The word for its kind.
     pub kind: &'static str,
-    /// What became of it.
+    /// What happened to it.
     pub fate: Fate,
-    /// What differs.
+    /// The differences.
     pub said: Vec<Difference>,
-    /// Which exported symbols lead to a type.
+    /// The exported symbols that lead to the type.
     pub reached: Vec<Reach>,
-    /// The old and the new type, where it is one of both.
+    /// The old and the new type; 0 for a missing one. None for a symbol.
     pub pair: Option<Pair>,
 }
 
 impl Change {
-    /// One of which nothing leads to it.
+    /// A change to which no symbols lead.
     pub fn new(label: String, kind: &'static str, fate: Fate, said: Vec<Difference>) -> Change {
         Change { label, kind, fate, said, reached: Vec::new(), pair: None }
     }
@@ -206,13 +199,13 @@ impl Change {
         self.said.iter().any(|one| one.breaks)
     }
 
-    /// The same with what breaks alone.
+    /// The change with only its breaking differences.
     pub fn breaking(mut self) -> Change {
         self.said.retain(|one| one.breaks);
         self
     }
 
-    /// What differs, and below it who reaches it.
+    /// The differences, followed by the symbols that lead to the type.
     pub fn lines(&self) -> String {
         let mut made = self.to_string();
         for reach in &self.reached {
@@ -221,13 +214,13 @@ impl Change {
         made
     }
 
-    /// The same, with a word in front that says whether it breaks.
+    /// The same, after a word that says whether it breaks.
     pub fn with_verdict(&self) -> String {
         let word = if self.breaks() { "breaks" } else { "compatible" };
         format!("{word}: {}", self.lines())
     }
 
-    /// The same as an object of JSON, with both types in full where they are given.
+    /// The change as a JSON object, with both types in full if they are given.
     pub fn json(&self, full: Option<&[String; 2]>) -> String {
         let mut made = Object::default();
         made.text("label", self.label.as_bytes())
@@ -251,7 +244,7 @@ impl fmt::Display for Change {
     }
 }
 
-/// The word for a kind that a change tells; that of a type which is none is void's.
+/// The word for the kind of a type; `void` for None.
 pub fn kind_word(kind: Option<Kind>) -> &'static str {
     kind.map_or("void", crate::types::json::word_of)
 }

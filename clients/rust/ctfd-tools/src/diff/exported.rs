@@ -1,4 +1,4 @@
-//! What differs in the symbols that two files export.
+//! Differences between the symbols that two files export.
 
 use super::changes::Sides;
 use super::differences::{Change, Datum, Difference, Fate};
@@ -8,7 +8,7 @@ use crate::types::catalog::{Catalog, SymbolAnswer};
 use crate::types::text::printable;
 use ctfd_read::exports::{Export, ExportKind, Exports};
 
-/// What the dictionary tells of a symbol; None where it tells nothing.
+/// The type or signature of a symbol in the dictionary, if it has one.
 fn told_of(catalog: &Catalog<'_>, one: &Export<'_>) -> Option<SymbolAnswer> {
     let told = catalog.told_of(one.number?)?;
     let is_of_kind = match told {
@@ -18,29 +18,29 @@ fn told_of(catalog: &Catalog<'_>, one: &Export<'_>) -> Option<SymbolAnswer> {
     is_of_kind.then_some(told)
 }
 
-/// A symbol as a change calls it.
+/// The label of a symbol in a change.
 pub fn label(one: &Export<'_>) -> String {
     format!("{} {}", one.kind.word(), printable(&one.label()))
 }
 
-/// The same with its name as it is, by which it may be left out.
+/// The same with the name unescaped, for patterns that leave symbols out.
 pub fn plain_label(one: &Export<'_>) -> Vec<u8> {
     [one.kind.word().as_bytes(), b" ", &one.label()].concat()
 }
 
-/// One that is gone.
+/// A change for a removed symbol.
 pub fn removal(one: &Export<'_>) -> Change {
     let said = Difference::breaking("removed", "removed").of(one.label());
     Change::new(label(one), one.kind.word(), Fate::Removed, vec![said])
 }
 
-/// One that is new.
+/// A change for an added symbol.
 pub fn addition(one: &Export<'_>) -> Change {
     let said = Difference::harmless("added", "added").of(one.label());
     Change::new(label(one), one.kind.word(), Fate::Added, vec![said])
 }
 
-/// Another name by which programs that were linked ask for the file.
+/// A change of the soname, by which programs that were linked with a library ask for it.
 pub fn soname(old: &Exports<'_>, new: &Exports<'_>) -> Option<Change> {
     let (was, now) = (&*old.soname, &*new.soname);
     if was.is_empty() || was == now {
@@ -55,7 +55,7 @@ pub fn soname(old: &Exports<'_>, new: &Exports<'_>) -> Option<Change> {
     Some(Change::new("the library".to_owned(), "soname", Fate::Changed, vec![said]))
 }
 
-/// What differs in a symbol that is in both.
+/// The differences of a symbol that both files export, and the pairs of types that it leads to.
 pub fn difference(sides: &Sides<'_, '_, '_>, one: &Export<'_>, other: &Export<'_>) -> Findings {
     let kinds = [one.kind, other.kind];
     if one.kind != other.kind && !kinds.contains(&ExportKind::Symbol) {
@@ -86,7 +86,7 @@ pub fn difference(sides: &Sides<'_, '_, '_>, one: &Export<'_>, other: &Export<'_
     }
 }
 
-/// That an object has another size.
+/// A change of an object's size in bytes.
 pub fn size(one: &Export<'_>, other: &Export<'_>) -> Option<Difference> {
     (one.kind == ExportKind::Object && one.size != other.size).then(|| {
         let text = format!("size {} -> {}", one.size, other.size);
@@ -95,7 +95,7 @@ pub fn size(one: &Export<'_>, other: &Export<'_>) -> Option<Difference> {
     })
 }
 
-/// What differs in symbols of which the types are told on one side at most.
+/// The differences of symbols if at least one has no known type.
 fn untold(one: &Export<'_>, other: &Export<'_>, was_told: bool, is_told: bool) -> Vec<Difference> {
     let mut said: Vec<Difference> = size(one, other).into_iter().collect();
     if one.is_of_threads && other.is_of_threads {

@@ -1,8 +1,9 @@
-//! What breaks programs that use a library: what it exports, and the types that these reach.
+//! What breaks programs that use a library: changes of its exports, and of the types that these
+//! reach.
 //!
-//! Each exported function and object of the old file is compared with that of the new, and so is
-//! all that its type leads to, each pair of types once. A change of a type is told with the symbols
-//! that reach it, and by which way.
+//! Each function and object that the old file exports is compared with that of the new file, and so
+//! is every pair of types that these lead to, once each. A change of a type is reported with the
+//! symbols that reach it, and the steps from them.
 
 use super::changes::Sides;
 use super::chosen::Choice;
@@ -15,37 +16,37 @@ use std::collections::hash_map::Entry;
 use std::collections::{HashMap, VecDeque};
 use std::rc::Rc;
 
-/// How many steps of a way are told.
+/// The most steps that are reported of a way.
 const MOST_STEPS: usize = 32;
 const CUT: &str = "..";
 
-/// A step, and the node that it leads to or comes from.
+/// A step: the node that it leads to or comes from, and its text.
 type Step = (usize, Rc<str>);
 
-/// How much is compared for each byte of the two dictionaries, and some more: a member, or a letter
-/// of what is told.
+/// How much is compared for each byte of the two dictionaries, and how much more. The unit is a
+/// member, or a letter of a label.
 const EACH: usize = 1;
 const AT_LEAST: usize = 300_000;
-/// What is said where that is too little.
+/// The message if that is too little.
 const TOO_MANY: &str = "more pairs of types are reached than are compared";
 
-/// A symbol or a pair of types: what differs of it, and what it leads to.
+/// A symbol or a pair of types, with its differences and the nodes that it leads to.
 struct Node {
     label: String,
     kind: &'static str,
     found: Findings,
     leads: Vec<Step>,
-    /// The node that led here first.
+    /// The step by which a node first led here.
     way: Option<Step>,
-    /// The symbol at which that way begins.
+    /// The symbol from which that way begins.
     root: usize,
-    /// The next node on the way to the nearest change.
+    /// The step to the next node on the way to the nearest change.
     to: Option<Step>,
-    /// That change.
+    /// The node with that change.
     end: usize,
-    /// The types, of such a pair.
+    /// The types, if it is a pair.
     pair: Option<Pair>,
-    /// Of an object that has another size now, how that is told where its type is not.
+    /// The change of an object's size, which is reported if its type is not compared.
     size: Option<Difference>,
 }
 
@@ -55,30 +56,30 @@ impl Node {
         Node { label, kind, found, leads, way, root: 0, to, end: 0, pair: None, size: None }
     }
 
-    /// Whether something differs, or breaks.
+    /// Whether it has a difference, or a breaking one.
     fn changes(&self, is_breaking: bool) -> bool {
         self.found.said.iter().any(|one| one.breaks || !is_breaking)
     }
 }
 
-/// Compares what two files export.
+/// The comparison of what two files export.
 struct Guard<'g, 'o, 'n> {
     sides: Sides<'g, 'o, 'n>,
     old: &'g Exports<'g>,
     new: &'g Exports<'g>,
     choice: &'g Choice<'g>,
-    /// Symbols, which come first, then pairs of types.
+    /// Symbols, followed by pairs of types.
     nodes: Vec<Node>,
-    /// How many are symbols.
+    /// The number of symbols.
     symbols: usize,
     numbers: HashMap<Pair, Option<usize>>,
     removed: Vec<Change>,
-    /// How much may be compared yet.
+    /// How much may still be compared.
     left: usize,
 }
 
-/// What two files export: changed types with the symbols that reach them, then changed symbols; and
-/// a line where not all was compared.
+/// Compares what two files export. Returns changed types with the symbols that reach them, then
+/// changed symbols; and a message if not everything was compared.
 pub fn changes(
     sides: Sides<'_, '_, '_>,
     old: &Exports<'_>,
@@ -140,7 +141,7 @@ impl Guard<'_, '_, '_> {
         !self.choice.leaves_out_symbol(&exported::plain_label(one), one, change)
     }
 
-    /// All pairs of types that symbols lead to, the nearest first.
+    /// Follows symbols to all pairs of types, the nearest first.
     fn follow(&mut self) {
         let mut todo: VecDeque<usize> = (0..self.symbols).collect();
         while let Some(number) = todo.pop_front() {
@@ -162,8 +163,8 @@ impl Guard<'_, '_, '_> {
         }
     }
 
-    /// Tells that an object has another size, where its type is one of no public header: programs
-    /// that were linked with the old copy it.
+    /// Reports an object's new size if no public header defines its type: programs that were linked
+    /// with the old file copy the object.
     fn tell_size(&mut self, number: usize, of: Pair) {
         if number < self.symbols && self.choice.is_hidden(&self.sides, of) {
             let size = self.nodes[number].size.take();
@@ -171,7 +172,7 @@ impl Guard<'_, '_, '_> {
         }
     }
 
-    /// The node of a pair, and whether it was made now; None where it is not to be told.
+    /// The node of a pair, and whether it is new; None if the pair is not compared.
     fn node(&mut self, pair: Pair) -> (Option<usize>, bool) {
         let entry = match self.numbers.entry(pair) {
             Entry::Occupied(known) => return (*known.get(), false),
@@ -196,7 +197,7 @@ impl Guard<'_, '_, '_> {
         (Some(number), true)
     }
 
-    /// Finds the nearest change of each node: what breaks before what does not.
+    /// Finds the nearest change that each node leads to: a breaking one, else any.
     fn lead_back(&mut self) {
         let mut behind: Vec<Vec<Step>> = vec![Vec::new(); self.nodes.len()];
         for (number, node) in self.nodes.iter().enumerate() {
@@ -279,7 +280,7 @@ impl Guard<'_, '_, '_> {
         (self.nodes[number].root, steps)
     }
 
-    /// The symbols that go the same way, together.
+    /// Groups symbols that lead to a type by the same steps.
     fn reaches(&self, ways: Vec<(usize, Vec<String>)>) -> Vec<Reach> {
         let mut made: Vec<Reach> = Vec::new();
         let mut places: HashMap<Vec<String>, usize> = HashMap::new();

@@ -1,4 +1,4 @@
-//! The public headers of a library: types that others define are opaque to its users.
+//! The public headers of a library. Types that are defined elsewhere are opaque to its users.
 
 use super::side::Side;
 use crate::types::catalog::Number;
@@ -12,16 +12,16 @@ use std::collections::HashSet;
 use std::os::unix::ffi::OsStrExt as _;
 use std::path::{Path, PathBuf};
 
-/// How many files and folders are looked at.
+/// The most files and folders that are visited.
 const MOST: usize = 1_000_000;
 
-/// The names of the headers, without folders.
+/// The file names of the headers.
 pub struct Headers {
     names: HashSet<Vec<u8>>,
 }
 
 impl Headers {
-    /// Those in some folders and what stands in these, or files by themselves; None without any.
+    /// The headers in some folders and below, or given as files; None if no paths are given.
     pub fn of(paths: &[PathBuf]) -> Outcome<Option<Headers>> {
         let mut made = Headers { names: HashSet::new() };
         let mut todo: Vec<PathBuf> = paths.to_vec();
@@ -29,7 +29,7 @@ impl Headers {
         while let Some(path) = todo.pop() {
             let refused = |error| Error(format!("{}: {}", display_path(&path), reason(&error)));
             left = left.checked_sub(1).ok_or_else(|| Error(too_many(paths)))?;
-            // A link to a folder leads into it only where it is named itself.
+            // A link to a folder is followed only if it was given as a path.
             let is_folder = match paths.contains(&path) {
                 true => std::fs::metadata(&path).map_err(refused)?.is_dir(),
                 false => std::fs::symlink_metadata(&path).map_err(refused)?.is_dir(),
@@ -45,8 +45,8 @@ impl Headers {
         Ok((!paths.is_empty()).then_some(made))
     }
 
-    /// Whether a type of a side is defined elsewhere alone. What has no name is a part of others,
-    /// and what nothing is said of may be in a header.
+    /// Whether a type of a side is defined only outside of the headers. An unnamed type belongs to
+    /// others, and a type whose source files are not known may be in a header: neither is hidden.
     pub fn hide(&self, side: &Side<'_, '_>, number: Number, sources: &SourceFiles) -> bool {
         let record = side.catalog.record(number);
         let is_defined = record.is_aggregate() || matches!(record.kind, Kind::Enum | Kind::Typedef);
@@ -74,7 +74,7 @@ impl Headers {
     }
 }
 
-/// What a kind is in the debug information.
+/// The kind of the debug information for a kind of CTF.
 pub fn kind_of(kind: Kind) -> table::Kind {
     match kind {
         Kind::Struct => table::Kind::Struct,

@@ -1,10 +1,10 @@
-//! What differs in the members of a struct or union: matched by name, the others by place.
+//! Differences between the members of a struct or union, matched by name, the rest by place.
 
 use super::differences::{Datum, Difference};
 use super::side::{At, Place};
 use std::collections::{HashMap, VecDeque};
 
-/// From how many members on that move together one line tells of them.
+/// The least number of members that moved together and share a line.
 const RUN: usize = 4;
 
 /// All differences.
@@ -27,12 +27,13 @@ pub fn differences(old: &[&Place], new: &[&Place]) -> Vec<Difference> {
     said
 }
 
-/// Members by their names; of several of one name the last counts.
+/// Members by their paths; for a repeated path, the last one.
 fn by_path<'p>(places: &[&'p Place]) -> HashMap<&'p str, &'p Place> {
     places.iter().map(|&one| (one.path.as_str(), one)).collect()
 }
 
-/// Members that are there once: renamed ones at the same place, those that are gone, and new ones.
+/// The differences of members that only one side has: renamed ones at the same place, removed ones
+/// and added ones.
 fn others<'p>(gone: impl Iterator<Item = &'p Place>, come: &[&Place]) -> Vec<Difference> {
     let mut at: HashMap<(u128, &str), VecDeque<usize>> = HashMap::new();
     for (place, one) in come.iter().enumerate() {
@@ -74,12 +75,12 @@ fn label_of(path: &str) -> &str {
     }
 }
 
-/// How far a member has moved, in bits.
+/// How far a member moved, in bits.
 fn distance((one, other): &(&Place, &Place)) -> i128 {
     other.start as i128 - one.start as i128
 }
 
-/// Each move, or one word for members that moved by the same distance one behind the other.
+/// A difference for each move, or one for consecutive members that moved by the same distance.
 fn moves(mut pairs: &[(&Place, &Place)]) -> Vec<Difference> {
     let mut said = Vec::new();
     while let Some(first) = pairs.first() {
@@ -110,7 +111,7 @@ fn of_move(text: String, (one, other): &(&Place, &Place)) -> Difference {
     said.from(Datum::bits(one.start), Datum::bits(other.start))
 }
 
-/// What differs in the types of two members of one name.
+/// The difference between the types of two members of one name.
 fn of_type(one: &Place, other: &Place) -> Option<Difference> {
     let (was, now) = (&one.told, &other.told);
     let is_of_bits = was.bits % 8 != 0 || now.bits % 8 != 0;

@@ -1,4 +1,4 @@
-//! `ctfd-diff`: what differs between two programs or libraries, and what of that breaks.
+//! `ctfd-diff`: the differences between two programs or libraries, and which of them break.
 
 mod baseline;
 mod candidates;
@@ -40,11 +40,11 @@ const SAME: u8 = 0;
 const COMPATIBLE: u8 = 1;
 const TROUBLE: u8 = 2;
 const BREAKING: u8 = 4;
-/// What is said of what can't be compared.
+/// Values of `Difference::what` for what was not compared.
 const UNTOLD: &str = "untold";
 const UNCOMPARED: [&str; 2] = [UNTOLD, "undefined"];
 
-/// The command; its exit status.
+/// Runs the command, and returns its exit status.
 pub fn main(words: Vec<OsString>) -> ExitCode {
     let mut words = Words::parse(words);
     interrupts::watch();
@@ -65,7 +65,7 @@ pub fn main(words: Vec<OsString>) -> ExitCode {
     }
 }
 
-/// Compares the two files; the status.
+/// Compares the two files or packages, and returns the exit status.
 fn run(words: &mut Words, output: &mut Output) -> Outcome<u8> {
     let chosen = Chosen::new(words)?;
     words.reading.has_sources = chosen.has_sources();
@@ -89,12 +89,12 @@ fn run(words: &mut Words, output: &mut Output) -> Outcome<u8> {
     Ok(tally.status)
 }
 
-/// A file, how it is read, and the package that it was unpacked of.
+/// A file, how it is read, and the package that it was unpacked from.
 struct Read<'r> {
     path: &'r Path,
     reading: &'r Options,
     unpacked: Option<&'r UnpackedPackage>,
-    /// Whether it is a library of a package or folder: nothing but its exports counts.
+    /// Whether it is a library of a package or folder, of which only the exports are compared.
     is_library: bool,
 }
 
@@ -127,8 +127,8 @@ fn compare(
     })
 }
 
-/// Compares the libraries of two packages or folders. One that can't be compared is told, and the
-/// rest is compared.
+/// Compares the libraries of two packages or folders. A library that cannot be compared is
+/// reported, and the others are compared.
 fn compare_packages(
     words: &Words,
     chosen: &Chosen,
@@ -166,7 +166,7 @@ fn compare_packages(
     Ok(())
 }
 
-/// Whether both are the same bytes, over the same parent: nothing differs then.
+/// Whether both files have the same bytes and the same parent, so that nothing differs.
 fn are_one(words: &Words, old: &OpenFile<'_, '_>, new: &OpenFile<'_, '_>) -> Outcome<bool> {
     let is_of_one = words.parent_of_old() == words.parent_of_new();
     Ok(is_of_one && old.image.all()? == new.image.all()?)

@@ -1,4 +1,4 @@
-//! Opens the two files, each over its parent.
+//! Opens a file to compare, with its parent if there is one.
 
 use super::options::NAME;
 use super::packages::UnpackedPackage;
@@ -23,24 +23,24 @@ const ALONE: &str = "a parent goes with a dictionary, and this file's types are 
                      leave the parent out, or make the dictionary by ctfd-convert (--parent makes \
                      a child)";
 
-/// A file that is open.
+/// An open file.
 pub struct OpenFile<'o, 'd> {
     /// Its bytes.
     pub image: &'o Image,
-    /// Its types.
+    /// Its types and their names.
     pub names: &'o Names<'o, 'd>,
     unpacked: Option<&'o UnpackedPackage>,
     is_library: bool,
-    /// What its dictionary was given.
+    /// The library's input for its dictionary.
     pub handed: &'o LibraryInput<'o>,
     losses: &'o [String],
     beyond: Option<&'o Beyond>,
-    /// In which source files its types are defined, where that was asked for.
+    /// The source files in which its types are defined, if they are needed.
     pub sources: &'o SourceFiles,
 }
 
 impl<'o, 'd> OpenFile<'o, 'd> {
-    /// The file, as a line on it begins.
+    /// The file's path as messages have it.
     pub fn path(&self) -> String {
         let path = display_path(self.image.path());
         self.unpacked.map_or(path.clone(), |unpacked| unpacked.with_package_name(&path))
@@ -51,7 +51,7 @@ impl<'o, 'd> OpenFile<'o, 'd> {
         self.names.catalog
     }
 
-    /// What the file says beyond its dictionary, and what is lost even so.
+    /// What the file records that its dictionary cannot represent, and the losses that remain.
     pub fn beyond(&self) -> Cow<'o, Beyond> {
         let losses = || self.losses.to_vec();
         match self.beyond {
@@ -60,7 +60,8 @@ impl<'o, 'd> OpenFile<'o, 'd> {
         }
     }
 
-    /// What it exports, where types of that are told and it exports functions, or is a library.
+    /// What it exports. None if the types of its symbols are not known, or if it exports no
+    /// functions and is no library.
     pub fn exports(&self) -> Outcome<Option<Exports<'o>>> {
         let (Some(table), true) = (&self.handed.symbols, self.image.is_elf()) else {
             return Ok(None);
@@ -74,7 +75,7 @@ impl<'o, 'd> OpenFile<'o, 'd> {
     }
 }
 
-/// Opens a file over its parent, and runs something on it.
+/// Opens a file and its parent, and calls `run` with it.
 pub fn with_file<T>(
     &Read { path, reading, unpacked, is_library }: &Read<'_>,
     parent: Option<&Path>,

@@ -1,4 +1,4 @@
-//! The words of `ctfd-diff`: the two files, and what is wanted of their differences.
+//! The command line of `ctfd-diff`.
 
 use crate::arguments::{self, file, flag};
 use crate::wrong_words;
@@ -22,33 +22,33 @@ in bytes, `96:3` is bit 3 of byte 96. The status is 0 if nothing differs, 1 if a
 compatible, 4 if something breaks, and 2 if something is refused, or nothing breaks as far as can be
 told and something could not be compared.";
 
-/// What a command line says.
+/// The values of the command line.
 pub struct Words {
-    /// The old file; the baseline, where one is kept.
+    /// The old file, or the baseline if one is given.
     pub old: PathBuf,
     /// The new file.
     pub new: PathBuf,
-    /// Whether the old file is a baseline, which is written anew with `is_updated`.
+    /// Whether the old file is a baseline.
     pub has_baseline: bool,
-    /// Whether the baseline is written anew.
+    /// Whether the baseline is written again.
     pub is_updated: bool,
-    /// Packages with the debug information of the old package or folder, and of the new.
+    /// Packages with the debug information of the old and the new package or folder.
     pub debug_packages: [Vec<PathBuf>; 2],
-    /// Whether only what breaks is told.
+    /// Whether to report only what breaks.
     pub is_breaking: bool,
     /// Whether all types and symbols are compared.
     pub is_all: bool,
-    /// Names and patterns of those that are told.
+    /// Names and patterns of the types and symbols to report.
     pub names: Vec<Vec<u8>>,
-    /// Files with those that are not.
+    /// Files with what not to report.
     pub suppressed: Vec<PathBuf>,
-    /// Folders of the public headers of the old file, and of the new.
+    /// Folders of the public headers of the old and the new file.
     pub headers: [Vec<PathBuf>; 2],
-    /// Whether objects of JSON are printed.
+    /// Whether to print JSON objects.
     pub is_json: bool,
-    /// Whether each line says whether it breaks, and the last what comes of all.
+    /// Whether to print for each change whether it breaks, and a verdict at the end.
     pub has_verdict: bool,
-    /// Whether types are told in full, as they were and as they are.
+    /// Whether to print changed types in full, old and new.
     pub is_in_full: bool,
     /// How files are read.
     pub reading: Options,
@@ -58,7 +58,7 @@ pub struct Words {
 }
 
 impl Words {
-    /// Those of a command line. What is wrong with it is told, and ends the process.
+    /// Parses the command line. A wrong one ends the process with a message.
     pub fn parse(words: Vec<OsString>) -> Words {
         Words::of(&wrong_words::parse_words(options(), words))
     }
@@ -136,7 +136,7 @@ fn options() -> Command {
         .args(arguments::of_reading())
 }
 
-/// What is told, and how.
+/// The options for what is reported, and how.
 fn of_answers() -> [Arg; 9] {
     [
         flag("breaking", "only what breaks programs built for OLD; the status is then 0 or 4"),

@@ -1,4 +1,4 @@
-//! The libraries of two packages, or of two folders: which of the old is which of the new.
+//! The libraries of two packages or folders, and which of them belong together.
 
 use super::options::{Words, NAME};
 use crate::output::Folder;
@@ -15,7 +15,7 @@ use std::collections::BTreeMap;
 use std::fs;
 use std::path::{Path, PathBuf};
 
-/// Where debug files are, below a folder or in a package.
+/// The folder of debug files in a folder or package.
 const DEBUG: &str = "usr/lib/debug";
 const DEEPEST: usize = 64;
 
@@ -28,52 +28,51 @@ fn is_package(path: &Path) -> bool {
     Format::of(path) == Some(Format::Debian)
 }
 
-/// A library, and what programs that were linked with it ask for.
+/// A library, and the name by which programs that were linked with it ask for it.
 #[derive(Clone, Debug, PartialEq, Eq)]
 pub struct Library {
-    /// Where it is.
     pub path: PathBuf,
-    /// Its soname; the name of its file, where it has none.
+    /// Its soname, or its file name if it has none.
     pub name: String,
 }
 
 impl Library {
-    /// Its name, as a line on it begins.
+    /// Its name as messages have it.
     pub fn printable_name(&self) -> String {
         printable(self.name.as_bytes()).into_owned()
     }
 
-    /// Its name without what is behind `.so`, and without a version in front of that.
+    /// Its name up to `.so`, without a version before that.
     fn stem(&self) -> &str {
         let end = self.name.find(".so").unwrap_or(self.name.len());
         self.name[..end].trim_end_matches(|letter: char| letter.is_ascii_digit() || letter == '.')
     }
 }
 
-/// A package that was unpacked: lines tell of it, and not of the folder that it is in for now.
+/// An unpacked package. Messages name the package instead of the temporary folder.
 pub struct UnpackedPackage {
     folder: Folder,
     package: String,
 }
 
 impl UnpackedPackage {
-    /// A line in which the folder is the package.
+    /// A line with the package's name in place of the folder's.
     pub fn with_package_name(&self, line: &str) -> String {
         line.replace(&display_path(self.folder.path()), &self.package)
     }
 }
 
-/// The libraries of a package or folder, and where their debug files are.
+/// The libraries of a package or folder, and the folders of their debug files.
 pub struct Side {
-    /// The folders of debug files, in front of those that the command line names.
+    /// The folders of debug files, which are searched before those of the command line.
     pub folders: Vec<PathBuf>,
-    /// Where it was unpacked, if it was.
+    /// The unpacked package, if there is one.
     pub unpacked: Option<UnpackedPackage>,
     libraries: Vec<Library>,
 }
 
 impl Side {
-    /// Those of a path, with what some packages of debug information have.
+    /// The libraries at a path; `debug` names packages with their debug information.
     pub fn open(path: &Path, debug: &[PathBuf]) -> Outcome<Side> {
         let mut folder = path.to_owned();
         let mut unpacked = None;
@@ -99,7 +98,7 @@ impl Side {
     }
 }
 
-/// The line in front of what differs in a library.
+/// The line before the differences of a library.
 pub fn title(words: &Words, library: &Library) -> String {
     match words.is_json {
         true => Object::default().text("library", library.name.as_bytes()).end() + "\n",
@@ -107,11 +106,11 @@ pub fn title(words: &Words, library: &Library) -> String {
     }
 }
 
-/// A library of the old and the same of the new, as far as each is there.
+/// An old library and the new one that belongs to it; either may be missing.
 pub type Pair<'p> = (Option<&'p Library>, Option<&'p Library>);
 
-/// Which libraries of two sides belong together: those of one soname, then those whose sonames differ
-/// in their versions alone.
+/// The libraries of two sides that belong together: those with the same name, then those whose
+/// names differ only in their versions.
 pub fn pairs<'p>(old: &'p Side, new: &'p Side) -> Vec<Pair<'p>> {
     let mut left: BTreeMap<&str, Vec<&Library>> = BTreeMap::new();
     for one in &new.libraries {
@@ -132,7 +131,7 @@ pub fn pairs<'p>(old: &'p Side, new: &'p Side) -> Vec<Pair<'p>> {
     made
 }
 
-/// The two sides that a command line names.
+/// The two sides of a command line.
 pub fn sides(words: &Words) -> Outcome<[Side; 2]> {
     let [old, new] = &words.debug_packages;
     let sides = [Side::open(&words.old, old)?, Side::open(&words.new, new)?];
@@ -147,7 +146,8 @@ pub fn sides(words: &Words) -> Outcome<[Side; 2]> {
     Ok(sides)
 }
 
-/// Adds the libraries below a folder. Links lead to files that are met by themselves, or elsewhere.
+/// Adds the libraries below a folder, except below `passed`. Links are skipped: they lead to files
+/// that are found anyway, or elsewhere.
 fn find(folder: &Path, passed: &Path, depth: usize, found: &mut Vec<Library>) -> Outcome<()> {
     let refused = |error| Error(format!("{}: {}", display_path(folder), reason(&error)));
     let mut entries: Vec<_> = fs::read_dir(folder)
@@ -165,7 +165,7 @@ fn find(folder: &Path, passed: &Path, depth: usize, found: &mut Vec<Library>) ->
     Ok(())
 }
 
-/// A file as a library, if it is one: an ELF file that programs are linked with.
+/// A file as a library, if it is one: an ELF file that programs can be linked with.
 fn library(path: PathBuf) -> Option<Library> {
     let file_name = path.file_name()?.to_string_lossy().into_owned();
     if !file_name.contains(".so") {

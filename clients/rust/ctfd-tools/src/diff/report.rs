@@ -1,4 +1,4 @@
-//! What is told of two files, and what comes of it.
+//! The report on two files, and the verdict.
 
 use super::changes::Sides;
 use super::chosen::{Choice, Chosen};
@@ -26,12 +26,12 @@ const NO_SOURCES: &str =
     "it does not record in which source files its types are defined, which the choice by headers \
      needs: name a file with debug information";
 
-/// How many changes were told, and the status that comes of them.
+/// Counts of reported changes, and the resulting exit status.
 #[derive(Clone, Copy, Debug, Default)]
 pub struct Tally {
     breaking: usize,
     compatible: usize,
-    /// How many lines said that something was not compared.
+    /// How many lines reported that something was not compared.
     uncompared: usize,
     /// The exit status.
     pub status: u8,
@@ -49,13 +49,13 @@ impl Tally {
         self.status = self.status.max(status).max(if is_untold { TROUBLE } else { SAME });
     }
 
-    /// Counts what could not be compared.
+    /// Counts something that could not be compared.
     pub fn leave_out(&mut self) {
         self.uncompared += 1;
         self.status = self.status.max(TROUBLE);
     }
 
-    /// Tells a library that only one side has.
+    /// Reports a library that only one side has.
     pub fn tell_library(
         &mut self,
         words: &Words,
@@ -87,7 +87,7 @@ impl Tally {
         Ok(())
     }
 
-    /// The verdict in one line.
+    /// The verdict as a line of text.
     pub fn text(&self) -> String {
         let sum = match (self.breaking, self.compatible) {
             (0, 0) => "nothing differs".to_owned(),
@@ -107,7 +107,7 @@ impl Tally {
         format!("verdict: {sum}{rest}")
     }
 
-    /// The same as an object of JSON.
+    /// The verdict as a JSON object.
     pub fn json(&self) -> String {
         let word = match self.status {
             SAME => "same",
@@ -124,7 +124,7 @@ impl Tally {
     }
 }
 
-/// Tells what differs in two files.
+/// Reports the differences between two files.
 pub fn tell(
     words: &Words,
     chosen: &Chosen,
@@ -154,13 +154,13 @@ pub fn tell(
     report.on(old, new, exports)
 }
 
-/// What is told of two files.
+/// A report on two files.
 struct Report<'r> {
     words: &'r Words,
     choice: &'r Choice<'r>,
     output: &'r mut dyn Write,
     tally: &'r mut Tally,
-    /// Lines on what is not compared.
+    /// Lines on what was not compared.
     left: Vec<String>,
 }
 
@@ -205,7 +205,7 @@ impl Report<'_> {
         self.end()
     }
 
-    /// Tells what was not compared.
+    /// Prints what was not compared.
     fn end(self) -> Outcome<()> {
         for line in &self.left {
             self.output.flush()?;
@@ -248,7 +248,7 @@ impl Report<'_> {
         Ok(())
     }
 
-    /// Tells a change, where it is wanted.
+    /// Reports a change, if it is selected.
     fn tell(&mut self, sides: &Sides<'_, '_, '_>, mut change: Change) -> Outcome<()> {
         if !self.choice.has(change.label.as_bytes()) {
             return Ok(());
@@ -276,7 +276,7 @@ impl Report<'_> {
     }
 }
 
-/// A symbol of which a change tells without its version.
+/// The symbol of a change; its version is not known.
 fn symbol_of(change: &Change) -> SymbolNamed<'_> {
     let name = change.said.first().map_or(&[][..], |one| one.name.as_slice());
     let change_kind = match change.fate {
@@ -288,7 +288,7 @@ fn symbol_of(change: &Change) -> SymbolNamed<'_> {
     SymbolNamed { name, version: &[], is_function, change: change_kind }
 }
 
-/// Both types of a pair in full; nothing for one that is not there.
+/// Both types of a pair in full; empty for a missing one.
 fn both(sides: &Sides<'_, '_, '_>, (old, new): (Number, Number)) -> [String; 2] {
     let manner = Manner { has_places: true, ..Manner::PLAIN };
     let written = |side: &Side<'_, '_>, number: Number| match number {
@@ -298,7 +298,7 @@ fn both(sides: &Sides<'_, '_, '_>, (old, new): (Number, Number)) -> [String; 2] 
     [written(sides.before, old), written(sides.after, new)]
 }
 
-/// Lines with a sign in front, below a change.
+/// The lines of a text, indented and with a sign before each.
 fn with_sign(sign: char, text: &str) -> String {
     text.lines().map(|line| format!("    {sign} {line}").trim_end().to_owned() + "\n").collect()
 }

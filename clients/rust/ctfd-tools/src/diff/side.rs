@@ -1,4 +1,5 @@
-//! One of the two dictionaries: its types by what they are matched by, and what is told of each.
+//! One of the two dictionaries to compare: its types by the keys that match them, and their
+//! properties.
 
 use super::type_names::TypeNames;
 use crate::types::catalog::{Catalog, Number, Part, Signature};
@@ -13,15 +14,15 @@ use std::collections::{HashMap, HashSet};
 use std::fmt;
 use std::rc::Rc;
 
-/// What types are matched by: the word for the kind, and the name.
+/// What types are matched by: their kind and name.
 pub type Key = (Kind, String);
 
-/// Whether a key is that of a base type.
+/// Whether types of a kind are base types.
 pub fn is_of_base(kind: Kind) -> bool {
     matches!(kind, Kind::Integer | Kind::Float)
 }
 
-/// The numbers of types by their keys, in the order of the first of each.
+/// The types of each key, in the order of its first type.
 #[derive(Default)]
 pub struct Keys {
     places: HashMap<Key, usize>,
@@ -42,20 +43,21 @@ impl Keys {
         self.listed.iter()
     }
 
-    /// The types of a key; None where it has none.
+    /// The types of a key, if it has any.
     pub fn get(&self, key: &Key) -> Option<&[Number]> {
         self.places.get(key).map(|&place| self.listed[place].1.as_slice())
     }
 }
 
-/// What a value is to a program, behind the arrays that hold it.
+/// What the innermost element of a value is to a program.
 #[derive(Clone, Debug, PartialEq, Eq)]
 enum Core {
-    /// A pointer; one to a function with how C writes that.
+    /// A pointer; for a pointer to a function, with the function type in C.
     Pointer(Option<Rc<str>>),
-    /// A function, as C writes it.
+    /// A function, with its type in C.
     Function(Rc<str>),
-    /// Another by its kind, size and flags; an enum is an integer.
+    /// Any other value: kind, size in bytes, and flags of the encoding. An enum counts as an
+    /// integer.
     Plain(Option<Kind>, Option<u64>, u32),
 }
 
@@ -65,24 +67,24 @@ impl Default for Core {
     }
 }
 
-/// What a value is to a program: its kind, size and encoding.
+/// What a value is to a program: its kind, size and encoding, and the arrays around it.
 #[derive(Clone, Debug, Default, PartialEq, Eq)]
 pub struct Meaning {
-    /// The elements of the arrays round it.
+    /// The lengths of the arrays around it.
     lengths: Vec<u64>,
     core: Core,
 }
 
-/// What is told of a member by its type alone.
+/// The properties of a member that follow from its type alone.
 #[derive(Debug, Default, PartialEq)]
 pub struct MemberText {
-    /// How many bits it takes.
+    /// Its width in bits.
     pub bits: u128,
-    /// How its type is written.
+    /// Its type in C.
     pub text: Rc<str>,
     /// What its value is to a program.
     pub value: Meaning,
-    /// Which values of it have names.
+    /// Its values that have names.
     pub named: Rc<NamedValues>,
 }
 
@@ -91,7 +93,7 @@ pub struct MemberText {
 pub struct NamedValues {
     listed: Vec<Named>,
     known: OnceCell<HashSet<Named>>,
-    /// The last ones that these were sought in, and whether all are there.
+    /// The argument of the last `is_within`, and its result.
     last: RefCell<Option<(Rc<NamedValues>, bool)>>,
 }
 
@@ -101,7 +103,7 @@ impl PartialEq for NamedValues {
     }
 }
 
-impl Eq for NamedValues {} // so that the same ones are seen to be equal at once
+impl Eq for NamedValues {} // so that `Rc` compares pointers first
 
 impl NamedValues {
     fn of(values: &[(&[u8], i128)]) -> NamedValues {
@@ -109,12 +111,11 @@ impl NamedValues {
         NamedValues { listed, ..NamedValues::default() }
     }
 
-    /// Whether there are none.
     pub fn is_empty(&self) -> bool {
         self.listed.is_empty()
     }
 
-    /// Whether others have all of them.
+    /// Whether all of them are among the others.
     pub fn is_within(&self, others: &Rc<NamedValues>) -> bool {
         if let Some((_, is_within)) =
             self.last.borrow().as_ref().filter(|(last, _)| Rc::ptr_eq(last, others))
@@ -128,13 +129,12 @@ impl NamedValues {
     }
 }
 
-/// A type as something has it: of a bit-field with the enum that it is of, which no type of a
-/// dictionary tells.
+/// The type of a member or the like. For an enum's bit-field it includes the enum, which no type of
+/// a dictionary records.
 #[derive(Clone, Copy, Debug, PartialEq, Eq, Hash)]
 pub struct TypeUse {
-    /// The type.
     pub number: Number,
-    /// The enum, where it is one's bit-field.
+    /// The enum of a bit-field, if it has one.
     pub of_enum: Option<Number>,
 }
 
@@ -144,23 +144,23 @@ impl From<Number> for TypeUse {
     }
 }
 
-/// A member's name, its offset in bits and its type.
+/// A member: its name, offset and type.
 #[derive(Clone, Debug, PartialEq)]
 pub struct Place {
-    /// Its name, behind those of members that it lies in.
+    /// Its name, after the names of the members that contain it.
     pub path: String,
-    /// Where it begins.
+    /// Its offset in bits.
     pub start: u128,
-    /// What its type tells.
+    /// The properties of its type.
     pub told: Rc<MemberText>,
 }
 
-/// The places of some members without their types.
+/// The members without their types.
 pub fn places(parts: &[(Place, TypeUse)]) -> Vec<&Place> {
     parts.iter().map(|(place, _)| place).collect()
 }
 
-/// A place in bytes, and bits where it is within one.
+/// An offset in bits, displayed in bytes, with the bit if it is not a whole number of bytes.
 pub struct At(pub u128);
 
 impl fmt::Display for At {
@@ -174,11 +174,10 @@ impl fmt::Display for At {
 
 /// One of the two dictionaries.
 pub struct Side<'s, 'd> {
-    /// Its types.
     pub catalog: &'s Catalog<'d>,
-    /// Their names.
+    /// The names of its types.
     pub names: &'s Names<'s, 'd>,
-    /// Its own types.
+    /// Its own types by key.
     pub own: Keys,
     parents: Keys,
     beyond: &'s Beyond,
@@ -191,7 +190,8 @@ pub struct Side<'s, 'd> {
 }
 
 impl<'s, 'd> Side<'s, 'd> {
-    /// The types of a catalog of so many bytes by their names, with what its file says beyond that.
+    /// The side of a catalog whose dictionary has so many bytes. `beyond` has what the file records
+    /// that CTF cannot represent.
     pub fn new(names: &'s Names<'s, 'd>, beyond: &'s Beyond, bytes: usize) -> Side<'s, 'd> {
         let catalog = names.catalog;
         let mut enums = HashMap::new();
@@ -226,12 +226,12 @@ impl<'s, 'd> Side<'s, 'd> {
         made
     }
 
-    /// The bytes of its dictionary.
+    /// The size of its dictionary in bytes.
     pub fn bytes(&self) -> usize {
         self.bytes
     }
 
-    /// How many members, enumerators or arguments a type has.
+    /// The number of members, enumerators or arguments of a type.
     pub fn length(&self, number: Number) -> usize {
         match self.catalog.kind(number) {
             Kind::Struct | Kind::Union => self.catalog.members(number).len(),
@@ -241,7 +241,7 @@ impl<'s, 'd> Side<'s, 'd> {
         }
     }
 
-    /// The types of a key, those of the parent too; its own where it has some.
+    /// The types of a key: its own, else the parent's.
     pub fn get(&self, key: &Key) -> Option<&[Number]> {
         self.own.get(key).or_else(|| self.parents.get(key))
     }
@@ -251,7 +251,7 @@ impl<'s, 'd> Side<'s, 'd> {
         (number != 0).then(|| self.catalog.kind(number))
     }
 
-    /// What a type is matched by; None for what is compared as a part of others.
+    /// The key of a type; None for types that are compared as parts of others.
     pub fn key(&self, number: Number) -> Option<Key> {
         let record = self.catalog.record(number);
         match record.kind {
@@ -269,30 +269,35 @@ impl<'s, 'd> Side<'s, 'd> {
         Some((record.tag, format!("enum {{ {}, .. }}", printable(first))))
     }
 
-    /// Whether a typedef of a type is itself the name of that.
+    /// Whether a struct, union or enum has no tag, so that a typedef of it is its name.
     fn is_unnamed(&self, number: Number) -> bool {
         let record = self.catalog.record(number);
         (record.is_aggregate() || record.kind == Kind::Enum) && record.name.is_empty()
     }
 
-    /// Whether an integer is no bit-field's.
+    /// Whether an integer fills its storage, unlike a bit-field's.
     fn is_plain(&self, number: Number) -> bool {
         let bits = self.catalog.record(number).encoding.map_or(0, |lies| u64::from(lies.bits));
         Some(bits) == self.catalog.size(number).map(|size| 8 * size)
     }
 
-    /// How C writes a type.
+    /// A type in C.
     pub fn text(&self, number: Number) -> Rc<str> {
         self.written.name(number)
     }
 
-    /// What its encoding says; 0 of what is no number.
+    /// How C writes the type that a type resolves to.
+    pub fn resolved_text(&self, number: Number) -> Rc<str> {
+        self.text(self.catalog.resolve(number))
+    }
+
+    /// The flags of a type's encoding; 0 if it is no number.
     pub fn flags(&self, number: Number) -> u32 {
         let encoding = self.catalog.record(number).encoding;
         encoding.map_or(0, |encoding| encoding.encoding.into())
     }
 
-    /// What a value of it is to a program.
+    /// What a value of a type is to a program.
     pub fn value(&self, number: Number) -> Meaning {
         let mut end = self.catalog.resolve(number);
         let mut lengths = Vec::new();
@@ -316,7 +321,7 @@ impl<'s, 'd> Side<'s, 'd> {
         Meaning { lengths, core }
     }
 
-    /// How many elements an array has; 0 of another type.
+    /// The number of elements of an array; 0 for another type.
     pub fn elements(&self, number: Number) -> u64 {
         let known = self.beyond.elements.get(&number).copied();
         known.unwrap_or_else(|| self.catalog.record(number).elements.into())
@@ -333,7 +338,7 @@ impl<'s, 'd> Side<'s, 'd> {
         }
     }
 
-    /// The enumerators of an enum; none of another type.
+    /// The enumerators of an enum; none for another type.
     pub fn values(&self, number: Number) -> Vec<(&'s [u8], i128)> {
         match self.beyond.values.get(&number) {
             Some(listed) => listed.iter().map(|(name, value)| (name.as_slice(), *value)).collect(),
@@ -344,7 +349,7 @@ impl<'s, 'd> Side<'s, 'd> {
         }
     }
 
-    /// The members of a struct or union, those of unnamed parts too, each with its type.
+    /// The members of a struct or union with their types, including those of unnamed members.
     pub fn parts(&self, number: Number) -> Vec<(Place, TypeUse)> {
         let parts = self.catalog.members(number);
         let mut made = Vec::with_capacity(parts.len());
@@ -363,7 +368,7 @@ impl<'s, 'd> Side<'s, 'd> {
         made
     }
 
-    /// The type of a member of some struct or union.
+    /// The type of a member; `within` is the struct or union with the member's index.
     fn type_use(&self, number: Number, within: (Number, usize)) -> TypeUse {
         let end = self.catalog.resolve(number);
         let of_enum = self.beyond.fields.get(&within).copied();
@@ -378,7 +383,7 @@ impl<'s, 'd> Side<'s, 'd> {
         Place { path: printable(name).into_owned(), start: offset + u128::from(lies), told }
     }
 
-    /// What is told of a member by its type alone, behind where it lies in its storage.
+    /// The offset of a member's bits in its storage, and the properties of its type.
     fn member_text(&self, of: TypeUse) -> (u64, Rc<MemberText>) {
         if let Some(known) = self.told.borrow().get(&of) {
             return known.clone();
@@ -402,9 +407,10 @@ impl<'s, 'd> Side<'s, 'd> {
         made.or_insert_with(|| Rc::new(NamedValues::of(&self.values(of_enum)))).clone()
     }
 
-    /// The enum that a type is, or a bit-field of which it is the type.
+    /// The enum that a type is, or that it stands for as the type of a bit-field.
     ///
-    /// A dictionary has no widths of enums: an integer with the enum's name stands there.
+    /// A dictionary has no widths of enums: a bit-field of one has an integer with the enum's name
+    /// as its type.
     pub fn enum_of(&self, number: Number) -> Option<Number> {
         let record = self.catalog.record(number);
         match record.kind {
@@ -417,7 +423,7 @@ impl<'s, 'd> Side<'s, 'd> {
         }
     }
 
-    /// What was not compared, since it has too many members of members; each once or more.
+    /// Lines on types that were not compared in full, since they have too many nested members.
     pub fn cut(&self) -> Vec<String> {
         let line = |number: &Number| {
             let label = self.names.label(*number);

@@ -1,8 +1,8 @@
-//! What differs in two types by their structure, and which types these lead to.
+//! Differences between two types by their structure, and the pairs of types that these lead to.
 //!
-//! Typedefs and qualifiers are looked through, base types are compared by size and encoding: the
-//! same source gives the same by any compiler. A change breaks where a program that was built for
-//! the old types goes wrong with the new.
+//! Typedefs and qualifiers are followed, and base types are compared by size and encoding, so that
+//! all compilers give the same for the same source. A change breaks if a program built for the old
+//! types goes wrong with the new.
 
 use super::changes::Sides;
 use super::differences::{kind_word, size, Datum, Difference};
@@ -19,26 +19,25 @@ const BOOLEAN: u32 = 4;
 /// An old and a new type.
 pub type Pair = (Number, Number);
 
-/// A step from a type or a symbol to a pair that its own type leads to.
+/// A step from a type or a symbol to a pair of types that its own type leads to.
 #[derive(Clone, Debug)]
 pub struct Lead {
-    /// What says the step.
+    /// The text of the step.
     pub text: Rc<str>,
-    /// The pair.
     pub pair: Pair,
 }
 
-/// What differs of a pair by itself, and the pairs that it leads to.
+/// The differences of a pair of types itself, and the pairs that it leads to.
 #[derive(Clone, Debug, Default)]
 pub struct Findings {
-    /// What differs.
+    /// The differences.
     pub said: Vec<Difference>,
-    /// Where it leads.
+    /// The pairs that it leads to.
     pub leads: Vec<Lead>,
 }
 
 impl Findings {
-    /// Some differences that lead nowhere.
+    /// Differences that lead to no pairs.
     pub fn of(said: impl IntoIterator<Item = Difference>) -> Findings {
         Findings { said: said.into_iter().collect(), leads: Vec::new() }
     }
@@ -49,14 +48,13 @@ impl Findings {
     }
 }
 
-/// How much a change of what stands at the end of two types harms.
+/// How much harm a change does between the types at the ends of two types.
 #[derive(Clone, Copy, Debug, PartialEq, Eq, PartialOrd, Ord)]
 enum Harm {
-    /// There is no change.
     Same,
-    /// Nothing breaks by it.
+    /// Nothing breaks.
     Harmless,
-    /// Programs break by it.
+    /// Programs break.
     Breaking,
 }
 
@@ -76,22 +74,22 @@ impl Harm {
     }
 }
 
-/// Whether a type has parts that are compared by themselves.
+/// Whether types of a kind are compared as pairs of their own.
 fn is_kept(kind: Option<Kind>) -> bool {
     is_defined(kind) || kind == Some(Kind::Function)
 }
 
-/// Whether a type is one that may only be declared elsewhere.
+/// Whether types of a kind may be declared without a definition.
 fn is_defined(kind: Option<Kind>) -> bool {
     matches!(kind, Some(Kind::Struct | Kind::Union | Kind::Enum))
 }
 
-/// Whether a type tells nothing of itself.
+/// Whether nothing is known about types of a kind.
 fn is_opaque(kind: Option<Kind>) -> bool {
     matches!(kind, None | Some(Kind::Forward | Kind::Unknown))
 }
 
-/// A type without typedefs and qualifiers.
+/// A type without typedefs and qualifiers, and whether one of these was `const`.
 struct Base {
     number: Number,
     is_const: bool,
@@ -106,7 +104,7 @@ fn base_of(side: &Side<'_, '_>, mut number: Number) -> Base {
     Base { number, is_const }
 }
 
-/// The kinds of what a type leads through, its arrays among them.
+/// The kinds of the typedefs, qualifiers and arrays at the start of a type.
 fn kinds_on_way(side: &Side<'_, '_>, mut number: Number) -> HashSet<Kind> {
     let mut made = HashSet::new();
     let is_passed = |kind| is_renaming(kind) || kind == Kind::Array;
@@ -117,14 +115,15 @@ fn kinds_on_way(side: &Side<'_, '_>, mut number: Number) -> HashSet<Kind> {
     made
 }
 
-/// What two types lead to through pointers, arrays, typedefs and qualifiers.
+/// The change between two types, and the pair of types that is compared by itself, after their
+/// pointers, arrays, typedefs and qualifiers.
 struct Ends {
     harm: Harm,
     pair: Option<Pair>,
 }
 
 impl Sides<'_, '_, '_> {
-    /// What differs in two structs, unions, enums or functions.
+    /// The differences between two structs, unions, enums or functions.
     pub fn compare(&self, pair: Pair) -> Findings {
         let (one, other) = (self.before.kind(pair.0), self.after.kind(pair.1));
         if other == Some(Kind::Forward) {
@@ -144,7 +143,7 @@ impl Sides<'_, '_, '_> {
         }
     }
 
-    /// What differs in the types of a member, an argument or the like, named by `what`.
+    /// The difference between the types of a member, an argument or the like, which `what` names.
     pub fn value(
         &self,
         what: &str,
@@ -159,7 +158,7 @@ impl Sides<'_, '_, '_> {
         if ends.harm != Harm::Same {
             let now = self.after.text(new.number);
             let text = match was == now {
-                true => format!("{what} is another {now}"),
+                true => self.change_behind(what, &now, (old.number, new.number)),
                 false => format!("{what} is {now}, was {was}"),
             };
             let breaks = ends.harm == Harm::Breaking;
@@ -171,7 +170,17 @@ impl Sides<'_, '_, '_> {
         made
     }
 
-    /// Walks both types in step, as far as they go the same way.
+    /// Says that a type changed whose name did not, with the types that it resolves to if these
+    /// have different names.
+    fn change_behind(&self, what: &str, name: &str, pair: (Number, Number)) -> String {
+        let (was, now) = (self.before.resolved_text(pair.0), self.after.resolved_text(pair.1));
+        match was == now {
+            true => format!("{what}: {name} changed"),
+            false => format!("{what}: {name} changed from {was} to {now}"),
+        }
+    }
+
+    /// Follows two types in step, as far as they have the same pointers and arrays.
     fn ends(&self, one: TypeUse, other: TypeUse) -> Ends {
         let (mut old, mut new) = (one.number, other.number);
         let fields = (one.of_enum, other.of_enum);
@@ -201,7 +210,7 @@ impl Sides<'_, '_, '_> {
         }
     }
 
-    /// The pair that is compared by itself where two types end.
+    /// The pair that is compared by itself at the ends of two types, if there is one.
     fn pair(
         &self,
         old: Number,
@@ -215,10 +224,10 @@ impl Sides<'_, '_, '_> {
         let is_integer = one == Some(Kind::Integer) && other == one;
         let before = || fields.0.or_else(|| self.before.enum_of(old));
         let after = || fields.1.or_else(|| self.after.enum_of(new));
-        is_integer.then(|| before().zip(after())).flatten() // bit-fields of these
+        is_integer.then(|| before().zip(after())).flatten() // the enums of bit-fields
     }
 
-    /// Whether one is the declaration of what the other defines.
+    /// Whether one type is a declaration of the other, which is defined.
     fn is_told_once(&self, old: Number, new: Number) -> bool {
         let kinds = [self.before.kind(old), self.after.kind(new)];
         let (one, other) = (self.before.catalog.record(old), self.after.catalog.record(new));
@@ -227,7 +236,7 @@ impl Sides<'_, '_, '_> {
             && (&one.name, one.tag) == (&other.name, other.tag)
     }
 
-    /// How much a change of what stands at the end harms.
+    /// The harm of a change between the types at the ends.
     fn harm(&self, old: Number, new: Number, is_pointed: bool) -> Harm {
         let kinds = (self.before.kind(old), self.after.kind(new));
         if is_opaque(kinds.0) || is_opaque(kinds.1) {
@@ -250,8 +259,8 @@ impl Sides<'_, '_, '_> {
         }
     }
 
-    /// The same where one of the two tells nothing of itself: what can't be seen of it is no harm,
-    /// but a value where there was none, or the other way, is.
+    /// The same if nothing is known about one of the two. A change that cannot be seen does no
+    /// harm, but a value in place of void, or the reverse, breaks.
     fn opaque_harm(&self, old: Number, new: Number, is_pointed: bool) -> Harm {
         let kinds = (self.before.kind(old), self.after.kind(new));
         if kinds.0 == kinds.1 {
@@ -264,8 +273,8 @@ impl Sides<'_, '_, '_> {
         Harm::breaking_if(is_of_void && !is_pointed)
     }
 
-    /// What differs in how an object itself, or each of its elements, may be used: one that is
-    /// const is in memory that is not written to, and its value is one that does not change.
+    /// Differences in how an object or its elements may be used. A const object is in memory that
+    /// is not written to, and its value does not change.
     pub fn qualifiers(&self, old: Number, new: Number) -> Vec<Difference> {
         let (was, now) = (kinds_on_way(self.before, old), kinds_on_way(self.after, new));
         let mut said = Vec::new();
@@ -303,7 +312,7 @@ impl Sides<'_, '_, '_> {
         made
     }
 
-    /// What differs in what two functions take and return.
+    /// The differences between what two functions take and return.
     pub fn signature(&self, one: &Signature, other: &Signature) -> Findings {
         let mut made = self.value("what it returns", one.returns, other.returns, "returns");
         for (place, (&old, &new)) in one.arguments.iter().zip(&other.arguments).enumerate() {

@@ -1,4 +1,4 @@
-//! What is not told of two files, as suppression files of libabigail say it: sections of properties.
+//! Suppression files as libabigail has them: sections of properties that say what not to report.
 
 use super::differences::Difference;
 use super::headers::kind_of;
@@ -14,7 +14,7 @@ use std::path::Path;
 
 const BARE: &str = "a section names nothing to suppress: give it a name, or leave it out";
 
-/// What a section is about.
+/// The subject of a section.
 #[derive(Clone, Copy, Debug, PartialEq, Eq)]
 enum Subject {
     Type,
@@ -35,7 +35,7 @@ impl Subject {
     }
 }
 
-/// What a text has to be for a section to be about it.
+/// A condition on a text.
 #[derive(Debug)]
 enum Condition {
     Is(Vec<u8>),
@@ -53,7 +53,8 @@ impl Condition {
     }
 }
 
-/// An end of a range of a struct: an offset in bits, that of a member, or its end.
+/// An end of a range in a struct: an offset in bits, the start or end of a member, or the end of
+/// the struct.
 #[derive(Clone, Debug)]
 enum Bound {
     Bit(u128),
@@ -75,7 +76,7 @@ impl Bound {
         }
     }
 
-    /// The bit where it is in a struct; None where that has not the member.
+    /// Its offset in bits in a struct; None if the struct has no such member.
     fn bit(&self, side: &Side<'_, '_>, number: Number) -> Option<u128> {
         match self {
             Bound::Bit(bit) => Some(*bit),
@@ -90,31 +91,26 @@ impl Bound {
     }
 }
 
-/// What happened to a symbol, as a section may name it.
+/// What happened to a symbol, for sections to select.
 #[derive(Clone, Copy, Debug, PartialEq, Eq)]
 pub enum SymbolChange {
-    /// It is gone.
     Deleted,
-    /// It is new.
     Added,
-    /// Its type is another.
+    /// Its type changed.
     OfType,
 }
 
-/// A symbol as sections tell it.
+/// A symbol, for sections to select.
 #[derive(Clone, Copy, Debug)]
 pub struct SymbolNamed<'n> {
-    /// Its name.
     pub name: &'n [u8],
-    /// Its version; empty without one.
+    /// Its version, empty if it has none.
     pub version: &'n [u8],
-    /// Whether it is a function.
     pub is_function: bool,
-    /// What happened to it.
     pub change: SymbolChange,
 }
 
-/// A section: all of its conditions have to be met.
+/// A section; it applies if all of its conditions are met.
 #[derive(Debug)]
 struct Rule {
     subject: Subject,
@@ -123,7 +119,7 @@ struct Rule {
     sonames: Vec<Condition>,
     versions: Vec<Condition>,
     sources: Vec<Condition>,
-    /// The files in which types are that are told.
+    /// The files whose types are still reported.
     kept_sources: Option<Vec<Vec<u8>>>,
     kind: Option<Vec<Kind>>,
     change: Option<SymbolChange>,
@@ -150,7 +146,7 @@ impl Rule {
         }
     }
 
-    /// Takes a property; what is wrong with it.
+    /// Adds a property. The error says what is wrong with it.
     fn take(&mut self, name: &str, value: &str) -> Result<(), String> {
         let is = || Condition::Is(value.as_bytes().to_vec());
         let has = || pattern(value).map(Condition::Has);
@@ -187,7 +183,7 @@ impl Rule {
         Ok(())
     }
 
-    /// Whether it says nothing of what it is about: it would leave out all.
+    /// Whether it has no conditions, and would suppress everything.
     fn is_bare(&self) -> bool {
         let conditions = [&self.names, &self.files, &self.sonames, &self.versions, &self.sources];
         conditions.iter().all(|listed| listed.is_empty())
@@ -197,7 +193,7 @@ impl Rule {
             && !self.is_of_parts()
     }
 
-    /// Whether it says of some differences alone that they are not told.
+    /// Whether it suppresses only some differences of a type.
     fn is_of_parts(&self) -> bool {
         !self.ranges.is_empty() || !self.enumerators.is_empty()
     }
@@ -238,7 +234,7 @@ impl Rule {
             && self.versions.iter().all(|version| version.meets(one.version))
     }
 
-    /// Whether a difference of a type is one that is not told.
+    /// Whether it suppresses a difference of a type.
     fn covers(&self, said: &Difference, ranges: &[(u128, u128)]) -> bool {
         if said.what == "size" {
             return self.has_size_change;
@@ -249,7 +245,7 @@ impl Rule {
 }
 
 fn pattern(value: &str) -> Result<Regex, String> {
-    let made = RegexBuilder::new(value).unicode(false).build(); // of bytes, as names are
+    let made = RegexBuilder::new(value).unicode(false).build(); // of bytes, like names
     made.map_err(|_| format!("{value} is no regular expression"))
 }
 
@@ -283,7 +279,7 @@ fn place(value: &str) -> Result<(Bound, Bound), String> {
     Ok((bound.clone(), bound))
 }
 
-/// `{a, b}`, or `{{a, b}, {c, d}}`.
+/// Parses `{a, b}`, or `{{a, b}, {c, d}}`.
 fn ranges(value: &str) -> Result<Vec<(Bound, Bound)>, String> {
     let wrong = || format!("{value} is no range of a struct: write {{8, end}}");
     let plain: String = value.chars().filter(|letter| !letter.is_whitespace()).collect();
@@ -297,13 +293,13 @@ fn ranges(value: &str) -> Result<Vec<(Bound, Bound)>, String> {
     inside.split("},{").map(|text| range(text).ok_or_else(wrong)).collect()
 }
 
-/// What all files of suppressions say.
+/// The sections of all suppression files.
 #[derive(Debug, Default)]
 pub struct Suppressions {
     rules: Vec<Rule>,
 }
 
-/// Whether a file of suppressions has sections.
+/// Whether a suppression file has sections.
 pub fn has_sections(bytes: &[u8]) -> bool {
     let lines = bytes.split(|&byte| byte == b'\n').map(<[u8]>::trim_ascii);
     let mut lines = lines.filter(|line| !line.is_empty() && !line.starts_with(b"#"));
@@ -311,7 +307,7 @@ pub fn has_sections(bytes: &[u8]) -> bool {
 }
 
 impl Suppressions {
-    /// Adds those of a file.
+    /// Adds the sections of a file.
     pub fn add(&mut self, path: &Path, bytes: &[u8]) -> Outcome<()> {
         let text = String::from_utf8_lossy(bytes);
         for (number, line) in text.lines().enumerate() {
@@ -345,12 +341,12 @@ impl Suppressions {
         }
     }
 
-    /// Whether one asks in which files types are defined.
+    /// Whether a section depends on the source files in which types are defined.
     pub fn has_sources(&self) -> bool {
         self.rules.iter().any(|rule| rule.kept_sources.is_some() || !rule.sources.is_empty())
     }
 
-    /// Whether two files of some names are left out altogether.
+    /// Whether two files of these names are left out altogether.
     fn is_file_left_out(&self, paths: &[&[u8]], sonames: &[&[u8]]) -> bool {
         let mut of_files = self.rules.iter().filter(|rule| rule.subject == Subject::File);
         of_files.any(|rule| rule.is_about_files(paths, sonames))
@@ -367,7 +363,7 @@ impl Suppressions {
         })
     }
 
-    /// Whether a type of the old file is left out, with all that it alone leads to.
+    /// Whether a type of the old file is left out, with all types that only it leads to.
     pub fn leaves_out_type(
         &self,
         side: &Side<'_, '_>,
@@ -379,7 +375,7 @@ impl Suppressions {
         rules.any(|rule| rule.is_about_type(side, number, sources))
     }
 
-    /// Leaves differences of a type out that are not told.
+    /// Removes the differences of a type that are left out.
     pub fn prune(
         &self,
         side: &Side<'_, '_>,
@@ -407,7 +403,7 @@ impl Suppressions {
     }
 }
 
-/// The names of the two files, by which sections may be about them.
+/// The names and sonames of the two files, for sections to select.
 #[derive(Clone, Debug, Default)]
 pub struct FileNames {
     paths: Vec<Vec<u8>>,
@@ -415,7 +411,7 @@ pub struct FileNames {
 }
 
 impl FileNames {
-    /// Those of two files.
+    /// The names of two files.
     pub fn new(paths: [&Path; 2], sonames: [&[u8]; 2]) -> FileNames {
         use std::os::unix::ffi::OsStrExt as _;
         let name = |path: &Path| path.file_name().unwrap_or_default().as_bytes().to_vec();
@@ -430,7 +426,7 @@ impl FileNames {
         self.sonames.iter().map(Vec::as_slice).collect()
     }
 
-    /// Whether all of two files is left out.
+    /// Whether the two files are left out altogether.
     pub fn are_left_out(&self, suppressions: &Suppressions) -> bool {
         suppressions.is_file_left_out(&self.paths(), &self.sonames())
     }

@@ -1,4 +1,4 @@
-//! What differs in the functions and objects of two programs.
+//! Differences between the functions and objects of two programs.
 
 use super::differences::{Change, Datum, Difference, Fate};
 use crate::types::catalog::Catalog;
@@ -9,7 +9,7 @@ use crate::types::text::{printable, shorten, usual};
 use ctfd_read::opening::LibraryInput;
 use std::collections::HashMap;
 
-/// How C declares a symbol, and the word for its kind.
+/// A symbol's declaration in C, and the word for its kind.
 struct SymbolDeclaration {
     kind: &'static str,
     text: String,
@@ -27,7 +27,7 @@ impl SymbolDeclaration {
     }
 }
 
-/// How C declares each symbol of which something is told, by name.
+/// The declarations in C of the symbols with known types, by name.
 #[derive(Default)]
 pub struct Symbols {
     names: Vec<Vec<u8>>,
@@ -35,7 +35,7 @@ pub struct Symbols {
 }
 
 impl Symbols {
-    /// Those of a dictionary that was given these.
+    /// The symbols of a dictionary; `handed` is the library's input for it.
     pub fn of(catalog: &Catalog<'_>, handed: &LibraryInput<'_>) -> Symbols {
         let mut made = Symbols::default();
         for one in told_symbols(catalog, handed) {
@@ -46,7 +46,7 @@ impl Symbols {
         made
     }
 
-    /// Whether nothing is told of any.
+    /// Whether no symbol has a known type.
     pub fn is_empty(&self) -> bool {
         self.names.is_empty()
     }
@@ -76,7 +76,8 @@ fn with_usual_names(text: &str) -> String {
     made
 }
 
-/// How much of a text at whose front no word goes on is the name of an integer in several words.
+/// The length of the integer's name at the start of a text, such as `unsigned long`; 0 if there is
+/// none. The text must begin at the start of a word.
 fn base_length(text: &str, is_of_word: &dyn Fn(char) -> bool) -> usize {
     const FIRST: [&str; 4] = ["unsigned", "signed", "long", "short"];
     let mut length = 0;
@@ -90,7 +91,7 @@ fn base_length(text: &str, is_of_word: &dyn Fn(char) -> bool) -> usize {
         let end = end.map_or(text.len(), |end| from + end);
         let word = &text[from..end];
         if length != 0 && word == "char" {
-            return 0; // `signed char` is no other name for an integer
+            return 0; // `signed char` has no other name
         }
         if !FIRST.contains(&word) && (length == 0 || word != "int") {
             return length;
@@ -99,7 +100,7 @@ fn base_length(text: &str, is_of_word: &dyn Fn(char) -> bool) -> usize {
     }
 }
 
-/// What differs; nothing where one of the two has no symbols.
+/// The changes; none if one of the two has no symbols.
 pub fn changes(old: &Symbols, new: &Symbols) -> Vec<Change> {
     let mut made = Vec::new();
     if old.is_empty() || new.is_empty() {

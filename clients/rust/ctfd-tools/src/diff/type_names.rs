@@ -1,6 +1,6 @@
-//! How C writes the types of a catalog, each type once.
+//! Types of a catalog in C, with a cache.
 //!
-//! What `declare` walks for one declaration is kept here for every type on the way, since a command
+//! `declare` does this for one type at a time. Here every type on the way is kept, since a command
 //! that looks at all types writes most of them again and again.
 
 use crate::types::catalog::{is_qualifier, Catalog, Number};
@@ -21,13 +21,14 @@ struct Declaration {
     base: String,
     left: String,
     right: String,
-    /// What stands behind its qualifiers, by which a star is bound; None for void.
+    /// The kind of the type without qualifiers, which decides whether a star needs brackets; None
+    /// for void.
     kind: Option<Kind>,
-    /// The same of what an array holds, which is what a qualifier of the array is said of.
+    /// The same for the element of an array, to which the array's qualifiers apply.
     element: Option<Kind>,
 }
 
-/// The types of a catalog as C writes them, base types by the names that gcc gives them.
+/// The types of a catalog in C, with the names that gcc gives to base types.
 pub struct TypeNames<'n, 'd> {
     catalog: &'n Catalog<'d>,
     beyond: &'n Beyond,
@@ -36,12 +37,12 @@ pub struct TypeNames<'n, 'd> {
 }
 
 impl<'n, 'd> TypeNames<'n, 'd> {
-    /// Those of a catalog, with what its file says beyond that.
+    /// The types of a catalog. `beyond` has what the file records that CTF cannot represent.
     pub fn new(catalog: &'n Catalog<'d>, beyond: &'n Beyond) -> TypeNames<'n, 'd> {
         TypeNames { catalog, beyond, written: RefCell::default(), names: RefCell::default() }
     }
 
-    /// How C writes a type, without a name.
+    /// A type in C, without a name.
     pub fn name(&self, number: Number) -> Rc<str> {
         if let Some(known) = self.names.borrow().get(&number) {
             return known.clone();
@@ -77,7 +78,7 @@ impl<'n, 'd> TypeNames<'n, 'd> {
         made
     }
 
-    /// A type that is neither pointer, array nor qualifier.
+    /// The declaration of a type that is neither pointer, array nor qualifier.
     fn end(&self, number: Number) -> Declaration {
         let record = self.catalog.record(number);
         let kind = (number != 0).then_some(record.kind);
@@ -100,7 +101,7 @@ impl<'n, 'd> TypeNames<'n, 'd> {
         Declaration { base, left: String::new(), right: String::new(), kind, element: kind }
     }
 
-    /// A layer round what it leads to.
+    /// Adds a pointer, array or qualifier to the declaration of the type that it refers to.
     fn around(&self, number: Number, inside: &Declaration) -> Declaration {
         let record = self.catalog.record(number);
         let kind = Some(record.kind);
@@ -125,7 +126,8 @@ impl<'n, 'd> TypeNames<'n, 'd> {
     }
 }
 
-/// A type with a qualifier, which is said once: of a pointer behind its star, else in front.
+/// Adds a qualifier to a declaration, unless it is there already: after the star of a pointer, else
+/// at the front.
 fn with_qualifier(word: &str, inside: &Declaration) -> Declaration {
     if inside.element == Some(Kind::Pointer) {
         let behind = inside.left.rfind('*').map_or(0, |star| star + 1);

@@ -1,4 +1,4 @@
-//! What servers have sent, in a folder that nobody else may read or write; it is asked for again
+//! A cache of what servers sent, in a folder that only the user can read and write. Entries expire
 //! after a week.
 
 use super::place::LONGEST;
@@ -10,33 +10,32 @@ use std::path::{Path, PathBuf};
 use std::time::{Duration, SystemTime};
 
 const WEEK: Duration = Duration::from_secs(7 * 24 * 60 * 60);
-/// How many digits of its sum stand for a server.
+/// The number of digits of a URL's hash that name the folder of a server.
 const DIGITS: usize = 16;
-/// The folders within the user's own of what can be made again.
+/// The path of the cache in the user's cache folder.
 const FOLDERS: [&str; 2] = ["ctfd", "store"];
 
-/// The folder of a server.
+/// The cache for a server.
 pub struct Cache {
     folder: Folder,
-    /// Where it goes with the process, since the user has no folder for it.
+    /// The temporary folder, if the user has no usable cache folder.
     _temporary: Option<output::Folder>,
 }
 
-/// The user's folder of what can be made again.
+/// The user's cache folder; None if the environment names none.
 fn home() -> Option<PathBuf> {
     let named = |name: &str| env::var_os(name).filter(|path| !path.is_empty()).map(PathBuf::from);
     named("XDG_CACHE_HOME").or_else(|| Some(named("HOME")?.join(".cache")))
 }
 
-/// The folder of what servers have sent, below the user's. One that others may read or write is not
-/// used.
+/// The folder of the cache, in the user's cache folder. Fails if others may read or write it.
 fn own_folder(home: &Path) -> Result<Folder> {
     std::fs::create_dir_all(home)?;
     FOLDERS.iter().try_fold(Folder::open(home)?, |folder, name| folder.make_private(name))
 }
 
 impl Cache {
-    /// That of a server.
+    /// The cache for a server.
     pub fn open(url: &str) -> Result<Cache> {
         let name = &sum_of(url.as_bytes())[..DIGITS];
         let kept = home().and_then(|home| own_folder(&home).ok());
@@ -48,12 +47,12 @@ impl Cache {
         Ok(Cache { folder, _temporary: Some(temporary) })
     }
 
-    /// Where it is.
+    /// The path of the folder.
     pub fn folder(&self) -> &Path {
         self.folder.path()
     }
 
-    /// What is kept of a build, unless that is too long ago.
+    /// The entry for a build; None if there is none, or if it expired.
     pub fn bytes(&self, id: &BuildId) -> Result<Option<Vec<u8>>> {
         let Some(file) = self.folder.file(id.digits())? else { return Ok(None) };
         let age = SystemTime::now().duration_since(file.metadata()?.modified()?);
@@ -63,7 +62,7 @@ impl Cache {
         }
     }
 
-    /// Keeps what was sent of a build.
+    /// Stores an entry for a build.
     pub fn keep(&self, id: &BuildId, bytes: &[u8]) -> Result<()> {
         output::write(&self.folder().join(id.digits()), bytes)
     }

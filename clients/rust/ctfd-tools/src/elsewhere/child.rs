@@ -1,4 +1,4 @@
-//! `debuginfod-find`, which asks a server: as a child that may write so much and take so long.
+//! Runs `debuginfod-find`, which asks servers, as a child process with limits on time and output.
 
 use crate::output::{on_path, Folder};
 use crate::store::BuildId;
@@ -15,23 +15,25 @@ use super::place::LONGEST;
 
 const FINDER: &str = "debuginfod-find";
 const SHELL: &str = "sh";
-/// What the shell does: no file of more than so many blocks of 512 bytes, and no core.
+/// The shell's script: allows files of at most `$1` blocks of 512 bytes and no core files, and runs
+/// the other arguments.
 const LIMITED: &str = "ulimit -c 0 && ulimit -f \"$1\" && shift && exec \"$@\"";
 const BLOCK: u64 = 512;
-/// How long a server may take, and what the child is told of that; redirects end then too.
+/// The time after which the child is killed, and the limits in seconds that it gets itself. The
+/// first also ends endless redirects.
 const PATIENCE: Duration = Duration::from_secs(20);
 const MOST_SECONDS: &str = "15";
 const STALLED_SECONDS: &str = "10";
-/// Between two looks at the child.
+/// The pause between two checks of the child.
 const PAUSE: Duration = Duration::from_millis(5);
-/// What is read of what the child says.
+/// The most bytes that are read of each of the child's outputs.
 const MOST_SAID: u64 = 1 << 12;
-/// The signal of a file that grows too long, and what is said of that.
+/// The number of SIGXFSZ, the signal for a file that grows too long.
 const TOO_LONG: i32 = 25;
-/// The child's words for a build that no server has.
+/// The child's message for a build that no server has.
 const ABSENT: &str = "No such file or directory";
 
-/// What is asked for of a build.
+/// What to ask for.
 #[derive(Clone, Copy)]
 pub enum Request {
     /// A section by its name.
@@ -40,7 +42,8 @@ pub enum Request {
     DebugFile,
 }
 
-/// What a server has of a build; None where it has nothing.
+/// Asks servers for a part of a build; None if they do not have it. Temporary files go below
+/// `below`.
 pub fn fetch(urls: &str, id: &BuildId, wanted: Request, below: &Path) -> Result<Option<Vec<u8>>> {
     let Some(finder) = on_path(FINDER) else {
         return refuse(format!(
@@ -88,7 +91,7 @@ fn too_long() -> String {
     format!("the server sent more than {} MB", LONGEST >> 20)
 }
 
-/// How a child ended; None where it had to be killed.
+/// Waits for a child, and returns how it ended; None if it ran too long and was killed.
 fn exit_status(mut child: Child) -> Result<Option<ExitStatus>> {
     let begun = Instant::now();
     loop {
@@ -104,7 +107,7 @@ fn exit_status(mut child: Child) -> Result<Option<ExitStatus>> {
     }
 }
 
-/// The file whose name the child has printed, which stands in its folder.
+/// The bytes of the file whose name the child printed; it must be in the child's folder.
 fn fetched_bytes(folder: &Folder, said: &str) -> Result<Vec<u8>> {
     let path = PathBuf::from(said.trim_end_matches('\n'));
     let real = path.canonicalize()?;
@@ -119,7 +122,7 @@ fn fetched_bytes(folder: &Folder, said: &str) -> Result<Vec<u8>> {
     }
 }
 
-/// Why the child has found nothing.
+/// The result if the child failed: None if no server has the build, else an error.
 fn failure_of(errors: &str) -> Result<Option<Vec<u8>>> {
     let line = errors.lines().last().unwrap_or("no word on why");
     let why = line.rsplit(": ").next().unwrap_or(line);
@@ -130,7 +133,7 @@ fn failure_of(errors: &str) -> Result<Option<Vec<u8>>> {
     }
 }
 
-/// What stands at the front of a file.
+/// The first bytes of a file as text; empty if it cannot be read.
 fn text_of(path: &Path) -> String {
     let mut bytes = Vec::new();
     let read = File::open(path).and_then(|file| file.take(MOST_SAID).read_to_end(&mut bytes));

@@ -1,4 +1,4 @@
-//! Types by build-id, from the stores that a user names: by `--store`, or by CTFD_STORE.
+//! Types by build-id, from the stores of `--store` or CTFD_STORE.
 
 mod cache;
 mod child;
@@ -14,14 +14,14 @@ use std::env;
 use std::path::Path;
 use std::sync::Arc;
 
-/// The variable that names stores.
+/// The environment variable that names stores.
 const VARIABLE: &str = "CTFD_STORE";
-/// That of debuginfod's clients, whose servers have the debug information of distributions.
+/// The variable of debuginfod's clients; its servers have the debug information of distributions.
 const DISTRIBUTIONS: &str = "DEBUGINFOD_URLS";
-/// The fewest digits of a build-id in place of a file: fewer may be the name of a type.
+/// The fewest digits of a build-id given in place of a file: fewer may be the name of a type.
 const FEWEST_DIGITS: usize = 16;
 
-/// The stores that are asked, in order.
+/// The stores to ask, in order.
 struct Stores(Vec<Place>);
 
 impl Finder for Stores {
@@ -36,8 +36,7 @@ impl Finder for Stores {
     }
 }
 
-/// Who is asked: the stores that a word names, else those of the environment. Without either nobody
-/// is.
+/// The stores that `word` names, else those of the environment. There may be none.
 pub fn of(word: Option<&str>) -> Elsewhere {
     let listed = match word {
         Some(word) => word.to_owned(),
@@ -57,7 +56,7 @@ pub fn of(word: Option<&str>) -> Elsewhere {
     Elsewhere::new(Arc::new(Stores(places)))
 }
 
-/// Opens a file, or what a store has for the build-id that stands in its place.
+/// Opens a file; if the path is a build-id instead, opens what a store has for it.
 pub fn open(path: &Path, reading: &Options) -> Result<Image> {
     let digits = path.to_str().map(str::to_ascii_lowercase).unwrap_or_default();
     let id = BuildId::of_digits(&digits).filter(|_| digits.len() >= FEWEST_DIGITS);

@@ -1,5 +1,5 @@
-//! One place with types by build-id: a store in a folder, a store behind a web server, or servers
-//! with the debug information of distributions.
+//! A place to look up types by build-id: a store in a folder, a store behind a web server, or
+//! servers with the debug information of distributions.
 
 use super::cache::Cache;
 use super::child::{self, Request};
@@ -19,32 +19,32 @@ use object::Object as _;
 use std::env;
 use std::path::{Path, PathBuf};
 
-/// The most bytes of a file that are taken.
+/// The largest file that is accepted, in bytes.
 pub const LONGEST: u64 = 64 << 20;
-/// The variable that names an index, where the store is behind a web server.
+/// The environment variable with the path of an index, to check what a web server sends.
 const INDEX: &str = "CTFD_STORE_INDEX";
-/// How many bytes of what is no dictionary are shown.
+/// How many bytes a message shows of an answer that is no dictionary.
 const SHOWN: usize = 16;
 const OF_FOLDERS: &str = "file://";
 
-/// Where types are.
+/// A place with types.
 pub enum Place {
     /// A store in a folder.
     Folder(PathBuf),
     /// A store behind a web server.
     Url(String),
-    /// Servers, blanks between them, that have debug information alone.
+    /// Servers that have only debug information; their URLs are separated by blanks.
     Distribution(String),
 }
 
-/// The sections that a place has of a build.
+/// The sections that a place has for a build.
 struct Copies {
     ctf: Vec<u8>,
     symbols: Option<[Vec<u8>; 2]>,
 }
 
 impl Place {
-    /// The store of a word.
+    /// The store that a word names: a URL or a folder.
     pub fn store(word: &str) -> Place {
         let path = word.strip_prefix(OF_FOLDERS).unwrap_or(word);
         match path.len() == word.len() && word.contains("://") {
@@ -58,7 +58,7 @@ impl Place {
         Place::Distribution(urls.to_owned())
     }
 
-    /// What lines tell of a build there.
+    /// How messages name a build in this place.
     fn path(&self, id: &BuildId) -> PathBuf {
         match self {
             Place::Folder(root) => root.join("buildid").join(id.digits()),
@@ -67,7 +67,7 @@ impl Place {
         }
     }
 
-    /// A file with the types of a build; None where there is none.
+    /// A file with the types of a build; None if the place has none.
     pub fn find(&self, id: &BuildId) -> Result<Option<Image>> {
         let path = self.path(id);
         let found = match self {
@@ -78,7 +78,7 @@ impl Place {
         Ok(found.map(|bytes| Image::of_bytes(path, bytes)))
     }
 
-    /// The same from a server, or from what was kept of it.
+    /// The same from a server, or from the cache.
     fn fetch(&self, url: &str, id: &BuildId) -> Result<Option<Vec<u8>>> {
         let cache = Cache::open(url)?;
         if let Some(kept) = cache.bytes(id)? {
@@ -99,7 +99,8 @@ impl Place {
         Ok(found)
     }
 
-    /// A dictionary with the symbols that go with it, each as the index has it.
+    /// A file with a dictionary and the symbols that it was written for. Each section must be as in
+    /// the index, if the user has one.
     fn with_symbols(
         &self,
         id: &BuildId,
@@ -122,7 +123,7 @@ impl Place {
 }
 
 impl Copies {
-    /// The dictionary, inflated.
+    /// The library's input for the dictionary.
     fn library_input<'a>(image: &'a Image) -> Result<LibraryInput<'a>> {
         match opening::dictionary_of(image, None)? {
             Some(handed) => Ok(handed),
@@ -130,14 +131,14 @@ impl Copies {
         }
     }
 
-    /// Whether its entries go by a symbol table.
+    /// Whether the dictionary was written for the order of `.symtab`.
     fn has_symbols(&self) -> Result<bool> {
         let image = Image::of_bytes(DICTIONARY.into(), self.ctf.clone());
         let handed = Copies::library_input(&image)?;
         Ok(identity_of(&handed.ctf).is_some_and(|one| one.table == SymbolTable::Symtab))
     }
 
-    /// A file of them, once the library has accepted the dictionary.
+    /// An ELF file with these sections. Fails if the library refuses the dictionary.
     fn file(&self) -> Result<Vec<u8>> {
         let image = Image::of_bytes(DICTIONARY.into(), self.ctf.clone());
         let model =
@@ -160,13 +161,14 @@ fn judge(bytes: &[u8]) -> Result<()> {
     opened.map_err(|refusal| Error(refusal_text(DICTIONARY, refusal)))
 }
 
-/// What bytes are in place of a dictionary.
+/// The message for bytes that are no dictionary.
 fn foreign(bytes: &[u8]) -> String {
     let begins = printable(&bytes[..bytes.len().min(SHOWN)]);
     format!("no dictionary of CTF version 2 came: it begins with '{begins}'")
 }
 
-/// The types of debug information, as a file of a dictionary; of what no dictionary holds, as it is.
+/// Converts debug information to a file with a dictionary. A file that has a dictionary, or more
+/// types than one can hold, is returned unchanged.
 fn convert(id: &BuildId, bytes: Vec<u8>) -> Result<Vec<u8>> {
     let image = Image::of_bytes(format!("the debug file of {id}").into(), bytes);
     judge_id(id, &image)?;
@@ -210,7 +212,7 @@ fn judge_id(id: &BuildId, image: &Image) -> Result<()> {
     }
 }
 
-/// What a store in a folder has of a build.
+/// The file for a build from a store in a folder.
 fn in_folder(root: &Path, id: &BuildId) -> Result<Option<Vec<u8>>> {
     let store = Store::open(root)?;
     let Some(build) = store.build(id)? else { return Ok(None) };
@@ -233,7 +235,7 @@ fn in_folder(root: &Path, id: &BuildId) -> Result<Option<Vec<u8>>> {
     copies.file().map(Some)
 }
 
-/// Refuses a section that is not the one of the index that the user has.
+/// Refuses a section that differs from the user's index, if there is one.
 fn judge_by_index(id: &BuildId, name: &str, bytes: &[u8]) -> Result<()> {
     match env::var_os(INDEX).filter(|path| !path.is_empty()) {
         Some(path) => {

@@ -19,13 +19,13 @@ use std::path::Path;
 use std::process::ExitCode;
 
 const FAILED: u8 = 1;
-/// From how many bytes on a line says that the page is large.
+/// The size in bytes above which a message says that the page is large.
 const BIGGEST: usize = 20_000_000;
-/// The page, and where the types stand in it.
+/// The page, and the placeholder for the types in it.
 const PAGE: &str = include_str!("page.html");
 const PLACE: &str = "\"{types}\"";
 
-/// The command; its exit status.
+/// Runs the command, and returns its exit status.
 pub fn main(words: Vec<OsString>) -> ExitCode {
     let words = Words::parse(words);
     if standard::is_output_closed() {

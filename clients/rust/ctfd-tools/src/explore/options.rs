@@ -1,4 +1,4 @@
-//! The words of `ctfd-explore`: the files, and the page.
+//! The command line of `ctfd-explore`.
 
 use crate::arguments;
 use crate::wrong_words;
@@ -15,9 +15,9 @@ Writes one HTML page with all types of some files: search, declarations, picture
 The page needs no network and no other file. FILE is what ctfd-convert takes: a program, library or
 object file, an archive, or a section of CTF or BTF.";
 
-/// What a command line says.
+/// The values of the command line.
 pub struct Words {
-    /// The files.
+    /// The files to read.
     pub files: Vec<PathBuf>,
     /// The page to write; `-` for standard output.
     pub output: PathBuf,
@@ -28,7 +28,7 @@ pub struct Words {
 }
 
 impl Words {
-    /// Those of a command line. What is wrong with it is told, and ends the process.
+    /// Parses the command line. A wrong one ends the process with a message.
     pub fn parse(words: Vec<OsString>) -> Words {
         let matches = wrong_words::parse_words(options(), words);
         Words {

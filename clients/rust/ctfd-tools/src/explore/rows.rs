@@ -1,4 +1,4 @@
-//! All types of some files as rows of JSON, which name each other by their places; row 0 is void.
+//! All types of some files as rows of JSON, which refer to each other by index; row 0 is void.
 //! Functions and variables are rows of their own.
 
 use crate::types::catalog::{Catalog, Number, Record, SymbolAnswer};
@@ -11,7 +11,7 @@ use ctfd_read::opening::LibraryInput;
 use std::collections::HashMap;
 use std::path::Path;
 
-/// The kinds that rows name by their places here.
+/// The kinds. Rows refer to them by their index here plus 1; 0 is void.
 const KINDS: [Kind; 14] = [
     Kind::Integer,
     Kind::Float,
@@ -30,13 +30,13 @@ const KINDS: [Kind; 14] = [
 ];
 const VOID: &str = "[0,\"\"]";
 
-/// Where types stand among the rows, by their numbers.
+/// The indices of rows by the numbers of types.
 type Places = HashMap<Number, usize>;
 
-/// The rows. A parent's types are there once, in front of those of its children.
+/// The rows of all files. The types of a parent occur once, before those of its children.
 pub struct Rows {
     parent: String,
-    /// Each row, empty where it is not made yet.
+    /// A row for each type; empty until it is made.
     rows: Vec<String>,
     files: Vec<String>,
     copies: Vec<usize>,
@@ -46,7 +46,7 @@ pub struct Rows {
 }
 
 impl Rows {
-    /// None but void's; those of a parent stand under its name.
+    /// No rows but void's; `parent` is the path of the parent.
     pub fn new(parent: Option<&Path>) -> Rows {
         Rows {
             parent: parent.map_or("the parent".to_owned(), display_path),
@@ -99,7 +99,8 @@ impl Rows {
         }
     }
 
-    /// Makes room for some types. The page has a file for each run of numbers that follow each other.
+    /// Reserves rows for some types. The page's list of files has an entry for each run of
+    /// consecutive numbers.
     fn reserve_rows(&mut self, catalog: &Catalog<'_>, numbers: &[Number], path: &str) -> Places {
         let first = self.rows.len();
         let pointer = if catalog.is_ilp32() { 4 } else { 8 };
@@ -118,7 +119,7 @@ impl Rows {
         numbers.iter().enumerate().map(|(place, &number)| (number, first + place)).collect()
     }
 
-    /// All as an object of JSON that may stand in a page.
+    /// All rows as a JSON object that can be embedded in a page.
     pub fn json(self) -> String {
         let kinds = std::iter::once("void").chain(KINDS.into_iter().map(word_of));
         let kinds = list(kinds.map(|word| text(word.as_bytes())));
@@ -135,7 +136,7 @@ impl Rows {
     }
 }
 
-/// `kind, name, size`, and what the kind has behind that.
+/// The row of a type: `kind, name, size`, followed by what depends on the kind.
 fn row(catalog: &Catalog<'_>, number: Number, places: &Places) -> String {
     let record = catalog.record(number);
     let kind = 1 + KINDS.iter().position(|&kind| kind == record.kind).unwrap_or(KINDS.len() - 1);
@@ -175,7 +176,7 @@ fn behind(catalog: &Catalog<'_>, number: Number, record: &Record<'_>, places: &P
     }
 }
 
-/// Whether it is a hidden copy of a type, which only bit-fields have.
+/// Whether a type is a hidden copy that only bit-fields use.
 fn is_copy(catalog: &Catalog<'_>, number: Number) -> bool {
     let end = catalog.record(catalog.resolve(number));
     !catalog.record(number).is_root && end.kind == Kind::Integer && !end.is_root

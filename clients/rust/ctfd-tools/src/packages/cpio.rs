@@ -1,5 +1,5 @@
-//! The archive that `rpm2cpio` prints: a header of ASCII for each file, its name and its bytes, each
-//! padded to four bytes.
+//! The archives that `rpm2cpio` prints: for each file a header in ASCII, with its name, and its
+//! bytes, each padded to four bytes.
 
 use super::LONGEST_NAME;
 use std::ffi::OsStr;
@@ -7,24 +7,24 @@ use std::io::{self, ErrorKind, Read};
 use std::os::unix::ffi::OsStrExt as _;
 use std::path::Path;
 
-/// How a header begins; the second has a check sum too.
+/// The first bytes of a header; in the second format it has a checksum too.
 const MAGICS: [&[u8]; 2] = [b"070701", b"070702"];
 const MAGIC: usize = 6;
-/// The digits of a number of a header.
+/// The number of hexadecimal digits of a number in a header.
 const DIGITS: usize = 8;
 const HEADER: usize = MAGIC + 13 * DIGITS;
 const ALIGN: u64 = 4;
-/// The name behind the last file.
+/// The name after the last file.
 const END: &[u8] = b"TRAILER!!!";
-/// The bits of a mode that say what a file is, and those of a regular file.
+/// The bits of a mode for the kind of a file, and their value for a regular file.
 const KIND: u32 = 0o170_000;
 const REGULAR: u32 = 0o100_000;
 
-/// What takes a file by its name and bytes.
+/// A function that takes the name and bytes of a file.
 pub type Taker<'t> = &'t mut dyn FnMut(&Path, &mut dyn Read) -> io::Result<()>;
 
-/// Hands over each regular file of an archive, which is read to its end. Of a file with several
-/// names the bytes stand behind the last.
+/// Calls `take` for each regular file that is not empty, and reads the archive to its end. If a
+/// file has several names, its bytes follow the last.
 pub fn each_file(mut bytes: impl Read, take: Taker<'_>) -> io::Result<()> {
     loop {
         let mut header = [0; HEADER];
@@ -54,14 +54,14 @@ pub fn each_file(mut bytes: impl Read, take: Taker<'_>) -> io::Result<()> {
     }
 }
 
-/// The number at a place of a header.
+/// The number at an index in a header.
 fn number(header: &[u8; HEADER], place: usize) -> io::Result<u32> {
     let begins = MAGIC + place * DIGITS;
     let digits = std::str::from_utf8(&header[begins..begins + DIGITS]).ok();
     digits.and_then(|digits| u32::from_str_radix(digits, 16).ok()).ok_or_else(damage)
 }
 
-/// How many bytes stand behind so many.
+/// The number of padding bytes after `length` bytes.
 fn padding(length: u64) -> u64 {
     length.next_multiple_of(ALIGN) - length
 }

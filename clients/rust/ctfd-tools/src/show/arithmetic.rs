@@ -1,4 +1,4 @@
-//! Operators between numbers and pointers, with the types that gdb gives their results.
+//! Operators on numbers and pointers, whose results have the types that gdb gives them.
 
 use super::operand::{Operand, Scalar};
 use super::syntax::Operator;
@@ -9,7 +9,7 @@ use super::value_type::{
 };
 use ctfd_read::error::{refuse, Result};
 
-/// What a number is when it is computed with.
+/// An operand for arithmetic.
 enum Term {
     Whole(Basic, i128),
     Point(Basic, f64),
@@ -17,7 +17,7 @@ enum Term {
 }
 
 impl Target<'_> {
-    /// What an operator comes to.
+    /// The result of an operator.
     pub fn binary(&self, operator: Operator, left: &Operand, right: &Operand) -> Result<Operand> {
         if operator == Operator::Repeat {
             return self.values_in_row(left, right);
@@ -52,7 +52,7 @@ impl Target<'_> {
         }
     }
 
-    /// The type as which a whole number is computed with: one of at least the bytes of `int`.
+    /// The type of an integer operand: at least as wide as `int`.
     fn promotion(&self, of: &ValueType) -> Basic {
         let (size, is_signed) = match self.shape(of) {
             Shape::Integer(integer) => (integer.size, integer.is_signed),
@@ -69,7 +69,7 @@ impl Target<'_> {
         }
     }
 
-    /// The type of 64 bits that comes first.
+    /// The first type with 64 bits: `long` or `long long`.
     fn widest(&self, is_signed: bool) -> Basic {
         let one = long_integer(self.model, is_signed);
         match one.size {
@@ -78,7 +78,7 @@ impl Target<'_> {
         }
     }
 
-    /// The type of what two whole numbers come to.
+    /// The type of the result of two integers.
     fn common(&self, one: Basic, other: Basic) -> Basic {
         let (first, second) = (is_signed(one), is_signed(other));
         let is_signed = match one.size.cmp(&other.size) {
@@ -161,7 +161,8 @@ impl Target<'_> {
         Ok(Operand::of_integer(long_integer(self.model, true), (left - right) / i128::from(step)))
     }
 
-    /// So many values in a row, from one in memory on.
+    /// The result of `@`: as many values in a row as `right` says, beginning with `left`, which
+    /// must be in memory.
     fn values_in_row(&self, left: &Operand, right: &Operand) -> Result<Operand> {
         let Operand::Memory { of, address, bit: 0 } = left else {
             return refuse("only what lies in memory is followed by more of its kind, as *p@4");
@@ -178,13 +179,13 @@ impl Target<'_> {
         }
     }
 
-    /// Whether something is not 0.
+    /// Whether a value is not 0.
     pub fn is_true(&self, operand: &Operand) -> Result<bool> {
         let (_, value) = self.rvalue(operand)?;
         Ok(value != Scalar::Whole(0) && value != Scalar::Point(0.0))
     }
 
-    /// `-`, `+` and `~`.
+    /// The result of `-`, `+` or `~`.
     pub fn unary_sign(&self, operand: &Operand, sign: Sign) -> Result<Operand> {
         match (self.term(operand)?, sign) {
             (Term::Whole(of, number), sign) => {
@@ -204,7 +205,7 @@ impl Target<'_> {
     }
 }
 
-/// A sign in front of a number.
+/// A sign before an operand.
 #[derive(Clone, Copy, Debug, PartialEq, Eq)]
 pub enum Sign {
     /// `-`
@@ -231,7 +232,7 @@ fn is_signed(of: Basic) -> bool {
     matches!(of.class, Class::Integer { is_signed: true })
 }
 
-/// A number as it is in a type: what does not fit comes round.
+/// A number converted to a type; it wraps around if it does not fit.
 pub fn truncate_to(of: Basic, number: i128) -> i128 {
     match (of.size, is_signed(of)) {
         (8, true) => (number as i64).into(),
@@ -241,7 +242,7 @@ pub fn truncate_to(of: Basic, number: i128) -> i128 {
     }
 }
 
-/// What a comparison comes to; None of another operator.
+/// The result of a comparison; None for another operator.
 fn comparison<T: PartialOrd>(operator: Operator, left: T, right: T) -> Option<Operand> {
     let is_so = match operator {
         Operator::Equal => left == right,
@@ -271,7 +272,7 @@ fn point(of: Basic, number: f64) -> Operand {
     Operand::Number { of: of.into(), value: Scalar::Point(number) }
 }
 
-/// What an operator makes of two numbers of which one has a point.
+/// The result of an operator on two numbers, at least one of which is floating-point.
 fn of_points(operator: Operator, left: &Term, right: &Term) -> Result<Operand> {
     let of = match (left, right) {
         (Term::Point(one, _), Term::Point(other, _)) if one.size < other.size => *other,

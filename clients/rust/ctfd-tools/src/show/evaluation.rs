@@ -1,4 +1,4 @@
-//! What an expression comes to over a space.
+//! Evaluates expressions in an address space.
 
 use super::arithmetic::Sign;
 use super::operand::{Operand, Scalar};
@@ -24,12 +24,12 @@ impl Names for Target<'_> {
 }
 
 impl Target<'_> {
-    /// What an expression comes to.
+    /// Evaluates an expression.
     pub fn evaluate(&self, expression: &[u8]) -> Result<Operand> {
         self.value_of(&parse(expression, self)?)
     }
 
-    /// The type of a name.
+    /// The type with a name.
     pub fn type_of(&self, name: &[u8]) -> Result<ValueType> {
         self.type_of_name(&parse_type(name, self)?)
     }
@@ -77,7 +77,7 @@ impl Target<'_> {
         self.is_true(&self.value_of(expression)?)
     }
 
-    /// The prefixes of an operand, the last first.
+    /// Applies prefixes to an operand, the last one first.
     fn apply_prefixes(&self, prefixes: &[Prefix], operand: &Expression) -> Result<Operand> {
         prefixes.iter().rev().try_fold(self.value_of(operand)?, |operand, prefix| match prefix {
             Prefix::Follow => self.dereference(&operand),
@@ -101,7 +101,7 @@ impl Target<'_> {
 
     fn size_operand(&self, of: &ValueType) -> Result<Operand> {
         let size = match self.shape(of) {
-            Shape::Void | Shape::Function => Some(1), // as gdb and gcc have it
+            Shape::Void | Shape::Function => Some(1), // as in gdb and gcc
             _ => self.size(of),
         };
         match size {
@@ -110,7 +110,7 @@ impl Target<'_> {
         }
     }
 
-    /// The first of C's types that a number fits in.
+    /// The first of C's types that can hold a literal.
     fn type_of_literal(&self, literal: Literal) -> Basic {
         let Literal { value, is_decimal, is_unsigned, longs } = literal;
         let (signed, unsigned) = (long_integer(self.model, true), long_integer(self.model, false));

@@ -1,4 +1,4 @@
-//! The types of a file: its own dictionary, or one that is made of its debug information.
+//! The types of a file: its own dictionary, or one converted from its debug information.
 
 use super::modules::{written_name, Module};
 use super::options::NAME;
@@ -18,31 +18,31 @@ use ctfd_read::opening::{self, LibraryInput, Origin};
 use std::cell::RefCell;
 use std::path::Path;
 
-/// Bytes of a symbol of ELF64, and of its name at most.
+/// The size of a symbol in ELF64, and of its longest name, in bytes.
 const ENTRY: usize = 24;
 const LONGEST_NAME: usize = 4096;
-/// Names may overlap: all together are read for so many bytes for each of the table's.
+/// Names may overlap: all names may have this many times the bytes of the symbol table and its
+/// strings.
 const MOST_TIMES: usize = 64;
 const OBJECT: u8 = 1;
 const FUNCTION: u8 = 2;
-/// How many lines tell what was lost where a file is converted.
+/// How many lines report the losses of a converted file.
 const FEW: usize = 1;
 
-/// A symbol of which a dictionary may tell something.
+/// A symbol that may have a type in a dictionary.
 #[derive(Clone, Copy, Debug)]
 pub struct SymbolEntry {
-    /// Which dictionary of the file was given it.
+    /// The index of the dictionary in the file to which the symbol was given.
     pub place: usize,
-    /// Its number in the table.
+    /// Its index in the symbol table.
     pub number: u32,
-    /// Its address in the file; none where the dictionary has its name alone, as that of a program
-    /// which was stripped.
+    /// Its address in the file. None if the dictionary has only its name, as for a stripped
+    /// program.
     pub address: Option<u64>,
-    /// Whether it is a function.
     pub is_function: bool,
 }
 
-/// The lists that a dictionary was opened with.
+/// The lists from which a dictionary was opened.
 struct OwnLists {
     ctf: Vec<u8>,
     strings: Vec<u8>,
@@ -61,7 +61,7 @@ impl OwnLists {
     }
 }
 
-/// A dictionary of a file, and the symbols that it was given.
+/// A dictionary of a file, with its symbols.
 struct Part {
     types: Dictionary<'static>,
     lists: OwnLists,
@@ -76,7 +76,7 @@ impl Part {
         place: usize,
         has_first_symbols: bool,
     ) -> Part {
-        // Those of the first count for all that go by them.
+        // The first part lists the symbols for all parts that share them.
         let symbols = match place == 0 || !has_first_symbols {
             true => SymbolList::of(handed, place),
             false => SymbolList::default(),
@@ -92,22 +92,22 @@ impl Part {
 
 /// The types of a file.
 pub struct FileTypes {
-    /// Its dictionary; of a program in parts the parent, and then the children.
+    /// Its dictionary; for a program in parts, the parent followed by the children.
     parts: Vec<Part>,
-    /// The lists of the parent of the only one.
+    /// The lists of the parent, if there is only one dictionary.
     parent: Option<OwnLists>,
-    /// What CTF can't hold of a file that was converted; none once that was told.
+    /// Lines on what CTF cannot represent of a converted file; empty once they were printed.
     losses: RefCell<Vec<String>>,
 }
 
 impl FileTypes {
-    /// Says what CTF can't hold of a file, once something of it is used.
+    /// Prints what CTF cannot represent of the file, the first time that something of it is used.
     pub fn warn_of_losses(&self) {
         self.losses.take().iter().for_each(|line| warn_by(NAME, line));
     }
 
-    /// The symbols of a name; of what link-time optimisation renamed also by its name in C, where
-    /// no other has that.
+    /// The symbols with a name. If there are none, those that had this name in C before link-time
+    /// optimisation renamed them.
     pub fn symbols(&self, name: &[u8]) -> Vec<SymbolEntry> {
         let matching = |meets: &dyn Fn(&[u8]) -> bool| -> Vec<SymbolEntry> {
             self.parts.iter().flat_map(|part| part.symbols.matching(meets)).collect()
@@ -129,7 +129,7 @@ impl FileTypes {
         }
     }
 
-    /// The types of a file that is mapped.
+    /// The types of a mapped file.
     pub fn of_module(
         module: &Module,
         parent: Option<&Path>,
@@ -141,7 +141,7 @@ impl FileTypes {
         FileTypes::open(handed, image.path(), parent)
     }
 
-    /// The types of a file that is named for the program, if that is known.
+    /// The types of the file that the user named for the program, which may not be known.
     pub fn of_path(
         path: &Path,
         program: Option<&Module>,
@@ -192,8 +192,7 @@ impl FileTypes {
     }
 }
 
-/// The dictionary of a file: without symbols where those that were guessed do not fit, or those of
-/// what was converted.
+/// Opens the dictionary of a file. If guessed symbols do not fit, it is opened without symbols.
 fn open_dictionary(handed: &mut LibraryInput<'_>, path: &Path) -> Result<Dictionary<'static>> {
     let refusal = |refusal| Error(refusal_text(display_path(path), refusal));
     match Dictionary::open_with(&handed.ctf, handed.options()) {
@@ -211,7 +210,7 @@ fn open_dictionary(handed: &mut LibraryInput<'_>, path: &Path) -> Result<Diction
     }
 }
 
-/// Refuses types of another build than that of the program.
+/// Refuses types of another build than the program's.
 fn judge_build(image: &Image, program: &Module) -> Result<()> {
     match is_same_build(&program.image, image)? {
         true => Ok(()),
@@ -224,7 +223,7 @@ fn judge_build(image: &Image, program: &Module) -> Result<()> {
     }
 }
 
-/// A line on what CTF can't hold of a file that is converted.
+/// Lines on what CTF cannot represent of a converted file.
 fn losses(handed: &LibraryInput<'_>, path: &Path) -> Vec<String> {
     let path = display_path(path);
     let how = format!("`ctfd-convert --report - {path} /dev/null` lists them all");
@@ -235,14 +234,14 @@ fn losses(handed: &LibraryInput<'_>, path: &Path) -> Vec<String> {
     lines.into_iter().map(|line| format!("{path}: {line}")).collect()
 }
 
-/// A line on symbols that may not be those that a dictionary was written for.
+/// Warns of symbols for which the dictionary may not have been written.
 fn warn_of_symbols(handed: &LibraryInput<'_>, path: &Path) {
     if !handed.origin.warning().is_empty() {
         warn_by(NAME, &format!("{}: {}", display_path(path), handed.origin.warning()));
     }
 }
 
-/// Imports the parent that is named.
+/// Imports the parent from the file that the user named.
 fn import(types: &mut Dictionary<'static>, path: &Path, parent: Option<&Path>) -> Result<OwnLists> {
     let name = types.parent_name();
     let Some(parent) = parent else {
@@ -264,12 +263,12 @@ fn import(types: &mut Dictionary<'static>, path: &Path, parent: Option<&Path>) -
     Ok(OwnLists::of(&handed))
 }
 
-/// The functions and objects of the symbols that were handed in.
+/// The functions and objects of a symbol table.
 #[derive(Default)]
 struct SymbolList {
-    /// All names, one behind the other.
+    /// All names, one after the other.
     names: Vec<u8>,
-    /// Where each ends, and of what it is the name.
+    /// The end of each name in `names`, and its symbol.
     listed: Vec<(usize, SymbolEntry)>,
 }
 
@@ -290,7 +289,7 @@ impl SymbolList {
         made
     }
 
-    /// Those whose name meets something.
+    /// The symbols whose names `meets` accepts.
     fn matching<'s>(
         &'s self,
         meets: impl Fn(&[u8]) -> bool + 's,
@@ -304,7 +303,7 @@ impl SymbolList {
     }
 }
 
-/// An entry of a table, if it is a function or an object that the file has.
+/// The name and symbol of a table's entry, if it is a function or object that the file defines.
 fn symbol<'s>(
     (place, number): (usize, usize),
     entry: &[u8],
@@ -319,7 +318,7 @@ fn symbol<'s>(
     }
     let rest = strings.get(at..)?;
     let rest = &rest[..rest.len().min(LONGEST_NAME)];
-    // Behind @ is the version of what a library has.
+    // A library's symbols have a version after `@`.
     let end = rest.iter().position(|&byte| byte == 0 || byte == b'@').unwrap_or(rest.len());
     let symbol = SymbolEntry {
         place,

@@ -1,17 +1,18 @@
-//! Numbers with a point from their bits, with as many digits as gdb shows.
+//! Floating-point numbers formatted with as many digits as in gdb.
 //!
-//! Each is a whole number times a power of two, so it has an exact decimal form, of which the first
-//! digits are kept: the last is rounded to the nearest, and to an even one between two.
+//! Each is an integer times a power of two, so it has an exact decimal form. Its first digits are
+//! kept, and the last is rounded to the nearest, or to even if both are equally near.
 
 use super::value_type::{COMPLEX, DOUBLE_ENCODING, EXTENDED, SINGLE};
 
-/// The sizes that the x87's format has in memory.
+/// The sizes of the x87's format in memory, in bytes.
 const EXTENDED_SIZES: [u64; 3] = [10, 12, 16];
 const EXTENDED_DIGITS: usize = 21;
-/// Digits of a part of a large number, which has nine.
+/// The base of the parts of a large number: each has nine digits.
 const PART: u64 = 1_000_000_000;
 
-/// A binary format of IEEE 754: its bits, and the digits that tell its numbers apart.
+/// A binary format of IEEE 754: its bits, and the number of decimal digits that tell its numbers
+/// apart.
 struct Format {
     bits: u32,
     fraction: u32,
@@ -26,8 +27,8 @@ fn format_of(encoding: u8) -> Option<Format> {
     }
 }
 
-/// The number that some bits are, of a format of the dictionary and so many bytes; in hexadecimal
-/// where the format is not known.
+/// Formats the number with these bits. `encoding` is the dictionary's, and `size` in bytes. If the
+/// format is not known, the result is hexadecimal.
 pub fn format_float(bits: u128, encoding: u8, size: u64) -> String {
     if let Some(format) = format_of(encoding).filter(|one| u64::from(one.bits) == 8 * size) {
         return format_binary(bits as u64, &format);
@@ -49,8 +50,7 @@ pub fn format_float(bits: u128, encoding: u8, size: u64) -> String {
     format!("0x{bits:0width$x}", width = 2 * size as usize)
 }
 
-/// Two numbers of the x87's format, of which 64 digits in hexadecimal are the bits: what such a
-/// complex number is shown as.
+/// Formats a complex number of the x87's format, whose bits are 64 hexadecimal digits.
 pub fn format_extended_pair(digits: &str) -> Option<String> {
     let digits = digits.strip_prefix("0x").filter(|digits| digits.len() == 64)?;
     let part = |range| u128::from_str_radix(digits.get(range)?, 16).ok();
@@ -83,7 +83,7 @@ fn format_binary(bits: u64, format: &Format) -> String {
     }
 }
 
-/// The x87's 80 bits: the first digit stands there.
+/// Formats the x87's 80 bits, which include the first digit of the significand.
 fn format_extended(bits: u128) -> String {
     let (whole, high) = (bits as u64, (bits >> 64) as u16);
     let (minus, exponent) = (sign(high >> 15 == 1), i32::from(high & 0x7fff));
@@ -96,7 +96,7 @@ fn format_extended(bits: u128) -> String {
     format!("{minus}{}", general(whole, exponent.max(1) - 16383 - 63, EXTENDED_DIGITS))
 }
 
-/// A whole number times a power of two, as `%.*g` of C prints it.
+/// Formats `whole` times two to the `power`, as C's `%.*g` does.
 fn general(whole: u64, power: i32, digits: usize) -> String {
     if whole == 0 {
         return "0".to_owned();
@@ -116,14 +116,14 @@ fn general(whole: u64, power: i32, digits: usize) -> String {
     trimmed(&format!("{}.{}", &text[..point], &text[point..]))
 }
 
-/// Digits of a number; the first is that of ten to a power.
+/// The decimal digits of a number; the first counts ten to the `exponent`.
 struct Decimal {
     digits: Vec<u8>,
     exponent: i32,
 }
 
 impl Decimal {
-    /// So many digits, with zeros behind where it has fewer.
+    /// Rounds to `count` digits; if there are fewer, zeros are appended.
     fn round(mut self, count: usize) -> Decimal {
         if self.digits.len() > count {
             let rest = self.digits.split_off(count);
@@ -152,9 +152,9 @@ impl Decimal {
     }
 }
 
-/// All digits of a whole number times a power of two.
+/// All digits of `whole` times two to the `power`.
 fn decimal(whole: u64, power: i32) -> Decimal {
-    // A negative power: times so many fives, and as many places behind the point.
+    // For a negative power, multiplies by fives instead, and moves the decimal point.
     let mut large = LargeNumber(vec![whole % PART, whole / PART % PART, whole / PART / PART]);
     let (factor, count) = if power < 0 { (5, -power) } else { (2, power) };
     large.multiply(factor, count as u32);
@@ -164,13 +164,13 @@ fn decimal(whole: u64, power: i32) -> Decimal {
     Decimal { digits, exponent }
 }
 
-/// A large whole number in parts of nine digits, the lowest first.
+/// A large integer in parts of nine digits, the lowest first.
 struct LargeNumber(Vec<u64>);
 
 impl LargeNumber {
-    /// Multiplies by a small number so many times.
+    /// Multiplies by a small factor, `count` times.
     fn multiply(&mut self, factor: u64, count: u32) {
-        let at_once = if factor == 5 { 12 } else { 28 }; // below 2^30 each time
+        let at_once = if factor == 5 { 12 } else { 28 }; // powers below 2^30
         let mut left = count;
         while left != 0 {
             let step = left.min(at_once);

@@ -1,4 +1,4 @@
-//! Values that are one number, as gdb prints them: texts behind pointers, flags of enums by name.
+//! Formats values that are one number, as gdb does: with texts behind pointers, and names of flags.
 
 use super::floats;
 use super::printing::{Printer, Value};
@@ -11,20 +11,20 @@ use crate::types::text::printable;
 use ctfd::Kind;
 
 const EXTENDED_BITS: u32 = 80;
-/// What stands in front of the texts of wide characters, which go by their names.
+/// The prefixes of texts of wide characters, by the typedefs of these.
 const PREFIXES: [(&[u8], &str); 3] = [(b"wchar_t", "L"), (b"char16_t", "u"), (b"char32_t", "U")];
 
 /// gdb's settings: `print elements`, `print repeats`, and the format /x.
 #[derive(Clone, Copy, Debug)]
 pub struct Style {
-    /// How much of arrays and texts is printed.
+    /// How much is printed of arrays and texts.
     pub limits: Limits,
-    /// Whether numbers are in hexadecimal.
+    /// Whether numbers are printed in hexadecimal.
     pub is_hexadecimal: bool,
 }
 
 impl Printer<'_, '_> {
-    /// A value that is one number.
+    /// Formats a value that is one number.
     pub fn leaf(&self, value: Value<'_>, shape: &Shape) -> String {
         match (self.target.leaf(value.of, value.memory, value.bit), shape) {
             (Leaf::Missing(why), _) => format!("<{why}>"),
@@ -100,8 +100,8 @@ impl Printer<'_, '_> {
         }
     }
 
-    /// A number that is none of an enum's, as the flags that it is made of. That holds for an enum
-    /// each of whose values is one bit, or 0.
+    /// A number that no enumerator has, as flags. If an enumerator is neither 0 nor a single bit,
+    /// it stays a number.
     fn flags(&self, home: usize, of: Number, number: i128) -> String {
         let size = self.target.catalog(home).size(of).unwrap_or(4);
         if self.style.is_hexadecimal {
@@ -127,7 +127,7 @@ impl Printer<'_, '_> {
         format!("({})", told.join(" | "))
     }
 
-    /// How a text of such characters is written; None where these are none.
+    /// How texts of a type of characters are written; None for other types.
     pub fn letters_of(&self, of: &ValueType) -> Option<Letters> {
         let Shape::Integer(integer) = self.target.shape(of) else { return None };
         match self.wide_prefix(of, integer) {
@@ -136,7 +136,7 @@ impl Printer<'_, '_> {
         }
     }
 
-    /// What stands in front of texts of a wide character's type.
+    /// The prefix of texts of a type of wide characters; None for other types.
     fn wide_prefix(&self, of: &ValueType, integer: Integer) -> Option<&'static str> {
         let ValueType::Dictionary { home, mut number } = self.target.without_qualifiers(of) else {
             return None;
@@ -156,7 +156,7 @@ impl Printer<'_, '_> {
         None
     }
 
-    /// Whether a pointer is one to a text, which is shown without its type.
+    /// Whether a type is a pointer to text, which is printed without its type.
     pub fn is_text_pointer(&self, of: &ValueType) -> bool {
         let to = match self.target.without_qualifiers(of) {
             ValueType::Pointer(to) => (*to).clone(),
@@ -188,7 +188,7 @@ impl Printer<'_, '_> {
     }
 }
 
-/// The bits of a number in hexadecimal, of so many bytes.
+/// The low `size` bytes of a number in hexadecimal.
 fn hexadecimal(number: i128, size: u64) -> String {
     let width = 8 * size.min(16) as u32;
     let kept = if width >= 128 { number as u128 } else { number as u128 & ((1 << width) - 1) };

@@ -1,4 +1,4 @@
-//! Linked lists, followed from a head.
+//! Prints linked lists.
 
 use super::operand::Operand;
 use super::printing::{Printer, Value, CUT};
@@ -9,10 +9,10 @@ use crate::types::text::printable;
 use ctfd_read::error::{refuse, Error, Result};
 use std::collections::HashMap;
 
-/// How one goes from node to node.
+/// How to get from node to node.
 ///
-/// A link is found `link` bytes behind what the last one pointed to, and a node begins `back` bytes
-/// before what a link points to. `end` is where the list ends beside a link of 0.
+/// A link is `link` bytes after the address that the last link points to, and a node begins `back`
+/// bytes before the address that a link points to. The list ends at a link of 0 or `end`.
 struct Chain {
     of: ValueType,
     first: u64,
@@ -21,23 +21,24 @@ struct Chain {
     end: u64,
 }
 
-/// The nodes of a list, and how it ended.
+/// The nodes of a list, and how the list ended.
 struct ListNodes {
     addresses: Vec<u64>,
-    /// The number of the node that the last one leads to again.
+    /// The index of a node to which the last one points back.
     again: Option<usize>,
-    /// Whether the limit ended it.
+    /// Whether the list was cut at the limit.
     has_more: bool,
-    /// The address of a link that can't be read, in a node after the last.
+    /// The address of a link that cannot be read, in a node after the last.
     lost: Option<u64>,
 }
 
 impl Printer<'_, '_> {
-    /// The list from a head, a node or a pointer to one, by its pointer `member`: a line for each
-    /// node, and one on how it ended where that is not its end.
+    /// Formats the list from a head, which is a node or a pointer to one. `member` is a node's
+    /// pointer to the next. The result has a line for each node, and one for how the list broke
+    /// off, unless it reached its end.
     ///
-    /// With a type `inside`, the member is a link within that type that points to the next link, as
-    /// the kernel's list_head, and the head is the list's own link, which is no node.
+    /// With a type `inside`, the member is a link in that type that points to the next link, as the
+    /// kernel's `list_head`, and the head is the list's own link, which is no node.
     pub fn list(
         &self,
         head: &Operand,
@@ -111,7 +112,7 @@ fn plain_chain(target: &Target<'_>, head: &Operand, member: &[u8]) -> Result<Cha
     }
 }
 
-/// A list of links within the nodes, which comes back to its head.
+/// A list of links within the nodes, which leads back to its head.
 fn embedded_chain(
     target: &Target<'_>,
     head: &Operand,
@@ -143,7 +144,7 @@ fn embedded_chain(
     Ok(Chain { of: inside.clone(), first, link: following - back, back: *back, end })
 }
 
-/// The pointer at an address; None where none can be read.
+/// The pointer at an address; None if it cannot be read.
 fn pointer(target: &Target<'_>, address: u64) -> Option<u64> {
     let size = pointer_size(target.model);
     let bytes = target.bytes(address, size);

@@ -1,4 +1,4 @@
-//! What names stand for: functions and variables, enumerators, types. Files are asked in turn.
+//! Looks up names of functions, variables, enumerators and types, in one file after the other.
 
 use super::file_types::SymbolEntry;
 use super::modules::{Definition, Module};
@@ -13,12 +13,13 @@ use ctfd_read::error::{refuse, Error, Result};
 use ctfd_read::nearest::suggestion;
 use std::time::{Duration, Instant};
 
-/// How long libraries are converted to look for the name of a type, one after the other.
+/// How long libraries are converted, one after the other, in search of a type's name.
 const PATIENCE: Duration = Duration::from_secs(5);
 
 impl Target<'_> {
-    /// What a name stands for, in the first file that tells its type. Of what other files see, the
-    /// address is that of the first file which has it: all files mean that one.
+    /// The function, variable or enumerator with a name; its type is from the first file that has
+    /// one. The address of a global symbol is from the first file that defines it, since all files
+    /// use that one.
     pub fn symbol(&self, name: &[u8]) -> Result<Operand> {
         let (mut refused, mut first) = (None, None);
         for (home, one) in self.homes.iter().enumerate() {
@@ -50,8 +51,8 @@ impl Target<'_> {
         }
     }
 
-    /// A function or variable at the address of an earlier file's, if that has one of its name;
-    /// None where that is another thing.
+    /// Moves a function or variable to the address of the global symbol with its name in an earlier
+    /// file, if there is one. None if that symbol is something else.
     fn at_first_definition(&self, found: Operand, first: Option<Definition>) -> Option<Operand> {
         let Some(Definition { address, size, .. }) = first else { return Some(found) };
         match found {
@@ -63,7 +64,7 @@ impl Target<'_> {
         }
     }
 
-    /// The value of an enumerator, in the first file at hand that has one of the name.
+    /// An enumerator with a name, from the first file at hand that has one.
     fn enumerator(&self, name: &[u8]) -> Option<Operand> {
         let homes = (0..self.homes.len()).filter(|&home| self.is_at_hand(home));
         homes.filter_map(|home| Some((home, self.open(home).ok()?.1))).find_map(
@@ -77,14 +78,15 @@ impl Target<'_> {
         )
     }
 
-    /// The first symbol of a name of which something is told.
+    /// The first symbol with a name that has a type in a file. None if no symbol has the name; an
+    /// error if they have no types.
     fn symbol_in(&self, home: usize, module: &Module, name: &[u8]) -> Result<Option<Operand>> {
         let (typed, catalog) = self.open(home)?;
         let mut refused = None;
         let symbols = typed.symbols(name);
         for symbol in &symbols {
             let place = symbol.address.map(|address| address.wrapping_add(module.slide));
-            // By its name alone one is known that no other has.
+            // A symbol known by its name alone is found only if no other has the name.
             let only = || module.only_address(name).filter(|_| symbols.len() == 1);
             let Some(address) = place.or_else(only) else {
                 refused = Some(Error(format!(
@@ -104,7 +106,7 @@ impl Target<'_> {
         refused.map_or(Ok(None), Err)
     }
 
-    /// Whether a file has a symbol of a name.
+    /// Whether there is a symbol with a name.
     pub fn has_symbol(&self, name: &[u8]) -> bool {
         self.modules.iter().any(|one| one.definition(name).is_some())
             || self.homes.iter().enumerate().any(|(home, one)| {
@@ -113,7 +115,7 @@ impl Target<'_> {
             })
     }
 
-    /// That no file has a symbol, and which name is near.
+    /// The error for a name that no symbol has, with the nearest name.
     fn no_symbol(&self, name: &[u8]) -> Error {
         let is_typed = (0..self.homes.len()).any(|home| {
             let source = &self.homes[home].source;
@@ -136,13 +138,13 @@ impl Target<'_> {
         ))
     }
 
-    /// The type of a name, with its stars, in the first file that has it; one of C's own that none
-    /// has is that of the program's data model.
+    /// The type with a name, which may end in stars, from the first file that has it. C's own types
+    /// are known without a file, with the program's data model.
     pub fn find(&self, name: &[u8]) -> Result<ValueType> {
         self.find_in_files(name)?.map_or_else(|| Err(self.no_type(name)), Ok)
     }
 
-    /// Whether a file has a type of a name.
+    /// Whether there is a type with a name.
     pub fn is_type(&self, name: &[u8]) -> bool {
         matches!(self.find_in_files(name), Ok(Some(_)))
     }
@@ -196,7 +198,7 @@ impl Target<'_> {
         source.has_dictionary || is_program || typed.get().is_some()
     }
 
-    /// That no file has a type, and which name is near.
+    /// The error for a name that no type has, with the nearest name.
     fn no_type(&self, name: &[u8]) -> Error {
         let open = (0..self.homes.len()).filter_map(|home| self.homes[home].catalog.get());
         let known: Vec<Vec<u8>> = open.flat_map(lookup::names).collect();
@@ -212,7 +214,7 @@ fn with_stars(home: usize, found: lookup::FoundType) -> ValueType {
     (0..found.stars).fold(base, |of, _| of.pointer())
 }
 
-/// What the dictionaries of a file tell of a symbol at an address.
+/// The operand for a symbol at an address, with its type from the dictionaries of a file.
 fn operand_of(
     home: usize,
     catalog: &Catalog<'_>,

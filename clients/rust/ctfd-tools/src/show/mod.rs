@@ -45,13 +45,13 @@ use std::process::ExitCode;
 use target::{Source, Target, TypesOfFiles};
 
 const REFUSED: u8 = 2;
-/// How often a value is repeated before that is counted, as gdb has it.
+/// The most repeats of a value that are printed, rather than counted; as in gdb.
 const REPEATS: usize = 10;
 
-/// What an expression comes to: a line, or one for each node of a list.
+/// The answer to an expression: a line, or one for each node of a list.
 type Answers = std::result::Result<Vec<String>, String>;
 
-/// Why it ended.
+/// Why the command failed.
 enum Failure {
     Refused(Error),
     Unwritten(io::Error),
@@ -69,7 +69,7 @@ impl From<io::Error> for Failure {
     }
 }
 
-/// The command; its exit status.
+/// Runs the command, and returns its exit status.
 pub fn main(words: Vec<OsString>) -> ExitCode {
     let words = Words::parse(words);
     if standard::is_output_closed() {
@@ -87,7 +87,7 @@ pub fn main(words: Vec<OsString>) -> ExitCode {
     }
 }
 
-/// Whether all expressions were answered.
+/// Answers the expressions. Returns whether none was refused.
 fn run(words: &Words) -> std::result::Result<bool, Failure> {
     let space = Space::of(words)?;
     let modules = modules(&space, words.types.is_none(), |line| warn_by(NAME, line))?;
@@ -105,7 +105,7 @@ fn run(words: &Words) -> std::result::Result<bool, Failure> {
     }
 }
 
-/// Where types come from: the file that is named for the program, and the files that are mapped.
+/// The sources of types: the file that the user named for the program, and the mapped files.
 fn sources<'w>(words: &Words, modules: &'w [Module]) -> Vec<Source<'w>> {
     let program = modules.iter().find(|one| one.is_program);
     let named = words.types.as_ref().map(|path| Source {
@@ -123,7 +123,7 @@ fn sources<'w>(words: &Words, modules: &'w [Module]) -> Vec<Source<'w>> {
     named.into_iter().chain(mapped).collect()
 }
 
-/// Prints what expressions come to.
+/// Prints the answers to expressions.
 struct Shower<'s, 't> {
     printer: Printer<'s, 't>,
     words: &'s Words,
@@ -131,7 +131,8 @@ struct Shower<'s, 't> {
 }
 
 impl Shower<'_, '_> {
-    /// Prints all answers, and refuses the rest where one is refused.
+    /// Prints all answers, up to the first refused expression unless `--keep-going` is given.
+    /// Returns whether none was refused.
     fn show_all(&mut self) -> std::result::Result<bool, Failure> {
         let mut is_whole = true;
         for expression in &self.words.expressions {
@@ -155,7 +156,7 @@ impl Shower<'_, '_> {
         Ok(is_whole)
     }
 
-    /// What each expression comes to.
+    /// The answer to each expression.
     fn answers(&self) -> Vec<Answers> {
         let listed = self.words.expressions.iter();
         listed.map(|one| self.answer(one).map_err(|error| error.0)).collect()
@@ -177,7 +178,7 @@ impl Shower<'_, '_> {
         }
     }
 
-    /// Prints an answer of a watch behind its expression.
+    /// Prints an answer of a watch after its expression.
     fn show_change(&mut self, number: usize, answers: &Answers) -> io::Result<()> {
         let expression = printable(&self.words.expressions[number]);
         match answers {

@@ -1,4 +1,4 @@
-//! The files that are mapped in an address space: where each is, and what its symbols are.
+//! The files that are mapped in an address space: their addresses and their symbols.
 
 use super::space::Space;
 use ctfd_read::core_file::MappedFile;
@@ -12,13 +12,13 @@ use std::cell::OnceCell;
 use std::path::Path;
 
 const PAGE: u64 = 4096;
-/// Notes of a file that are longer have no build id.
+/// Longer notes are not searched for the build-id.
 const LONGEST_NOTES: u64 = 4096;
-/// What link-time optimisation puts behind the names of what is local.
+/// What link-time optimisation appends to the names of local symbols.
 const RENAMED: &[u8] = b".lto_priv.";
 
-/// A symbol's place in memory. Of several at one address that of the highest rank is told: one that
-/// has a size, and then one that other files see.
+/// A symbol's place in memory. Of several at one address the one with the highest rank is used:
+/// symbols with a size rank before others, and then global ones.
 #[derive(Clone, Copy, Debug, PartialEq, Eq, PartialOrd, Ord)]
 struct Place<'m> {
     address: u64,
@@ -40,7 +40,7 @@ impl<'m> Place<'m> {
     }
 }
 
-/// The same in a list: its name is a part of all names.
+/// A symbol in a list; its name is a range of the list's names.
 struct Entry {
     address: u64,
     is_global: bool,
@@ -91,53 +91,51 @@ impl Symbols {
         global.or(first).or_else(|| self.entries.iter().find(is_renamed))
     }
 
-    /// The last symbol that begins at an address or before it.
+    /// The last symbol that begins at or before an address.
     fn before(&self, address: u64) -> Option<&Entry> {
         let count = self.entries.partition_point(|one| one.address <= address);
         count.checked_sub(1).map(|number| &self.entries[number])
     }
 }
 
-/// A symbol's name as C has it, of what link-time optimisation renamed.
+/// A symbol's name in C, if link-time optimisation renamed it.
 pub fn written_name(name: &[u8]) -> &[u8] {
     let digits = name.iter().rev().take_while(|byte| byte.is_ascii_digit()).count();
     let renamed = name[..name.len() - digits].strip_suffix(RENAMED);
     renamed.filter(|_| digits != 0).unwrap_or(name)
 }
 
-/// A file that is mapped, `slide` bytes behind its own addresses.
+/// A mapped file.
 pub struct Module {
-    /// The file.
     pub image: Image,
     /// Whether it is the program itself.
     pub is_program: bool,
-    /// How far it is behind its own addresses.
+    /// The distance of its addresses in memory from those in the file.
     pub slide: u64,
     segments: Vec<Segment>,
     symbols: OnceCell<Symbols>,
 }
 
-/// Where a symbol is in memory.
+/// A symbol's place in memory.
 #[derive(Clone, Copy, Debug)]
 pub struct Definition {
-    /// Its address.
     pub address: u64,
-    /// Its bytes.
+    /// Its size in bytes.
     pub size: u64,
-    /// Whether other files see it.
+    /// Whether it is visible in other files.
     pub is_global: bool,
 }
 
-/// Why a file that is mapped is none of the modules.
+/// Why a mapped file is no module.
 pub enum NoModule {
-    /// It is another than what is in memory.
+    /// The file is not the one that is in memory.
     OtherBuild(Error),
-    /// It is not there, or is data.
+    /// The file cannot be opened, or is data.
     NoProgram(Error),
 }
 
 impl NoModule {
-    /// The words for a user.
+    /// The error for the user.
     pub fn error(self) -> Error {
         match self {
             NoModule::OtherBuild(error) | NoModule::NoProgram(error) => error,
@@ -152,7 +150,7 @@ impl From<Error> for NoModule {
 }
 
 impl Module {
-    /// A file that is mapped in a space.
+    /// A file that is mapped in an address space.
     pub fn of(space: &Space, file: &MappedFile) -> std::result::Result<Module, NoModule> {
         let path = &file.path;
         let named = |error: Error| error.within(&path.display().to_string());
@@ -179,23 +177,23 @@ impl Module {
         }
     }
 
-    /// Where it is.
+    /// The path of the file.
     pub fn path(&self) -> &Path {
         self.image.path()
     }
 
-    /// Whether an address is in what is mapped of it, or in its variables behind that.
+    /// Whether an address is in the file's segments, including its zero-initialised variables.
     pub fn has(&self, address: u64) -> bool {
-        self.rvalue().any(|one| {
+        self.loadable_segments().any(|one| {
             let behind = address.wrapping_sub(one.address.wrapping_add(self.slide));
             behind < one.in_memory
         })
     }
 
-    /// What the file has at an address in memory that is not to be written to: no more than so many
-    /// bytes.
+    /// At most `length` bytes of the file for an address in memory that is not writable; none for
+    /// other addresses.
     pub fn constant_bytes(&self, address: u64, length: u64) -> &[u8] {
-        for one in self.rvalue().filter(|one| !one.is_writable) {
+        for one in self.loadable_segments().filter(|one| !one.is_writable) {
             let behind = address.wrapping_sub(one.address.wrapping_add(self.slide));
             if behind < one.in_file {
                 let count = length.min(one.in_file - behind);
@@ -206,14 +204,14 @@ impl Module {
         &[]
     }
 
-    /// Where a symbol is in memory: one that other files see comes first.
+    /// A symbol's place in memory; global symbols come first.
     pub fn definition(&self, name: &[u8]) -> Option<Definition> {
         let found = self.symbols().entry(name)?;
         let Entry { address, size, is_global, .. } = *found;
         Some(Definition { address, size, is_global })
     }
 
-    /// Where the only symbol of a name is in memory.
+    /// The address of the only symbol with a name; None if there are several.
     pub fn only_address(&self, name: &[u8]) -> Option<u64> {
         let symbols = self.symbols();
         let mut found = symbols.entries.iter().filter(|one| symbols.name(one) == name);
@@ -221,14 +219,14 @@ impl Module {
         first.filter(|_| found.next().is_none())
     }
 
-    /// The symbol at an address as `<main+4>`; empty where there is none.
+    /// The symbol at an address, as `<main+4>`; empty if there is none.
     pub fn label(&self, address: u64) -> Vec<u8> {
         let symbols = self.symbols();
         let Some(entry) = symbols.before(address) else { return Vec::new() };
         let behind = address - entry.address;
         let name = symbols.name(entry);
         match behind {
-            _ if entry.size == 0 && !entry.is_function => Vec::new(), // as gdb has it
+            _ if entry.size == 0 && !entry.is_function => Vec::new(), // as in gdb
             _ if behind >= entry.size.max(1) => Vec::new(),
             0 => [b"<", name, b">"].concat(),
             _ => [b"<", name, format!("+{behind}>").as_bytes()].concat(),
@@ -241,16 +239,16 @@ impl Module {
         symbols.entries.iter().map(|one| symbols.name(one))
     }
 
-    /// Its symbols; none where its table is damaged, as for a file that was stripped.
+    /// Its symbols; none if its symbol table is damaged, as if it were stripped.
     fn symbols(&self) -> &Symbols {
         self.symbols.get_or_init(|| Symbols::of(&self.image, self.slide).unwrap_or_default())
     }
 
-    fn rvalue(&self) -> impl Iterator<Item = &Segment> {
+    fn loadable_segments(&self) -> impl Iterator<Item = &Segment> {
         self.segments.iter().filter(|one| one.purpose == Purpose::Load)
     }
 
-    /// The build id of what is in memory.
+    /// The build-id of what is in memory.
     fn build_id_in(&self, space: &Space) -> Option<Vec<u8>> {
         let is_read = |one: &&Segment| {
             one.purpose == Purpose::Note && (13..=LONGEST_NOTES).contains(&one.in_file)
@@ -262,7 +260,7 @@ impl Module {
     }
 }
 
-/// How far a file is behind its own addresses, by the part of it that is mapped first.
+/// The distance of a file's addresses in memory from its own, by the first mapping of a segment.
 fn slide(file: &MappedFile, segments: &[Segment]) -> Option<u64> {
     let whole = |offset: u64| offset / PAGE * PAGE;
     let is_load = |one: &&Segment| one.purpose == Purpose::Load;
@@ -282,9 +280,8 @@ fn other_build(path: &Path, space: &Space) -> Error {
     ))
 }
 
-/// The files that are mapped and can be read. A line says so of a library that was replaced; others
-/// that are none of these are data. Refused where the program is needed, and it was replaced or
-/// can't be read.
+/// The mapped files that can be read. Warns of libraries that were replaced, and skips data. Fails
+/// if the program is needed, but was replaced or cannot be read.
 pub fn modules(space: &Space, needs_program: bool, warn: impl Fn(&str)) -> Result<Vec<Module>> {
     let mut made = Vec::new();
     for (number, file) in space.files().iter().enumerate() {

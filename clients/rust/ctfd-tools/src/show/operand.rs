@@ -1,31 +1,31 @@
-//! What an expression comes to: a place in memory, a number or a function.
+//! The result of an expression: a value in memory, a number or a function.
 
 use super::value_type::ValueType;
 
-/// A number that is nowhere in memory.
+/// A number that is not in memory.
 #[derive(Clone, Copy, Debug, PartialEq)]
 pub enum Scalar {
-    /// A whole one.
+    /// An integer.
     Whole(i128),
-    /// One with a point.
+    /// A floating-point number.
     Point(f64),
 }
 
-/// What an expression comes to.
+/// The result of an expression.
 #[derive(Clone, Debug)]
 pub enum Operand {
-    /// A value in memory, `bit` bits behind the start of a byte.
+    /// A value in memory, which begins at `bit` of the byte at `address`.
     Memory { of: ValueType, address: u64, bit: u64 },
-    /// A value that is nowhere in memory.
+    /// A value that is not in memory.
     Number { of: ValueType, value: Scalar },
     /// A function.
     Code { of: ValueType, address: u64 },
-    /// A symbol whose address is known, and not its type; `why` says what hinders that.
+    /// A symbol whose address is known, but not its type; `why` says why not.
     Untyped { name: Vec<u8>, address: u64, why: String },
 }
 
 impl Operand {
-    /// A whole number of a type.
+    /// An integer of a type.
     pub fn of_integer(of: impl Into<ValueType>, value: i128) -> Operand {
         Operand::Number { of: of.into(), value: Scalar::Whole(value) }
     }

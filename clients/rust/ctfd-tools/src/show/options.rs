@@ -1,4 +1,4 @@
-//! The words of `ctfd-show`: where to look, what for, and how it is printed.
+//! The command line of `ctfd-show`.
 
 use crate::arguments;
 use crate::wrong_words;
@@ -11,7 +11,7 @@ use std::time::Duration;
 
 /// The command's name.
 pub const NAME: &str = "ctfd-show";
-/// How many elements of an array, a text or a list are printed, and the most.
+/// The default and the greatest number of elements that are printed of an array, a text or a list.
 const ELEMENTS: usize = 200;
 const MOST: usize = 65_536;
 const LONGEST_WAIT: f64 = 86_400.0;
@@ -22,7 +22,7 @@ information.
 EXPRESSION is one of C: `table.slots[3]->name`, `*head@3`, `*(struct node *) 0x55d0c0`,
 `sizeof(struct node)`. A process is not stopped: its memory is read as it is, while it may change.";
 
-/// Where memory is read.
+/// Where memory is read from.
 pub enum Place {
     /// In a process.
     Process(u32),
@@ -30,27 +30,27 @@ pub enum Place {
     Core(PathBuf),
 }
 
-/// How often is looked.
+/// How often the expressions are evaluated.
 pub struct Watch {
-    /// How long to wait between two looks.
+    /// The pause between two evaluations.
     pub pause: Duration,
-    /// After how many looks it ends; without a number, when it is interrupted.
+    /// The number of evaluations; if None, it goes on until the process ends or the user interrupts
+    /// it.
     pub count: Option<u64>,
 }
 
 /// How a linked list is followed.
 pub struct Follow {
-    /// The pointer of a node to the next, or its link.
+    /// A node's pointer to the next, or its link.
     pub member: Vec<u8>,
-    /// The type that has the link.
+    /// The type that contains the link, if nodes have links.
     pub inside: Option<Vec<u8>>,
 }
 
-/// What a command line says.
+/// The values of the command line.
 pub struct Words {
-    /// Where memory is read.
+    /// Where memory is read from.
     pub place: Place,
-    /// What is asked for.
     pub expressions: Vec<Vec<u8>>,
     /// The program of a core file.
     pub program: Option<PathBuf>,
@@ -60,20 +60,20 @@ pub struct Words {
     pub parent: Option<PathBuf>,
     /// How files are read.
     pub reading: Options,
-    /// The linked list that each expression is the head of.
+    /// How to follow the linked lists whose heads the expressions are.
     pub follow: Option<Follow>,
-    /// Whether numbers are in hexadecimal.
+    /// Whether to print numbers in hexadecimal.
     pub is_hexadecimal: bool,
-    /// How many elements of an array, a text or a list are printed.
+    /// The most elements that are printed of an array, a text or a list.
     pub elements: usize,
-    /// Whether it goes on behind an expression that is refused.
+    /// Whether to go on after a refused expression.
     pub goes_on: bool,
-    /// Whether it looks again and again.
+    /// How to repeat the expressions, if wanted.
     pub watch: Option<Watch>,
 }
 
 impl Words {
-    /// Those of a command line. What is wrong with it is told, and ends the process.
+    /// Parses the command line. A wrong one ends the process with a message.
     pub fn parse(words: Vec<OsString>) -> Words {
         let matches = wrong_words::parse_words(options(), words);
         let path = |name: &str| matches.get_one::<PathBuf>(name).cloned();
@@ -108,7 +108,7 @@ fn texts(matches: &ArgMatches, name: &str) -> Vec<Vec<u8>> {
     words.map(|word| word.clone().into_vec()).collect()
 }
 
-/// A number of seconds.
+/// Parses a number of seconds.
 fn seconds(word: &str) -> Result<Duration, String> {
     let seconds = word.parse().ok().filter(|&seconds| (0.0..=LONGEST_WAIT).contains(&seconds));
     let seconds = seconds.ok_or_else(|| format!("a number of seconds up to {LONGEST_WAIT}"))?;

@@ -1,8 +1,8 @@
-//! Reads expressions of C, with gdb's operator `@`.
+//! Parses expressions of C, with gdb's operator `@`.
 //!
 //! ```text
 //! CHOICE  = BINARY [ '?' CHOICE ':' CHOICE ]
-//! BINARY  = UNARY { OPERATOR UNARY }, by the ranks of C
+//! BINARY  = UNARY { OPERATOR UNARY }, by the precedence of C
 //! UNARY   = ('*' | '&' | '-' | '+' | '!' | '~' | 'sizeof') UNARY | '(' TYPE ')' UNARY
 //!         | 'sizeof' '(' TYPE ')' | POSTFIX
 //! POSTFIX = PRIMARY { '.' NAME | '->' NAME | '[' CHOICE ']' }
@@ -14,10 +14,10 @@ use super::tokens::{tokens, Token};
 use crate::types::text::printable;
 use ctfd_read::error::{refuse, Error, Result};
 
-/// How deep brackets may stand in each other, and how many operators an expression has.
+/// The deepest nesting of brackets, and the most operators of an expression.
 const DEEPEST: usize = 64;
 const MOST_OPERATORS: usize = 1000;
-/// Words that a type begins with, and no value.
+/// Words that begin a type, but no value.
 const TYPE_WORDS: [&[u8]; 13] = [
     b"struct",
     b"union",
@@ -33,7 +33,7 @@ const TYPE_WORDS: [&[u8]; 13] = [
     b"long",
     b"void",
 ];
-/// Operators by their ranks, those that bind loosest first.
+/// The binary operators by precedence, the lowest first.
 const RANKS: [&[(&str, Operator)]; 9] = [
     &[("|", Operator::BitOr)],
     &[("^", Operator::BitXor)],
@@ -51,16 +51,16 @@ const RANKS: [&[(&str, Operator)]; 9] = [
     &[("*", Operator::Times), ("/", Operator::Over), ("%", Operator::Modulo)],
 ];
 
-/// What names are of: a name in brackets may be that of a type or of a value.
+/// What the parser has to know of names: a name in brackets may be that of a type or of a value.
 pub trait Names {
-    /// Whether there is a function or variable of a name.
+    /// Whether there is a function or variable with this name.
     fn is_symbol(&self, name: &[u8]) -> bool;
 
-    /// Whether there is a type of a name.
+    /// Whether there is a type with this name.
     fn is_type(&self, name: &[u8]) -> bool;
 }
 
-/// Takes an expression apart.
+/// Parses an expression.
 pub fn parse(expression: &[u8], names: &dyn Names) -> Result<Expression> {
     let mut parser = Parser::new(expression, names)?;
     if parser.tokens.is_empty() {
@@ -73,7 +73,7 @@ pub fn parse(expression: &[u8], names: &dyn Names) -> Result<Expression> {
     }
 }
 
-/// Takes a type's name apart.
+/// Parses the name of a type.
 pub fn parse_type(name: &[u8], names: &dyn Names) -> Result<TypeName> {
     let mut parser = Parser::new(name, names)?;
     let made = parser.type_name()?;
@@ -83,7 +83,7 @@ pub fn parse_type(name: &[u8], names: &dyn Names) -> Result<TypeName> {
     }
 }
 
-/// An expression that is read from left to right.
+/// A parser with the tokens of an expression.
 pub struct Parser<'p> {
     expression: &'p [u8],
     tokens: Vec<(usize, Token)>,
@@ -104,7 +104,7 @@ impl<'p> Parser<'p> {
         self.ahead(0)
     }
 
-    /// The token so many behind the next.
+    /// The token `count` places after the next.
     pub fn ahead(&self, count: usize) -> Option<&Token> {
         self.tokens.get(self.at + count).map(|(_, token)| token)
     }
@@ -114,21 +114,21 @@ impl<'p> Parser<'p> {
         self.next().is_some_and(|token| token.is(sign))
     }
 
-    /// Passes the next token, which must be there.
+    /// Consumes the next token; fails if there is none.
     pub fn take(&mut self) -> Result<Token> {
         let token = self.next().cloned();
         self.at += 1;
         token.ok_or_else(|| Error("the expression is not complete".to_owned()))
     }
 
-    /// Passes a sign, if it is next.
+    /// Consumes a sign, if it is next. Returns whether it was.
     pub fn takes(&mut self, sign: &str) -> bool {
         let is_next = self.is_next(sign);
         self.at += usize::from(is_next);
         is_next
     }
 
-    /// Passes a sign that must be next.
+    /// Consumes a sign; fails if it is not next.
     pub fn expect(&mut self, sign: &str) -> Result<()> {
         if self.takes(sign) {
             return Ok(());
@@ -142,13 +142,13 @@ impl<'p> Parser<'p> {
         }
     }
 
-    /// What is not read yet.
+    /// The text that is not consumed yet.
     fn rest(&self) -> String {
         let at = self.tokens.get(self.at).map_or(self.expression.len(), |(at, _)| *at);
         printable(self.expression[at..].trim_ascii()).into_owned()
     }
 
-    /// That what follows does not belong there.
+    /// The error for a token that does not belong there.
     pub fn unexpected_token(&self) -> Error {
         let rest = self.rest();
         Error(match self.next() {
@@ -162,7 +162,7 @@ impl<'p> Parser<'p> {
         })
     }
 
-    /// Goes into brackets, of which so many may stand in each other.
+    /// Calls `read` one level deeper; fails if that is too deep.
     pub fn deeper<T>(&mut self, read: impl FnOnce(&mut Self) -> Result<T>) -> Result<T> {
         self.depth += 1;
         if self.depth > DEEPEST {
@@ -212,7 +212,7 @@ impl<'p> Parser<'p> {
         Ok(made)
     }
 
-    /// Operators of a rank and of those that bind closer.
+    /// Parses operators of this precedence and higher.
     fn binary(&mut self, rank: usize) -> Result<Expression> {
         let Some(known) = RANKS.get(rank) else { return self.unary() };
         let mut made = self.binary(rank + 1)?;
@@ -224,7 +224,8 @@ impl<'p> Parser<'p> {
         Ok(made)
     }
 
-    /// What stands in front is gathered first: it may be long.
+    /// Parses an operand with its prefixes. These are collected in a loop, not by recursion, since
+    /// there may be many.
     fn unary(&mut self) -> Result<Expression> {
         let mut prefixes = Vec::new();
         let operand = loop {
@@ -270,8 +271,8 @@ impl<'p> Parser<'p> {
         Ok(made)
     }
 
-    /// Whether a type in brackets is next. A name alone is one where there is a type of that name
-    /// and no value, or where an operand follows; behind `sizeof` none has to.
+    /// Whether a type in brackets is next. A single name is one if there is a type and no value of
+    /// this name, or if an operand follows, which is not needed after `sizeof`.
     fn is_cast(&self, is_size: bool) -> bool {
         let (Some(Token::Sign("(")), Some(Token::Name(first))) = (self.next(), self.ahead(1))
         else {

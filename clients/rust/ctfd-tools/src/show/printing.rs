@@ -1,4 +1,4 @@
-//! Values as gdb prints them: structs, arrays, and what stands in front of a pointer.
+//! Formats values as gdb does: structs, arrays, and the types of pointers.
 
 use super::leaves::Style;
 use super::operand::Operand;
@@ -12,52 +12,51 @@ use crate::types::text::printable;
 use ctfd_read::error::{refuse, Result};
 use std::cell::Cell;
 
-/// How many bytes of a value are read.
+/// The most bytes of a value that are read.
 const MOST_BYTES: u64 = 16 << 20;
-/// How many bytes of values are read for one answer.
+/// The most bytes of values that are read for one answer.
 const MOST_READ: u64 = 256 << 20;
-/// How many values and parts of values one answer has, and about how many bytes.
+/// The most values and parts of values in an answer, and about how many bytes it may have.
 const MOST_PIECES: usize = 65_536;
 const LONGEST: usize = 4 << 20;
-/// How deep values are printed that stand in each other.
+/// The depth to which nested values are printed.
 const DEEPEST: usize = 20;
 const DOTS: &str = "...";
-/// What stands in place of what is too much for one answer.
+/// Stands for what exceeds the limits of an answer.
 pub const CUT: &str = "<cut>";
 
-/// A value: its bytes from the one in which it begins, and where it lies.
+/// A value: its place, and the bytes from the one in which it begins.
 #[derive(Clone, Copy)]
 pub struct Value<'v> {
-    /// Its type.
     pub of: &'v ValueType,
-    /// As many of its bytes as there are.
+    /// As many of its bytes as could be read.
     pub memory: &'v [u8],
-    /// How many bits it begins behind the first byte.
+    /// The bit of the first byte at which it begins.
     pub bit: u64,
-    /// The address of the first byte.
+    /// The address of the first byte; None if it is not in memory.
     pub at: Option<u64>,
 }
 
-/// Prints the values of a space in one style.
+/// Prints the values of an address space in one style.
 pub struct Printer<'p, 't> {
-    /// The space.
+    /// The address space.
     pub target: &'p Target<'t>,
-    /// How values look.
+    /// How values are formatted.
     pub style: Style,
-    /// What is left for one answer of pieces, of bytes that it has, and of those that are read.
+    /// What is left for the current answer: pieces, bytes of its text, and bytes to read.
     pieces: Cell<usize>,
     room: Cell<usize>,
     readable: Cell<u64>,
 }
 
 impl<'p, 't> Printer<'p, 't> {
-    /// One of a style.
+    /// A printer with a style.
     pub fn new(target: &'p Target<'t>, style: Style) -> Printer<'p, 't> {
         let (pieces, room) = (Cell::new(MOST_PIECES), Cell::new(LONGEST));
         Printer { target, style, pieces, room, readable: Cell::new(MOST_READ) }
     }
 
-    /// What an expression came to.
+    /// Formats the result of an expression.
     pub fn operand(&self, operand: &Operand) -> Result<String> {
         self.begin();
         match operand {
@@ -73,19 +72,19 @@ impl<'p, 't> Printer<'p, 't> {
         }
     }
 
-    /// Begins an answer.
+    /// Begins an answer: resets its limits.
     pub fn begin(&self) {
         self.pieces.set(MOST_PIECES);
         self.room.set(LONGEST);
         self.readable.set(MOST_READ);
     }
 
-    /// Whether a value has more bytes than are left to be read.
+    /// Whether a value has more bytes than may still be read.
     pub fn is_spent(&self, of: &ValueType) -> bool {
         self.target.span(of, 0).min(MOST_BYTES) > self.readable.get()
     }
 
-    /// Says that so much more was read or written for an answer.
+    /// Counts further bytes of the answer's text.
     pub fn charge(&self, count: usize) {
         self.room.set(self.room.get().saturating_sub(count));
     }
@@ -104,7 +103,7 @@ impl<'p, 't> Printer<'p, 't> {
         Ok(self.top(Value { of, memory: &memory, bit, at: Some(address) }))
     }
 
-    /// The bytes of a value; refused where the first can't be read.
+    /// The bytes of a value. Fails if the first cannot be read.
     pub fn memory(&self, of: &ValueType, address: u64, bit: u64) -> Result<Vec<u8>> {
         let length = self.target.span(of, bit).min(MOST_BYTES);
         let Some(left) = self.readable.get().checked_sub(length) else {
@@ -115,13 +114,13 @@ impl<'p, 't> Printer<'p, 't> {
     }
 
     fn code(&self, of: &ValueType, address: u64) -> Result<String> {
-        self.target.read(address, 1)?; // refused where nothing is
+        self.target.read(address, 1)?; // fails if nothing is there
         let label = self.target.label(address);
         let made = format!("{{{}}} 0x{address:x} {label}", self.target.spelling(of));
         Ok(made.trim_end().to_owned())
     }
 
-    /// A value by itself: a pointer's type stands in front of it.
+    /// Formats a value that is not part of another; a pointer's type comes before it.
     fn top(&self, value: Value<'_>) -> String {
         let is_pointer = matches!(self.target.shape(value.of), Shape::Pointer(_));
         let made = self.value(value, 0);
@@ -131,7 +130,7 @@ impl<'p, 't> Printer<'p, 't> {
         }
     }
 
-    /// A value that stands in `depth` others.
+    /// Formats a value that is nested `depth` deep.
     pub fn value(&self, value: Value<'_>, depth: usize) -> String {
         let Some(left) = self.pieces.get().checked_sub(1).filter(|_| self.room.get() != 0) else {
             return CUT.to_owned();
@@ -153,7 +152,7 @@ impl<'p, 't> Printer<'p, 't> {
         }
     }
 
-    /// All members; one without a name is no deeper than those beside it.
+    /// Formats all members. An unnamed struct or union adds no depth.
     fn aggregate(&self, value: Value<'_>, of: (usize, Number), depth: usize) -> String {
         let (home, number) = of;
         let parts = self.target.catalog(home).members(number);
@@ -203,7 +202,7 @@ impl<'p, 't> Printer<'p, 't> {
         }
     }
 
-    /// A text; one that is here whole loses the zero behind it.
+    /// Formats a text; a complete one loses its final zero.
     fn quote(&self, codes: &[u32], count: u64, prefix: &str) -> String {
         let is_whole = codes.len() as u64 == count;
         let codes = match codes.split_last() {
@@ -213,7 +212,7 @@ impl<'p, 't> Printer<'p, 't> {
         quote(codes, self.style.limits, !is_whole, prefix)
     }
 
-    /// The elements up to the limit; those that repeat are told once and counted.
+    /// Formats the elements up to the limit; repeated ones are printed once and counted.
     fn elements(
         &self,
         value: Value<'_>,
@@ -224,7 +223,7 @@ impl<'p, 't> Printer<'p, 't> {
     ) -> String {
         let limits = self.style.limits;
         let there = value.memory.len().div_ceil(size.max(1)) as u64;
-        // Of what is longer than is read, as many as are here.
+        // An array that is too long to be read has as many elements as were read.
         let known =
             if (size as u64).saturating_mul(count) > MOST_BYTES { count.min(there) } else { count };
         let (mut listed, mut at, mut printed) = (Vec::new(), 0, 0);
@@ -246,7 +245,7 @@ impl<'p, 't> Printer<'p, 't> {
         format!("{{{}{dots}}}", listed.join(", "))
     }
 
-    /// Where elements end that are the same as one.
+    /// The index after the elements that equal the one at `at`.
     fn end_of_repeats(&self, value: Value<'_>, at: u64, count: u64, size: usize) -> u64 {
         let bytes = |number: u64| {
             let start = usize::try_from(number).ok().and_then(|number| number.checked_mul(size));
@@ -255,19 +254,19 @@ impl<'p, 't> Printer<'p, 't> {
         };
         let first = bytes(at);
         if first.is_empty() {
-            return count; // nothing is there, nor behind it
+            return count; // no bytes here, nor after it
         }
         (at + 1..count).find(|&number| bytes(number) != first).unwrap_or(count)
     }
 
-    /// What stands in hexadecimal in front of a label.
+    /// An address in hexadecimal, with its label.
     pub fn address(&self, address: u64) -> String {
         format!("0x{address:x} {}", self.target.label(address)).trim_end().to_owned()
     }
 }
 
 impl<'v> Value<'v> {
-    /// A part that begins some bits behind the start.
+    /// The part of a value at an offset in bits.
     fn part(self, of: &'v ValueType, offset: u64) -> Value<'v> {
         let bits = self.bit.saturating_add(offset);
         let start = usize::try_from(bits / 8).unwrap_or(usize::MAX).min(self.memory.len());

@@ -1,4 +1,4 @@
-//! A process that runs: its memory by `/proc/PID/mem`, which does not stop it.
+//! Running processes: reads memory from `/proc/PID/mem`, which does not stop them.
 
 use ctfd_read::core_file::{MappedFile, Mapping};
 use ctfd_read::error::{reason, refuse, Error, Result};
@@ -10,13 +10,13 @@ use std::os::unix::ffi::{OsStrExt as _, OsStringExt as _};
 use std::os::unix::fs::FileExt as _;
 use std::path::{Path, PathBuf};
 
-/// Addresses are read as places of a file, which have no sign.
+/// File offsets are less than this, and so are the addresses that can be read.
 const MOST: u64 = 1 << 63;
 const DELETED: &[u8] = b" (deleted)";
 const ADVICE: &str =
     "it may be read by its owner, if the system lets one (kernel.yama.ptrace_scope), and by root";
 
-/// The memory of a process, and the files that are mapped there.
+/// The memory of a process, and its mapped files.
 pub struct Process {
     pid: u32,
     folder: PathBuf,
@@ -40,17 +40,17 @@ impl Process {
         Ok(Process { pid, folder, memory, files })
     }
 
-    /// What it is called in messages.
+    /// The name for messages.
     pub fn name(&self) -> String {
         format!("process {}", self.pid)
     }
 
-    /// The files that are mapped; the program comes first.
+    /// The mapped files; the program comes first.
     pub fn files(&self) -> &[MappedFile] {
         &self.files
     }
 
-    /// As many of the bytes at an address as it has: none where it has not the first.
+    /// At most `length` bytes at an address: as many as can be read.
     pub fn read(&self, address: u64, length: u64) -> Vec<u8> {
         let mut bytes = vec![0; length as usize];
         let mut count = 0;
@@ -66,15 +66,15 @@ impl Process {
         bytes
     }
 
-    /// Whether it has ended: then it has no program any more.
+    /// Whether the process has ended; it has no program any more then.
     pub fn has_ended(&self) -> bool {
         fs::read_link(self.folder.join("exe")).is_err()
     }
 }
 
-/// Why a process can't be read.
+/// The error for a process that cannot be read.
 fn why_not(pid: u32, error: &io::Error) -> Error {
-    const NO_PROCESS: i32 = 3; // ESRCH: it ended between two questions
+    const NO_PROCESS: i32 = 3; // ESRCH: the process ended in the meantime
     Error(match error.kind() {
         ErrorKind::PermissionDenied => format!("process {pid} may not be read: {ADVICE}"),
         ErrorKind::NotFound => format!("there is no process {pid}"),
@@ -83,7 +83,8 @@ fn why_not(pid: u32, error: &io::Error) -> Error {
     })
 }
 
-/// The files of `/proc/PID/maps`, each once, by their addresses, but the program first.
+/// The files of `/proc/PID/maps` in the order of their addresses, without duplicates, and with the
+/// program first.
 fn files(folder: &Path) -> io::Result<Vec<MappedFile>> {
     let program = match fs::read_link(folder.join("exe")) {
         Ok(path) => path.into_os_string().into_vec(),
@@ -106,9 +107,10 @@ fn files(folder: &Path) -> io::Result<Vec<MappedFile>> {
     Ok(made)
 }
 
-/// A file that is mapped, and where it can be opened: one that was deleted where the kernel lets
-/// root do so alone, the program as it was when the process began. A newline in a name is written
-/// as `\012`, and so are these four letters.
+/// A mapped file, and the paths at which it may be opened. A deleted file can be opened in
+/// `map_files`, if the kernel allows it, as for root; the program is opened as it was when the
+/// process began. The kernel writes `\012` for a newline in a name, but also for these four
+/// characters, so both names are tried.
 fn file(folder: &Path, written: &[u8], range: &str, program: &[u8]) -> MappedFile {
     let path = with_newlines(written);
     let is_program = [written, &path].contains(&program);
@@ -131,12 +133,12 @@ fn file(folder: &Path, written: &[u8], range: &str, program: &[u8]) -> MappedFil
     MappedFile { path, places, mappings: Vec::new(), is_program }
 }
 
-/// The paths of files as the kernel writes them, with their addresses in its words and as numbers.
+/// The files with their address ranges, as the kernel writes them and as numbers.
 fn mapped_files(maps: &[u8]) -> impl Iterator<Item = (&[u8], &str, Mapping)> {
     maps.split(|&byte| byte == b'\n').filter_map(line)
 }
 
-/// What a line says of a file: `START-END rights OFFSET device inode PATH`.
+/// Parses a line: `START-END rights OFFSET device inode PATH`. None if there is no path.
 fn line(line: &[u8]) -> Option<(&[u8], &str, Mapping)> {
     let mut rest = line;
     let mut words = [&[][..]; 5];
@@ -154,7 +156,7 @@ fn line(line: &[u8]) -> Option<(&[u8], &str, Mapping)> {
     rest.starts_with(b"/").then_some((rest, range, mapping))
 }
 
-/// A path as it is: the kernel writes a newline as `\012`, and no other byte otherwise.
+/// Replaces `\012` by the newline for which the kernel writes it.
 fn with_newlines(path: &[u8]) -> Vec<u8> {
     let mut made = Vec::with_capacity(path.len());
     let mut rest = path;

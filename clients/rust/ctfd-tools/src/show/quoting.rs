@@ -1,15 +1,15 @@
-//! Characters and texts in quotes, as gdb prints them where its charset is ASCII.
+//! Characters and texts in quotes, as gdb prints them if its charset is ASCII.
 
-/// How a text is cut: after so many characters, and those that repeat more often are counted.
+/// The limits of a text.
 #[derive(Clone, Copy, Debug)]
 pub struct Limits {
-    /// The most characters.
+    /// The most characters that are printed.
     pub elements: usize,
-    /// How often one may stand in a row.
+    /// The most repeats of a character that are printed, rather than counted.
     pub repeats: usize,
 }
 
-/// One character, by its bits as a number, escaped where it is not plain.
+/// A character, escaped if it is not printable ASCII.
 fn character(code: u32, quote: char) -> String {
     match code {
         7 => "\\a".to_owned(),
@@ -29,7 +29,8 @@ fn character(code: u32, quote: char) -> String {
     }
 }
 
-/// Characters behind each other. One that could belong to the number in front of it is escaped.
+/// Consecutive characters. A hexadecimal digit after a hexadecimal escape is escaped too, so that
+/// it is not taken for a part of that.
 fn characters(codes: &[u32], is_behind_number: &mut bool) -> String {
     let mut made = String::new();
     for &code in codes {
@@ -43,14 +44,14 @@ fn characters(codes: &[u32], is_behind_number: &mut bool) -> String {
     made
 }
 
-/// A character in its quotes, with what stands in front of those.
+/// A character in quotes, after a prefix.
 pub fn quote_character(code: u32, prefix: &str) -> String {
     format!("{prefix}'{}'", character(code, '\''))
 }
 
-/// A text in quotes: what repeats often is told once and counted. It ends with the character at
-/// which the limit is reached, and all that repeat it. `has_more` says that it goes on behind what
-/// is here.
+/// A text in quotes. A character that repeats often is printed once and counted. The text ends at
+/// the limit, but after the last repeat of the character there. `has_more` says that the text goes
+/// on after `codes`.
 pub fn quote(codes: &[u32], limits: Limits, has_more: bool, prefix: &str) -> String {
     let mut segments: Vec<String> = Vec::new();
     let (mut plain, mut printed, mut has_more) = (String::new(), 0, has_more);

@@ -1,5 +1,5 @@
-//! What a type comes to and how many bytes it has, as dictionaries tell, and values that are one
-//! number, as the library shows them.
+//! Shapes and sizes of types from dictionaries, and values that are one number, as the library
+//! formats them.
 
 use super::operand::Scalar;
 use super::target::Target;
@@ -7,30 +7,30 @@ use super::value_type::{pointer_size, Integer, Shape, ValueType};
 use crate::types::catalog::{is_qualifier, Catalog, Number};
 use ctfd::{Fault, Kind};
 
-/// The format's flags of integers.
+/// Flags of an integer's encoding.
 const SIGNED: u8 = 1;
 const CHARACTER: u8 = 2;
 const BOOLEAN: u8 = 4;
 
-/// A value that is one number, or why it is none.
+/// A value that is one number, or the reason why there is none.
 #[derive(Clone, Debug, PartialEq)]
 pub enum Leaf {
-    /// A whole number.
+    /// An integer.
     Whole(i128),
-    /// The bits of a number with a point.
+    /// The bits of a floating-point number.
     Bits(u128),
-    /// One of an enum, by its name and value.
+    /// An enumerator, by its name and value.
     Enumerator(Vec<u8>, i32),
-    /// One that has more bits than are computed with, as it is shown.
+    /// A number with too many bits for arithmetic, formatted.
     Text(String),
     /// An integer without bits.
     Void,
-    /// What is not there: `not read`.
+    /// A missing value, with the reason, such as `not read`.
     Missing(&'static str),
 }
 
 impl Target<'_> {
-    /// What a type comes to, behind typedefs and qualifiers.
+    /// The shape of a type, after its typedefs and qualifiers.
     pub fn shape(&self, of: &ValueType) -> Shape {
         match of {
             ValueType::Pointer(to) => Shape::Pointer((**to).clone()),
@@ -64,7 +64,7 @@ impl Target<'_> {
         }
     }
 
-    /// The bytes of a value; None where it has none.
+    /// The size of a value in bytes; None if it has none.
     pub fn size(&self, of: &ValueType) -> Option<u64> {
         match of {
             ValueType::Pointer(_) => Some(pointer_size(self.model)),
@@ -77,7 +77,7 @@ impl Target<'_> {
         }
     }
 
-    /// How many bytes there are from the one in which a value begins to the one in which it ends.
+    /// The number of bytes that a value spans if it begins at `bit` of the first one.
     pub fn span(&self, of: &ValueType, bit: u64) -> u64 {
         let bits = match of {
             ValueType::Dictionary { home, number } if *number != 0 => {
@@ -90,13 +90,13 @@ impl Target<'_> {
         u64::try_from((u128::from(bit) + bits).div_ceil(8)).unwrap_or(u64::MAX)
     }
 
-    /// Whether a type is that of a bit-field.
+    /// Whether a type is a bit-field's.
     pub fn is_bit_field(&self, of: &ValueType) -> bool {
         matches!(of, ValueType::Dictionary { home, number }
                  if *number != 0 && self.catalog(*home).span(*number).width.is_some())
     }
 
-    /// A type without the qualifiers in front.
+    /// A type without its outer qualifiers.
     pub fn without_qualifiers(&self, of: &ValueType) -> ValueType {
         let (home, mut number) = match of {
             ValueType::Dictionary { home, number } => (*home, *number),
@@ -109,7 +109,7 @@ impl Target<'_> {
         ValueType::Dictionary { home, number }
     }
 
-    /// The number that memory has from a bit on.
+    /// The number in memory at a bit.
     pub fn leaf(&self, of: &ValueType, memory: &[u8], bit: u64) -> Leaf {
         match of {
             &ValueType::Dictionary { home, number } if number != 0 => {
@@ -140,7 +140,7 @@ impl Target<'_> {
         }
     }
 
-    /// That of a type which no dictionary has: its bytes, the lowest first.
+    /// The same for a type that is not in a dictionary; bytes are in little-endian order.
     fn own_leaf(&self, of: &ValueType, memory: &[u8]) -> Leaf {
         let size = self.size(of).unwrap_or(0) as usize;
         let Some(bytes) = memory.get(..size).filter(|_| size != 0) else {
@@ -154,7 +154,7 @@ impl Target<'_> {
         }
     }
 
-    /// The bytes of a number of a type, the lowest first.
+    /// The bytes of a number of a type, in little-endian order.
     pub fn bytes_of(&self, of: &ValueType, value: Scalar) -> Vec<u8> {
         let size = self.size(of).unwrap_or(8).min(16) as usize;
         let bits = match (self.shape(of), value) {
@@ -184,7 +184,7 @@ fn integer(catalog: &Catalog<'_>, number: Number) -> Shape {
     })
 }
 
-/// A number of some bits with the sign that its type gives it.
+/// The number that some bits are in a type of integers.
 pub fn sign_extend(bits: u128, integer: Integer) -> i128 {
     let width = integer.bits.clamp(1, 128) as u32;
     let kept = if width == 128 { bits } else { bits & ((1 << width) - 1) };
@@ -192,12 +192,12 @@ pub fn sign_extend(bits: u128, integer: Integer) -> i128 {
     kept as i128 - if is_below { 1 << width } else { 0 }
 }
 
-/// Bytes as a number, the lowest first.
+/// The number of some bytes in little-endian order.
 pub fn from_little_endian(bytes: &[u8]) -> u128 {
     bytes.iter().rev().fold(0, |made, &byte| made << 8 | u128::from(byte))
 }
 
-/// The number that a text shows, in decimal or in hexadecimal.
+/// Parses a number in decimal or hexadecimal.
 fn number_of(text: &[u8]) -> Option<i128> {
     match text.strip_prefix(b"0x") {
         Some(_) => bits_of(text).map(|bits| bits as i128),
@@ -205,13 +205,13 @@ fn number_of(text: &[u8]) -> Option<i128> {
     }
 }
 
-/// The bits that a text shows in hexadecimal.
+/// Parses a number in hexadecimal.
 fn bits_of(text: &[u8]) -> Option<u128> {
     let digits = std::str::from_utf8(text.strip_prefix(b"0x")?).ok()?;
     u128::from_str_radix(digits, 16).ok()
 }
 
-/// A number as the library shows it.
+/// The value for a text of the library that is not parsed.
 fn leaf_of(text: &[u8]) -> Leaf {
     match text {
         b"void" => Leaf::Void,
@@ -219,7 +219,7 @@ fn leaf_of(text: &[u8]) -> Leaf {
     }
 }
 
-/// A whole number; one of an odd width is shown by its bits.
+/// Parses an integer. The library formats one of an odd width as bits, in hexadecimal.
 fn integer_leaf(text: &[u8], integer: Integer) -> Leaf {
     if let (Some(bits), false, 128..) = (bits_of(text), integer.is_signed, integer.bits) {
         return Leaf::Text(bits.to_string());
@@ -233,7 +233,7 @@ fn integer_leaf(text: &[u8], integer: Integer) -> Leaf {
     }
 }
 
-/// One of an enum: the library shows its name, where it has one.
+/// Parses a value of an enum: the library formats it as its name, if it has one.
 fn enumerator(catalog: &Catalog<'_>, number: Number, text: &[u8]) -> Leaf {
     let named = catalog.values(number).iter().find(|one| *one.name == *text);
     match named {

@@ -1,20 +1,20 @@
-//! Address spaces: what a process or a core file has in memory, and which files are mapped there.
+//! Address spaces: the memory of a process or a core file, and the mapped files.
 
 use super::options::{Place, Words};
 use super::process::Process;
 use ctfd_read::core_file::{CoreFile, MappedFile};
 use ctfd_read::error::Result;
 
-/// What is looked at.
+/// An address space.
 pub enum Space {
-    /// A process.
+    /// A running process.
     Process(Process),
-    /// Its core file.
+    /// A core file.
     Core(CoreFile),
 }
 
 impl Space {
-    /// The one that a command line names.
+    /// The address space of the command line.
     pub fn of(words: &Words) -> Result<Space> {
         match &words.place {
             Place::Process(pid) => Process::open(*pid).map(Space::Process),
@@ -22,7 +22,7 @@ impl Space {
         }
     }
 
-    /// What it is called in messages.
+    /// The name for messages.
     pub fn name(&self) -> String {
         match self {
             Space::Process(process) => process.name(),
@@ -30,7 +30,7 @@ impl Space {
         }
     }
 
-    /// The files that are mapped; the program comes first.
+    /// The mapped files; the program comes first.
     pub fn files(&self) -> &[MappedFile] {
         match self {
             Space::Process(process) => process.files(),
@@ -38,7 +38,7 @@ impl Space {
         }
     }
 
-    /// As many of the bytes at an address as it has: none where it has not the first.
+    /// At most `length` bytes at an address: as many as can be read.
     pub fn read(&self, address: u64, length: u64) -> Vec<u8> {
         match self {
             Space::Process(process) => process.read(address, length),

@@ -1,4 +1,4 @@
-//! Types in front of values, spelled as gdb 13 spells them.
+//! Types before values, spelled as in gdb 13.
 //!
 //! gdb has one spelling for each of C's integers, whatever the compiler wrote, and blanks on both
 //! sides of a pointer's qualifiers.
@@ -20,7 +20,7 @@ const INTEGERS: [(&str, &str); 6] = [
 const QUALIFIED: [(&str, &str); 3] =
     [("*const", "* const"), ("*volatile", "* volatile"), ("*restrict", "* restrict")];
 
-/// The name of a base type as gdb writes it.
+/// The name of a base type in gdb.
 fn base_name(name: String) -> String {
     let atomic = name.strip_prefix("_Atomic(").and_then(|rest| rest.strip_suffix(')'));
     let is_plain = |inner: &&str| !inner.contains(['(', ')', '*', '[']);
@@ -79,7 +79,7 @@ impl Target<'_> {
         Declarator { qualifiers, base: 0, named, left, right }
     }
 
-    /// Puts a star in front, with brackets where an array or a function is behind it.
+    /// Adds a star on the left, with brackets if it points to an array or a function.
     fn point(&self, to: &ValueType, left: &mut String, right: &mut String) {
         left.insert(0, '*');
         if self.has_brackets(to) {
@@ -92,7 +92,7 @@ impl Target<'_> {
         let listed = signature.arguments.iter();
         let mut listed: Vec<String> = listed.map(|one| self.declarator(one).around("")).collect();
         match (listed.is_empty(), signature.is_open) {
-            (true, true) => return String::new(), // what they are is not said, as by `int f()`
+            (true, true) => return String::new(), // not known, as after `int f()`
             (true, false) => return "void".to_owned(),
             (false, true) => listed.push("...".to_owned()),
             (false, false) => {}
@@ -100,7 +100,7 @@ impl Target<'_> {
         listed.join(", ")
     }
 
-    /// A declarator that goes on with a type of a dictionary.
+    /// A declarator that continues with a type of a dictionary.
     fn with_base(&self, home: usize, number: Number, left: String, right: String) -> Declarator {
         let catalog = self.catalog(home);
         let called = |one| gdb_name(catalog, one);
@@ -110,7 +110,7 @@ impl Target<'_> {
         made
     }
 
-    /// Whether a pointer to a type has brackets round its star.
+    /// Whether the star of a pointer to a type is in brackets.
     fn has_brackets(&self, to: &ValueType) -> bool {
         match to {
             ValueType::Array(..) | ValueType::Function(_) => true,

@@ -1,4 +1,5 @@
-//! C's steps from operand to operand: what a pointer points to, members, elements, addresses.
+//! Operators that lead from one operand to another: dereferences, members, elements, addresses and
+//! casts.
 
 use super::operand::{Operand, Scalar};
 use super::reading::Leaf;
@@ -13,7 +14,8 @@ use ctfd_read::nearest::suggestion;
 type Number = (ValueType, Scalar);
 
 impl Target<'_> {
-    /// A number or pointer, out of memory; an array or function as a pointer to it.
+    /// The value of an operand: a number or pointer, read from memory. An array or function becomes
+    /// a pointer.
     pub fn rvalue(&self, operand: &Operand) -> Result<Number> {
         let (of, address, bit) = match operand {
             Operand::Number { of, value } => return Ok((of.clone(), *value)),
@@ -33,7 +35,7 @@ impl Target<'_> {
         }
     }
 
-    /// The number that memory has.
+    /// The number in memory.
     fn scalar(&self, of: &ValueType, address: u64, bit: u64) -> Result<Scalar> {
         let memory = self.read(address, self.span(of, bit))?;
         let shape = self.shape(of);
@@ -58,7 +60,7 @@ impl Target<'_> {
         }
     }
 
-    /// A whole number, as an address or a count.
+    /// The value of an integer operand, such as an address or a count.
     pub fn number(&self, operand: &Operand) -> Result<i128> {
         match self.rvalue(operand)?.1 {
             Scalar::Whole(number) => Ok(number),
@@ -66,7 +68,7 @@ impl Target<'_> {
         }
     }
 
-    /// What a pointer points to.
+    /// The target of a pointer.
     pub fn dereference(&self, operand: &Operand) -> Result<Operand> {
         if let Operand::Code { .. } = operand {
             return Ok(operand.clone());
@@ -82,7 +84,7 @@ impl Target<'_> {
         })
     }
 
-    /// An address as wide as the program's are.
+    /// An address truncated to the size of a pointer.
     pub fn wrap_address(&self, number: i128) -> u64 {
         match pointer_size(self.model) {
             4 => u64::from(number as u32),
@@ -90,7 +92,7 @@ impl Target<'_> {
         }
     }
 
-    /// A pointer to a place.
+    /// A pointer to an operand in memory.
     pub fn address_of(&self, operand: &Operand) -> Result<Operand> {
         match operand {
             Operand::Code { of, address } => {
@@ -132,8 +134,7 @@ impl Target<'_> {
         Ok(Operand::Memory { of: to, address, bit: bits % 8 })
     }
 
-    /// Where a member of a struct or union lies, in bits, and its type: also one of a member
-    /// without a name.
+    /// The offset of a member in bits, and its type; also for members of unnamed members.
     fn field(&self, home: usize, number: TypeNumber, name: &[u8]) -> Result<(u64, ValueType)> {
         let catalog = self.catalog(home);
         if let Some((offset, number)) = catalog.field(number, name) {
@@ -145,7 +146,7 @@ impl Target<'_> {
         Err(Error(format!("there is no member named {shown}{near}")))
     }
 
-    /// The names of the members of a struct or union, and of those in members without a name.
+    /// The names of the members of a struct or union, including those of unnamed members.
     fn member_names(&self, home: usize, number: TypeNumber) -> Vec<String> {
         let catalog = self.catalog(home);
         let (mut made, mut todo) = (Vec::new(), vec![number]);
@@ -160,7 +161,7 @@ impl Target<'_> {
         made
     }
 
-    /// How far pointers to a type move by one.
+    /// How many bytes a pointer to a type moves by one step.
     pub fn step(&self, to: &ValueType) -> Result<u64> {
         match self.shape(to) {
             Shape::Void | Shape::Function => Ok(1),
@@ -171,7 +172,7 @@ impl Target<'_> {
         }
     }
 
-    /// A pointer moved by elements.
+    /// A pointer moved by `count` elements; None if the type is no pointer.
     pub fn offset_pointer(
         &self,
         of: &ValueType,
@@ -184,7 +185,7 @@ impl Target<'_> {
         Ok(Some(Operand::of_integer(of.clone(), address.into())))
     }
 
-    /// An element of an array, or behind a pointer.
+    /// An element of an array, or at a pointer.
     pub fn element(&self, operand: &Operand, index: &Operand) -> Result<Operand> {
         let count = self.number(index)?;
         let (of, value) = self.rvalue(operand)?;
@@ -198,7 +199,7 @@ impl Target<'_> {
         }
     }
 
-    /// A number or pointer as another type.
+    /// A number or pointer converted to another type.
     pub fn cast(&self, to: &ValueType, operand: &Operand) -> Result<Operand> {
         if let Shape::Float { size, encoding } = self.shape(to) {
             let (_, value) = self.rvalue(operand)?;

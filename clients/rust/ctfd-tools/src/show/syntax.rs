@@ -1,27 +1,27 @@
-//! Expressions of C, as far as one asks for values with them, taken apart.
+//! The syntax tree of an expression.
 
 use super::tokens::Literal;
 use super::value_type::Basic;
 
-/// A type as it is written: the words of its base, and what is derived of it, the outermost last.
+/// The name of a type: the words of its base, and the types derived from that.
 #[derive(Clone, Debug, PartialEq)]
 pub struct TypeName {
     /// The words, without qualifiers: `struct node`.
     pub base: Vec<u8>,
-    /// What is made of that, step by step.
+    /// The derivations in order, the outermost last.
     pub derived: Vec<Derivation>,
 }
 
-/// A step from a type to another.
+/// A type derived from another.
 #[derive(Clone, Debug, PartialEq)]
 pub enum Derivation {
-    /// A pointer to it.
+    /// A pointer to the type.
     Pointer,
-    /// It with a qualifier.
+    /// The type with a qualifier.
     Qualifier(&'static str),
-    /// So many in a row.
+    /// An array of so many.
     Array(u64),
-    /// A function that returns it.
+    /// A function that returns the type.
     Function { arguments: Vec<TypeName>, is_open: bool },
 }
 
@@ -47,7 +47,7 @@ pub enum Operator {
     Repeat,
 }
 
-/// What stands in front of an operand.
+/// A prefix of an operand.
 #[derive(Clone, Debug, PartialEq)]
 pub enum Prefix {
     /// `*`
@@ -68,7 +68,7 @@ pub enum Prefix {
     Cast(TypeName),
 }
 
-/// What stands behind an operand.
+/// A postfix of an operand.
 #[derive(Clone, Debug, PartialEq)]
 pub enum Postfix {
     /// `.NAME` and `->NAME`
@@ -86,14 +86,14 @@ pub enum Expression {
     /// A function or a variable.
     Name(Vec<u8>),
     Register(Vec<u8>),
-    /// The bytes of a type.
+    /// The size of a type.
     SizeOf(TypeName),
-    /// What stands in front of an operand, the first first.
+    /// An operand with its prefixes, in order.
     Prefixes(Vec<Prefix>, Box<Expression>),
-    /// What stands behind one.
+    /// An operand with its postfixes, in order.
     Steps(Box<Expression>, Vec<Postfix>),
     Binary(Operator, Box<Expression>, Box<Expression>),
-    /// `&&`: the second counts if the first is not 0.
+    /// `&&`: the second operand is evaluated if the first is not 0.
     And(Box<Expression>, Box<Expression>),
     /// `||`
     Or(Box<Expression>, Box<Expression>),

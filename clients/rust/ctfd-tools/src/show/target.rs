@@ -1,4 +1,4 @@
-//! An address space as expressions ask for it: memory, labels, and the types of its files.
+//! An address space for expressions: its memory, its symbols, and the types of its files.
 
 use super::file_types::FileTypes;
 use super::modules::Module;
@@ -14,27 +14,27 @@ use std::path::{Path, PathBuf};
 
 const PAGE: u64 = 4096;
 
-/// The types of the files of a space, each opened once it is asked for.
+/// The types of each source, which is opened when it is needed.
 pub type TypesOfFiles = Vec<OnceCell<Result<FileTypes>>>;
 
-/// Where types come from: a file that is mapped, or one that is named for the program.
+/// A source of types: a mapped file, or a file that the user named for the program.
 pub struct Source<'t> {
-    /// The file in memory; None where no name of it has an address.
+    /// The mapped file; None if no symbol of the source has an address.
     pub module: Option<&'t Module>,
-    /// The file that has its types in its place.
+    /// The file that has the types in its place.
     pub named: Option<PathBuf>,
-    /// Whether it has a dictionary, so that none is to be made.
+    /// Whether it has a dictionary, so that it need not be converted.
     pub has_dictionary: bool,
 }
 
-/// A source whose dictionary is open or can be opened.
+/// A source, with its types and catalog once it is open.
 pub(super) struct Home<'t> {
     pub(super) source: Source<'t>,
     pub(super) typed: &'t OnceCell<Result<FileTypes>>,
     pub(super) catalog: OnceCell<Catalog<'t>>,
 }
 
-/// An address space; look-ups go through the files with types in turn.
+/// An address space; look-ups go through its sources in order.
 pub struct Target<'t> {
     pub(super) space: &'t Space,
     pub(super) modules: &'t [Module],
@@ -46,7 +46,7 @@ pub struct Target<'t> {
 }
 
 impl<'t> Target<'t> {
-    /// That of a space, its modules, and the sources of types.
+    /// The target of an address space, its modules, and the sources of types.
     pub fn new(
         space: &'t Space,
         modules: &'t [Module],
@@ -62,7 +62,7 @@ impl<'t> Target<'t> {
         Target { space, modules, homes, parent, reading: &words.reading, model }
     }
 
-    /// Refuses types that are named for the program and can't be read.
+    /// Refuses a file that the user named for the program, if it cannot be read.
     pub fn judge_types(&self) -> Result<()> {
         match self.homes.first().filter(|one| one.source.named.is_some()) {
             Some(_) => self.open(0).map(drop),
@@ -70,7 +70,7 @@ impl<'t> Target<'t> {
         }
     }
 
-    /// What the space is called.
+    /// The name for messages.
     pub fn name(&self) -> String {
         self.space.name()
     }
@@ -80,7 +80,7 @@ impl<'t> Target<'t> {
         self.space.has_ended()
     }
 
-    /// As many of the bytes as can be read: none where the first can't.
+    /// At most `length` bytes at an address: as many as can be read.
     pub fn bytes(&self, address: u64, length: u64) -> Vec<u8> {
         let mut made = Vec::new();
         while (made.len() as u64) < length {
@@ -94,7 +94,7 @@ impl<'t> Target<'t> {
         made
     }
 
-    /// The same; refused where the first can't be read.
+    /// The same; fails if the first byte cannot be read.
     pub fn read(&self, address: u64, length: u64) -> Result<Vec<u8>> {
         let found = self.bytes(address, length);
         match found.is_empty() && length != 0 {
@@ -106,7 +106,8 @@ impl<'t> Target<'t> {
         }
     }
 
-    /// Bytes of memory; a core file leaves out what the files that are mapped have.
+    /// Some bytes at an address, from memory. What a core file leaves out comes from the mapped
+    /// files.
     fn piece(&self, address: u64, length: u64) -> Vec<u8> {
         let found = self.space.read(address, length);
         if !found.is_empty() {
@@ -117,20 +118,20 @@ impl<'t> Target<'t> {
         constant.into_iter().find(|bytes| !bytes.is_empty()).unwrap_or_default().to_vec()
     }
 
-    /// The symbol at an address as `<main+4>`; empty where there is none.
+    /// The symbol at an address, as `<main+4>`; empty if there is none.
     pub fn label(&self, address: u64) -> String {
         let module = self.modules.iter().find(|one| one.has(address));
         let label = module.map(|one| one.label(address)).unwrap_or_default();
         printable(&label).into_owned()
     }
 
-    /// The types of a file that are open.
+    /// The catalog of a source, which must be open.
     pub fn catalog(&self, home: usize) -> &Catalog<'t> {
         let catalog = &self.homes[home].catalog;
         catalog.get().unwrap_or_else(|| unreachable!("a type is of a dictionary that is open"))
     }
 
-    /// Opens the types of a file.
+    /// Opens the types of a source.
     pub(super) fn open(&self, home: usize) -> Result<(&'t FileTypes, &Catalog<'t>)> {
         let Home { source, typed, catalog } = &self.homes[home];
         let typed = typed.get_or_init(|| match (&source.named, source.module) {

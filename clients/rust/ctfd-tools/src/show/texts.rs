@@ -1,32 +1,33 @@
-//! Texts that a pointer leads to, as gdb prints them.
+//! Texts that pointers lead to, as gdb prints them.
 
 use super::quoting::{quote, Limits};
 use super::reading::from_little_endian;
 use super::target::Target;
 
-/// How many bytes are read at a time, up to an address that this divides.
+/// Texts are read in steps, each up to the next multiple of this address.
 const STEP: u64 = 256;
 
-/// How the characters of a text are written: so many bytes each, and what stands in front of the
-/// quotes.
+/// How the characters of a text are stored and printed.
 #[derive(Clone, Copy, Debug)]
 pub struct Letters {
-    /// The bytes of a character.
+    /// The size of a character in bytes.
     pub size: u64,
-    /// `L`, `u`, `U` or nothing.
+    /// The prefix before the quotes: `L`, `u`, `U` or nothing.
     pub prefix: &'static str,
 }
 
-/// Those of plain texts.
+/// Plain text.
 pub const PLAIN: Letters = Letters { size: 1, prefix: "" };
 
 impl Target<'_> {
-    /// The text at an address in quotes, or why it can't be read; and how many characters were.
+    /// The text at an address in quotes, or the error that it cannot be read; and the number of
+    /// characters that were read.
     pub fn text(&self, address: u64, letters: Letters, limits: Limits) -> (String, usize) {
         let (codes, missing) = self.letters(address, letters.size, limits.elements);
         (text_of(&codes, missing, letters, limits), codes.len())
     }
-    /// Characters up to a zero or one past the limit, and the address that can't be read.
+    /// The characters up to a zero, or past the limit; and the first address that cannot be read,
+    /// if there is one before that.
     fn letters(&self, address: u64, size: u64, limit: usize) -> (Vec<u32>, Option<u64>) {
         let (mut bytes, mut codes) = (Vec::new(), Vec::new());
         let mut new = 0;
@@ -49,7 +50,7 @@ impl Target<'_> {
     }
 }
 
-/// A text in quotes, or the address at which it can't be read.
+/// A text in quotes, or the error with the address that cannot be read.
 fn text_of(codes: &[u32], missing: Option<u64>, letters: Letters, limits: Limits) -> String {
     let no_access = |at: u64| format!("<error: Cannot access memory at address 0x{at:x}>");
     if let (Some(at), true) = (missing, codes.is_empty()) {

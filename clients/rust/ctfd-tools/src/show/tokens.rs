@@ -1,59 +1,58 @@
-//! The words and signs of an expression.
+//! Tokens of an expression.
 
 use super::value_type::{Basic, CHAR, DOUBLE, FLOAT};
 use crate::types::text::printable;
 use ctfd_read::error::{refuse, Error, Result};
 
-/// A whole number as it is written: its suffix says which types it may have.
+/// An integer literal; its suffix limits the types that it may have.
 #[derive(Clone, Copy, Debug, PartialEq, Eq)]
 pub struct Literal {
-    /// The number.
+    /// Its value.
     pub value: u64,
-    /// Whether it is in decimal, so that none without a sign is meant.
+    /// Whether it is decimal, so that its type is signed unless it has the suffix `u`.
     pub is_decimal: bool,
-    /// Whether `u` is behind it.
+    /// Whether it has the suffix `u`.
     pub is_unsigned: bool,
-    /// How often `l` is behind it.
+    /// How many `l` its suffix has.
     pub longs: usize,
 }
 
-/// A word or a sign.
+/// A token.
 #[derive(Clone, Debug, PartialEq)]
 pub enum Token {
-    /// A whole number.
+    /// An integer.
     Whole(Literal),
-    /// A number with a point, of a type.
+    /// A floating-point number with its type.
     Point(f64, Basic),
     /// A character in quotes.
     Character(i128),
-    /// A name.
     Name(Vec<u8>),
-    /// A name in quotes, which may have any character.
+    /// A name in quotes, which may contain any characters.
     QuotedName(Vec<u8>),
     /// A register of a debugger.
     Register(Vec<u8>),
-    /// A sign: `->`, `<<`, `(`.
+    /// An operator or bracket, such as `->` or `(`.
     Sign(&'static str),
 }
 
-/// Signs, longer ones first.
+/// Operators and brackets, longer ones first.
 const SIGNS: [&str; 41] = [
     "<<=", ">>=", "->", "<<", ">>", "<=", ">=", "==", "!=", "&&", "||", "++", "--", "+=", "-=",
     "*=", "/=", "%=", "&=", "|=", "^=", "::", "+", "-", "*", "/", "%", "&", "|", "^", "~", "!",
     "<", ">", "?", ":", "@", "(", ")", "[", "]",
 ];
 const LAST_SIGNS: [&str; 3] = [".", ",", "="];
-/// Digits that a number has at most, with its prefix and suffix.
+/// The most characters of a number, including prefix and suffix.
 const LONGEST_NUMBER: usize = 64;
 
 impl Token {
-    /// Whether it is a sign.
+    /// Whether it is this sign.
     pub fn is(&self, sign: &str) -> bool {
         matches!(self, Token::Sign(own) if *own == sign)
     }
 }
 
-/// The tokens of an expression, each with the place at which it begins.
+/// The tokens of an expression, each with its offset.
 pub fn tokens(expression: &[u8]) -> Result<Vec<(usize, Token)>> {
     let mut made = Vec::new();
     let mut at = 0;
@@ -100,7 +99,7 @@ fn name_length(rest: &[u8]) -> usize {
     rest.iter().take_while(|&&byte| is_name(byte)).count()
 }
 
-/// A number, whole or with a point.
+/// Parses a number, integer or floating-point.
 fn number(rest: &[u8]) -> Result<(Token, usize)> {
     let is_hexadecimal = rest.len() > 1 && rest[0] == b'0' && rest[1] | 32 == b'x';
     let mut length = 0;
@@ -152,13 +151,13 @@ fn integer_literal(text: &str) -> Option<Literal> {
     let longs = suffix.matches('l').count();
     let unsigned = suffix.matches('u').count();
     let is_suffix = longs <= 2 && unsigned <= 1 && !suffix.contains("lul");
-    // "0" and a suffix have no digits left behind the prefix of an octal number.
+    // For "0" with a suffix, the prefix of an octal number took the only digit.
     let front = if front.is_empty() && base == 8 { "0" } else { front };
     let value = u64::from_str_radix(front, base).ok().filter(|_| is_suffix)?;
     Some(Literal { value, is_decimal: base == 10, is_unsigned: unsigned == 1, longs })
 }
 
-/// A character, or the name of a symbol.
+/// Parses a character, or the name of a symbol in quotes.
 fn in_quotes(rest: &[u8]) -> Result<(Token, usize)> {
     let mut end = 1;
     while let Some(&byte) = rest.get(end) {
@@ -179,7 +178,7 @@ fn in_quotes(rest: &[u8]) -> Result<(Token, usize)> {
     Ok((token, end + 1))
 }
 
-/// The value of the one character that a text is, perhaps by an escape.
+/// The value of a single character or escape; None for any other text.
 fn character(text: &[u8]) -> Option<i128> {
     let code = match *text {
         [plain] if plain != b'\\' => plain,

@@ -1,4 +1,4 @@
-//! Reads the names of types as casts have them: `struct node *`, `int (*)[4]`, `void (*)(int)`.
+//! Parses the names of types in casts: `struct node *`, `int (*)[4]`, `void (*)(int)`.
 
 use super::parser::Parser;
 use super::syntax::{Derivation, TypeName};
@@ -13,7 +13,7 @@ fn qualifier(token: &Token) -> Option<&'static str> {
 }
 
 impl Parser<'_> {
-    /// A type: the words of its base, and what is derived of it.
+    /// Parses a type: the words of its base, and what is derived from it.
     pub fn type_name(&mut self) -> Result<TypeName> {
         let (mut words, mut derived): (Vec<Vec<u8>>, Vec<Derivation>) = (Vec::new(), Vec::new());
         while let Some(Token::Name(word)) = self.next() {
@@ -30,7 +30,8 @@ impl Parser<'_> {
         Ok(TypeName { base: words.join(&b' '), derived })
     }
 
-    /// What is derived of a type: stars, then what is behind the brackets, then what is in these.
+    /// Parses the derivations of a type: stars, then what follows the brackets, then what is inside
+    /// them.
     fn declarator(&mut self, derived: &mut Vec<Derivation>) -> Result<()> {
         while self.takes("*") {
             derived.push(Derivation::Pointer);
@@ -70,7 +71,7 @@ impl Parser<'_> {
         }
     }
 
-    /// The arguments of a function, behind the bracket.
+    /// Parses the arguments of a function, after the opening bracket.
     fn function(&mut self) -> Result<Derivation> {
         let (mut arguments, mut is_open) = (Vec::new(), false);
         while !self.takes(")") {

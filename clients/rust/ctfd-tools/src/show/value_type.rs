@@ -1,30 +1,29 @@
-//! The types of values: those of dictionaries, and those that an expression makes of them.
+//! The types of values: those of dictionaries, and those that expressions derive from them.
 
 use crate::types::catalog::Number;
 use ctfd::Model;
 use std::rc::Rc;
 
-/// What kind of number one of C's own types has.
+/// The class of one of C's own types.
 #[derive(Clone, Copy, Debug, PartialEq, Eq)]
 pub enum Class {
-    /// A whole number with a sign or without.
+    /// An integer.
     Integer { is_signed: bool },
     /// A character.
     Character { is_signed: bool },
     /// True or false.
     Boolean,
-    /// A number with a point.
+    /// A floating-point number.
     Float,
 }
 
-/// One of C's own types, as expressions have them: no dictionary need know it.
+/// One of C's own types, which expressions can use without a dictionary.
 #[derive(Clone, Copy, Debug, PartialEq, Eq)]
 pub struct Basic {
-    /// Its name as gdb writes it.
+    /// Its name in gdb.
     pub name: &'static str,
-    /// Its bytes.
+    /// Its size in bytes.
     pub size: u64,
-    /// What it is.
     pub class: Class,
 }
 
@@ -34,27 +33,24 @@ const fn integer(name: &'static str, size: u64, is_signed: bool) -> Basic {
 
 /// The type of most results.
 pub const INT: Basic = integer("int", 4, true);
-/// The same without a sign.
+/// `int` without a sign.
 pub const UNSIGNED: Basic = integer("unsigned int", 4, false);
-/// A number of 64 bits, where `long` has less.
+/// An integer of 64 bits, even if `long` is smaller.
 pub const LONG_LONG: Basic = integer("long long", 8, true);
 /// The same without a sign.
 pub const UNSIGNED_LONG_LONG: Basic = integer("unsigned long long", 8, false);
-/// A number with a point.
 pub const DOUBLE: Basic = Basic { name: "double", size: 8, class: Class::Float };
-/// A shorter one.
 pub const FLOAT: Basic = Basic { name: "float", size: 4, class: Class::Float };
-/// A character.
 pub const CHAR: Basic =
     Basic { name: "char", size: 1, class: Class::Character { is_signed: true } };
 
-/// `long`, with a sign or without.
+/// `long` or `unsigned long`.
 pub fn long_integer(model: Model, is_signed: bool) -> Basic {
     let size = pointer_size(model);
     integer(if is_signed { "long" } else { "unsigned long" }, size, is_signed)
 }
 
-/// The bytes of a pointer.
+/// The size of a pointer in bytes.
 pub fn pointer_size(model: Model) -> u64 {
     match model {
         Model::Lp64 => 8,
@@ -62,7 +58,7 @@ pub fn pointer_size(model: Model) -> u64 {
     }
 }
 
-/// One of C's own types by the name that dictionaries have for it.
+/// One of C's own types, by the name that dictionaries have for it; None for other names.
 pub fn basic_of(name: &[u8], model: Model) -> Option<Basic> {
     let character =
         |name, is_signed| Basic { name, size: 1, class: Class::Character { is_signed } };
@@ -85,46 +81,44 @@ pub fn basic_of(name: &[u8], model: Model) -> Option<Basic> {
     })
 }
 
-/// The type of a value. `home` is the number of the file whose dictionary has it.
+/// The type of a value. `home` is the index of the source whose dictionary has the type.
 #[derive(Clone, Debug)]
 pub enum ValueType {
-    /// One of a dictionary; the number 0 is void.
+    /// A type of a dictionary; the number 0 is void.
     Dictionary { home: usize, number: Number },
     /// A pointer, which a dictionary need not have.
     Pointer(Rc<ValueType>),
-    /// So many in a row.
+    /// An array of so many.
     Array(Rc<ValueType>, u64),
-    /// One with a qualifier, which a cast names.
+    /// A type with a qualifier from a cast.
     Qualifier(&'static str, Rc<ValueType>),
-    /// A function that a symbol stands for, or that a cast names.
+    /// A function, from a symbol or a cast.
     Function(Rc<Signature>),
-    /// One of C's own.
+    /// One of C's own types.
     Basic(Basic),
 }
 
 /// What a function takes and returns.
 #[derive(Clone, Debug)]
 pub struct Signature {
-    /// What it returns.
     pub returns: ValueType,
-    /// The types of its arguments.
     pub arguments: Vec<ValueType>,
-    /// Whether more may follow.
+    /// Whether it takes further arguments.
     pub is_open: bool,
 }
 
 impl ValueType {
-    /// The type of pointers to this.
+    /// A pointer to this type.
     pub fn pointer(self) -> ValueType {
         ValueType::Pointer(Rc::new(self))
     }
 
-    /// The type of so many of these in a row.
+    /// An array of `count` of this type.
     pub fn array(self, count: u64) -> ValueType {
         ValueType::Array(Rc::new(self), count)
     }
 
-    /// The type with a qualifier.
+    /// This type with a qualifier.
     pub fn with_qualifier(self, word: &'static str) -> ValueType {
         ValueType::Qualifier(word, Rc::new(self))
     }
@@ -145,55 +139,53 @@ impl From<Basic> for ValueType {
     }
 }
 
-/// What a type comes to, behind typedefs and qualifiers.
+/// The shape of a type: what it is after typedefs and qualifiers.
 #[derive(Clone, Debug)]
 pub enum Shape {
     /// No value.
     Void,
-    /// A whole number.
+    /// An integer.
     Integer(Integer),
-    /// A number with a point, by its bytes and its encoding in the format.
+    /// A floating-point number: its size in bytes, and its encoding in the dictionary.
     Float { size: u64, encoding: u8 },
     /// An enum of a dictionary.
     Enum { home: usize, number: Number },
     /// A pointer to a type.
     Pointer(ValueType),
-    /// So many of a type.
+    /// An array of so many.
     Array(ValueType, u64),
     /// A function.
     Function,
     /// A struct or union of a dictionary.
     Aggregate { home: usize, number: Number },
-    /// What is declared alone, or unknown.
+    /// A type that is only declared, or unknown.
     Incomplete,
 }
 
-/// What is known of a whole number.
+/// The properties of an integer.
 #[derive(Clone, Copy, Debug)]
 pub struct Integer {
-    /// The bytes of its storage.
+    /// The size of its storage in bytes.
     pub size: u64,
-    /// Its bits.
+    /// Its width in bits.
     pub bits: u64,
-    /// Whether it may be below 0.
+    /// Whether it may be negative.
     pub is_signed: bool,
-    /// Whether it is a character.
     pub is_character: bool,
-    /// Whether it is true or false.
     pub is_boolean: bool,
-    /// Whether it is as wide as its storage: else it is a bit-field's.
+    /// Whether it fills its storage, unlike a bit-field's.
     pub is_whole: bool,
 }
 
 impl Integer {
-    /// Whether it is a character of a byte, which texts are made of.
+    /// Whether it is a character of one byte, as in plain texts.
     pub fn is_letter(&self) -> bool {
         self.is_character && self.size == 1 && self.is_whole
     }
 }
 
 impl Basic {
-    /// What is known of it.
+    /// Its shape.
     pub fn shape(self) -> Shape {
         let integer = |is_signed, is_character, is_boolean| {
             Shape::Integer(Integer {
@@ -217,13 +209,13 @@ impl Basic {
     }
 }
 
-/// The numbers that the format has for kinds of floats.
+/// The encoding of `float` in the format.
 pub const SINGLE: u8 = 1;
-/// A double.
+/// The encoding of `double`.
 pub const DOUBLE_ENCODING: u8 = 2;
-/// The kinds of which a value has two.
+/// The encodings of complex numbers, each with that of its two parts.
 pub const COMPLEX: [(u8, u8); 2] = [(3, SINGLE), (4, DOUBLE_ENCODING)];
-/// Two of the x87's format.
+/// The encoding of a complex number of the x87's format.
 pub const EXTENDED_COMPLEX: u8 = 5;
-/// The x87's format of 80 bits.
+/// The encoding of the x87's format of 80 bits.
 pub const EXTENDED: u8 = 6;

@@ -1,12 +1,12 @@
-//! Looks again and again, and prints what has changed.
+//! `--watch`: evaluates expressions again and again, and prints what has changed.
 
 use super::options::Watch;
 use super::{Answers, Failure, Shower};
 use ctfd_read::error::{refuse, Result};
 use std::io::Write as _;
 
-/// Prints the answers that differ from those before, as often as is wanted. Refused once the
-/// process has ended.
+/// Prints the answers that differ from the last ones, as often as wanted. Returns whether the last
+/// answers had no refusal; fails once the process has ended.
 pub fn watch(shower: &mut Shower<'_, '_>, watch: &Watch) -> std::result::Result<bool, Failure> {
     let mut before: Vec<Option<Answers>> = Vec::new();
     let mut count = 0;
@@ -34,7 +34,7 @@ pub fn watch(shower: &mut Shower<'_, '_>, watch: &Watch) -> std::result::Result<
 }
 
 impl Shower<'_, '_> {
-    /// Refuses to go on once the process has ended: what is read then is of none.
+    /// Fails if the process has ended: its answers are worth nothing then.
     fn judge_process(&self) -> Result<()> {
         match self.printer.target.has_ended() {
             true => refuse(format!("{} has ended", self.printer.target.name())),

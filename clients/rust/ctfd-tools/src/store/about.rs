@@ -1,24 +1,24 @@
-//! What a store tells of a build: a word and its value on each line.
+//! What a store records of a build: a file with a word and its value on each line.
 
 use crate::debuginfo::Counts;
 use crate::types::text::printable;
 use std::fmt::{self, Display};
 
-/// What is known of a build.
+/// The record of a build.
 #[derive(Clone, Debug, Default, PartialEq, Eq)]
 pub struct About {
     /// The name of its file.
     pub name: String,
-    /// How much its debug file tells.
+    /// The counts of its debug file.
     pub counts: Counts,
-    /// How many constructs CTF does not hold.
+    /// How many constructs CTF cannot represent.
     pub losses: usize,
-    /// The bytes of the file with the debug information that it was made from.
+    /// The size in bytes of the file with the debug information that it was made from.
     pub original: u64,
 }
 
 impl About {
-    /// What stands in a file; what is not told there is none.
+    /// Parses the text of a record; missing words give empty values.
     pub fn parse(text: &str) -> About {
         let word = |name: &str| {
             let mut lines = text.lines();

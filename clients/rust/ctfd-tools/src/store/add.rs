@@ -1,4 +1,4 @@
-//! `ctfd-store add`: makes the debug file of each build that is found, and puts it into a store.
+//! `ctfd-store add`: makes a debug file for each build, and puts it into a store.
 
 use super::build_id::BuildId;
 use super::builds::Store;
@@ -22,7 +22,7 @@ use std::io::Write as _;
 use std::sync::atomic::{AtomicU64, Ordering};
 use std::sync::{Mutex, PoisonError};
 
-/// How many builds came to what.
+/// Counts of the added builds.
 #[derive(Clone, Copy, Default)]
 struct Tally {
     added: usize,
@@ -30,7 +30,7 @@ struct Tally {
     same: usize,
 }
 
-/// Builds that are written, and wait to be put where they are found.
+/// Builds that are written in the stage, and wait to be moved into the store.
 struct Waiting<'s> {
     stage: &'s Stage<'s>,
     written: BTreeMap<BuildId, Sums>,
@@ -39,7 +39,7 @@ struct Waiting<'s> {
 }
 
 impl Waiting<'_> {
-    /// Takes a build that is written, and puts all where they are found once they are enough.
+    /// Adds a written build, and moves all that wait if these are enough.
     fn take(&mut self, id: BuildId, sums: Sums) -> Result<()> {
         self.written.insert(id, sums);
         match self.written.len() >= self.stage.count_at_once() {
@@ -48,7 +48,7 @@ impl Waiting<'_> {
         }
     }
 
-    /// Puts all that wait where they are found.
+    /// Moves all that wait into the store.
     fn put(&mut self) -> Result<()> {
         for change in self.stage.put(std::mem::take(&mut self.written))? {
             *match change {
@@ -61,7 +61,7 @@ impl Waiting<'_> {
     }
 }
 
-/// Adds what the words name. What is refused is told, and the rest is added.
+/// Adds the files of the command line. Refused files are reported, and the others added.
 pub fn run(words: &Adding) -> Outcome<u8> {
     let store = Store::open_to_write(&words.store)?;
     let mut inputs = Inputs::of(&words.files);
@@ -75,7 +75,7 @@ pub fn run(words: &Adding) -> Outcome<u8> {
     let waiting = Mutex::new(waiting);
     let done = write_all(words, &inputs, &stage, &waiting);
     let mut waiting = waiting.into_inner().unwrap_or_else(PoisonError::into_inner);
-    let put = waiting.put(); // those that were whole when another could not be written too
+    let put = waiting.put(); // also those that were complete before an error
     let mut refusals = waiting.refusals;
     refusals.extend(std::mem::take(&mut inputs.refusals));
     refusals.sort_unstable();
@@ -86,7 +86,7 @@ pub fn run(words: &Adding) -> Outcome<u8> {
     tell(words, waiting.tally, refusals.len())
 }
 
-/// Writes the builds, many at a time, up to the first that can't be written.
+/// Writes the builds in parallel, up to the first that cannot be written.
 fn write_all(
     words: &Adding,
     inputs: &Inputs,
@@ -116,7 +116,7 @@ fn write_all(
     done
 }
 
-/// Prints how much was added; the status.
+/// Prints how much was added, and returns the exit status.
 fn tell(words: &Adding, tally: Tally, refused: usize) -> Outcome<u8> {
     let Tally { added, replaced, same } = tally;
     let mut lines = Output::new();

@@ -1,18 +1,18 @@
-//! What tells a build of a program from all others: the bytes that a linker leaves in a note of it.
+//! Build-ids: bytes in a note that a linker writes, different for each build of a program.
 
 use ctfd_read::error::{refuse, Result};
 use std::fmt::{self, Display};
 
-/// How many bytes debuginfod's clients take.
+/// The sizes of build-ids that debuginfod's clients accept, in bytes.
 const FEWEST: usize = 2;
 const MOST: usize = 64;
 
-/// A build-id, as the digits by which a store has a folder for it.
+/// A build-id as hexadecimal digits, which name its folder in a store.
 #[derive(Clone, Debug, PartialEq, Eq, PartialOrd, Ord, Hash)]
 pub struct BuildId(String);
 
 impl BuildId {
-    /// That of the bytes of a note; refused where debuginfod does not take it.
+    /// The build-id from the bytes of a note. Fails if debuginfod does not accept it.
     pub fn of_bytes(bytes: &[u8]) -> Result<BuildId> {
         match bytes.len() {
             0 => refuse("it has no build-id, which the linker writes (--build-id)"),
@@ -23,7 +23,7 @@ impl BuildId {
         }
     }
 
-    /// That of digits, as they stand in a path.
+    /// The build-id from the digits in a path; None if they are no build-id.
     pub fn of_digits(digits: &str) -> Option<BuildId> {
         let is_digit = |byte: u8| matches!(byte, b'0'..=b'9' | b'a'..=b'f');
         let is_id = digits.len() % 2 == 0
@@ -32,13 +32,11 @@ impl BuildId {
         is_id.then(|| BuildId(digits.to_owned()))
     }
 
-    /// Its bytes.
     pub fn bytes(&self) -> Vec<u8> {
         let byte = |at: usize| u8::from_str_radix(&self.0[at..at + 2], 16).unwrap_or(0);
         (0..self.0.len()).step_by(2).map(byte).collect()
     }
 
-    /// Its digits.
     pub fn digits(&self) -> &str {
         &self.0
     }

@@ -1,4 +1,4 @@
-//! A store that is open: its builds, and its index, which tells of each.
+//! An open store: its builds, and its index with the sums of their files.
 
 use super::build_id::BuildId;
 use super::entry::{ABOUT, DEBUG_FILE, DICTIONARY, SECTIONS};
@@ -12,11 +12,11 @@ use std::io::ErrorKind;
 use std::path::Path;
 use std::time::SystemTime;
 
-/// The file of sums.
+/// The name of the index.
 pub const INDEX: &str = "SHA256SUMS";
-/// The one by which those who write keep out of each other's way.
+/// The name of the file that commands lock while they write to the store.
 pub const LOCK: &str = ".lock";
-/// The longest file that is read, and the longest index.
+/// The size limits of a file and of the index, in bytes.
 pub const LONGEST_FILE: u64 = 1 << 32;
 const LONGEST_INDEX: u64 = 1 << 32;
 /// A store.
@@ -25,12 +25,12 @@ pub struct Store {
 }
 
 impl Store {
-    /// That of a folder.
+    /// Opens the store in a folder.
     pub fn open(path: &Path) -> Result<Store> {
         Ok(Store { root: Folder::open(path)? })
     }
 
-    /// The same, to be written; a new folder where there is none.
+    /// Opens a store for writing; makes the folder if there is none.
     pub fn open_to_write(path: &Path) -> Result<Store> {
         match fs::create_dir(path) {
             Err(error) if error.kind() != ErrorKind::AlreadyExists => {
@@ -44,12 +44,11 @@ impl Store {
         Ok(store)
     }
 
-    /// Its folder.
     pub fn root(&self) -> &Folder {
         &self.root
     }
 
-    /// The folder of a build, if it is there.
+    /// The folder of a build, if there is one.
     pub fn build(&self, id: &BuildId) -> Result<Option<Folder>> {
         match self.root.child(BUILD_IDS)? {
             Some(builds) => builds.child(id.digits()),
@@ -67,7 +66,7 @@ impl Store {
         Ok(self.names()?.iter().filter_map(|name| BuildId::of_digits(name)).collect())
     }
 
-    /// The index; empty where there is none.
+    /// The text of the index; empty if there is none.
     pub fn index(&self) -> Result<String> {
         let path = self.root.path().join(INDEX);
         let bytes = self.root.bytes(INDEX, LONGEST_INDEX)?.unwrap_or_default();
@@ -79,7 +78,7 @@ impl Store {
         index::sums(&self.index()?).map_err(|error| self.index_error(error))
     }
 
-    /// Refuses a file that is not the one of the index, where there is an index.
+    /// Refuses a file that differs from the index, if there is an index.
     pub fn judge_file(&self, id: &BuildId, name: &str, bytes: &[u8]) -> Result<()> {
         match self.root.file(INDEX)? {
             Some(index) => judge(&index, &self.root.path().join(INDEX), id, name, bytes),
@@ -92,12 +91,12 @@ impl Store {
         Error(format!("{}: {error}: remove it, and the next add makes it anew", path.display()))
     }
 
-    /// Waits until nobody else writes; nobody else does while the file is open.
+    /// Waits until no other command writes, and keeps others waiting as long as the file is open.
     pub fn lock(&self) -> Result<File> {
         self.root.lock(LOCK)
     }
 
-    /// Writes the index anew, with other sums of some builds.
+    /// Writes the index again, with new sums for some builds.
     pub fn change_index(&self, stage: &Folder, changes: &BTreeMap<BuildId, Sums>) -> Result<()> {
         let made =
             with_changes(&self.index()?, changes).map_err(|error| self.index_error(error))?;
@@ -106,8 +105,8 @@ impl Store {
         self.root.sync()
     }
 
-    /// Has the index tell of what is there: builds that came or went without it, and those of which
-    /// it may tell something else. The sums of the others stay.
+    /// Brings the index up to date: adds and removes builds that came or went without it, and sums
+    /// the files of the doubted builds again. The sums of other builds stay.
     pub fn mend_index(&self, stage: &Folder, doubted: &[BuildId]) -> Result<()> {
         let (known, there) = (self.sums()?, self.builds()?);
         let is_there = |id: &BuildId| there.binary_search(id).is_ok();
@@ -125,7 +124,7 @@ impl Store {
         }
     }
 
-    /// The sums of a build's files; None of one that is not whole, which `check` tells of.
+    /// The sums of a build's files; None if the build is not complete, which `check` reports.
     fn sums_there(&self, id: &BuildId) -> Option<Sums> {
         let sums = sums_of(&self.build(id).ok()??).ok()?;
         let dictionary = format!("{SECTIONS}/{DICTIONARY}");
@@ -133,7 +132,7 @@ impl Store {
     }
 }
 
-/// Refuses a file that is not the one of an index.
+/// Refuses a file that differs from an index.
 pub fn judge_by_index(path: &Path, id: &BuildId, name: &str, bytes: &[u8]) -> Result<()> {
     let index = File::open(path).map_err(|error| Error::from(error).of(path.display()))?;
     judge(&index, path, id, name, bytes)
@@ -148,7 +147,7 @@ fn judge(index: &File, path: &Path, id: &BuildId, name: &str, bytes: &[u8]) -> R
     }
 }
 
-/// The files of a build with their sums, whatever the index says.
+/// The sums of a build's files, computed without the index.
 pub fn sums_of(build: &Folder) -> Result<Sums> {
     let mut made = Sums::new();
     let mut add = |folder: &Folder, front: &str, name: &str| -> Result<()> {
@@ -171,7 +170,7 @@ pub fn sums_of(build: &Folder) -> Result<Sums> {
     Ok(made)
 }
 
-/// How long ago a file was written, in days.
+/// How long ago a build was last added, in days.
 pub fn age_of(build: &Folder) -> Result<u64> {
     const DAY: u64 = 24 * 60 * 60;
     let Some(file) = build.file(ABOUT)? else { return Ok(0) };

@@ -1,4 +1,4 @@
-//! `ctfd-store check`: judges each file of a store.
+//! `ctfd-store check`: checks each file of a store.
 
 use super::build_id::BuildId;
 use super::builds::{sums_of, Store, INDEX, LOCK, LONGEST_FILE};
@@ -24,11 +24,11 @@ use std::io::Write as _;
 use std::path::Path;
 use std::sync::atomic::{AtomicU64, Ordering};
 
-/// What is to be done.
+/// Advice on what to do.
 const ADDED_AGAIN: &str = "add its program again";
 const MENDED: &str = "the next add, of whatever, writes the sums anew";
 
-/// Judges a store; what is wrong is told, a line each.
+/// Checks a store, and reports what is wrong, one line each. Returns the exit status.
 pub fn run(path: &Path) -> Outcome<u8> {
     let store = Store::open(path)?;
     let sums = store.sums()?;
@@ -54,7 +54,7 @@ pub fn run(path: &Path) -> Outcome<u8> {
     Ok(if wrong.is_empty() { 0 } else { LOSSY })
 }
 
-/// The builds that the index tells of, and that are not there.
+/// The builds that the index has, but not the store.
 fn missing<'s>(
     sums: &'s BTreeMap<BuildId, Sums>,
     names: &'s [String],
@@ -62,12 +62,12 @@ fn missing<'s>(
     sums.keys().filter(|id| names.binary_search_by(|name| name.as_str().cmp(id.digits())).is_err())
 }
 
-/// What stands in a store beside its builds, its index and the folders of commands that run.
+/// Lines on what is in a store besides its builds, its index and the folders of running commands.
 fn strangers(store: &Store) -> Result<Vec<String>> {
     let left = abandoned_folders(store)?;
     let told = |name: String| match name.as_str() {
         BUILD_IDS | INDEX | LOCK => None,
-        name if name.starts_with(INDEX) => None, // as a signature of it
+        name if name.starts_with(INDEX) => None, // such as a signature of it
         name if left.iter().any(|one| one == name) => {
             Some(format!("{name}: left by a command that was ended: the next add removes it"))
         }
@@ -89,7 +89,7 @@ fn judge_name(store: &Store, name: &str, sums: &BTreeMap<BuildId, Sums>) -> Resu
     judge().map_err(|error| error.of(place))
 }
 
-/// Refuses a build whose files are not what a store has, or not those of the index.
+/// Refuses a build with wrong files, or with other files than the index has.
 fn judge_build(id: &BuildId, build: &Folder, listed: Option<&Sums>) -> Result<()> {
     let sums = sums_of(build)?;
     if let Some(listed) = listed {
@@ -105,7 +105,7 @@ fn judge_build(id: &BuildId, build: &Folder, listed: Option<&Sums>) -> Result<()
     }
 }
 
-/// Refuses files that are not those of the index.
+/// Refuses files that differ from those of the index.
 fn judge_sums(sums: &Sums, listed: &Sums) -> Result<()> {
     if let Some(name) = sums.keys().find(|name| listed.get(*name) != sums.get(*name)) {
         return refuse(format!("{name} is not the file that {INDEX} has: {ADDED_AGAIN}"));
@@ -116,8 +116,8 @@ fn judge_sums(sums: &Sums, listed: &Sums) -> Result<()> {
     }
 }
 
-/// Refuses files of another build, sections that are not those of the debug file, and a dictionary
-/// that the library refuses.
+/// Refuses files of another build, sections that differ from those of the debug file, and a
+/// dictionary that the library refuses.
 fn judge_content(id: &BuildId, build: &Folder, has_program: bool) -> Result<()> {
     let debug_file = image_of(build, DEBUG_FILE)?;
     judge_id(id, &debug_file)?;
@@ -172,7 +172,8 @@ fn judge_dictionary(copies: &Folder, debug_file: &Image) -> Result<()> {
     opened.map_err(|refusal| Error(Failure::of_library(DICTIONARY, refusal).to_string()))
 }
 
-/// Refuses copies of sections that are not those of the debug file, which may lack the dictionary.
+/// Refuses copies of sections that differ from those of the debug file, which may lack the
+/// dictionary.
 fn judge_copies(copies: &Folder, debug_file: &Image) -> Result<()> {
     let own = [DICTIONARY].into_iter().chain(SYMBOLS).map(|name| copy_of(debug_file, name));
     let wanted: Vec<(String, Vec<u8>)> =

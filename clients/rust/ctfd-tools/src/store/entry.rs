@@ -1,4 +1,5 @@
-//! What a store has for a build: a debug file with a dictionary in it, and copies of its sections.
+//! The files that a store has for a build: a debug file with a dictionary in it, and copies of
+//! sections.
 
 use super::about::About;
 use super::build_id::BuildId;
@@ -18,21 +19,21 @@ use std::path::{Path, PathBuf};
 pub const DEBUG_FILE: &str = "debuginfo";
 pub const PROGRAM: &str = "executable";
 pub const ABOUT: &str = "about";
-/// The folder of copies of sections, and the sections.
+/// The folder for copies of sections, and their names.
 pub const SECTIONS: &str = "section";
 pub const DICTIONARY: &str = ".SUNW_ctf";
 pub const SYMBOLS: [&str; 2] = [".symtab", ".strtab"];
 
-/// The files of a build, sections first: who finds the debug file finds them too.
+/// The files of a build, in the order in which they are written: the debug file comes after the
+/// sections, so that whoever finds it finds these too.
 pub struct Entry {
-    /// The build.
     pub id: BuildId,
-    /// The path of each file in its folder, and its bytes.
+    /// The path of each file in the build's folder, and its bytes.
     pub files: Vec<(String, Vec<u8>)>,
 }
 
 impl Entry {
-    /// That of the files that were found of a build.
+    /// The entry for the files that were found of a build.
     pub fn of(group: &Group, reading: &Options, has_program: bool) -> Outcome<Entry> {
         let types = &group.types;
         let image = image_of(types)?;
@@ -57,14 +58,14 @@ impl Entry {
     }
 }
 
-/// A file that was found.
+/// Opens a file that was found.
 fn image_of(found: &BuildFile) -> Outcome<Image> {
     let image = Image::open_linked(&found.place);
     image.ok_or_else(|| Failure::Refused("it can't be read any more".to_owned()))
 }
 
-/// The dictionary of a file's types, alone and accepted by the library; how many constructs it does
-/// not hold.
+/// The dictionary with a file's types, which the library must accept, and the number of constructs
+/// that it lacks.
 fn dictionary_of(image: &Image, reading: &Options) -> Result<(Vec<u8>, usize)> {
     with_types(image, reading, |found| {
         let (found, _) = dictionary::select(found, &[])?;
@@ -74,8 +75,8 @@ fn dictionary_of(image: &Image, reading: &Options) -> Result<(Vec<u8>, usize)> {
     })
 }
 
-/// The debug file of a build from the original with its debug information and from the dictionary of
-/// that. The dictionary stands in it, unless it takes more bytes then than the original.
+/// The debug file of a build, from the original file with debug information and its dictionary. The
+/// dictionary is left out if the debug file would be larger than the original.
 fn debug_file(group: &Group, original: Image, ctf: &[u8], length: u64) -> Outcome<DebugFile> {
     let program = group.program.as_ref().map(image_of).transpose()?;
     let is_beside = match &program {
@@ -95,13 +96,13 @@ fn debug_file(group: &Group, original: Image, ctf: &[u8], length: u64) -> Outcom
     }
 }
 
-/// The copies of the symbol table of a debug file.
+/// Copies of the symbol table and strings of a debug file.
 fn copies(debug_file: &[u8]) -> Result<Vec<(String, Vec<u8>)>> {
     let image = Image::of_bytes(PathBuf::from(DEBUG_FILE), debug_file.to_vec());
     SYMBOLS.iter().filter_map(|name| copy_of(&image, name).transpose()).collect()
 }
 
-/// A section of a debug file, by the name of its copy; None where it has none of that name.
+/// A section of a debug file, with the path of its copy; None if it has no such section.
 pub fn copy_of(image: &Image, name: &str) -> Result<Option<(String, Vec<u8>)>> {
     let file = Debuggee::of(image)?;
     let Some(at) = file.section_of(name) else { return Ok(None) };

@@ -1,5 +1,5 @@
-//! `ctfd-store fetch`: asks stores for the types of a build, as the other commands do, and writes what
-//! came. libctf's calls run it.
+//! `ctfd-store fetch`: asks stores for the types of a build, as the other commands do, and writes
+//! them to a file. Calls of libctf run it.
 
 use super::build_id::BuildId;
 use super::options::{Fetching, NAME};
@@ -12,10 +12,11 @@ use ctfd_read::debuggee::Debuggee;
 use ctfd_read::image::Image;
 use std::path::Path;
 
-/// The status where no store has a build.
+/// The exit status if no store has the build.
 const ABSENT: u8 = 1;
 
-/// Writes the types of a build. What no store has is told, and nothing is written then.
+/// Writes the types of a build. If no store has it, says so and writes nothing. Returns the exit
+/// status.
 pub fn run(words: &Fetching) -> Outcome<u8> {
     let stores = elsewhere::of(words.stores.as_deref());
     if !stores.is_there() {
@@ -35,7 +36,7 @@ pub fn run(words: &Fetching) -> Outcome<u8> {
     }
 }
 
-/// The build-id that digits are, whatever files there are; else that of a program.
+/// The build-id that the digits are, even if a file has this name; else the build-id of a program.
 fn id_of(word: &Path) -> Outcome<BuildId> {
     let digits = word.to_str().map(str::to_ascii_lowercase).unwrap_or_default();
     if let Some(id) = BuildId::of_digits(&digits) {

@@ -1,5 +1,5 @@
-//! A folder that is open: its files and folders are reached by their names in it, and no link is
-//! followed, so that nobody who may write there leads a command elsewhere.
+//! An open folder. Its files and folders are reached by their names in it, and links are not
+//! followed, so that nobody who can write there can lead a command elsewhere.
 
 use ctfd_read::error::{reason, refuse, Error, Result};
 use rustix::fd::OwnedFd;
@@ -14,29 +14,28 @@ use std::os::unix::fs::MetadataExt as _;
 use std::path::{Path, PathBuf};
 use std::time::SystemTime;
 
-/// Who may read what is made is for the user's umask to say.
+/// The modes of new files and folders, before the user's umask.
 const MODE_OF_FOLDERS: u32 = 0o777;
 const MODE_OF_FILES: u32 = 0o666;
 /// The bit of a mode by which anybody may write.
 const OTHERS_WRITE: u32 = 0o002;
-/// The bits of a mode by which others do anything.
+/// The bits of a mode that allow others anything.
 const FOR_OTHERS: u32 = 0o077;
-/// Behind the name of a folder that another took the place of.
+/// The suffix for the name of a folder that was replaced.
 const REPLACED: &str = ".replaced";
-/// How deep folders are removed.
+/// The depth to which folders are removed.
 const DEEPEST: usize = 8;
 const LINK: &str =
     "it is a link or another kind of file than a store has: remove it, and see who may \
                     write there";
 
-/// A folder.
 pub struct Folder {
     file: File,
     path: PathBuf,
 }
 
 impl Folder {
-    /// That of a path, which a user names.
+    /// Opens the folder at a path that the user gave.
     pub fn open(path: &Path) -> Result<Folder> {
         let flags = OFlags::DIRECTORY | OFlags::RDONLY | OFlags::CLOEXEC;
         let opened = openat(cwd(), path, flags, Mode::empty());
@@ -44,7 +43,6 @@ impl Folder {
         Ok(Folder { file: file_of(file), path: path.to_owned() })
     }
 
-    /// Where it is.
     pub fn path(&self) -> &Path {
         &self.path
     }
@@ -66,7 +64,7 @@ impl Folder {
         error_of(&self.path.join(name), error)
     }
 
-    /// The folder of a name; None where there is nothing.
+    /// The folder with a name; None if there is none.
     pub fn child(&self, name: &str) -> Result<Option<Folder>> {
         let flags = OFlags::DIRECTORY | OFlags::RDONLY | OFlags::CLOEXEC | OFlags::NOFOLLOW;
         let path = self.path.join(name);
@@ -78,7 +76,7 @@ impl Folder {
         }
     }
 
-    /// The folder of a name, which is made where there is none.
+    /// The folder with a name, which is made if there is none.
     pub fn make(&self, name: &str) -> Result<Folder> {
         match mkdirat(&self.file, name, Mode::from_raw_mode(MODE_OF_FOLDERS)) {
             Err(error) if !is(error, ErrorKind::AlreadyExists) => {
@@ -92,7 +90,7 @@ impl Folder {
         }
     }
 
-    /// The same, of a folder that nobody else may read or write.
+    /// The same, for a folder that only the user may read and write. Fails if others may.
     pub fn make_private(&self, name: &str) -> Result<Folder> {
         let made = mkdirat(&self.file, name, Mode::RWXU);
         if let Some(error) = made.err().filter(|&error| !is(error, ErrorKind::AlreadyExists)) {
@@ -112,7 +110,7 @@ impl Folder {
         }
     }
 
-    /// The file of a name, opened to read; None where there is nothing. No pipe is waited for.
+    /// Opens a file to read; None if there is none. Does not wait for pipes.
     pub fn file(&self, name: &str) -> Result<Option<File>> {
         let flags = OFlags::RDONLY | OFlags::CLOEXEC | OFlags::NOFOLLOW | OFlags::NONBLOCK;
         let file = match openat(&self.file, name, flags, Mode::empty()) {
@@ -129,7 +127,7 @@ impl Folder {
         }
     }
 
-    /// The bytes of a file; None where there is nothing. More than so many are refused.
+    /// The bytes of a file; None if there is none. Fails if it has more than `most` bytes.
     pub fn bytes(&self, name: &str, most: u64) -> Result<Option<Vec<u8>>> {
         let Some(file) = self.file(name)? else { return Ok(None) };
         let mut bytes = Vec::new();
@@ -141,21 +139,21 @@ impl Folder {
         }
     }
 
-    /// A new file, opened to write.
+    /// Makes a file, and opens it to write.
     pub fn new_file(&self, name: &str) -> Result<File> {
         let flags = OFlags::WRONLY | OFlags::CREATE | OFlags::EXCL | OFlags::CLOEXEC;
         let opened = openat(&self.file, name, flags, Mode::from_raw_mode(MODE_OF_FILES));
         Ok(file_of(opened.map_err(|error| self.error(name, error.into()))?))
     }
 
-    /// Writes a new file, down to the disk.
+    /// Makes a file with some bytes, and syncs it to the disk.
     pub fn write(&self, name: &str, bytes: &[u8]) -> Result<()> {
         let mut file = self.new_file(name)?;
         let written = file.write_all(bytes).and_then(|()| file.sync_all());
         written.map_err(|error| self.error(name, error))
     }
 
-    /// Has the names in it on the disk, where the file system can say so of a folder.
+    /// Syncs the names in the folder to the disk, if the file system supports this for folders.
     pub fn sync(&self) -> Result<()> {
         match self.file.sync_all() {
             Err(error) if error.kind() == ErrorKind::InvalidInput => Ok(()),
@@ -163,14 +161,14 @@ impl Folder {
         }
     }
 
-    /// Says of a file that it was written now.
+    /// Sets the time of a file's last change to now.
     pub fn touch(&self, name: &str) -> Result<()> {
         let touched = self.file(name)?.map(|file| file.set_modified(SystemTime::now()));
         touched.transpose().map(drop).map_err(|error| self.error(name, error))
     }
 
-    /// Locks a file by which commands keep out of each other's way, for as long as it is open; waits
-    /// until nobody else does.
+    /// Locks a file, which is made if there is none, and waits until no other command does. The
+    /// lock lasts as long as the file is open.
     pub fn lock(&self, name: &str) -> Result<File> {
         let file = self.lock_file(name, OFlags::CREATE)?;
         flock(&file, FlockOperation::LockExclusive)
@@ -178,7 +176,7 @@ impl Folder {
         Ok(file)
     }
 
-    /// Whether somebody locks a file. Nobody does where there is none.
+    /// Whether a command has locked a file; false if there is no file.
     pub fn is_locked(&self, name: &str) -> Result<bool> {
         if self.file(name)?.is_none() {
             return Ok(false);
@@ -197,14 +195,14 @@ impl Folder {
         Ok(file_of(opened.map_err(|error| self.error(name, error.into()))?))
     }
 
-    /// Moves a file or folder to another folder, in place of a file or an empty folder.
+    /// Moves a file or folder to another folder; replaces a file or an empty folder there.
     pub fn move_to(&self, name: &str, to: &Folder, new: &str) -> Result<()> {
         let moved = renameat(&self.file, name, &to.file, new);
         moved.map_err(|error| to.error(new, error.into()))
     }
 
-    /// Has a folder and the one of its name in another folder change places, in one step where the
-    /// file system can do that.
+    /// Exchanges the folders with a name in two folders, in one step if the file system supports
+    /// this.
     pub fn exchange(&self, name: &str, other: &Folder) -> Result<()> {
         match renameat_with(&self.file, name, &other.file, name, RenameFlags::EXCHANGE) {
             Ok(()) => Ok(()),
@@ -216,8 +214,8 @@ impl Folder {
         }
     }
 
-    /// Gives a file of another folder the same name here; its bytes are copied where a file has one
-    /// name only.
+    /// Makes a hard link to a file of another folder under the same name, or copies it if that
+    /// fails.
     pub fn link(&self, name: &str, other: &Folder, most: u64) -> Result<()> {
         match linkat(&other.file, name, &self.file, name, AtFlags::empty()) {
             Ok(()) => Ok(()),
@@ -228,7 +226,8 @@ impl Folder {
         }
     }
 
-    /// The names in it, in order. One that is no text has a mark in it that no name here has.
+    /// The names in the folder, in order. In names that are not UTF-8, U+FFFD stands for the
+    /// invalid bytes.
     pub fn names(&self) -> Result<Vec<String>> {
         let read = || -> io::Result<Vec<String>> {
             let mut names = Vec::new();
@@ -247,13 +246,13 @@ impl Folder {
         read().map_err(|error| error_of(&self.path, error))
     }
 
-    /// Whether a name is that of a folder.
+    /// Whether a name is a folder's.
     pub fn is_folder(&self, name: &str) -> bool {
         let found = statat(&self.file, name, AtFlags::SYMLINK_NOFOLLOW);
         found.is_ok_and(|about| FileType::from_raw_mode(about.st_mode) == FileType::Directory)
     }
 
-    /// Removes a file, or a folder with all that is in it.
+    /// Removes a file, or a folder with all its contents.
     pub fn remove(&self, name: &str) -> Result<()> {
         self.remove_within(name, DEEPEST)
     }
@@ -277,7 +276,7 @@ impl Folder {
     }
 }
 
-/// What the crate opened, as std has it.
+/// Converts a descriptor of rustix to a file of std.
 fn file_of(opened: rustix::io::OwnedFd) -> File {
     OwnedFd::from(opened).into()
 }

@@ -10,14 +10,14 @@ use std::fmt::Write as _;
 use std::fs::File;
 use std::os::unix::fs::FileExt as _;
 
-/// The folder of all build-ids.
+/// The folder of all builds.
 pub const BUILD_IDS: &str = "buildid";
 const DIGITS: usize = 64;
-/// The most bytes of a line.
+/// The size limit of a line in bytes.
 const LONGEST_LINE: usize = 512;
 const BETWEEN: &str = "  ";
 
-/// A SHA-256 sum, as its digits.
+/// A SHA-256 sum in hexadecimal.
 pub type Sum = String;
 
 /// The sum of some bytes.
@@ -28,10 +28,10 @@ pub fn sum_of(bytes: &[u8]) -> Sum {
     })
 }
 
-/// The sums of the files of a build-id, by their names in its folder.
+/// The sums of a build's files, by their names in its folder.
 pub type Sums = BTreeMap<String, Sum>;
 
-/// A line: the sum of a file, the build-id, and the name in its folder.
+/// Parses a line: the sum of a file, the build-id, and the name in the build's folder.
 fn parse_line(line: &str) -> Option<(Sum, BuildId, &str)> {
     let (sum, path) = line.split_once(BETWEEN)?;
     let is_sum = sum.len() == DIGITS && sum.bytes().all(|byte| byte.is_ascii_hexdigit());
@@ -40,15 +40,15 @@ fn parse_line(line: &str) -> Option<(Sum, BuildId, &str)> {
     Some((sum.to_owned(), BuildId::of_digits(digits).filter(|_| is_sum)?, name))
 }
 
-/// The lines of some sums.
+/// Appends the lines for the files of a build.
 fn write(made: &mut String, id: &BuildId, sums: &Sums) {
     for (name, sum) in sums {
         let _ = writeln!(made, "{sum}{BETWEEN}{BUILD_IDS}/{id}/{name}");
     }
 }
 
-/// An index with the lines of some build-ids in place of those that it had; none, where they have no
-/// sums.
+/// The index with new lines for some builds in place of their old ones; a build without sums gets
+/// none.
 pub fn with_changes(index: &str, changes: &BTreeMap<BuildId, Sums>) -> Result<String> {
     judge_end(index)?;
     let mut made = String::with_capacity(index.len());
@@ -85,8 +85,8 @@ pub fn sums(index: &str) -> Result<BTreeMap<BuildId, Sums>> {
     Ok(made)
 }
 
-/// The sum of a file of a build, looked for in the file of an index, of which a few lines are read:
-/// it may be long.
+/// The sum of a build's file; None if the index does not have it. Reads only a few lines, by binary
+/// search, since an index may be long.
 pub fn sum_in(index: &File, id: &BuildId, name: &str) -> Result<Option<Sum>> {
     let wanted = format!("{BUILD_IDS}/{id}/{name}");
     let (mut low, mut high) = (0, index.metadata()?.len());
@@ -106,7 +106,8 @@ pub fn sum_in(index: &File, id: &BuildId, name: &str) -> Result<Option<Sum>> {
     Ok(None)
 }
 
-/// The first line that begins at or behind an offset and in front of another, and where it begins.
+/// The first line that begins at or after `offset` and before `end`, and where it begins; None if
+/// there is none.
 fn line_from(index: &File, offset: u64, end: u64) -> Result<Option<(u64, String)>> {
     let mut bytes = [0; 2 * LONGEST_LINE];
     let from = offset.saturating_sub(1);

@@ -1,4 +1,4 @@
-//! The files that are added: those of a command line, of folders and of packages, by their builds.
+//! The files to add to a store, from the command line, folders and packages, grouped by build.
 
 use super::build_id::BuildId;
 use crate::output;
@@ -16,42 +16,43 @@ use std::fs;
 use std::io;
 use std::path::{Path, PathBuf};
 
-/// Where debug files are, below a folder or in a package; and where they have a build-id for a name.
+/// The path of debug files in a folder or package, and the folder in it whose files are named by
+/// build-id.
 const DEBUG: &str = "usr/lib/debug";
 const BY_BUILD_ID: &str = ".build-id";
-/// How deep folders are looked into.
+/// The depth to which folders are searched.
 const DEEPEST: usize = 64;
-/// Sections with types: of debug information, and of the forms that are read beside it.
+/// Sections with types: debug information, and the other forms that are read.
 const TYPES: [&str; 5] = [".debug_info", ".zdebug_info", ".SUNW_ctf", ".ctf", ".BTF"];
 
 /// A file of a build.
 #[derive(Clone, Debug, PartialEq, Eq, PartialOrd, Ord)]
 pub struct BuildFile {
-    /// What a user knows it by: of a file of a package, the package is in front.
+    /// Its path as the user knows it; for a file of a package, the package's path comes first.
     pub shown: PathBuf,
-    /// Where it is.
+    /// Its real path.
     pub place: PathBuf,
-    /// What a store calls it.
+    /// Its name in a store.
     pub name: String,
-    /// Its build.
     pub id: BuildId,
-    /// Whether its code is in it.
+    /// Whether it contains the code.
     pub has_code: bool,
-    /// Whether its types are in it.
+    /// Whether it contains the types.
     pub has_types: bool,
 }
 
 /// The files of a build.
 #[derive(Debug)]
 pub struct Group {
-    /// The one with its types, or that names such a one elsewhere.
+    /// The file with the types, or with a link to a debug file that has them.
     pub types: BuildFile,
-    /// The one with its code.
+    /// The file with the code, if there is one.
     pub program: Option<BuildFile>,
 }
 
 impl Group {
-    /// That of some files: a debug file comes before a program that has types too.
+    /// The group of some files. For the types, a debug file is preferred to a program that has them
+    /// too.
     fn of(mut listed: Vec<BuildFile>) -> Option<Group> {
         listed.sort_unstable();
         let is_better = |one: &&BuildFile| (!one.has_types, one.has_code);
@@ -63,23 +64,22 @@ impl Group {
         Some(Group { types, program })
     }
 
-    /// What a store calls the build: the name of its program, if that is there.
+    /// The name of the build in a store: that of its program, if there is one.
     pub fn name(&self) -> &str {
         &self.program.as_ref().unwrap_or(&self.types).name
     }
 }
 
-/// What is not added, and why.
+/// A file that is not added, and why.
 #[derive(Debug, PartialEq, Eq, PartialOrd, Ord)]
 pub struct Refusal {
-    /// The file.
     pub path: PathBuf,
-    /// Why.
     pub why: String,
 }
 
 impl Refusal {
-    /// That of a file at some place, by what a user knows it by. The place may stand in front.
+    /// The refusal of the file at `place`, which the user knows as `path`. If the reason begins
+    /// with the place, this is left out.
     fn new(place: &Path, path: PathBuf, why: impl ToString) -> Refusal {
         let why = why.to_string();
         let front = format!("{}: ", place.display());
@@ -87,7 +87,7 @@ impl Refusal {
         Refusal { why: why.replace(&display_path(place), &display_path(&path)), path }
     }
 
-    /// That of a file that was found.
+    /// The refusal of a file that was found.
     pub fn of(found: &BuildFile, why: impl ToString) -> Refusal {
         Refusal::new(&found.place, found.shown.clone(), why)
     }
@@ -96,18 +96,17 @@ impl Refusal {
 /// All files that were found.
 #[derive(Default)]
 pub struct Inputs {
-    /// Those of each build.
+    /// The files of each build.
     pub groups: BTreeMap<BuildId, Group>,
-    /// What is none.
     pub refusals: Vec<Refusal>,
-    /// Where debug files are among them.
+    /// The folders of debug files among them.
     pub folders: Vec<PathBuf>,
-    /// What packages were unpacked into, for as long as their files are read, and the packages.
+    /// The folders of unpacked packages, which exist as long as this does, and the packages.
     unpacked: Vec<(output::Folder, PathBuf)>,
 }
 
 impl Inputs {
-    /// Those of some paths.
+    /// Searches some paths.
     pub fn of(paths: &[PathBuf]) -> Inputs {
         let mut made = Inputs::default();
         let mut builds: BTreeMap<BuildId, Vec<BuildFile>> = BTreeMap::new();
@@ -125,7 +124,7 @@ impl Inputs {
         made
     }
 
-    /// What is told of files, with a package in place of where it was unpacked.
+    /// A message with the path of a package in place of the folder into which it was unpacked.
     pub fn with_package_name(&self, told: &str) -> String {
         let named = |told: String, (folder, package): &(output::Folder, PathBuf)| {
             told.replace(&display_path(folder.path()), &display_path(package))
@@ -136,7 +135,7 @@ impl Inputs {
 
 /// What was found at one path.
 struct Scan {
-    /// What is told of files below the path, in place of where they are.
+    /// The path that messages show in place of `root`.
     front: PathBuf,
     root: PathBuf,
     found: Vec<BuildFile>,
@@ -176,7 +175,7 @@ impl Scan {
         self.refusals.push(Refusal::new(place, self.shown_path(place), why));
     }
 
-    /// What a user knows a place by.
+    /// The path of a place as the user knows it.
     fn shown_path(&self, place: &Path) -> PathBuf {
         match place.strip_prefix(&self.root) {
             Ok(rest) if rest.as_os_str().is_empty() => self.front.clone(),
@@ -185,7 +184,7 @@ impl Scan {
         }
     }
 
-    /// Takes the programs of a package.
+    /// Adds the programs of a package.
     fn package(&mut self, path: &Path, format: Format) -> Outcome<()> {
         let unpacked = output::Folder::new()?;
         self.root = unpacked.path().to_owned();
@@ -201,7 +200,8 @@ impl Scan {
         Ok(())
     }
 
-    /// Takes the programs below a folder. Links lead to files that are met by themselves.
+    /// Adds the programs below a folder. Links are skipped, since they lead to files that are found
+    /// anyway.
     fn folder(&mut self, folder: &Path, depth: usize) {
         let read = fs::read_dir(folder).and_then(|entries| entries.collect::<io::Result<Vec<_>>>());
         let mut entries: Vec<fs::DirEntry> = match read {
@@ -219,7 +219,7 @@ impl Scan {
         }
     }
 
-    /// Takes a file, if it is a program.
+    /// Adds a file, if it is a program.
     fn file(&mut self, path: &Path) {
         let is_program = Image::open_linked(path).is_none_or(|image| image.is_elf());
         if !is_program {
@@ -236,13 +236,13 @@ fn text(name: &OsStr) -> String {
     name.to_string_lossy().into_owned()
 }
 
-/// Whether a file has a build-id for a name, as debug files do in some packages.
+/// Whether a file is named by its build-id, as debug files in some packages are.
 fn is_by_build_id(path: &Path) -> bool {
     let folder = path.parent().and_then(Path::parent).and_then(Path::file_name);
     folder.is_some_and(|name| name == BY_BUILD_ID)
 }
 
-/// The file of a build at some place; None of one with what other debug files share.
+/// Examines a file; None if it has only what debug files share with each other.
 fn debug_file_at(place: &Path, shown: &Path) -> Result<Option<BuildFile>> {
     let image = Image::open(place)?;
     if !image.is_elf() {

@@ -1,4 +1,4 @@
-//! `ctfd-store list` and `stats`: what a store has.
+//! `ctfd-store list` and `stats`: the contents of a store.
 
 use super::about::About;
 use super::build_id::BuildId;
@@ -13,10 +13,10 @@ use ctfd_read::error::Result;
 use std::io::Write as _;
 use std::path::Path;
 
-/// The longest text about a build.
+/// The size limit of the record of a build.
 const LONGEST_ABOUT: u64 = 1 << 16;
 
-/// A build with what is known of it.
+/// A build, with its record and the sizes of its files in bytes.
 struct Build {
     id: BuildId,
     about: About,
@@ -67,7 +67,7 @@ fn length(folder: &Folder, name: &str) -> Result<u64> {
     Ok(folder.file(name)?.map(|file| file.metadata()).transpose()?.map_or(0, |about| about.len()))
 }
 
-/// The builds of a store, in order, each read as it is asked for.
+/// The builds of a store, in order, each read when it is needed.
 fn builds(store: &Store) -> Result<impl Iterator<Item = Result<Build>> + '_> {
     let read = |id: BuildId| {
         let folder = store.build(&id).transpose()?;
@@ -94,7 +94,7 @@ pub fn list(path: &Path, is_json: bool) -> Outcome<u8> {
     Ok(0)
 }
 
-/// Prints how much a store has.
+/// Prints the totals of a store.
 pub fn stats(path: &Path) -> Outcome<u8> {
     let store = Store::open(path)?;
     let (mut count, mut types, mut symbols) = (0_u64, 0, 0);

@@ -1,4 +1,4 @@
-//! `ctfd-store missing`: the builds that clients have asked a server for in vain, as its log tells.
+//! `ctfd-store missing`: the builds that clients asked a server for and did not get, from its log.
 
 use super::build_id::BuildId;
 use super::builds::Store;
@@ -10,14 +10,14 @@ use std::collections::HashMap;
 use std::io::{self, BufRead, Read as _, Write as _};
 use std::path::Path;
 
-/// How much of a line is read, and how many builds are counted: anybody may ask for anything.
+/// How much of a line is read, and how many builds are counted, since anybody may ask for anything.
 const LONGEST_LINE: u64 = 1 << 16;
 const MOST: usize = 1 << 20;
-/// The status of a file that is not there.
+/// The HTTP status for a file that does not exist.
 const ABSENT: &[u8] = b"404";
 
-/// Prints the builds that a log has as absent and a store has not, those first that are asked for
-/// most.
+/// Prints the builds that a log reports as missing and the store does not have, beginning with
+/// those that were asked for most often.
 pub fn run(path: &Path) -> Outcome<u8> {
     let store = Store::open(path)?;
     let counts = counts(io::stdin().lock())
@@ -38,7 +38,7 @@ pub fn run(path: &Path) -> Outcome<u8> {
     Ok(0)
 }
 
-/// How often each build was asked for in vain.
+/// How often a log reports each build as missing.
 fn counts(mut log: impl BufRead) -> io::Result<HashMap<BuildId, u64>> {
     let mut made = HashMap::new();
     let mut line = Vec::new();
@@ -55,7 +55,7 @@ fn counts(mut log: impl BufRead) -> io::Result<HashMap<BuildId, u64>> {
     }
 }
 
-/// The build that a line of a log says was asked for and is absent.
+/// The build that a line of a log reports as missing, if there is one.
 fn absent(line: &[u8]) -> Option<BuildId> {
     let mut words = line.split(|byte| byte.is_ascii_whitespace() || *byte == b'"');
     let id = words.by_ref().find_map(|word| {
@@ -64,7 +64,7 @@ fn absent(line: &[u8]) -> Option<BuildId> {
         let (digits, _) = rest.strip_prefix('/')?.split_once('/')?;
         BuildId::of_digits(digits)
     })?;
-    // The version of HTTP may stand between a path and its status.
+    // The version of HTTP may be between a path and its status.
     words.filter(|word| !word.is_empty()).take(2).any(|word| word == ABSENT).then_some(id)
 }
 

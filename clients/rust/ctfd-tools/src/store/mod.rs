@@ -32,7 +32,7 @@ use options::{Words, NAME};
 use std::ffi::OsString;
 use std::process::ExitCode;
 
-/// The command; its exit status.
+/// Runs the command, and returns its exit status.
 pub fn main(words: Vec<OsString>) -> ExitCode {
     let words = Words::parse(words);
     if standard::is_output_closed() {

@@ -1,4 +1,4 @@
-//! The words of `ctfd-store`: what is to be done, and with which store.
+//! The command line of `ctfd-store`.
 
 use crate::arguments::{self, file, flag};
 use crate::wrong_words;
@@ -12,58 +12,58 @@ const ABOUT: &str = "\
 Keeps the types of programs by their build-ids, in a folder that any web server serves to gdb, lldb,
 elfutils and all that speak debuginfod's protocol.";
 
-/// What is to be done.
+/// The values of the command line: what to do, and with which store.
 pub enum Words {
-    /// Builds are put into a store.
+    /// Adds builds to a store.
     Add(Adding),
-    /// All files of a store are judged.
+    /// Checks all files of a store.
     Check(PathBuf),
-    /// Stores are asked for the types of a build.
+    /// Asks stores for the types of a build.
     Fetch(Fetching),
-    /// Its builds are listed, as JSON or for a reader.
+    /// Lists the builds of a store, as JSON if the flag is set.
     List(PathBuf, bool),
-    /// What a log says is not there is listed.
+    /// Lists the missing builds of a server's log.
     Missing(PathBuf),
-    /// Builds are taken out of a store.
+    /// Removes builds from a store.
     Remove(Removing),
-    /// How much is in a store is told.
+    /// Prints the totals of a store.
     Stats(PathBuf),
 }
 
-/// What is added.
+/// What to add.
 pub struct Adding {
     /// The store.
     pub store: PathBuf,
     /// Programs, debug files, folders and packages.
     pub files: Vec<PathBuf>,
-    /// Whether programs are kept beside their types.
+    /// Whether to keep programs besides their types.
     pub has_programs: bool,
     /// Folders of debug files.
     pub folders: Vec<PathBuf>,
 }
 
-/// What is fetched.
+/// What to fetch.
 pub struct Fetching {
     /// A build-id, or a program that has one.
     pub build: PathBuf,
-    /// Where its types go.
+    /// The file to write.
     pub output: PathBuf,
-    /// The stores that are asked, in place of those of the environment.
+    /// The stores to ask, in place of those of the environment.
     pub stores: Option<String>,
 }
 
-/// What is removed.
+/// What to remove.
 pub struct Removing {
     /// The store.
     pub store: PathBuf,
     /// Build-ids.
     pub ids: Vec<String>,
-    /// Those that were last added more than so many days ago, too.
+    /// Also builds that were last added more than so many days ago.
     pub older: Option<u64>,
 }
 
 impl Words {
-    /// Those of a command line. What is wrong with it is told, and ends the process.
+    /// Parses the command line. A wrong one ends the process with a message.
     pub fn parse(words: Vec<OsString>) -> Words {
         let matches = wrong_words::parse_words(options(), words);
         let (word, matches) = matches.subcommand().unwrap_or(("", &matches));
@@ -120,7 +120,7 @@ fn options() -> Command {
     ])
 }
 
-/// A word for what is to be done with a store.
+/// A subcommand that works on a store.
 fn action(name: &'static str, about: &'static str) -> Command {
     let store = Arg::new("DIR").required(true).value_parser(value_parser!(PathBuf));
     Command::new(name).about(about).arg(store.help("the store, a folder"))

@@ -1,4 +1,4 @@
-//! `ctfd-store remove`: takes builds out of a store.
+//! `ctfd-store remove`: removes builds from a store.
 
 use super::build_id::BuildId;
 use super::builds::{age_of, Store};
@@ -10,8 +10,7 @@ use crate::types::output::Output;
 use ctfd_read::error::Result;
 use std::io::Write as _;
 
-/// Removes the builds that the words name. One that is not there is refused, and nothing is removed
-/// then.
+/// Removes the builds of the command line. If one does not exist, nothing is removed.
 pub fn run(words: &Removing) -> Outcome<u8> {
     let store = Store::open_to_write(&words.store)?;
     let mut ids = Vec::new();
@@ -32,7 +31,7 @@ pub fn run(words: &Removing) -> Outcome<u8> {
     Ok(0)
 }
 
-/// The build of a store that a word names.
+/// The build of a store that a word names, if there is one.
 fn build_of(store: &Store, word: &str) -> Result<Option<BuildId>> {
     let Some(id) = BuildId::of_digits(&word.to_lowercase()) else { return Ok(None) };
     Ok(store.build(&id)?.map(|_| id))

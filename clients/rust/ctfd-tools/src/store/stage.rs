@@ -1,5 +1,5 @@
-//! A folder in a store in which a command makes builds whole, before each is put where it is found
-//! in one step.
+//! Stages: folders in a store in which commands write builds, before each complete build is moved
+//! into the store in one step.
 
 use super::build_id::BuildId;
 use super::builds::{sums_of, Store, INDEX, LONGEST_FILE};
@@ -12,30 +12,30 @@ use std::collections::BTreeMap;
 use std::fs::File;
 use std::path::PathBuf;
 
-/// How the names of such folders begin.
+/// The prefix of a stage's name.
 pub const STAGES: &str = ".ctfd-";
-/// The file in one that its command locks for as long as it runs.
+/// The file in a stage that its command locks as long as it runs.
 const OWNER: &str = "owner";
-/// How many builds are put at once: so many, and a share of those that are there, since the index is
-/// written anew each time.
+/// How many builds are moved at once: at least this many, and more for a large store, whose index
+/// is written again each time.
 const FEWEST_AT_ONCE: usize = 64;
 const SHARE: usize = 16;
-/// Bytes of a line of the index, about, and lines of a build.
+/// The approximate size of a line of the index, and the number of lines of a build.
 const LINE: usize = 140;
 const LINES: usize = 5;
 
-/// What became of a build.
+/// What happened to a build.
 #[derive(Clone, Copy, Debug, PartialEq, Eq)]
 pub enum Change {
-    /// It was not there.
+    /// It is new.
     Added,
-    /// Others were there.
+    /// It was different.
     Replaced,
-    /// The same was there.
+    /// It was the same.
     None,
 }
 
-/// The folder of one command. It goes with what is in it.
+/// The stage of one command, removed with its contents when dropped.
 pub struct Stage<'s> {
     store: &'s Store,
     folder: Folder,
@@ -44,7 +44,7 @@ pub struct Stage<'s> {
 }
 
 impl<'s> Stage<'s> {
-    /// A new one. What commands have left that were ended goes, and the index is mended.
+    /// Makes a stage. Removes the stages of commands that were ended, and mends the index.
     pub fn new(store: &'s Store) -> Result<Stage<'s>> {
         let _lock = store.lock()?;
         let name = free_name(store);
@@ -59,8 +59,8 @@ impl<'s> Stage<'s> {
         Ok(stage)
     }
 
-    /// Removes what other commands have left that were ended. One may have put builds that the index
-    /// does not have yet, or not as they are.
+    /// Removes the stages of commands that were ended. These may have moved builds that are missing
+    /// or out of date in the index.
     fn take_over(&self) -> Result<()> {
         let left = abandoned_folders(self.store)?;
         let mut doubted = Vec::new();
@@ -73,7 +73,7 @@ impl<'s> Stage<'s> {
         left.iter().try_for_each(|name| self.store.root().remove(name))
     }
 
-    /// Writes the files of a build here, whole and down to the disk; their sums.
+    /// Writes the files of a build to the stage, synced to the disk, and returns their sums.
     pub fn write(&self, entry: &Entry) -> Result<Sums> {
         let _step = Step::begin();
         let folder = self.folder.make(entry.id.digits())?;
@@ -91,15 +91,14 @@ impl<'s> Stage<'s> {
         Ok(sums)
     }
 
-    /// How many builds are to be put at once.
+    /// How many builds to move at once.
     pub fn count_at_once(&self) -> usize {
         let about = self.store.root().file(INDEX).ok().flatten().map(|file| file.metadata());
         let length = about.and_then(|about| about.ok()).map_or(0, |about| about.len());
         FEWEST_AT_ONCE + length as usize / (LINE * LINES * SHARE)
     }
 
-    /// Puts builds that were written here where they are found, and into the index; what became of
-    /// each.
+    /// Moves builds from the stage into the store and its index. Returns what happened to each.
     pub fn put(&self, written: BTreeMap<BuildId, Sums>) -> Result<Vec<Change>> {
         if written.is_empty() {
             return Ok(Vec::new());
@@ -118,12 +117,13 @@ impl<'s> Stage<'s> {
         if told.iter().any(|change| *change != Change::None) {
             self.store.change_index(&self.folder, &changes)?;
         }
-        // Until now they say of which builds the index may tell something else.
+        // Until here these folders mark builds that the index may not have as they are.
         changes.keys().try_for_each(|id| self.folder.remove(id.digits()))?;
         Ok(told)
     }
 
-    /// Puts a build. One that is there comes here in its place; a program that it had stays.
+    /// Moves a build into the store, in exchange for an older one; a program that the older one had
+    /// is kept.
     fn put_build(
         &self,
         builds: &Folder,
@@ -152,7 +152,7 @@ impl<'s> Stage<'s> {
         Ok(if is_same && known == Some(sums) { Change::None } else { Change::Replaced })
     }
 
-    /// Takes builds out of the store; how many were there.
+    /// Removes builds from the store, and returns how many there were.
     pub fn take(&self, ids: &[BuildId]) -> Result<usize> {
         let _lock = self.store.lock()?;
         let _step = Step::begin();
@@ -178,14 +178,14 @@ impl Drop for Stage<'_> {
     }
 }
 
-/// A name that no folder of a command has.
+/// A name for a new stage.
 fn free_name(store: &Store) -> String {
     let process = std::process::id();
     let mut names = (0..u32::MAX).map(|turn| format!("{STAGES}{process}-{turn}"));
     names.find(|name| !store.root().is_folder(name)).unwrap_or_default()
 }
 
-/// The folders of commands that run no more.
+/// The stages of commands that no longer run.
 pub fn abandoned_folders(store: &Store) -> Result<Vec<String>> {
     let mut made = Vec::new();
     for name in store.root().names()?.into_iter().filter(|name| name.starts_with(STAGES)) {

@@ -1,7 +1,7 @@
-//! The types of a dictionary and of its parent, each asked of the library once.
+//! The types of a dictionary and its parent, with a cache of the library's answers.
 //!
-//! What a type is, its size, what it stands for and where a value of it lies are the library's
-//! answers; nothing here works any of that out of bytes.
+//! Kinds, sizes, resolved types and offsets come from the library; nothing here computes them from
+//! bytes.
 
 pub use super::record::{
     is_qualifier, is_renaming, Part, Record, Signature, Span, UnderlyingType, Value,
@@ -12,35 +12,35 @@ use ctfd::{Dictionary, Kind, MemberRow, Model, Refusal, Type};
 use std::cell::{Cell, OnceCell, RefCell};
 use std::collections::VecDeque;
 
-/// The number from which on a child's types are its own.
+/// A child's own types have greater numbers than this.
 const CHILD: Number = 0x8000;
-/// How many members are asked for at once, at first.
+/// The number of members that are first asked for at once.
 const ROWS: usize = 64;
 
-/// What is told of a symbol.
+/// The type of a symbol.
 pub enum SymbolAnswer {
     /// What a function takes and returns.
     Function(Signature),
-    /// The type of an object; 0 is none.
+    /// The type of an object; 0 if there is none.
     Object(Number),
 }
 
 /// The types of a program by their numbers.
 pub struct Catalog<'d> {
     volumes: Volumes<'d>,
-    /// Those of each dictionary, by their numbers there, from the least that it has.
+    /// The records of each dictionary by their numbers there, beginning with its least number.
     records: Vec<Vec<OnceCell<Box<Record<'d>>>>>,
     rows: RefCell<Vec<MemberRow>>,
     lacks: Cell<bool>,
 }
 
 impl<'d> Catalog<'d> {
-    /// Those of a dictionary, over a parent where it has one.
+    /// The catalog of a dictionary, and of its parent if there is one.
     pub fn new(volume: Volume<'d>, parent: Option<Lists<'d>>) -> Catalog<'d> {
         Catalog::of(Volumes::alone(volume, parent))
     }
 
-    /// Those of a program in parts: of a parent and all its children.
+    /// The catalog of a program in parts: a parent and all its children.
     pub fn in_parts(parent: Volume<'d>, children: Vec<Volume<'d>>) -> Catalog<'d> {
         Catalog::of(Volumes::in_parts(parent, children))
     }
@@ -59,7 +59,7 @@ impl<'d> Catalog<'d> {
         Catalog { volumes, records, rows, lacks: Cell::new(false) }
     }
 
-    /// Its dictionaries: one, or the parent and then its children.
+    /// The dictionaries: one, or the parent followed by its children.
     pub fn volumes(&self) -> &[Volume<'d>] {
         self.volumes.all()
     }
@@ -68,33 +68,33 @@ impl<'d> Catalog<'d> {
         self.volumes.first().types
     }
 
-    /// Whether it is a dictionary that is a child: its parent may be there or not.
+    /// Whether it is a single child, whose parent may be missing.
     pub fn is_child(&self) -> bool {
         self.first().is_child()
     }
 
-    /// What a child calls its parent.
+    /// The name by which a child refers to its parent.
     pub fn parent_name(&self) -> ctfd::Name {
         self.first().parent_name()
     }
 
-    /// The numbers of its own types, in order: those of all parts.
+    /// The numbers of its own types, in order; for a program in parts, those of all parts.
     pub fn own_numbers(&self) -> impl DoubleEndedIterator<Item = Number> + use<'_, 'd> {
         (0..self.volumes().len()).flat_map(|place| self.volumes.own_numbers_at(place))
     }
 
-    /// Whether a type is one of its own, and not of its parent.
+    /// Whether a type is its own, not its parent's.
     pub fn is_own(&self, number: Number) -> bool {
         !self.is_child() || number > CHILD
     }
 
-    /// The numbers of all types: those of its parent, and its own.
+    /// The numbers of all types: those of its parent, followed by its own.
     pub fn all(&self) -> impl Iterator<Item = Number> + use<'_, 'd> {
         let parents = self.first().parent_count().unwrap_or(0) as Number;
         (1..=parents).chain(self.own_numbers())
     }
 
-    /// Whether a type was asked for that is one of a parent which is not there.
+    /// Whether a type of a missing parent was asked for.
     pub fn lacks_parent(&self) -> bool {
         self.lacks.get()
     }
@@ -104,22 +104,22 @@ impl<'d> Catalog<'d> {
         self.first().model() == Model::Ilp32
     }
 
-    /// The type of a name as the library finds it, in the first part that has it.
+    /// The type that the library finds for a name, in the first part that has one.
     pub fn find(&self, name: &[u8]) -> Result<Number, Refusal> {
         self.volumes.find(name)
     }
 
-    /// What is said of the first symbol of a name.
+    /// The type of the first symbol with a name.
     pub fn symbol(&self, name: &[u8]) -> Result<SymbolAnswer, Refusal> {
         self.volumes.symbol(name).map(|found| self.symbol_type(found))
     }
 
-    /// What is said of a symbol by its number among those of the file; None where nothing is.
+    /// The type of a symbol, by its number in the file; None if it has none.
     pub fn told_of(&self, symbol: u32) -> Option<SymbolAnswer> {
         self.volumes.entry(symbol).map(|found| self.symbol_type(found))
     }
 
-    /// What one part says of a symbol by its number there.
+    /// The type of a symbol, by its number in a part; None if it has none.
     pub fn told_in(&self, place: usize, symbol: u32) -> Option<SymbolAnswer> {
         self.volumes.entry_in(place, symbol).map(|found| self.symbol_type(found))
     }
@@ -139,7 +139,7 @@ impl<'d> Catalog<'d> {
         of.map(|of| self.volumes.number_of(place, of)).collect()
     }
 
-    /// A type as the library has it; None for 0, and for one of a parent that is not there.
+    /// A type of the library; None for 0, and for types of a missing parent.
     pub fn get(&self, number: Number) -> Option<Type<'d>> {
         if number == 0 {
             return None;
@@ -151,7 +151,7 @@ impl<'d> Catalog<'d> {
         found.ok()
     }
 
-    /// The record of a number: unknown for 0, and for a parent's that is not there.
+    /// The record of a type; that of an unknown type for 0, and for types of a missing parent.
     pub fn record(&self, number: Number) -> &Record<'d> {
         let (place, own) = Volumes::place(number);
         let at = usize::from(own).checked_sub(usize::from(first_of(place)));
@@ -184,18 +184,17 @@ impl<'d> Catalog<'d> {
         made
     }
 
-    /// Its kind.
     pub fn kind(&self, number: Number) -> Kind {
         self.record(number).kind
     }
 
-    /// The bytes of a value; None where it has none.
+    /// The size of a value in bytes; None if it has none.
     pub fn size(&self, number: Number) -> Option<u64> {
         let ask = || self.get(number).and_then(|of| of.size().ok());
         *self.record(number).size.get_or_init(ask)
     }
 
-    /// Without typedefs and qualifiers.
+    /// A type without typedefs and qualifiers.
     pub fn resolve(&self, number: Number) -> Number {
         let record = self.record(number);
         if !is_renaming(record.kind) {
@@ -204,13 +203,13 @@ impl<'d> Catalog<'d> {
         *record.resolved.get_or_init(|| match self.get(number).map(Type::resolve) {
             Some(Ok(end)) => self.volumes.number_of(Volumes::place(number).0, end),
             _ => {
-                self.lacks.set(true); // it ends at a type of a parent that is not there
+                self.lacks.set(true); // it ends at a type of a missing parent
                 self.end_of(number)
             }
         })
     }
 
-    /// Where typedefs and qualifiers end that lead to a type which is not there.
+    /// The end of typedefs and qualifiers that lead to a missing type.
     fn end_of(&self, mut number: Number) -> Number {
         while is_renaming(self.kind(number)) {
             number = self.record(number).of;
@@ -218,7 +217,7 @@ impl<'d> Catalog<'d> {
         number
     }
 
-    /// Without typedefs, qualifiers and arrays.
+    /// A type without typedefs, qualifiers and arrays.
     pub fn underlying(&self, number: Number) -> UnderlyingType {
         *self.record(number).reached.get_or_init(|| {
             let mut made =
@@ -233,7 +232,7 @@ impl<'d> Catalog<'d> {
         })
     }
 
-    /// Where in its storage a value lies.
+    /// Where the bits of a value are in its storage.
     pub fn span(&self, number: Number) -> Span {
         let end = self.resolve(number);
         *self.record(end).span.get_or_init(|| {
@@ -253,7 +252,7 @@ impl<'d> Catalog<'d> {
         })
     }
 
-    /// The members of a struct or union, in order; none of other types.
+    /// The members of a struct or union, in order; none for other types.
     pub fn members(&self, number: Number) -> &[Part<'d>] {
         self.record(number).members.get_or_init(|| {
             let is_aggregate = self.record(number).is_aggregate();
@@ -277,8 +276,8 @@ impl<'d> Catalog<'d> {
         })
     }
 
-    /// Where the first member of a name lies, in bits, and its type, as the library finds it; of
-    /// those in members without a name, where none of its own has it.
+    /// The offset in bits and the type of the first member with a name, as the library finds it; if
+    /// there is none, that of a member of an unnamed member.
     pub fn field(&self, number: Number, name: &[u8]) -> Option<(u64, Number)> {
         let mut todo = VecDeque::from([(0, number)]);
         while let Some((start, holder)) = todo.pop_front() {
@@ -292,7 +291,7 @@ impl<'d> Catalog<'d> {
         None
     }
 
-    /// The enumerators of an enum, in order.
+    /// The enumerators of an enum, in order; none for other types.
     pub fn values(&self, number: Number) -> &[Value] {
         self.record(number).values.get_or_init(|| {
             let listed = self.get(number).and_then(|of| of.enumerators().ok());
@@ -302,7 +301,7 @@ impl<'d> Catalog<'d> {
         })
     }
 
-    /// The type of an array's index; 0 of other types.
+    /// The type of an array's index; 0 for other types.
     pub fn index(&self, number: Number) -> Number {
         let parts = self.get(number).and_then(|of| of.array().ok());
         let index = parts.and_then(|array| array.index);
@@ -327,7 +326,7 @@ impl<'d> Catalog<'d> {
     }
 }
 
-/// The number of which the first record of the dictionary at a place is.
+/// The number of the first record of the dictionary at an index.
 fn first_of(place: usize) -> u16 {
     if place == 0 {
         0

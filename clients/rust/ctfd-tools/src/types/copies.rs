@@ -1,8 +1,8 @@
-//! Which types of the children of a program in parts stand in an earlier child too: what several
-//! need, and the parent has no room for, is written into each.
+//! Types of a program in parts that occur in several children. A type that several children need,
+//! and for which the parent has no room, is written to each of them.
 //!
-//! Types are put into classes by what they say themselves, and then, again and again, by the classes
-//! of the types that they name. Where no class is divided any more, those of one class are the same.
+//! Types are divided into classes by their own properties, and then repeatedly by the classes of
+//! the types that they refer to. When no class is divided any more, the types of a class are equal.
 
 use super::crowded::has_crowded_names;
 use super::record::is_renaming;
@@ -11,17 +11,17 @@ use ctfd::{Kind, MemberRow, Type};
 use std::collections::HashMap;
 use std::hash::Hash;
 
-/// How many references are followed in all. A program's types need some ten rounds; a chain made to
-/// be slow has its types listed more than once.
+/// The most references that are followed in all. The types of a program need about ten rounds. If a
+/// chain made to be slow needs more, copies are listed too.
 const MOST_STEPS: usize = 100_000_000;
 
-/// A type of a child: what it says itself is its first class, and what it names.
+/// A type of a child, and the types that it refers to.
 struct Shape {
     number: Number,
     names: Vec<Number>,
 }
 
-/// Of each type that stands in an earlier child too, the number there.
+/// For each type that occurs in an earlier child too, its number there.
 pub fn originals(volumes: &Volumes<'_>) -> HashMap<Number, Number> {
     let children = &volumes.all()[1..];
     if children.iter().any(has_crowded_names) {
@@ -51,11 +51,12 @@ pub fn originals(volumes: &Volumes<'_>) -> HashMap<Number, Number> {
     found
 }
 
-/// Divides classes until no two types of one name types of others; whether that came to an end.
+/// Divides classes until all types of a class refer to types of the same classes. Returns false if
+/// that takes too long.
 fn divide(shapes: &[Shape], classes: &mut Vec<u32>, mut count: usize) -> bool {
     let places: HashMap<Number, usize> =
         shapes.iter().enumerate().map(|(place, one)| (one.number, place)).collect();
-    // The types of a child by their places here; the parent's stand for themselves.
+    // The types of children by their indices; types of the parent by their numbers.
     let names: Vec<Vec<Result<usize, Number>>> = shapes
         .iter()
         .map(|one| one.names.iter().map(|n| places.get(n).copied().ok_or(*n)).collect())
@@ -81,7 +82,7 @@ fn divide(shapes: &[Shape], classes: &mut Vec<u32>, mut count: usize) -> bool {
     false
 }
 
-/// Numbers for what differs, in the order in which it is met.
+/// Numbers for different keys, in the order of their first occurrence.
 struct Classes<K>(HashMap<K, u32>);
 
 impl<K> Default for Classes<K> {
@@ -101,7 +102,8 @@ impl<K: Eq + Hash> Classes<K> {
     }
 }
 
-/// What a type says itself, each text behind its length, and the types that it names.
+/// The encoding of a type's own properties, with each text after its length; and the types that it
+/// refers to.
 fn shape(volumes: &Volumes<'_>, place: usize, of: Type<'_>) -> (Vec<u8>, Vec<Number>) {
     let kind = of.kind();
     let mut says = vec![kind as u8, u8::from(of.is_root().unwrap_or(false))];

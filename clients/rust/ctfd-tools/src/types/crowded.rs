@@ -1,17 +1,17 @@
-//! Whether the names of a dictionary are larger than a file's may be, each told by itself.
+//! Detects dictionaries whose names are far too large for their size.
 //!
-//! Names may share their bytes: a small file may have a large one at each of its types.
+//! Names may share their bytes, so that each type of a small file may have a large name.
 
 use super::catalog::{Catalog, Volume};
 use ctfd::{Dictionary, EnumeratorRow, Kind, MemberRow, TypeRow};
 
-/// How many times the bytes of the lists names may have, and some more.
+/// All names may have this many times the bytes of the lists, and this many more.
 const TIMES: u64 = 16;
 const AT_LEAST: u64 = 1 << 20;
 const AT_ONCE: usize = 256;
-/// The bytes that a type, a member or an enumerator has at least.
+/// The fewest bytes of a type, a member or an enumerator.
 const LEAST_OF_A_NAMED: u64 = 8;
-/// What is said of such a file.
+/// The message for such a file.
 pub const CROWDED: &str =
     "its names share their bytes, and are too large each by itself: no compiler \
                        writes that, so it is damaged or made to be slow";
@@ -19,16 +19,17 @@ const ENUM: u32 = Kind::Enum as u32;
 const STRUCT: u32 = Kind::Struct as u32;
 const UNION: u32 = Kind::Union as u32;
 
-/// Whether the names of one of a catalog's dictionaries are.
+/// Whether a dictionary of a catalog has such names.
 pub fn is_crowded(catalog: &Catalog<'_>) -> bool {
     catalog.volumes().iter().any(has_crowded_names)
 }
 
-/// Whether a dictionary's own names are, beside the lists that they stand in.
+/// Whether a dictionary itself has such names.
 pub fn has_crowded_names(volume: &Volume<'_>) -> bool {
     let length = volume.lists.length() as u64;
     let left = TIMES * length + AT_LEAST;
-    // As most files have it: no names, of all that could be there, are too large together.
+    // A quick answer for most files: even if every name were the longest, their sum would be small
+    // enough.
     if volume.lists.longest_name() as u64 * (length / LEAST_OF_A_NAMED) <= left {
         return false;
     }
@@ -36,7 +37,7 @@ pub fn has_crowded_names(volume: &Volume<'_>) -> bool {
     room.with_types().is_none()
 }
 
-/// How many bytes names may have yet.
+/// How many bytes further names may have.
 struct Room<'r> {
     types: &'r Dictionary<'r>,
     left: u64,

@@ -1,7 +1,7 @@
-//! C's declaration of a type, or of something that has it.
+//! C's declarations of types, or of something with a type.
 //!
-//! The declarator is written from the inside out, along the type. It is cut at a depth and at a
-//! number of steps: a function may take a pointer to itself, and a hostile one may take many.
+//! Declarators are written from the inside out, as types are followed. They are cut at a depth and
+//! at a number of steps: a function may take a pointer to itself, and a hostile one may take many.
 
 use super::catalog::{is_qualifier, Catalog, Number, Signature};
 use super::text::printable;
@@ -11,7 +11,7 @@ const DEEPEST: usize = 4;
 const STEPS: i32 = 4096;
 const CUT: &str = "/* .. */";
 
-/// How a declaration calls the type that it begins with.
+/// A function that names the base type of a declaration.
 pub type Naming<'n> = dyn Fn(Number) -> String + 'n;
 
 /// A declaration in its parts: `qualifiers base left name right`, as in `const int (* f )(void)`.
@@ -19,18 +19,18 @@ pub type Naming<'n> = dyn Fn(Number) -> String + 'n;
 pub struct Declarator {
     /// The qualifiers of the base.
     pub qualifiers: Vec<&'static str>,
-    /// The type that it begins with: 0 for void.
+    /// The base type: 0 for void.
     pub base: Number,
-    /// How that is called.
+    /// The name of the base type.
     pub named: String,
-    /// What stands left of the name.
+    /// The text left of the declared name.
     pub left: String,
-    /// What stands right of it.
+    /// The text right of the declared name.
     pub right: String,
 }
 
 impl Declarator {
-    /// The base with its qualifiers.
+    /// The base type with its qualifiers.
     pub fn spelling(&self) -> String {
         let mut made = String::with_capacity(32);
         for word in &self.qualifiers {
@@ -41,7 +41,7 @@ impl Declarator {
         made
     }
 
-    /// The declaration of a name; with none that of the type alone.
+    /// The declaration of a name, or of the type alone if the name is empty.
     pub fn around(&self, name: &str) -> String {
         let is_closed = name.is_empty() && self.right.starts_with(')'); // as in "(*const)()"
         let left = if is_closed { self.left.trim_end() } else { &self.left };
@@ -49,13 +49,13 @@ impl Declarator {
         made.trim_end().to_owned()
     }
 
-    /// Whether it is that of a pointer, or of what holds some.
+    /// Whether it declares a pointer, or something that contains some.
     pub fn has_star(&self) -> bool {
         self.left.contains('*')
     }
 }
 
-/// A type that is neither pointer, array, function nor qualifier, by its name.
+/// The name of a type that is neither pointer, array, function nor qualifier.
 pub fn base(catalog: &Catalog<'_>, number: Number) -> String {
     if number == 0 {
         return "void".to_owned();
@@ -70,19 +70,19 @@ pub fn base(catalog: &Catalog<'_>, number: Number) -> String {
     }
 }
 
-/// How C declares a name with a type, arguments of functions and all.
+/// C's declaration of a name with a type, in full.
 pub fn declaration(catalog: &Catalog<'_>, number: Number, name: &[u8]) -> String {
     declarator(catalog, number, 0).around(&printable(name))
 }
 
-/// How C declares an object, which may be an array of a length that is not known.
+/// C's declaration of an object, which may be an array of unknown length.
 pub fn object(catalog: &Catalog<'_>, number: Number, name: &[u8]) -> String {
     let named = |one| base(catalog, one);
     let maker = Maker { catalog, named: &named, is_open: true };
     maker.declarator(number, 0, 0, &mut STEPS.clone()).around(&printable(name))
 }
 
-/// How C declares a function.
+/// C's declaration of a function.
 pub fn function(catalog: &Catalog<'_>, signature: &Signature, name: &[u8]) -> String {
     let named = |one| base(catalog, one);
     let maker = Maker { catalog, named: &named, is_open: false };
@@ -91,15 +91,15 @@ pub fn function(catalog: &Catalog<'_>, signature: &Signature, name: &[u8]) -> St
     returns.around(&format!("{}({arguments})", printable(name)))
 }
 
-/// The parts of the declaration of a type, or of so many pointers to it.
+/// The parts of the declaration of a type, or of a pointer to it with so many stars.
 pub fn declarator(catalog: &Catalog<'_>, number: Number, stars: usize) -> Declarator {
     let named = |one| base(catalog, one);
     let maker = Maker { catalog, named: &named, is_open: false };
     maker.declarator(number, stars, 0, &mut STEPS.clone())
 }
 
-/// The same with other names for bases. With `is_open` an array of no elements is one whose length
-/// is not known, where C takes that.
+/// The same with other names for base types. With `is_open`, an array without elements has an
+/// unknown length, where C allows that.
 pub fn declarator_by(
     catalog: &Catalog<'_>,
     number: Number,
@@ -109,7 +109,7 @@ pub fn declarator_by(
     Maker { catalog, named, is_open }.declarator(number, 0, 0, &mut STEPS.clone())
 }
 
-/// Makes the declarators of one declaration, which share the steps that are left.
+/// Makes the declarators of one declaration, which share the remaining steps.
 struct Maker<'m, 'd> {
     catalog: &'m Catalog<'d>,
     named: &'m Naming<'m>,
@@ -126,7 +126,7 @@ impl Maker<'_, '_> {
     ) -> Declarator {
         let (mut left, mut right) = (String::new(), String::new());
         let mut qualifiers: Vec<&'static str> = Vec::new();
-        let mut of_pointer: Vec<&'static str> = Vec::new(); // those of the pointer that comes next
+        let mut of_pointer: Vec<&'static str> = Vec::new(); // of the next pointer
         if stars != 0 {
             left = "*".repeat(stars);
             self.enclose(number, &mut left, &mut right);
@@ -173,7 +173,7 @@ impl Maker<'_, '_> {
         Declarator { qualifiers, base: number, named: (self.named)(number), left, right }
     }
 
-    /// Brackets round the stars of a pointer to an array or a function.
+    /// Adds brackets around the stars of a pointer to an array or a function.
     fn enclose(&self, to: Number, left: &mut String, right: &mut String) {
         let to = self.without_qualifiers(to);
         if matches!(self.catalog.kind(to), Kind::Array | Kind::Function) {
@@ -189,7 +189,7 @@ impl Maker<'_, '_> {
         number
     }
 
-    /// What a qualifier of a type is said of: of an array its elements.
+    /// The type to which a qualifier of a type applies: for an array, its element's.
     fn element(&self, mut number: Number) -> Number {
         for _ in 0..STEPS {
             number = self.without_qualifiers(number);
@@ -206,7 +206,7 @@ impl Maker<'_, '_> {
             return CUT.to_owned();
         }
         if signature.is_open && signature.arguments.is_empty() {
-            return String::new(); // what they are is not said, as by `int f()`
+            return String::new(); // not known, as after `int f()`
         }
         let maker = Maker { is_open: false, ..*self };
         let mut listed: Vec<String> = Vec::new();

@@ -1,4 +1,4 @@
-//! The pieces of which pictures are made: boxes and texts of SVG, in colors for light and dark.
+//! The elements of pictures: boxes and texts of SVG, in colors for light and dark.
 
 use super::text::printable;
 use std::fmt::Write as _;
@@ -10,10 +10,10 @@ pub const LOW: f64 = 12.0;
 const TALL: f64 = 26.0;
 const FONT: &str = "ui-monospace,Menlo,Consolas,'DejaVu Sans Mono',monospace";
 
-/// What boxes and texts stand for, and their colors for light and for dark.
+/// The classes of boxes and texts, with their colors for light and dark.
 ///
-/// Colors stand at each element, since not all that shows pictures knows more of CSS; what does,
-/// takes the dark ones where the reader wants these.
+/// Each element has its own color, since not all viewers know more of CSS. Those that do use the
+/// dark colors if the reader prefers these.
 const COLORS: [(&str, &str, &str); 14] = [
     ("page", "#fff", "#0f1318"),
     ("integer", "#d8e8fb", "#1f3a5c"),
@@ -43,7 +43,7 @@ fn light(sort: &str) -> &'static str {
     color(sort).0
 }
 
-/// A number with six digits at most, as C prints it by `%g`.
+/// A number with at most six digits, as C prints it by `%g`.
 pub fn six_digits(number: f64) -> String {
     if number == 0.0 {
         return "0".to_owned();
@@ -62,8 +62,8 @@ pub fn six_digits(number: f64) -> String {
     format!("{}e{sign}{:02}", trim(digits), exponent.abs())
 }
 
-/// Text within SVG: no name of a dictionary or of a file is a tag or ends an attribute, and none has
-/// a character that XML has not.
+/// Text for SVG. Escapes it so that no name contains a tag, ends an attribute, or has characters
+/// that are invalid in XML.
 fn clean(said: &str) -> String {
     let mut made = String::with_capacity(said.len());
     for letter in printable(said.as_bytes()).chars() {
@@ -111,7 +111,7 @@ fn hatch() -> String {
     )
 }
 
-/// A whole picture, as wide as what shows it allows.
+/// A whole picture, as wide as its viewer allows.
 pub fn page(wide: f64, high: f64, title: &str, parts: &[String]) -> String {
     let (wide, high) = (six_digits(wide), six_digits(high));
     let mut made = format!(
@@ -131,7 +131,7 @@ pub fn page(wide: f64, high: f64, title: &str, parts: &[String]) -> String {
     made + "</svg>\n"
 }
 
-/// A text of a sort: a title, a key, an offset or the like; without one a name.
+/// A text of a class, such as a title, a key or an offset; without a class, a name.
 pub fn note(x: f64, y: f64, said: &str, sort: &str) -> String {
     let ink = light(if FAINT.contains(&sort) { "faint" } else { "ink" });
     let named = if sort.is_empty() { String::new() } else { format!("class=\"{sort}\" ") };
@@ -145,7 +145,7 @@ pub fn note(x: f64, y: f64, said: &str, sort: &str) -> String {
     format!("<text {named}x=\"{x}\" y=\"{y}\" fill=\"{ink}\"{manner}>{said}</text>")
 }
 
-/// How a box of a sort is filled and drawn round.
+/// The attributes for the fill and outline of a box of a class.
 fn fill_of(sort: &str) -> String {
     if sort == "group" {
         return format!("fill=\"none\" stroke=\"{}\" stroke-width=\"1.6\"", light("ink"));
@@ -154,12 +154,12 @@ fn fill_of(sort: &str) -> String {
     format!("fill=\"{fill}\" stroke=\"{}\" stroke-width=\".7\"", light("line"))
 }
 
-/// Whether a text goes into a box, if it is cut.
+/// Whether a text fits into a box, perhaps cut.
 pub fn fits(said: &str, wide: f64) -> bool {
     said.chars().count().min(3) as f64 * LETTER + 4.0 <= wide
 }
 
-/// As much of a text as goes into a box.
+/// As much of a text as fits into a box.
 pub fn cut(said: &str, wide: f64) -> String {
     let room = ((wide - 6.0) / LETTER).trunc() as i64;
     if said.chars().count() as i64 <= room {
@@ -169,36 +169,29 @@ pub fn cut(said: &str, wide: f64) -> String {
     kept + "\u{2026}"
 }
 
-/// Where a box is drawn.
+/// The position and size of a box.
 #[derive(Clone, Copy, Debug)]
 pub struct Rectangle {
-    /// Its left edge.
     pub x: f64,
-    /// Its upper edge.
     pub y: f64,
-    /// Its width.
     pub wide: f64,
-    /// Its height.
     pub high: f64,
 }
 
-/// What a box says: its name, its type where there is room, and all of it where it is pointed at.
+/// The texts of a box: its name, its type if there is room, and all of it as a tooltip.
 pub struct Label<'l> {
-    /// Its name.
     pub name: &'l str,
     /// Its type.
     pub of: &'l str,
-    /// All of it in words.
+    /// All of it, for the tooltip.
     pub told: &'l str,
 }
 
-/// What a box stands for: a name, and the bits from which on and how many.
+/// What a box stands for: a name and a range of bits.
 pub struct Extent<'e> {
-    /// The name.
     pub name: &'e str,
-    /// The first bit.
     pub start: u128,
-    /// How many.
+    /// The number of bits.
     pub bits: u128,
 }
 

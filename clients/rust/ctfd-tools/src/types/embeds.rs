@@ -1,4 +1,4 @@
-//! Which structs and unions hold a type by value, and which point to it.
+//! Finds the structs and unions that contain a type, or pointers to it.
 
 use super::catalog::{is_renaming, Catalog, Number, Part};
 use super::declare::declaration;
@@ -12,25 +12,25 @@ const MOST: usize = 100_000;
 const LEAST: i64 = 400_000;
 const EACH: i64 = 64;
 
-/// A member, and members of members, of a struct or union; `offset` is in bits.
+/// A member of a struct or union, or a member of its members; `offset` is in bits.
 #[derive(Clone, Debug)]
 pub struct EmbeddedMember<'d> {
-    /// The struct or union.
+    /// The outermost struct or union.
     pub owner: Number,
-    /// The names of the member and of those that it lies in, the outermost first.
+    /// The name of the member, after the names of the members that contain it.
     pub path: Vec<&'d [u8]>,
-    /// The type of the member.
+    /// The member's type.
     pub of: Number,
-    /// The struct or union that it is a member of itself, and its place among the members there.
+    /// The struct or union that has the member, and the member's index there.
     pub within: (Number, usize),
-    /// Where it begins, the first of the elements that it stands in.
+    /// Its offset in the owner; in arrays, that of the first element.
     pub offset: u128,
-    /// In how many elements of arrays it stands.
+    /// How often it occurs in the owner, as arrays may contain it.
     pub elements: u128,
 }
 
 impl EmbeddedMember<'_> {
-    /// The path as C writes it: members without a name are left out.
+    /// The path in C; unnamed members are left out.
     pub fn name(&self) -> Vec<u8> {
         let named: Vec<&[u8]> = self.path.iter().copied().filter(|name| !name.is_empty()).collect();
         named.join(&b'.')
@@ -51,8 +51,8 @@ impl EmbeddedMember<'_> {
 
 /// Walks the members of a catalog's structs and unions.
 ///
-/// Those without any name are walked through: they are no answer to the question who it is. With
-/// `is_deep` all are.
+/// A struct or union without any name is walked through to its members, since it is no answer to
+/// the question of who contains a type. With `is_deep`, all are walked through.
 pub struct Embeds<'e, 'd> {
     names: &'e Names<'e, 'd>,
     is_deep: bool,
@@ -63,10 +63,10 @@ pub struct Embeds<'e, 'd> {
 }
 
 impl<'e, 'd> Embeds<'e, 'd> {
-    /// A walk over types by their names.
+    /// A walk over a catalog's types.
     pub fn new(names: &'e Names<'e, 'd>, is_deep: bool) -> Embeds<'e, 'd> {
         let catalog = names.catalog;
-        // What is walked in all follows the number of members, each level of one counted.
+        // The limit of all walks depends on the number of members; each level of a path counts.
         let mut count = 0;
         let mut seen = HashSet::new();
         for number in catalog.aggregates() {
@@ -88,12 +88,13 @@ impl<'e, 'd> Embeds<'e, 'd> {
         self.names.catalog
     }
 
-    /// Those of which not all members were walked, since members of members were too many.
+    /// The structs and unions of which not all members were walked, since there are too many nested
+    /// members.
     pub fn cut(&self) -> Vec<Number> {
         self.cut.borrow().clone()
     }
 
-    /// Where some types stand by value, or with `is_pointer` where pointers to these stand.
+    /// The members with some types; or with `is_pointer`, the members with pointers to these.
     pub fn of(&self, targets: &BTreeSet<Number>, is_pointer: bool) -> Vec<EmbeddedMember<'d>> {
         let reaching = Reaching { catalog: self.catalog(), targets, is_pointer };
         let mut known = HashMap::new();
@@ -116,7 +117,7 @@ impl<'e, 'd> Embeds<'e, 'd> {
         found
     }
 
-    /// Its own structs and unions but those that are walked through in others.
+    /// Its own structs and unions, except those that are walked through in others.
     fn owners(&self) -> Vec<Number> {
         let reached = |&number: &Number| self.catalog().underlying(number).number;
         let inner: HashSet<Number> = self.member_types.iter().map(reached).collect();
@@ -124,7 +125,7 @@ impl<'e, 'd> Embeds<'e, 'd> {
         self.catalog().aggregates().filter(is_owner).collect()
     }
 
-    /// Visits each member, and those of the structs that are walked through, in order of members.
+    /// Visits each member, and those of structs that are walked through, in order.
     pub fn walk(&self, owner: Number, mut visit: impl FnMut(&EmbeddedMember<'d>)) {
         let mut todo = vec![EmbeddedMember {
             owner,
@@ -148,7 +149,7 @@ impl<'e, 'd> Embeds<'e, 'd> {
         self.cut.borrow_mut().push(owner);
     }
 
-    /// Whether the members of a member of this type are walked too.
+    /// Whether the members of a member with this type are walked too.
     pub fn is_walked_through(&self, number: Number) -> bool {
         *self.through.borrow_mut().entry(number).or_insert_with(|| {
             let end = self.catalog().underlying(number).number;
@@ -157,7 +158,7 @@ impl<'e, 'd> Embeds<'e, 'd> {
         })
     }
 
-    /// Pushes the members of a member, the first last, where it is walked through.
+    /// Pushes the members of a member that is walked through, in reverse order.
     fn push_inside(&self, here: &EmbeddedMember<'d>, todo: &mut Vec<EmbeddedMember<'d>>) {
         let reached = self.catalog().underlying(here.of);
         if !self.catalog().record(reached.number).is_aggregate() {
@@ -189,7 +190,7 @@ impl<'e, 'd> Embeds<'e, 'd> {
     }
 }
 
-/// Whether types lead to some others, through pointers or without.
+/// Whether types lead to some targets, by value or through pointers.
 struct Reaching<'r, 'd> {
     catalog: &'r Catalog<'d>,
     targets: &'r BTreeSet<Number>,
@@ -198,7 +199,7 @@ struct Reaching<'r, 'd> {
 
 impl Reaching<'_, '_> {
     fn reaches(&self, number: Number, known: &mut HashMap<(Number, bool), bool>) -> bool {
-        let mut passed = Vec::new(); // each with whether it is behind a pointer
+        let mut passed = Vec::new(); // each with whether a pointer led to it
         let mut here = (number, false);
         let answer = loop {
             if let Some(&answer) = known.get(&here) {

@@ -1,17 +1,17 @@
-//! Why there is no answer.
+//! Failures of questions on a file.
 
 use ctfd_read::error::Error;
 use std::fmt::{self, Display};
 use std::io;
 
-/// Why a file has no answer.
+/// Why a question has no answer.
 #[derive(Debug)]
 pub enum Failure {
-    /// A name is that of nothing there: another file may have it.
+    /// A name is unknown; another file may have it.
     Unknown(String),
-    /// Something is refused, in a line for a user.
+    /// Something is refused; the text is a line for the user.
     Refused(String),
-    /// What was printed can't be written.
+    /// The output cannot be written.
     Unwritten(io::Error),
 }
 
@@ -24,17 +24,17 @@ impl Display for Failure {
     }
 }
 
-/// What a question answers.
+/// The result of a question.
 pub type Outcome<T> = Result<T, Failure>;
 
 impl Failure {
-    /// A refusal by the library, of some file.
+    /// A refusal by the library; `what` names the file.
     pub fn of_library(what: impl Display, refusal: ctfd::Refusal) -> Failure {
         Failure::Refused(refusal_text(what, refusal))
     }
 }
 
-/// What the library refuses of a file, and what to do.
+/// The message for a refusal by the library, with advice.
 pub fn refusal_text(what: impl Display, ctfd::Refusal { fault, place }: ctfd::Refusal) -> String {
     match place {
         0 => format!("{what}: {fault}: {}", fault.advice()),

@@ -1,4 +1,4 @@
-//! Figures of structs and unions: bytes, members, holes, padding, and what another order saves.
+//! Figures of structs and unions: sizes, members, holes, padding, and what a better order saves.
 
 use super::catalog::{Catalog, Number};
 use super::failure::Outcome;
@@ -12,44 +12,42 @@ use std::io::Write;
 
 const COLUMNS: &str = "   bytes members   holes in holes padding   saves  type";
 
-/// What is told of one struct or union; all but counts are bytes.
+/// The figures of a struct or union; all are in bytes, except counts.
 pub struct Figures {
-    /// Its number.
     pub number: Number,
-    /// What it is called.
+    /// Its name in messages.
     pub label: String,
-    /// Its bytes.
+    /// Its size.
     pub size: u64,
-    /// How many members it has.
+    /// The number of members.
     pub members: usize,
-    /// How many holes lie between them.
+    /// The number of holes between members.
     pub holes: usize,
-    /// The bytes of these.
+    /// The bytes in these holes.
     pub in_holes: u128,
-    /// How many holes are no whole byte.
+    /// The number of holes that are no whole byte.
     pub bit_holes: usize,
-    /// The bytes behind its last member.
+    /// The bytes after the last member.
     pub padding: u128,
-    /// By how much it would be smaller if no member had a hole in front of it.
+    /// How much smaller it would be if there were no holes between members.
     pub saved: u128,
 }
 
-/// How figures are sorted.
+/// The order of figures.
 #[derive(Clone, Copy, Debug, PartialEq, Eq)]
 pub enum Order {
-    /// By falling size.
+    /// The greatest size first.
     Size,
-    /// By falling bytes in holes.
+    /// The most bytes in holes first.
     Holes,
-    /// By name.
     Name,
 }
 
 impl Order {
-    /// The words for them, as a command line has them.
+    /// Its words on a command line.
     pub const WORDS: &'static str = "size|holes|name";
 
-    /// That of a word.
+    /// The order that a word names.
     pub fn of_word(word: &str) -> Order {
         match word {
             "holes" => Order::Holes,
@@ -78,14 +76,14 @@ fn key_of_holes(one: &Figures) -> (Reverse<u128>, Reverse<usize>, &str) {
     (Reverse(one.in_holes), Reverse(one.holes), &one.label)
 }
 
-/// The figures of a catalog's types, and the alignment that C gives them.
+/// The figures of a catalog's types, with a cache of their alignments in C.
 pub struct Sizes<'s, 'd> {
     names: &'s Names<'s, 'd>,
     alignments: RefCell<HashMap<Number, u64>>,
 }
 
 impl<'s, 'd> Sizes<'s, 'd> {
-    /// Those of types by their names.
+    /// The figures of a catalog's types.
     pub fn new(names: &'s Names<'s, 'd>) -> Sizes<'s, 'd> {
         Sizes { names, alignments: RefCell::default() }
     }
@@ -94,7 +92,7 @@ impl<'s, 'd> Sizes<'s, 'd> {
         self.names.catalog
     }
 
-    /// What is told of a struct or union.
+    /// The figures of a struct or union.
     pub fn figures(&self, number: Number) -> Figures {
         let whole = Layout::of(self.catalog(), number);
         Figures {
@@ -110,7 +108,7 @@ impl<'s, 'd> Sizes<'s, 'd> {
         }
     }
 
-    /// The figures of the structs and unions that are wanted, sorted.
+    /// The figures of the structs and unions with the wanted names, sorted.
     pub fn sorted_figures(
         &self,
         patterns: &[Vec<u8>],
@@ -128,11 +126,11 @@ impl<'s, 'd> Sizes<'s, 'd> {
         Ok(listed)
     }
 
-    /// The greatest alignment of what a type holds by value, as C aligns numbers.
+    /// The alignment of a type in C: the greatest of all that it contains by value.
     pub fn alignment(&self, number: Number) -> u64 {
         let whole = self.catalog().underlying(number).number;
         let mut known = self.alignments.borrow_mut();
-        let mut todo = vec![whole]; // no recursion: types may hold each other deep
+        let mut todo = vec![whole]; // no recursion: types may be nested deep
         while let Some(&here) = todo.last() {
             let inner = self.inner(here);
             let before = todo.len();
@@ -146,13 +144,13 @@ impl<'s, 'd> Sizes<'s, 'd> {
         known[&whole]
     }
 
-    /// The types of which the members of a struct or union, or their elements, are.
+    /// The types of the members of a struct or union, or of their elements.
     fn inner(&self, number: Number) -> BTreeSet<Number> {
         let members = self.catalog().members(number).iter();
         members.map(|part| self.catalog().underlying(part.of).number).collect()
     }
 
-    /// A number's alignment is its size, as far as that is a power of two up to 16.
+    /// The alignment of a number: the greatest power of two up to 16 that divides its size.
     fn plain_alignment(&self, number: Number) -> u64 {
         if self.catalog().record(number).is_aggregate() {
             return 1;
@@ -161,7 +159,7 @@ impl<'s, 'd> Sizes<'s, 'd> {
         [16, 8, 4, 2].into_iter().find(|power| size % power == 0).unwrap_or(1)
     }
 
-    /// What is left over once all stand close, the last one up to the struct's alignment.
+    /// How much smaller a struct would be without holes, with its end aligned.
     fn saving(&self, number: Number, whole: &Layout<'_>) -> u128 {
         let has_holes = whole.places.iter().any(|place| place.gap != 0);
         if self.catalog().kind(number) != Kind::Struct || !has_holes {
@@ -173,7 +171,7 @@ impl<'s, 'd> Sizes<'s, 'd> {
     }
 }
 
-/// The bytes of all members, where bit-fields that follow each other share theirs.
+/// The sum of the members' bytes; consecutive bit-fields share theirs.
 fn close(places: &[Place<'_>]) -> u128 {
     let (mut bytes, mut run): (u128, u128) = (0, 0);
     for place in places {
@@ -188,7 +186,7 @@ fn close(places: &[Place<'_>]) -> u128 {
     bytes + run.div_ceil(8)
 }
 
-/// A line for each, below one that names the columns.
+/// Prints a line for each, after one with the names of the columns.
 pub fn table(listed: &[Figures], output: &mut dyn Write) -> Outcome<()> {
     writeln!(output, "{COLUMNS}")?;
     for one in listed {

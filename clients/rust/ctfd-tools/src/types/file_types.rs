@@ -1,12 +1,12 @@
-//! All types of a file, by their names, and what an answer on them leaves out.
+//! All types of a file by their names, and notes on what its answers leave out.
 
 use super::figures::Sizes;
 use super::names::Names;
 use std::cell::RefCell;
 
-/// A file's types; what is left out of an answer is told behind it.
+/// A file's types. Notes on what an answer leaves out are printed after it.
 pub struct FileTypes<'w, 'd> {
-    /// The file, as a person named it.
+    /// The path of the file, as the user gave it.
     pub path: &'w [u8],
     /// The types and their names.
     pub names: &'w Names<'w, 'd>,
@@ -16,17 +16,17 @@ pub struct FileTypes<'w, 'd> {
 }
 
 impl<'w, 'd> FileTypes<'w, 'd> {
-    /// The types of a file by their names.
+    /// The types of a file.
     pub fn new(path: &'w [u8], names: &'w Names<'w, 'd>) -> FileTypes<'w, 'd> {
         FileTypes { path, names, sizes: Sizes::new(names), cuts: RefCell::default() }
     }
 
-    /// Says what is left out.
+    /// Adds a note on what is left out.
     pub fn cut(&self, line: String) {
         self.cuts.borrow_mut().push(line);
     }
 
-    /// What was left out.
+    /// The notes on what was left out.
     pub fn cuts(&self) -> Vec<String> {
         self.cuts.borrow().clone()
     }

@@ -1,6 +1,6 @@
-//! Types as objects of JSON, one a line: what `--json` prints.
+//! Types as JSON objects, one on each line: the output of `--json`.
 //!
-//! `offset` and `bits` of members are in bits, as the library has them; all else is in bytes.
+//! `offset` and `bits` of members are in bits, as in the library; all else is in bytes.
 
 use super::catalog::Number;
 use super::embeds::EmbeddedMember;
@@ -10,24 +10,24 @@ use super::text::code_points;
 use ctfd::Kind;
 use std::fmt::Write as _;
 
-/// An object as it is written, a field behind the other.
+/// An object while it is written, field by field.
 #[derive(Default)]
 pub struct Object(String);
 
 impl Object {
-    /// Adds a field of a value as JSON has it.
+    /// Adds a field whose value is JSON.
     pub fn field(&mut self, name: &str, value: impl std::fmt::Display) -> &mut Object {
         let mark = if self.0.is_empty() { '{' } else { ',' };
         let _ = write!(self.0, "{mark}\"{name}\":{value}");
         self
     }
 
-    /// Adds a field of a text.
+    /// Adds a field with a text.
     pub fn text(&mut self, name: &str, value: &[u8]) -> &mut Object {
         self.field(name, text(value))
     }
 
-    /// The object as a line.
+    /// Ends the object, and returns it.
     pub fn end(&mut self) -> String {
         match self.0.is_empty() {
             true => "{}".to_owned(),
@@ -36,7 +36,7 @@ impl Object {
     }
 }
 
-/// A name as ASCII, none of its bytes lost.
+/// A name as a JSON string in ASCII, which keeps all bytes.
 pub fn text(name: &[u8]) -> String {
     let mut made = String::with_capacity(name.len() + 2);
     made.push('"');
@@ -64,12 +64,12 @@ pub fn text(name: &[u8]) -> String {
     made
 }
 
-/// A list of what is JSON each.
+/// A list whose items are JSON.
 pub fn list(items: impl Iterator<Item = String>) -> String {
     format!("[{}]", items.collect::<Vec<_>>().join(","))
 }
 
-/// A type with all that it says.
+/// A type with all its properties.
 pub fn of_type(whole: &FileTypes<'_, '_>, number: Number) -> String {
     let catalog = whole.names.catalog;
     let record = catalog.record(number);
@@ -145,7 +145,7 @@ fn members(whole: &FileTypes<'_, '_>, number: Number) -> String {
     }))
 }
 
-/// Where a struct or union holds a type or a pointer to it.
+/// A member that contains a type or a pointer to it.
 pub fn embedded_member(whole: &FileTypes<'_, '_>, one: &EmbeddedMember<'_>) -> String {
     Object::default()
         .text("file", whole.path)
@@ -158,7 +158,7 @@ pub fn embedded_member(whole: &FileTypes<'_, '_>, one: &EmbeddedMember<'_>) -> S
         .end()
 }
 
-/// A function, and how it has to do with a type.
+/// A function, and how it uses a type.
 pub fn function(whole: &FileTypes<'_, '_>, name: &[u8], how: &[&str], declared: &str) -> String {
     Object::default()
         .text("file", whole.path)

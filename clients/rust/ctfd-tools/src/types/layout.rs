@@ -1,31 +1,29 @@
-//! Where the members of a struct or union lie, and the holes between them. All is in bits but
-//! where bytes are told.
+//! The offsets of members in a struct or union, and the holes between them; in bits, unless noted.
 
 use super::catalog::{Catalog, Number, Part};
 use ctfd::Kind;
 
-/// Where a member lies; `gap` is how many bits lie unused in front of it.
+/// A member with its place.
 #[derive(Clone, Copy, Debug)]
 pub struct Place<'d> {
-    /// The member.
     pub part: Part<'d>,
-    /// Where it begins.
+    /// Its offset.
     pub start: u128,
-    /// How wide it is: 0 of one without a size.
+    /// Its width; 0 if it has no size.
     pub bits: u128,
-    /// Unused bits in front of it.
+    /// The unused bits before it.
     pub gap: u128,
-    /// Its bits where it is a bit-field.
+    /// Its width, if it is a bit-field.
     pub width: Option<u64>,
 }
 
 impl Place<'_> {
-    /// Whole bytes unused in front of it.
+    /// The unused whole bytes before it.
     pub fn hole(&self) -> u128 {
         (self.gap - self.bit_hole()) / 8
     }
 
-    /// Bits unused in front of it that are no whole byte: behind a bit-field, or before one.
+    /// The unused bits before it that are no whole byte, next to a bit-field.
     pub fn bit_hole(&self) -> u128 {
         if self.width.is_some() && self.gap < 8 {
             self.gap
@@ -35,19 +33,19 @@ impl Place<'_> {
     }
 }
 
-/// A struct or union of `size` bytes; `padding` bits lie unused behind its last member.
+/// The layout of a struct or union.
 #[derive(Clone, Debug, Default)]
 pub struct Layout<'d> {
-    /// Its bytes.
+    /// Its size in bytes.
     pub size: u64,
     /// Its members in order.
     pub places: Vec<Place<'d>>,
-    /// Unused bits behind the last.
+    /// The unused bits after the last member.
     pub padding: u128,
 }
 
 impl<'d> Layout<'d> {
-    /// That of a struct or union.
+    /// The layout of a type.
     pub fn of(catalog: &Catalog<'d>, number: Number) -> Layout<'d> {
         let is_struct = catalog.kind(number) == Kind::Struct;
         let size = catalog.size(number).unwrap_or(0);
@@ -65,12 +63,12 @@ impl<'d> Layout<'d> {
         Layout { size, places, padding }
     }
 
-    /// The lengths in bytes of the holes between members.
+    /// The sizes of the holes between members, in bytes.
     pub fn holes(&self) -> impl Iterator<Item = u128> + '_ {
         self.places.iter().map(Place::hole).filter(|&hole| hole != 0)
     }
 
-    /// The lengths of the holes that are no whole byte.
+    /// The sizes of the holes that are no whole byte.
     pub fn bit_holes(&self) -> impl Iterator<Item = u128> + '_ {
         self.places.iter().map(Place::bit_hole).filter(|&hole| hole != 0)
     }

@@ -1,4 +1,4 @@
-//! Types as C writes them, with places, sizes and holes as pahole prints them.
+//! Types in C, with offsets, sizes and holes as in pahole.
 
 use super::catalog::{Catalog, Number, Value};
 use super::declare::{base, declaration, declarator, Declarator};
@@ -16,18 +16,18 @@ const LONGEST: usize = 20_000;
 /// How types are listed.
 #[derive(Clone, Copy, Debug)]
 pub struct Manner {
-    /// Whether places and sizes stand behind members.
+    /// Whether offsets and sizes follow members.
     pub has_places: bool,
-    /// The bytes of a cache line.
+    /// The size of a cache line in bytes.
     pub cache_line: u64,
-    /// Whether structs and unions that are held by value are written in place.
+    /// Whether structs and unions that a member contains are written in its place.
     pub is_expanded: bool,
-    /// Whether places, sizes and values are in hexadecimal.
+    /// Whether offsets, sizes and values are in hexadecimal.
     pub is_hexadecimal: bool,
 }
 
 impl Manner {
-    /// C alone.
+    /// C only.
     pub const PLAIN: Manner =
         Manner { has_places: false, cache_line: 64, is_expanded: false, is_hexadecimal: false };
 }
@@ -46,10 +46,10 @@ pub fn members(catalog: &Catalog<'_>, places: &[Place<'_>]) -> String {
     listing.text
 }
 
-/// The lines of one type, made from top to bottom; `line` counts the cache lines told.
+/// The lines of a type, written from top to bottom; `line` is the last cache line that was noted.
 ///
-/// A struct or union without a name is written out where a member is declared with it. That ends at
-/// a depth and at a number of lines: a hostile type doubles at each level.
+/// An unnamed struct or union is written out at the member that it declares. This stops at a depth
+/// and at a number of lines, since a hostile type doubles at each level.
 struct Listing<'l, 'd> {
     catalog: &'l Catalog<'d>,
     manner: Manner,
@@ -92,7 +92,7 @@ impl<'l, 'd> Listing<'l, 'd> {
         }
     }
 
-    /// A type with a tag by that, or by its word alone.
+    /// The word and tag of a type, or only the word if it has no tag.
     fn head(&self, number: Number) -> String {
         let record = self.catalog.record(number);
         match record.name.is_empty() {
@@ -113,7 +113,7 @@ impl<'l, 'd> Listing<'l, 'd> {
         self.push(0, "};");
     }
 
-    /// The members, where the whole begins at byte `start`.
+    /// Writes members; the struct or union begins at byte `start`.
     fn members(&mut self, places: &[Place<'_>], depth: usize, start: u128) {
         for place in places {
             if self.manner.has_places {
@@ -129,7 +129,8 @@ impl<'l, 'd> Listing<'l, 'd> {
         }
     }
 
-    /// The struct or union that is written in place: one without a name, or any that is held.
+    /// The struct or union to write in place: an unnamed one, or with `is_expanded` any that the
+    /// member contains.
     fn inner_of(&self, said: &Declarator) -> Option<Number> {
         let record = self.catalog.record(said.base);
         if record.is_aggregate() && record.name.is_empty() {
@@ -140,7 +141,7 @@ impl<'l, 'd> Listing<'l, 'd> {
         end.filter(|&end| self.catalog.record(end).is_aggregate())
     }
 
-    /// A member whose struct or union is written in place.
+    /// Writes a member whose struct or union is written in place.
     fn inner(
         &mut self,
         place: &Place<'_>,
@@ -158,7 +159,7 @@ impl<'l, 'd> Listing<'l, 'd> {
         }
         head += &self.head(inner);
         self.push(depth, &format!("{head} {{"));
-        // What is pointed to is elsewhere.
+        // The target of a pointer is elsewhere.
         let offset = u128::from(place.part.offset / 8);
         let begins = if said.has_star() { 0 } else { start + offset };
         self.members(&Layout::of(self.catalog, inner).places, depth + 1, begins);
@@ -167,7 +168,7 @@ impl<'l, 'd> Listing<'l, 'd> {
         self.push_with_place(&end, place, depth, start);
     }
 
-    /// One member: its type in a column of its own, then its name, and where it lies.
+    /// Writes a member: its type in a column, then its name and its place.
     fn member(&mut self, place: &Place<'_>, said: &Declarator, depth: usize, start: u128) {
         let (outer, mut declared) = match said.left.find('(') {
             Some(cut) => (&said.left[..cut], said.left[cut..].to_owned()),
@@ -214,7 +215,7 @@ impl<'l, 'd> Listing<'l, 'd> {
         self.push(depth, &format!("{written:<column$} {lies}"));
     }
 
-    /// A place or a size, as pahole has it: 0 is 0 in hexadecimal too.
+    /// An offset or size as in pahole: 0 is 0 in hexadecimal too.
     fn number(&self, number: u128, width: usize) -> String {
         match self.manner.is_hexadecimal && number != 0 {
             true => format!("{:>width$}", format!("{number:#x}")),
@@ -241,7 +242,7 @@ impl<'l, 'd> Listing<'l, 'd> {
         }
     }
 
-    /// A word where a cache line begins at a member or began within the last.
+    /// Writes a note if a cache line begins at a member, or began in the last one.
     fn boundary(&mut self, byte: u128, depth: usize) {
         let length = u128::from(self.manner.cache_line);
         let (line, past) = (byte / length, byte % length);

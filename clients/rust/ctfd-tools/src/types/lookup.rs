@@ -1,20 +1,21 @@
-//! The type that a name says, as a person writes it.
+//! Finds types by names as a person writes them.
 
 use super::catalog::{Catalog, Number};
 use super::text::{name_and_number, normal, printable, spellings, without_tag, TAGS};
 use ctfd::{Fault, Kind, Refusal};
 
-/// A type, or so many pointers to it. Pointers need not be in the dictionary.
+/// A type, or a pointer to it with so many stars, which need not be in the dictionary.
 #[derive(Clone, Copy, Debug, PartialEq, Eq)]
 pub struct FoundType {
     /// The type: 0 for void.
     pub number: Number,
-    /// How many stars the name has.
+    /// The number of stars in the name.
     pub stars: usize,
 }
 
-/// The type of a name; the least, where several have it. Qualifiers are left out. Another one of the
-/// name is found by that and its number, as `struct dict__17`.
+/// The type with a name, or the one with the least number if several have it; None if there is
+/// none. Qualifiers are ignored. Another type of the name is found by name and number, as `struct
+/// dict__17`.
 pub fn find(catalog: &Catalog<'_>, name: &[u8]) -> Result<Option<FoundType>, Refusal> {
     let (base, stars) = normal(name);
     if base == b"void" {
@@ -36,7 +37,7 @@ pub fn find(catalog: &Catalog<'_>, name: &[u8]) -> Result<Option<FoundType>, Ref
     }
 }
 
-/// A type that is named by its name and its number, since the name alone leads to none or to another.
+/// A type by its name and number, such as `struct dict__17`.
 fn other_of(catalog: &Catalog<'_>, base: &[u8]) -> Option<Number> {
     let (name, number) = name_and_number(base)?;
     let record = catalog.get(number).map(|_| catalog.record(number))?;
@@ -44,7 +45,7 @@ fn other_of(catalog: &Catalog<'_>, base: &[u8]) -> Option<Number> {
     spellings(&usual).contains(&record.tag_name()).then_some(number)
 }
 
-/// The only struct, union or enum that has a tag.
+/// The struct, union or enum with a tag, unless several have it.
 pub fn find_tag(catalog: &Catalog<'_>, tag: &[u8]) -> Option<Number> {
     let is_plain = !tag.is_empty() && tag.iter().all(|&byte| !b" *".contains(&byte));
     let named = |word: &&str| catalog.find(&[word.as_bytes(), b" ", tag].concat()).ok();
@@ -53,8 +54,8 @@ pub fn find_tag(catalog: &Catalog<'_>, tag: &[u8]) -> Option<Number> {
     first.filter(|_| found.next().is_none())
 }
 
-/// All own types with a name, hidden ones among them: one name may stand for several. A name with
-/// stars is that of none. Copies that only bit-fields have are left out.
+/// All own types with a name, including hidden ones, but not copies that only bit-fields use. None
+/// for a name with stars.
 pub fn find_all(catalog: &Catalog<'_>, name: &[u8]) -> Vec<Number> {
     let (base, stars) = normal(name);
     if stars != 0 {
@@ -83,7 +84,8 @@ fn is_copy(catalog: &Catalog<'_>, number: Number) -> bool {
     !catalog.record(number).is_root && !end.is_root && end.kind == Kind::Integer
 }
 
-/// That there are more types of a name than the one that is told; None where there are none.
+/// A line that several types have a name, of which the first is shown; None if there are not
+/// several.
 pub fn others(found: &[Number], name: &[u8]) -> Option<String> {
     let numbers: Vec<String> = found.iter().map(Number::to_string).collect();
     (found.len() > 1).then(|| {
@@ -97,7 +99,7 @@ pub fn others(found: &[Number], name: &[u8]) -> Option<String> {
     })
 }
 
-/// The names by which types are found, those of the parent too.
+/// The names by which types are found, including the parent's.
 pub fn names(catalog: &Catalog<'_>) -> Vec<Vec<u8>> {
     let is_found = |number: &Number| {
         let record = catalog.record(*number);

@@ -16,7 +16,7 @@ const MOST_STEPS: usize = 1000;
 const MOST_TEXT: usize = 1 << 25;
 const NAMELESS: &str = "(a member without a name)";
 
-/// What stands at a bit: its path, its type, where it begins and how many bits it has.
+/// A member or element at a bit: its path, type, offset in bits and width in bits.
 struct Here {
     path: String,
     of: Number,
@@ -24,7 +24,7 @@ struct Here {
     bits: u128,
 }
 
-/// A written number: decimal, or with a prefix `0x`, `0o` or `0b`.
+/// Parses a number: decimal, or with a prefix `0x`, `0o` or `0b`.
 pub fn number(written: &str) -> Option<u64> {
     let digits = written.trim().replace('_', "");
     let lower = digits.to_ascii_lowercase();
@@ -40,7 +40,7 @@ pub fn number(written: &str) -> Option<u64> {
     digits.parse().ok()
 }
 
-/// A written offset in bits: bytes in decimal or hexadecimal, and bits behind a colon.
+/// Parses an offset, and returns it in bits: bytes, and bits after a colon.
 pub fn offset(written: &str) -> Outcome<u128> {
     let (byte, bit) = written.split_once(':').unwrap_or((written, "0"));
     let bit = number(if bit.is_empty() { "0" } else { bit }).filter(|&bit| bit <= 7);
@@ -54,7 +54,7 @@ pub fn offset(written: &str) -> Outcome<u128> {
     }
 }
 
-/// Tells what a struct or union has at an offset: each member, the innermost last.
+/// Prints what a struct or union has at an offset: each member, the innermost last.
 pub fn at(
     whole: &FileTypes<'_, '_>,
     name: &[u8],
@@ -87,7 +87,7 @@ pub fn at(
     Ok(())
 }
 
-/// The structs and unions that a name means, those behind typedefs too.
+/// The structs and unions with a name, including those that typedefs name.
 fn aggregates(names: &Names<'_, '_>, name: &[u8]) -> Outcome<BTreeSet<Number>> {
     let meant = names.types_of_name(name)?;
     let ends = meant.into_iter().map(|number| names.catalog.resolve(number));
@@ -101,7 +101,8 @@ fn aggregates(names: &Names<'_, '_>, name: &[u8]) -> Outcome<BTreeSet<Number>> {
     }
 }
 
-/// The members at a bit, each in front of those that it holds. A hostile type ends by a count.
+/// The members at a bit, each before those that it contains. Stops at a number of steps, since a
+/// type may be hostile.
 fn members_at(catalog: &Catalog<'_>, number: Number, bit: u128, is_bit: bool) -> Vec<Here> {
     let end = bit + if is_bit { 1 } else { 8 };
     let bits = 8 * u128::from(catalog.size(number).unwrap_or(0));
@@ -121,7 +122,7 @@ fn members_at(catalog: &Catalog<'_>, number: Number, bit: u128, is_bit: bool) ->
     found
 }
 
-/// The members of what stands somewhere, or the element of an array that is meant.
+/// The members of a struct or union, or the element of an array at the bit.
 fn inside(catalog: &Catalog<'_>, here: &Here, bit: u128) -> Vec<Here> {
     let number = without_qualifiers(catalog, here.of);
     let record = catalog.record(number);
@@ -172,7 +173,7 @@ fn in_bytes(bits: u128) -> String {
     }
 }
 
-/// Tells where members of a name or a pattern stand.
+/// Prints the members with a name or pattern.
 pub fn list_members_of_name(
     whole: &FileTypes<'_, '_>,
     name: &[u8],
@@ -203,7 +204,7 @@ pub fn list_members_of_name(
     Ok(())
 }
 
-/// As many lines as a reader may want: a hostile type has members of members without end.
+/// A limit on the lines that are printed: a hostile type may have nested members without end.
 struct Bound<'b, 'w, 'd> {
     whole: &'b FileTypes<'w, 'd>,
     count: usize,
@@ -214,7 +215,7 @@ impl<'b, 'w, 'd> Bound<'b, 'w, 'd> {
         Bound { whole, count: 0 }
     }
 
-    /// Writes a line, unless there are too many; whether more may follow.
+    /// Writes a line, unless there are too many. Returns whether more may follow.
     fn write(&mut self, line: &str, output: &mut dyn Write) -> Outcome<bool> {
         self.count += line.chars().count();
         if self.count > MOST_TEXT {

@@ -43,7 +43,7 @@ use std::process::ExitCode;
 
 const FAILED: u8 = 1;
 
-/// The command; its exit status.
+/// Runs the command, and returns its exit status.
 pub fn main(words: Vec<OsString>) -> ExitCode {
     let words = Words::parse(words);
     if standard::is_output_closed() {
@@ -63,17 +63,18 @@ pub fn main(words: Vec<OsString>) -> ExitCode {
     }
 }
 
-/// A line on standard error.
+/// Prints a line to standard error.
 fn warn(line: &str) {
     warn_by(NAME, line);
 }
 
-/// A line on standard error by a command, without what a terminal obeys.
+/// Prints a line to standard error for a command, with escaped control characters.
 pub fn warn_by(command: &str, line: &str) {
     messages::warn(command, text::printable(line.as_bytes()));
 }
 
-/// All files, one after the other; one without what is wanted is passed over if another has it.
+/// Reports on all files in order. A file that does not have what is wanted is skipped if another
+/// has it.
 fn run(words: &Words, output: &mut Output) -> Outcome<u8> {
     let parents = Parents::new(NAME, words.parent.as_deref(), words.reading.model);
     let mut missed = Vec::new();
@@ -96,7 +97,7 @@ fn run(words: &Words, output: &mut Output) -> Outcome<u8> {
     }
 }
 
-/// The line in front of a file's answer, where there is more than one file.
+/// The line before a file's answer, if there are several files.
 fn title(words: &Words, path: &[u8]) -> Option<String> {
     let is_wanted = words.files.len() > 1 && !words.is_json;
     is_wanted.then(|| format!("{}:\n", text::printable(path)))

@@ -1,4 +1,4 @@
-//! What a person calls the types of a catalog, and which of them a name or a pattern means.
+//! Names of types as a person uses them, and the types that names and patterns match.
 
 use super::catalog::{Catalog, Number};
 use super::declare::declaration;
@@ -7,15 +7,14 @@ use super::text::{patterns_of, printable, Meaning};
 use ctfd_read::nearest::suggestion;
 use std::collections::{BTreeSet, HashMap};
 
-/// The names of a catalog's types: a tag, a name, or the typedef of what has no tag.
+/// The names of a catalog's types: a tag, a name, or the typedef of a type without a tag.
 pub struct Names<'c, 'd> {
-    /// The types.
     pub catalog: &'c Catalog<'d>,
     typedefs: HashMap<Number, Vec<Number>>,
 }
 
 impl<'c, 'd> Names<'c, 'd> {
-    /// Those of all types of a catalog.
+    /// The names of all types of a catalog.
     pub fn new(catalog: &'c Catalog<'d>) -> Names<'c, 'd> {
         let mut typedefs: HashMap<Number, Vec<Number>> = HashMap::new();
         for number in catalog.all() {
@@ -29,17 +28,17 @@ impl<'c, 'd> Names<'c, 'd> {
         Names { catalog, typedefs }
     }
 
-    /// Whether something names it: else it is known by where it stands alone.
+    /// Whether a type has a name, or a typedef names it; else only its place identifies it.
     pub fn has_name(&self, number: Number) -> bool {
         !self.catalog.record(number).name.is_empty() || self.typedefs.contains_key(&number)
     }
 
-    /// The typedefs of a type that has a tag, or may have one.
+    /// The typedefs of a struct, union or enum.
     pub fn typedefs(&self, number: Number) -> &[Number] {
         self.typedefs.get(&number).map(Vec::as_slice).unwrap_or_default()
     }
 
-    /// The name by which it is told.
+    /// The name of a type in output.
     pub fn label(&self, number: Number) -> String {
         let record = self.catalog.record(number);
         let name = printable(&record.name);
@@ -58,13 +57,13 @@ impl<'c, 'd> Names<'c, 'd> {
         }
     }
 
-    /// As C spells it.
+    /// A type spelled as in C.
     pub fn spelling(&self, number: Number) -> String {
         declaration(self.catalog, number, b"")
     }
 
-    /// Whether one of the names that it is found by meets something: those of its typedefs, and
-    /// tags alone and with their word.
+    /// Whether `meets` accepts one of a type's names: those of its typedefs, and its tag with or
+    /// without the word.
     fn is_called(&self, number: Number, meets: impl Fn(&[u8]) -> bool) -> bool {
         self.calls(number).iter().any(|name| meets(name))
     }
@@ -83,7 +82,7 @@ impl<'c, 'd> Names<'c, 'd> {
         names
     }
 
-    /// Those types that one of the patterns means.
+    /// The types that a pattern matches; fails if there are none.
     pub fn matching(
         &self,
         patterns: &[Vec<u8>],
@@ -98,13 +97,13 @@ impl<'c, 'd> Names<'c, 'd> {
         }
     }
 
-    /// The types that one name says; of a typedef of a struct, union or enum that too.
+    /// The types with a name; for a typedef of a struct, union or enum also that type.
     pub fn types_of_name(&self, name: &[u8]) -> Outcome<BTreeSet<Number>> {
         let names = [name.to_vec()];
         Ok(self.matching(&names, self.catalog.all())?.into_iter().collect())
     }
 
-    /// That no type is meant, and which name is near.
+    /// The failure that no type matches, with the nearest name.
     fn nothing(&self, patterns: &[Vec<u8>]) -> Failure {
         let shown: Vec<_> = patterns.iter().map(|one| printable(one)).collect();
         let advice = match patterns {

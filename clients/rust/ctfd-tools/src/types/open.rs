@@ -1,4 +1,4 @@
-//! Opens the dictionaries that a command line names, over their parents.
+//! Opens the dictionaries of a command line, with their parents.
 
 use super::catalog::{Catalog, Lists, Volume};
 use super::failure::{refusal_text, Failure, Outcome};
@@ -15,7 +15,7 @@ use std::cell::OnceCell;
 use std::os::unix::ffi::OsStrExt as _;
 use std::path::Path;
 
-/// How many lines tell what was lost where a file is converted.
+/// How many lines report the losses of a converted file.
 const FEW: usize = 3;
 const ALONE: &str =
     "--parent, --symbols and --strings go with a dictionary, and this file's types \
@@ -29,12 +29,12 @@ const IN_PARTS: &str =
     "its dictionaries are the parts of one program, which need no other parent: \
                         leave --parent out";
 
-/// A file, as a line on it begins.
+/// A path as messages have it.
 pub fn display_path(path: &Path) -> String {
     printable(path.as_os_str().as_bytes()).into_owned()
 }
 
-/// The parent that the words of a command name, read once for all files.
+/// The parent of the command line, which is read once for all files.
 pub struct Parents<'w> {
     command: &'static str,
     path: Option<&'w Path>,
@@ -43,12 +43,12 @@ pub struct Parents<'w> {
 }
 
 impl<'w> Parents<'w> {
-    /// That of a path, which is not read yet, and of a model that is asked for.
+    /// The parent at a path, which is not read yet; `model` is the data model of the command line.
     pub fn new(command: &'static str, path: Option<&'w Path>, model: Option<Model>) -> Parents<'w> {
         Parents { command, path, model, image: OnceCell::new() }
     }
 
-    /// What is given for the parent; None where none is named.
+    /// The library's input for the parent; None if none is named.
     fn parent_input(&self) -> Outcome<Option<(&Path, LibraryInput<'_>)>> {
         let Some(path) = self.path else { return Ok(None) };
         if self.image.get().is_none() {
@@ -69,13 +69,14 @@ impl<'w> Parents<'w> {
     }
 }
 
-/// What is given for a file, with what the command line says of it.
+/// The library's input for a file, with the options of the command line.
 pub fn library_input<'i>(image: &'i Image, words: &Words) -> Outcome<LibraryInput<'i>> {
     let is_given = words.parent.is_some() || words.symbols.is_some() || words.strings.is_some();
     handed_by(NAME, image, &words.reading, is_given)
 }
 
-/// The same by a command, where something may be given that goes with a dictionary alone.
+/// The same for another command. `is_given` says whether an option is given that applies only to
+/// dictionaries.
 pub fn handed_by<'i>(
     command: &str,
     image: &'i Image,
@@ -94,7 +95,7 @@ pub fn handed_by<'i>(
     Ok(found)
 }
 
-/// What CTF can't hold of a file: each where it is little.
+/// Lines on what CTF cannot represent of a file: each construct, if there are few.
 fn losses(found: &LibraryInput<'_>, path: &Path) -> Vec<String> {
     let how = format!("`ctfd-convert --report - {} /dev/null` lists them all", display_path(path));
     match found.losses.is_empty() {
@@ -103,7 +104,7 @@ fn losses(found: &LibraryInput<'_>, path: &Path) -> Vec<String> {
     }
 }
 
-/// Refuses a dictionary that says another model than the one that is asked for.
+/// Sets the wanted data model, if there is one. Refuses it if the dictionary names another.
 pub fn judge_model(
     found: &mut LibraryInput<'_>,
     wanted: Option<Model>,
@@ -127,14 +128,14 @@ pub fn judge_model(
     Ok(())
 }
 
-/// A symbol table and its strings, each in place of what the file has.
+/// A symbol table and strings, each in place of the file's own.
 pub struct GivenSymbols {
     symbols: Option<Image>,
     strings: Option<Image>,
 }
 
 impl GivenSymbols {
-    /// Those that the command line names.
+    /// The symbol table and strings of the command line.
     pub fn of(words: &Words) -> Outcome<GivenSymbols> {
         let open = |path: &Option<std::path::PathBuf>| {
             path.as_deref().map(Image::open).transpose().map_err(Failure::from)
@@ -142,7 +143,8 @@ impl GivenSymbols {
         Ok(GivenSymbols { symbols: open(&words.symbols)?, strings: open(&words.strings)? })
     }
 
-    /// Puts them in place. A whole program stands for its symbol table.
+    /// Replaces the symbol table and strings of a file. A whole program may be given for its symbol
+    /// table.
     pub fn put<'a>(&'a self, found: &mut LibraryInput<'a>) -> Outcome<()> {
         if let Some(image) = &self.symbols {
             found.origin = Origin::Given;
@@ -167,18 +169,17 @@ impl GivenSymbols {
     }
 }
 
-/// A dictionary that is open, and how its symbols were found.
+/// An open dictionary, and how its symbols were found.
 pub struct OpenDictionary<'o, 'd> {
-    /// The types.
     pub catalog: &'o Catalog<'d>,
-    /// The parent that the command line names.
+    /// The parent of the command line.
     pub parent: Option<&'o Volume<'d>>,
-    /// What the dictionary was given.
+    /// The library's input for the dictionary.
     pub handed: &'o LibraryInput<'o>,
 }
 
-/// Opens what is given for a file, and runs something on it. Where guessed symbols do not fit, or
-/// those of what was converted, it is opened without.
+/// Opens a file's dictionary, and calls `run` with it. If guessed symbols do not fit, or those of a
+/// converted file, it is opened without symbols.
 pub fn with_catalog<T>(
     path: &Path,
     handed: &LibraryInput<'_>,
@@ -207,7 +208,7 @@ pub fn with_catalog<T>(
     over_parent(path, types, &bare, parents, run)
 }
 
-/// Whether a refusal is one of the rules on symbols.
+/// Whether a refusal is about symbols.
 fn is_of_symbols(refusal: &Refusal) -> bool {
     matches!(refusal.fault, Fault::BadFuncs | Fault::BadSymbolType | Fault::BadSymtab)
 }
@@ -232,14 +233,14 @@ fn over_parent<T>(
     }
     let opened = Dictionary::open_lent(&parent.ctf, parent.options())
         .map_err(|refusal| Failure::of_library(display_path(parent_path), refusal))?;
-    let mut types = types; // which lives no longer than what its parent borrows
+    let mut types = types; // shortened to the lifetime of the parent
     types.import(&opened).map_err(|refusal| Failure::Refused(refusal_text(what, refusal)))?;
     let catalog = Catalog::new(volume(&types, handed), Some(lists(&parent)));
     let beneath = volume(&opened, &parent);
     run(&OpenDictionary { catalog: &catalog, parent: Some(&beneath), handed })
 }
 
-/// Opens the children of a program in parts too, all as one.
+/// Opens a program in parts, with all its children.
 fn in_parts<T>(
     path: &Path,
     parent: &Dictionary<'_>,
@@ -276,7 +277,7 @@ fn lists<'h>(handed: &'h LibraryInput<'_>) -> Lists<'h> {
     Lists { ctf: &handed.ctf, strings: handed.strings.as_deref().unwrap_or_default() }
 }
 
-/// That a file is a child whose parent is not named.
+/// The failure that the parent of a child is not named.
 pub fn without_parent(path: &Path, catalog: &Catalog<'_>) -> Failure {
     let name = catalog.parent_name();
     let name = match name.is_empty() {

@@ -1,4 +1,4 @@
-//! The words of `ctfd-types`: which files, which names, and what is wanted of them.
+//! The command line of `ctfd-types`.
 
 use super::figures::Order;
 use super::text::is_pattern;
@@ -10,7 +10,7 @@ use std::ffi::{OsStr, OsString};
 use std::os::unix::ffi::{OsStrExt as _, OsStringExt as _};
 use std::path::{Path, PathBuf};
 
-/// The question that an option asks of a name.
+/// Makes the question that an option asks about a name.
 type QuestionOf = fn(Vec<u8>) -> Question;
 
 /// The command's name.
@@ -24,65 +24,62 @@ FILE is what ctfd-convert takes: a program, library or object file with debug in
 archive, or a section of CTF or BTF. NAME is a type as C names it (\"struct lua_State\", \"TValue\"),
 or a function or object of the program. The status is 1 if something is refused or not found.";
 
-/// What is asked.
+/// The question that the command line asks.
 pub enum Question {
-    /// The types of some names, or a list of all.
+    /// The types with some names, or a list of all.
     Types,
-    /// A table of structs and unions, of those with so many bytes of holes.
+    /// A table of structs and unions, perhaps only those with at least so many bytes of holes.
     Sizes(Option<i64>),
-    /// Who holds a type by value.
+    /// The structs and unions that contain a type, member by member.
     Contains(Vec<u8>),
-    /// Who has a pointer to a type.
+    /// The structs and unions with pointers to a type, member by member.
     Uses(Vec<u8>),
     /// The functions that take or return a type.
     Functions(Vec<u8>),
-    /// The members of a name.
+    /// The members with a name.
     Members(Vec<u8>),
     /// What a struct has at an offset.
     At(Vec<u8>, String),
-    /// The type of a number.
+    /// The type with a number.
     Number(u64),
-    /// Structs in a better order.
+    /// Structs with their members in a better order.
     Reorganize,
-    /// The records of a file: `TYPE FILE [OFFSET] [COUNT]`.
+    /// The values of a type in a file: `TYPE FILE [OFFSET] [COUNT]`.
     Show(Vec<OsString>),
     /// Declarations for a compiler.
     Header,
-    /// A picture of a struct or union.
     Picture(Vec<u8>),
-    /// A picture of all.
+    /// A picture of all structs and unions.
     Treemap,
-    /// The names that begin so, for a shell.
+    /// The names with a prefix, for completion in a shell.
     Complete(Vec<u8>),
 }
 
-/// What a command line says.
+/// The values of the command line.
 pub struct Words {
-    /// The files.
     pub files: Vec<PathBuf>,
-    /// Names and patterns.
+    /// Names and patterns of types and symbols.
     pub names: Vec<Vec<u8>>,
-    /// What is asked.
     pub question: Question,
-    /// How figures are sorted.
+    /// The order of figures.
     pub order: Option<Order>,
-    /// Whether named structs are looked into.
+    /// Whether to search named structs too.
     pub is_recursive: bool,
-    /// Whether what a type holds is written in place.
+    /// Whether to write contained structs in place.
     pub is_expanded: bool,
-    /// The bytes of a cache line.
+    /// The size of a cache line in bytes.
     pub cache_line: u64,
-    /// Whether objects of JSON are printed.
+    /// Whether to print JSON objects.
     pub is_json: bool,
-    /// Whether numbers are in hexadecimal.
+    /// Whether to print numbers in hexadecimal.
     pub is_hexadecimal: bool,
-    /// Whether all types of a name are meant.
+    /// Whether to print all types with a name.
     pub is_all: bool,
-    /// Whether C alone is printed.
+    /// Whether to print only C, without offsets.
     pub is_plain: bool,
-    /// The parent.
+    /// The parent of the files.
     pub parent: Option<PathBuf>,
-    /// The symbol table, and its strings.
+    /// The symbol table, or a program that has it.
     pub symbols: Option<PathBuf>,
     /// The strings of the symbol table.
     pub strings: Option<PathBuf>,
@@ -91,7 +88,7 @@ pub struct Words {
 }
 
 impl Words {
-    /// Those of a command line. What is wrong with it is told, and ends the process.
+    /// Parses the command line. A wrong one ends the process with a message.
     pub fn parse(words: Vec<OsString>) -> Words {
         let made = Words::of(&wrong_words::parse_words(options(), with_counts(words)));
         let refuse = |said: &str| -> ! { wrong_words::refuse_because(&options(), said) };
@@ -135,7 +132,7 @@ impl Words {
         }
     }
 
-    /// Whether all types of a file are looked at for the answer.
+    /// Whether the answer needs all types of a file.
     pub fn is_of_all(&self) -> bool {
         let is_question = !matches!(self.question, Question::Types | Question::Number(_));
         is_question || self.is_json || self.names.iter().any(|name| is_pattern(name))
@@ -183,8 +180,8 @@ fn question(matches: &ArgMatches) -> Question {
     }
 }
 
-/// The files and the names: where no word is a file, the first is one that is not there. So is the
-/// first where it is no name of C.
+/// Separates files from names. If no word is a file, the first counts as one that does not exist;
+/// so does a first word that cannot be a name in C.
 fn told_apart(words: Vec<OsString>) -> (Vec<PathBuf>, Vec<Vec<u8>>) {
     let is_file = |word: &OsString| !is_pattern(word.as_bytes()) && Path::new(word).exists();
     let are_files: Vec<bool> = words.iter().map(is_file).collect();
@@ -200,7 +197,7 @@ fn told_apart(words: Vec<OsString>) -> (Vec<PathBuf>, Vec<Vec<u8>>) {
     (files, names)
 }
 
-/// Whether a word may be a name of C, or a pattern of names.
+/// Whether a word may be a name in C, or a pattern of names.
 fn is_name(word: &OsStr) -> bool {
     let is_of_name = |letter: char| {
         letter.is_alphanumeric() || letter.is_whitespace() || "_*?[]{}()-".contains(letter)
@@ -208,7 +205,7 @@ fn is_name(word: &OsStr) -> bool {
     word.to_str().is_some_and(|word| !word.is_empty() && word.chars().all(is_of_name))
 }
 
-/// `--holes` has a number behind it, or none and then a file.
+/// Adds a count to `--holes` if no number follows it.
 fn with_counts(words: Vec<OsString>) -> Vec<OsString> {
     let is_count = |word: Option<&OsString>| {
         word.and_then(|word| word.to_str())
@@ -225,12 +222,11 @@ fn number(written: &str) -> Result<u64, String> {
     super::members::number(written).ok_or_else(|| "a number such as 218 or 0xda".to_owned())
 }
 
-/// An option with a value.
 fn value(name: &'static str, shown: &'static str, help: &'static str) -> Arg {
     Arg::new(name).long(name).value_name(shown).value_parser(value_parser!(OsString)).help(help)
 }
 
-/// All options: help, the manual page's and the shells' are made of these.
+/// All options. The help text, the manual page and the completions of shells are made from these.
 pub fn options() -> Command {
     let questions = questions();
     let group = ArgGroup::new("question").args(questions.iter().map(Arg::get_id));
@@ -257,7 +253,7 @@ pub fn options() -> Command {
         .args(inputs())
 }
 
-/// What may be asked, one at a time.
+/// The questions, of which one may be asked.
 fn questions() -> Vec<Arg> {
     vec![
         flag(
@@ -305,7 +301,7 @@ fn questions() -> Vec<Arg> {
     ]
 }
 
-/// How answers are printed.
+/// The options for how answers are printed.
 fn manners() -> Vec<Arg> {
     vec![
         word("sort", Order::WORDS, "the order of --sizes (size) and --holes (holes)"),
@@ -322,7 +318,7 @@ fn manners() -> Vec<Arg> {
     ]
 }
 
-/// What is read.
+/// The options for what is read.
 fn inputs() -> Vec<Arg> {
     vec![
         file("parent", "the parent of FILE"),

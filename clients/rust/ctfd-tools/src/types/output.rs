@@ -1,20 +1,20 @@
-//! Standard output: written in large pieces, and what can't be written is told.
+//! Standard output, written in large pieces, with colors on a terminal.
 
 use crate::messages::warn;
 use ctfd_read::error::reason;
 use std::io::{self, BufWriter, ErrorKind, IsTerminal as _, StdoutLock, Write};
 use std::process::ExitCode;
 
-/// The status of a command whose output nobody reads, as a shell has it of SIGPIPE.
+/// The exit status if nobody reads the output: that of a process killed by SIGPIPE, in a shell.
 const UNREAD: u8 = 141;
 const PIECE: usize = 1 << 16;
 
-/// How a terminal shows a hole, other comments, and what is plain again.
+/// The terminal's codes for holes, for other comments, and for plain text.
 const HOLE: &[u8] = b"\x1b[33m";
 const COMMENT: &[u8] = b"\x1b[2m";
 const PLAIN: &[u8] = b"\x1b[0m";
 
-/// What a command prints to.
+/// The output of a command.
 pub struct Output {
     written: BufWriter<StdoutLock<'static>>,
     has_colors: bool,
@@ -22,7 +22,8 @@ pub struct Output {
 }
 
 impl Output {
-    /// Standard output. Where it is a terminal, comments have colors, unless NO_COLOR is set.
+    /// Standard output. On a terminal comments have colors, unless NO_COLOR is set, or TERM is
+    /// missing or `dumb`.
     pub fn new() -> Output {
         let written = BufWriter::with_capacity(PIECE, io::stdout().lock());
         let is_set = |name: &str| std::env::var_os(name).is_some_and(|word| !word.is_empty());
@@ -31,7 +32,7 @@ impl Output {
         Output { written, has_colors, line: Vec::new() }
     }
 
-    /// Writes a line of C, its comment in a color.
+    /// Writes a line of C, with its comment in a color.
     fn write_colored(&mut self) -> io::Result<()> {
         let line = std::mem::take(&mut self.line);
         let begins = line.windows(2).position(|pair| pair == b"/*").unwrap_or(line.len());
@@ -67,7 +68,8 @@ impl Write for Output {
     }
 }
 
-/// How a command ends whose output can't be written: quietly where its reader has left.
+/// The exit status of a command whose output cannot be written. Prints a message, unless the reader
+/// has left.
 pub fn lost(command: &str, trouble: u8, error: &io::Error) -> ExitCode {
     if error.kind() == ErrorKind::BrokenPipe {
         return ExitCode::from(UNREAD);
@@ -76,14 +78,14 @@ pub fn lost(command: &str, trouble: u8, error: &io::Error) -> ExitCode {
     ExitCode::from(trouble)
 }
 
-/// An answer with a line in front of it, which is written once there is an answer.
+/// An output with a title, which is written before the first output.
 pub struct TitledOutput<'o> {
     output: &'o mut Output,
     title: Option<String>,
 }
 
 impl<'o> TitledOutput<'o> {
-    /// One with this title, or without.
+    /// An output with this title, or none.
     pub fn new(output: &'o mut Output, title: Option<String>) -> TitledOutput<'o> {
         TitledOutput { output, title }
     }

@@ -1,77 +1,70 @@
-//! What is known of a type of a catalog: what it is, and what was asked of it so far.
+//! Records of a catalog's types: their properties, and a cache of the library's answers.
 
 use super::volumes::Number;
 use ctfd::{Encoding, Kind};
 use std::cell::OnceCell;
 
-/// A member of a struct or union: `offset` is in bits, without that of a bit-field's type.
+/// A member of a struct or union.
 #[derive(Clone, Copy, Debug)]
 pub struct Part<'d> {
-    /// Its name, empty for one without.
+    /// Its name, empty if it has none.
     pub name: &'d [u8],
-    /// The number of its type.
+    /// Its type.
     pub of: Number,
-    /// Where it begins.
+    /// Its offset in bits, without the offset that a bit-field's type adds.
     pub offset: u64,
 }
 
-/// An enumerator.
 #[derive(Clone, Debug, PartialEq)]
 pub struct Value {
-    /// Its name.
     pub name: Vec<u8>,
-    /// Its value.
     pub value: i32,
 }
 
-/// What a function takes and returns; 0 is none.
+/// What a function takes and returns; 0 is void.
 #[derive(Clone, Debug, Default)]
 pub struct Signature {
-    /// What it returns.
     pub returns: Number,
-    /// The types of its arguments.
     pub arguments: Vec<Number>,
-    /// Whether more may follow.
+    /// Whether it takes further arguments.
     pub is_open: bool,
 }
 
-/// What a type comes to, behind typedefs, qualifiers and arrays.
+/// The type at the end of typedefs, qualifiers and arrays.
 #[derive(Clone, Copy, Debug)]
 pub struct UnderlyingType {
-    /// The type.
     pub number: Number,
-    /// In how many elements of arrays it stands.
+    /// The number of values of this type: the product of the arrays' lengths.
     pub elements: u128,
-    /// Whether there are arrays on the way.
+    /// Whether there are arrays before it.
     pub is_array: bool,
 }
 
-/// Where in its storage a value begins and how many bits it has; `width` is that of a bit-field.
+/// The bits of a value in its storage.
 #[derive(Clone, Copy, Debug)]
 pub struct Span {
-    /// Bits in front of it.
+    /// The number of bits before it.
     pub lies: u64,
-    /// Its bits.
+    /// Its width in bits.
     pub bits: u128,
-    /// Its width where it is a bit-field.
+    /// Its width, if it is a bit-field.
     pub width: Option<u64>,
 }
 
-/// A type: what it is, what it names, and what was asked of it so far.
+/// A type: its properties, and the answers about it so far.
 pub struct Record<'d> {
-    /// Its kind.
     pub kind: Kind,
-    /// Its name, without a word in front.
+    /// Its name, without `struct`, `union` or `enum`.
     pub name: Vec<u8>,
-    /// Whether look-ups by name see it.
+    /// Whether look-ups by name find it.
     pub is_root: bool,
-    /// What a forward declares; else its kind.
+    /// For a forward the kind that it declares; else its own.
     pub tag: Kind,
-    /// What it points to, renames, qualifies or holds; 0 is none.
+    /// The type that it points to, renames, qualifies, contains or returns; 0 if there is none.
     pub of: Number,
-    /// How many elements an array has.
+    /// The number of elements of an array.
     pub elements: u32,
-    /// How a number lies in its storage.
+    /// The encoding of a number.
     pub encoding: Option<Encoding>,
     pub(super) size: OnceCell<Option<u64>>,
     pub(super) resolved: OnceCell<Number>,
@@ -83,7 +76,7 @@ pub struct Record<'d> {
 }
 
 impl Record<'_> {
-    /// One of a kind, of which nothing else is known yet.
+    /// The record of a kind, without other properties.
     pub(super) fn of_kind(kind: Kind) -> Self {
         Record {
             kind,
@@ -103,17 +96,17 @@ impl Record<'_> {
         }
     }
 
-    /// Whether it has members.
+    /// Whether it is a struct or union.
     pub fn is_aggregate(&self) -> bool {
         matches!(self.kind, Kind::Struct | Kind::Union)
     }
 
-    /// Whether it may have a tag.
+    /// Whether it is of a kind that has tags.
     pub fn is_tagged(&self) -> bool {
         matches!(self.kind, Kind::Struct | Kind::Union | Kind::Enum | Kind::Forward)
     }
 
-    /// The word in front of its name in C; empty where there is none.
+    /// The word before its name in C; empty if it has none.
     pub fn word(&self) -> &'static str {
         match self.tag {
             Kind::Struct => "struct",
@@ -123,7 +116,7 @@ impl Record<'_> {
         }
     }
 
-    /// Its name as C has it, with the word in front.
+    /// Its name in C, after the word.
     pub fn tag_name(&self) -> Vec<u8> {
         match self.word() {
             "" => self.name.clone(),
@@ -132,12 +125,12 @@ impl Record<'_> {
     }
 }
 
-/// Whether a type of a kind is another with a qualifier.
+/// Whether types of a kind add a qualifier to another.
 pub fn is_qualifier(kind: Kind) -> bool {
     matches!(kind, Kind::Const | Kind::Volatile | Kind::Restrict)
 }
 
-/// Whether a type of a kind stands for another.
+/// Whether types of a kind are typedefs or qualifiers.
 pub fn is_renaming(kind: Kind) -> bool {
     kind == Kind::Typedef || is_qualifier(kind)
 }

@@ -1,4 +1,4 @@
-//! The values of a type that follow each other in a file.
+//! Records in a file: consecutive values of a type.
 
 use super::failure::{Failure, Outcome};
 use super::file_types::FileTypes;
@@ -9,22 +9,21 @@ use std::fs::File;
 use std::io::{Read, Seek, SeekFrom, Write};
 use std::path::Path;
 
-/// How many bytes of the file are read at a time, about.
+/// About how many bytes of the file are read at a time.
 const PIECE: usize = 1 << 22;
 
-/// Which records are wanted: `TYPE FILE [OFFSET] [COUNT]`.
+/// The wanted records: `TYPE FILE [OFFSET] [COUNT]`.
 pub struct RecordRequest<'w> {
     /// The name of the type.
     pub name: &'w [u8],
-    /// The file.
     pub file: &'w Path,
-    /// From where on.
+    /// The offset of the first record.
     pub offset: Option<&'w str>,
-    /// How many at most.
+    /// The number of records.
     pub count: Option<&'w str>,
 }
 
-/// Tells the values, a line each.
+/// Prints the records, one line each.
 pub fn records(
     whole: &FileTypes<'_, '_>,
     wanted: &RecordRequest<'_>,
@@ -65,7 +64,7 @@ pub fn records(
     Ok(())
 }
 
-/// The type of a name, and its bytes.
+/// The type with a name, and its size in bytes.
 fn type_wanted<'d>(whole: &FileTypes<'_, 'd>, name: &[u8]) -> Outcome<(ctfd::Type<'d>, usize)> {
     let catalog = whole.names.catalog;
     let number = whole.names.types_of_name(name)?.into_iter().next().unwrap_or(0);
@@ -102,7 +101,7 @@ impl<'p> Pieces<'p> {
         Ok(made)
     }
 
-    /// Refuses a file that has fewer records than are asked for.
+    /// Refuses a file with fewer records than were asked for.
     fn judge(&self, start: u64, count: u64, size: usize) -> Outcome<()> {
         let about = self.file.metadata().map_err(|error| read_failure(self.path, &error))?;
         let length = about.len().saturating_sub(start);
@@ -116,7 +115,7 @@ impl<'p> Pieces<'p> {
         )))
     }
 
-    /// The next bytes, fewer than so many at the end alone.
+    /// The next bytes; fewer than `length` only at the end of the file.
     fn next(&mut self, length: usize) -> Outcome<Vec<u8>> {
         let mut piece = Vec::new();
         let read = (&mut self.file).take(length as u64).read_to_end(&mut piece);

@@ -1,4 +1,4 @@
-//! A struct with its members in an order without holes, as one can paste it.
+//! Structs with their members in an order without holes, to paste into a source.
 
 use super::catalog::{Catalog, Number};
 use super::declare::base;
@@ -12,13 +12,13 @@ use std::cmp::Reverse;
 use std::collections::HashSet;
 use std::io::Write;
 
-/// What i386 aligns numbers to within structs.
+/// The greatest alignment of numbers in structs on i386.
 const WORD: u64 = 4;
-/// The power of two that a source aligns by at most, over what a type needs.
+/// The greatest power of two by which a source's alignment is assumed to exceed a type's own.
 const MOST_ALIGNED: u32 = 12;
 const NONE_SMALLER: &str = "/* no struct has an order of its members that is smaller */";
 
-/// Tells the structs that are named in a better order; of all, those alone that have one.
+/// Prints the named structs in a better order; without names, all structs that have one.
 pub fn list_better_orders(
     whole: &FileTypes<'_, '_>,
     patterns: &[Vec<u8>],
@@ -58,14 +58,16 @@ pub fn list_better_orders(
     Ok(())
 }
 
-/// A struct in an order that is smaller, and what that saves; else a line that says that none is.
+/// A struct in an order that makes it smaller, and how much that saves. The error is a line that
+/// says there is none.
 fn order_of(whole: &FileTypes<'_, '_>, number: Number) -> Result<String, String> {
     let catalog = whole.names.catalog;
     let layout = Layout::of(catalog, number);
     let order = Order { whole, catalog };
     let align = u128::from(order.alignment(number));
     let mut runs = runs(&layout.places);
-    // By falling alignment; what has no bytes, as an array of no elements, stays at the end.
+    // By decreasing alignment; members without bytes, such as arrays without elements, stay at the
+    // end.
     runs.sort_by_key(|run| (bytes(run) == 0, Reverse(bytes(run).min(1) * order.of_run(run))));
     let size = order.size(&runs, align);
     let label = whole.names.label(number);
@@ -84,7 +86,7 @@ fn order_of(whole: &FileTypes<'_, '_>, number: Number) -> Result<String, String>
     ))
 }
 
-/// Members that stay together: one, or bit-fields that follow each other.
+/// Members that stay together: single ones, or consecutive bit-fields.
 fn runs<'p>(places: &[Place<'p>]) -> Vec<Vec<Place<'p>>> {
     let mut made: Vec<Vec<Place<'p>>> = Vec::new();
     for &place in places {
@@ -100,14 +102,14 @@ fn bytes(run: &[Place<'_>]) -> u128 {
     run.iter().map(|place| place.bits).sum::<u128>().div_ceil(8)
 }
 
-/// What the order of members goes by.
+/// The alignments that determine an order.
 struct Order<'o, 'w, 'd> {
     whole: &'o FileTypes<'w, 'd>,
     catalog: &'o Catalog<'d>,
 }
 
 impl Order<'_, '_, '_> {
-    /// How a run is aligned: bit-fields by the bytes that they fill.
+    /// The alignment of a run: the greatest of its members' types.
     fn of_run(&self, run: &[Place<'_>]) -> u128 {
         let each = run.iter().map(|place| self.alignment(place.part.of));
         each.max().map_or(1, u128::from)
@@ -122,7 +124,7 @@ impl Order<'_, '_, '_> {
         }
     }
 
-    /// A line for each member that stands farther on than its type needs: the source may align it.
+    /// A line for each member that is farther back than its type needs: the source may align it.
     fn hints(&self, places: &[Place<'_>]) -> String {
         let hint = |place: &Place<'_>| {
             let end = place.start - place.gap;
@@ -141,7 +143,7 @@ impl Order<'_, '_, '_> {
         places.iter().filter_map(hint).collect()
     }
 
-    /// The bytes of a struct of runs in this order.
+    /// The size in bytes of a struct with runs in this order.
     fn size(&self, runs: &[Vec<Place<'_>>], align: u128) -> u128 {
         let mut end: u128 = 0;
         for run in runs {

@@ -1,4 +1,4 @@
-//! What is told of one file.
+//! The answer for one file.
 
 use super::catalog::{Catalog, Number};
 use super::crowded::{is_crowded, CROWDED};
@@ -25,7 +25,7 @@ use std::io::Write;
 use std::os::unix::ffi::OsStrExt as _;
 use std::path::Path;
 
-/// Answers the question for a file; whether nothing of the answer is left out.
+/// Prints the answer for a file. Returns whether it is complete.
 pub fn file(
     words: &Words,
     parents: &Parents<'_>,
@@ -51,7 +51,7 @@ pub fn file(
     })
 }
 
-/// The answer for one file that is open.
+/// The answer for one open file.
 struct Answer<'a, 'd> {
     words: &'a Words,
     parents: &'a Parents<'a>,
@@ -73,7 +73,7 @@ impl<'a, 'd> Answer<'a, 'd> {
         }
     }
 
-    /// What is said of a child that is read alone.
+    /// The message for a child that is read without its parent.
     fn without_parent(&self) -> Option<String> {
         let catalog = self.catalog();
         let name = catalog.parent_name();
@@ -90,7 +90,7 @@ impl<'a, 'd> Answer<'a, 'd> {
         })
     }
 
-    /// The answer to a question on all types; whether nothing of it is left out.
+    /// Answers a question on all types. Returns whether the answer is complete.
     fn on_all(&self, output: &mut dyn Write) -> Outcome<bool> {
         if let Some(why) = self.without_parent() {
             return Err(Failure::Refused(why));
@@ -155,7 +155,7 @@ impl<'a, 'd> Answer<'a, 'd> {
         records::records(whole, &wanted, self.words.is_hexadecimal, output)
     }
 
-    /// Who holds a type, or points to it: a line for each member.
+    /// Prints the members that contain a type, or pointers to it, one line each.
     fn holders(
         &self,
         whole: &FileTypes<'_, 'd>,
@@ -197,7 +197,8 @@ impl<'a, 'd> Answer<'a, 'd> {
         Ok(())
     }
 
-    /// Types in full, each once, a blank line between them; or as objects.
+    /// Prints types in full, without duplicates and with blank lines between them; or as JSON
+    /// objects.
     fn matching(&self, whole: &FileTypes<'_, 'd>, output: &mut dyn Write) -> Outcome<()> {
         let catalog = self.catalog();
         let numbers: Vec<Number> = match &self.words.names[..] {
@@ -221,7 +222,7 @@ impl<'a, 'd> Answer<'a, 'd> {
         Ok(())
     }
 
-    /// The names that begin with a text, a line each, tags without their word too.
+    /// Prints the names with a prefix, one line each; tags also without their word.
     fn completions(&self, text: &[u8], output: &mut dyn Write) -> Outcome<()> {
         let is_plain = |name: &[u8]| name.iter().all(|byte| matches!(byte, b' '..=b'~'));
         let mut listed = BTreeSet::new();
@@ -237,7 +238,7 @@ impl<'a, 'd> Answer<'a, 'd> {
         Ok(())
     }
 
-    // Some types, or a list of all.
+    // Prints some types, or a list of all.
 
     fn on_some(&self, output: &mut dyn Write) -> Outcome<()> {
         if let Some(why) = self.without_parent() {
@@ -275,7 +276,7 @@ impl<'a, 'd> Answer<'a, 'd> {
         })
     }
 
-    /// A line for each type: its number, its size in bytes ("-" where it has none), its name.
+    /// Prints a line for each type: its number, its size in bytes ("-" if it has none), its name.
     fn all(&self, output: &mut dyn Write) -> Outcome<()> {
         let catalog = self.catalog();
         for (number, of) in catalog.own_numbers().filter_map(|n| Some((n, catalog.get(n)?))) {
@@ -290,7 +291,7 @@ impl<'a, 'd> Answer<'a, 'd> {
         Ok(())
     }
 
-    /// A type of a name in full, or all of them, or how C declares a symbol.
+    /// The first type with a name in full, or all of them, or the declaration of a symbol.
     fn types_of_name(&self, name: &[u8]) -> Outcome<String> {
         let catalog = self.catalog();
         let all = lookup::find_all(catalog, name);
@@ -316,7 +317,7 @@ impl<'a, 'd> Answer<'a, 'd> {
         definition(self.catalog(), number, self.manner())
     }
 
-    /// How C declares a symbol; else the only struct, union or enum whose tag is the name.
+    /// The declaration of a symbol; else the only struct, union or enum with this tag.
     fn symbol_or_tag(&self, name: &[u8]) -> Outcome<String> {
         let why = match self.symbol(name)? {
             Ok(declared) => return Ok(declared + "\n"),
@@ -332,7 +333,7 @@ impl<'a, 'd> Answer<'a, 'd> {
         )))
     }
 
-    /// How C declares a symbol, or why nothing is told of one.
+    /// The declaration of a symbol in C; else why there is none.
     fn symbol(&self, name: &[u8]) -> Outcome<Result<String, String>> {
         let handed = self.opened.handed;
         if handed.has_more_names() {
@@ -352,7 +353,7 @@ impl<'a, 'd> Answer<'a, 'd> {
         Ok(declared.map_err(|refusal| refusal.fault.to_string()))
     }
 
-    /// What may have been meant: stars behind a blank are a pointer's, and no pattern.
+    /// Advice on what the user may have meant. Stars after a blank make a pointer, not a pattern.
     fn advice(&self, name: &[u8]) -> String {
         let text = printable(name);
         let stripped = text.replace('*', " ");

@@ -1,40 +1,40 @@
-//! The functions and objects of a program whose types its dictionary has.
+//! The functions and objects of a program that have types in its dictionary.
 
 use super::catalog::{Catalog, SymbolAnswer};
 use ctfd_read::opening::{LibraryInput, Origin};
 use std::collections::HashSet;
 
-/// Bytes of a symbol of ELF64, and of its name at most.
+/// The size of a symbol in ELF64, and of its longest name, in bytes.
 const ENTRY: usize = 24;
 const LONGEST_NAME: usize = 4096;
 const OBJECT: u8 = 1;
 const FUNCTION: u8 = 2;
 
-/// Whether symbols that were found in this way have types.
+/// Whether symbols of this origin have types.
 pub fn is_told(origin: Origin) -> bool {
     matches!(origin, Origin::Named | Origin::Linked | Origin::Guessed | Origin::Given)
 }
 
-/// A symbol that has a type.
+/// A symbol with its type.
 pub struct ToldSymbol {
-    /// Its name, of what is no UTF-8 the escapes.
+    /// Its name; bytes that are not UTF-8 are escaped.
     pub name: Vec<u8>,
     /// Its type.
     pub told: SymbolAnswer,
 }
 
-/// The symbols that one dictionary of a file was given.
+/// The symbols that a dictionary of a file was given.
 #[derive(Clone, Copy)]
 pub struct SymbolList<'h> {
-    /// The dictionary's place.
+    /// The index of the dictionary.
     pub place: usize,
-    /// The table, of 64 bits.
+    /// The symbol table, in the format of ELF64.
     pub table: &'h [u8],
-    /// Its strings.
+    /// The strings of the table.
     pub strings: &'h [u8],
 }
 
-/// Those of each dictionary that was given some.
+/// The symbols of each dictionary that was given some.
 pub fn symbol_lists<'h>(handed: &'h LibraryInput<'_>) -> Vec<SymbolList<'h>> {
     let each = std::iter::once(handed).chain(&handed.children).enumerate();
     let list = |(place, one): (usize, &'h LibraryInput<'_>)| {
@@ -44,7 +44,7 @@ pub fn symbol_lists<'h>(handed: &'h LibraryInput<'_>) -> Vec<SymbolList<'h>> {
     each.filter_map(list).collect()
 }
 
-/// Those of a dictionary that was given some symbols, the first of each name.
+/// The symbols with types, without those of repeated names.
 pub fn told_symbols(catalog: &Catalog<'_>, handed: &LibraryInput<'_>) -> Vec<ToldSymbol> {
     if !is_told(handed.origin) {
         return Vec::new();
@@ -76,7 +76,7 @@ fn is_of(told: &SymbolAnswer, kind: u8) -> bool {
     }
 }
 
-/// A name in the strings of a table, of what is no UTF-8 the escapes.
+/// A name in the strings of a table; bytes that are not UTF-8 are escaped.
 fn name_at(strings: &[u8], at: usize) -> Vec<u8> {
     let rest = strings.get(at..).unwrap_or_default();
     let rest = &rest[..rest.len().min(LONGEST_NAME)];

@@ -1,4 +1,4 @@
-//! Functions and objects of the program: what C declares of one, and which take or return a type.
+//! Functions and objects of a program: their declarations in C, and which functions use a type.
 
 use super::catalog::{Catalog, Number, Signature, SymbolAnswer};
 use super::declare;
@@ -11,12 +11,12 @@ use ctfd::{Kind, Refusal};
 use std::collections::BTreeSet;
 use std::io::Write;
 
-/// Bytes of a symbol of ELF64, and of its name at most.
+/// The size of a symbol in ELF64, and of its longest name, in bytes.
 const ENTRY: usize = 24;
 const LONGEST_NAME: usize = 4096;
 const FUNCTION: u8 = 2;
 
-/// How C declares the first symbol of a name.
+/// The declaration in C of the first symbol with a name.
 pub fn declaration_of(catalog: &Catalog<'_>, name: &[u8]) -> Result<String, Refusal> {
     Ok(match catalog.symbol(name)? {
         SymbolAnswer::Function(signature) => {
@@ -26,7 +26,7 @@ pub fn declaration_of(catalog: &Catalog<'_>, name: &[u8]) -> Result<String, Refu
     })
 }
 
-/// Tells the functions that take or return a type, or a pointer to it, by their names.
+/// Prints the functions that take or return a type, or a pointer to it, sorted by name.
 pub fn functions(
     whole: &FileTypes<'_, '_>,
     lists: &[SymbolList<'_>],
@@ -66,7 +66,7 @@ pub fn functions(
     Ok(())
 }
 
-/// Whether a type leads to one of some through pointers, arrays, typedefs and qualifiers.
+/// Whether a type leads to a target through pointers, arrays, typedefs and qualifiers.
 fn leads_to(catalog: &Catalog<'_>, targets: &BTreeSet<Number>, mut number: Number) -> bool {
     while number != 0 {
         if targets.contains(&number) {
@@ -83,7 +83,7 @@ fn leads_to(catalog: &Catalog<'_>, targets: &BTreeSet<Number>, mut number: Numbe
     false
 }
 
-/// The functions of a table of 64 bits that have a name and a section, by their numbers.
+/// The functions of a symbol table of ELF64 that have a name and a section, by their indices.
 fn function_symbols<'s>(
     table: &'s [u8],
     strings: &'s [u8],

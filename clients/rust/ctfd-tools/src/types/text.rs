@@ -1,5 +1,4 @@
-//! Names as a person reads and writes them: what a terminal may show, patterns, spellings of base
-//! types.
+//! Names as a person reads and writes them: escapes, patterns, and spellings of base types.
 
 use super::catalog::Number;
 use std::borrow::Cow;
@@ -7,13 +6,13 @@ use std::collections::hash_map::DefaultHasher;
 use std::collections::HashSet;
 use std::hash::{Hash as _, Hasher as _};
 
-/// How many bytes of a name or declaration are told.
+/// The size limit of a name or declaration in output, in bytes.
 const LONGEST: usize = 2048;
-/// The words for kinds that have tags.
+/// The words before tags.
 pub const TAGS: [&str; 3] = ["struct", "union", "enum"];
 const QUALIFIERS: [&str; 3] = ["const", "volatile", "restrict"];
 
-/// What C allows to be written for a base type, and what compilers call it in a dictionary.
+/// Spellings of base types that C allows, and the names that compilers give them in a dictionary.
 const SPELLINGS: [(&str, &str); 15] = [
     ("unsigned", "unsigned int"),
     ("signed", "int"),
@@ -32,7 +31,7 @@ const SPELLINGS: [(&str, &str); 15] = [
     ("bool", "_Bool"),
 ];
 
-/// A name for a terminal: of what is not printable, the escapes of its bytes.
+/// A name for a terminal: the bytes of characters that are not printable are escaped.
 pub fn printable(name: &[u8]) -> Cow<'_, str> {
     match std::str::from_utf8(name) {
         Ok(text) if text.bytes().all(|byte| matches!(byte, b' '..=b'~')) => Cow::Borrowed(text),
@@ -59,17 +58,17 @@ fn escape(made: &mut String, byte: u8) {
     *made += &format!("\\x{byte:02x}");
 }
 
-/// Whether a terminal shows a letter, and obeys nothing.
+/// Whether a terminal prints a character, rather than obeying it.
 fn is_printable(letter: char) -> bool {
     if letter.is_ascii() {
         return !letter.is_ascii_control();
     }
-    // Behind another letter, one that joins it is shown too.
+    // After another character, a combining character is printable too.
     let pair = String::from_iter(['a', letter]);
     pair.escape_debug().skip(1).eq([letter])
 }
 
-/// The code points of a name; of what is no UTF-8 each byte, as a number that no letter has.
+/// The code points of a name; a byte that is not UTF-8 becomes a number that no character has.
 pub fn code_points(name: &[u8]) -> Vec<u32> {
     let of_chunk = |chunk: std::str::Utf8Chunk<'_>| -> Vec<u32> {
         let valid = chunk.valid().chars().map(u32::from);
@@ -78,7 +77,7 @@ pub fn code_points(name: &[u8]) -> Vec<u32> {
     name.utf8_chunks().flat_map(of_chunk).collect()
 }
 
-/// A text that is told: of a very long one the beginning, and a number that no other has.
+/// Shortens a very long text to its beginning and a hash.
 pub fn shorten(text: String) -> String {
     if text.len() <= LONGEST {
         return text;
@@ -89,7 +88,7 @@ pub fn shorten(text: String) -> String {
     format!("{}..{:016x}", &text[..end], hasher.finish())
 }
 
-/// A written name as a dictionary has it, without qualifiers, and its stars.
+/// The name that a dictionary has for a written name, without qualifiers, and the number of stars.
 pub fn normal(written: &[u8]) -> (Vec<u8>, usize) {
     let stars = written.iter().filter(|&&byte| byte == b'*').count();
     let words = written
@@ -101,12 +100,12 @@ pub fn normal(written: &[u8]) -> (Vec<u8>, usize) {
     (usual.map_or(base, |(_, usual)| usual.as_bytes().to_vec()), stars)
 }
 
-/// The name of a base type that gcc gives it: other compilers spell it otherwise.
+/// The name that gcc gives to a base type; other compilers spell some differently.
 pub fn usual(name: &str) -> &str {
     SPELLINGS.iter().find(|(other, _)| *other == name).map_or(name, |(_, usual)| *usual)
 }
 
-/// A name without qualifiers, and what else C allows to be written for it.
+/// A name without qualifiers, and its other spellings in C.
 pub fn spellings(base: &[u8]) -> Vec<Vec<u8>> {
     let others = SPELLINGS.iter().filter(|(_, usual)| usual.as_bytes() == base);
     std::iter::once(base.to_vec())
@@ -114,11 +113,11 @@ pub fn spellings(base: &[u8]) -> Vec<Vec<u8>> {
         .collect()
 }
 
-/// A type's own name and its number, of a name that may be made of these: `struct dict__17`.
+/// Splits an alias into a type's own name and number: `struct dict__17`. None for other names.
 pub fn name_and_number(written: &[u8]) -> Option<(&[u8], Number)> {
     let end = written.len() - written.iter().rev().take_while(|&&byte| byte == b'_').count();
     let digits = written[..end].iter().rev().take_while(|byte| byte.is_ascii_digit()).count();
-    // The shortest name in front, so the first `__` that only digits follow.
+    // The first `__` that only digits follow, so that the name is the shortest.
     let starts = (1..end).filter(|&at| at + digits.min(5) + 2 >= end);
     for at in starts {
         let Some(number) = written[at..end].strip_prefix(b"__") else { continue };
@@ -134,7 +133,7 @@ pub fn name_and_number(written: &[u8]) -> Option<(&[u8], Number)> {
     None
 }
 
-/// The word `struct`, `union` or `enum` in front of a name, and the rest.
+/// The word `struct`, `union` or `enum` at the start of a name, and the rest.
 pub fn without_tag(name: &[u8]) -> (&'static str, &[u8]) {
     for word in TAGS {
         if let Some(rest) = name.strip_prefix(word.as_bytes()).and_then(|r| r.strip_prefix(b" ")) {
@@ -144,7 +143,7 @@ pub fn without_tag(name: &[u8]) -> (&'static str, &[u8]) {
     ("", name)
 }
 
-/// Whether a written name may mean several. Stars behind a blank are those of a pointer.
+/// Whether a written name is a pattern. Stars after a blank make a pointer instead.
 pub fn is_pattern(written: &[u8]) -> bool {
     let is_blank = |byte: &u8| byte.is_ascii_whitespace();
     let tail = written.iter().rev().take_while(|byte| **byte == b'*' || is_blank(byte)).count();
@@ -153,7 +152,7 @@ pub fn is_pattern(written: &[u8]) -> bool {
     written[..written.len() - stars].iter().any(|byte| b"*?[".contains(byte))
 }
 
-/// The patterns that a written name stands for: base types are spelled in several ways.
+/// The patterns for a written name: base types have several spellings.
 pub fn patterns_of(written: &[u8]) -> Vec<Vec<u8>> {
     let trimmed = written.trim_ascii();
     for word in TAGS {
@@ -171,21 +170,21 @@ pub fn patterns_of(written: &[u8]) -> Vec<Vec<u8>> {
     made
 }
 
-/// Which names are meant by some that a person wrote, patterns among them.
+/// A set of names and patterns that a person wrote.
 pub struct Meaning {
     names: HashSet<Vec<u8>>,
     patterns: Vec<Vec<u32>>,
 }
 
 impl Meaning {
-    /// That of written names, each as `patterns_of` has it.
+    /// The set of written names, as `patterns_of` returns them.
     pub fn of(written: impl IntoIterator<Item = Vec<u8>>) -> Meaning {
         let names: HashSet<Vec<u8>> = written.into_iter().collect();
         let listed = names.iter().filter(|name| is_pattern(name));
         Meaning { patterns: listed.map(|name| code_points(name)).collect(), names }
     }
 
-    /// Whether a name is one that is meant.
+    /// Whether a name is in the set, or matches a pattern.
     pub fn has(&self, name: &[u8]) -> bool {
         if self.names.contains(name) {
             return true;
@@ -198,7 +197,7 @@ impl Meaning {
     }
 }
 
-/// Whether a pattern as a shell's stands for a name. Of stars, only the last is tried again.
+/// Whether a pattern as in a shell matches a name. Only the last star is tried again.
 fn matches(pattern: &[u32], name: &[u32]) -> bool {
     let (mut at, mut here) = (0, 0);
     let mut again: Option<(usize, usize)> = None;
@@ -228,7 +227,7 @@ fn matches(pattern: &[u32], name: &[u32]) -> bool {
     }
 }
 
-/// How much of a pattern stands for a code point at its front, if it does.
+/// The length of the front of a pattern if it matches a code point.
 fn meets(pattern: &[u32], one: u32) -> Option<usize> {
     match pattern[0] {
         first if first == u32::from(b'?') => Some(1),
@@ -240,7 +239,7 @@ fn meets(pattern: &[u32], one: u32) -> Option<usize> {
     }
 }
 
-/// What stands in brackets at the front of a pattern, and the length with these.
+/// The set in brackets at the front of a pattern, and the length with the brackets.
 fn set_of(pattern: &[u32]) -> Option<(&[u32], usize)> {
     let mut end = 1;
     end += usize::from(pattern.get(end) == Some(&u32::from(b'!')));

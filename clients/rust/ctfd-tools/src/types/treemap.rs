@@ -1,4 +1,5 @@
-//! A picture of all structs and unions of a dictionary: rectangles as large as their bytes.
+//! Treemaps: pictures of all structs and unions of a dictionary, as rectangles with areas in
+//! proportion to their sizes.
 
 use super::catalog::Number;
 use super::drawing::{self, Extent, Label, Rectangle};
@@ -13,7 +14,7 @@ const HIGH: f64 = 600.0;
 const TOP: f64 = 44.0;
 const MOST: usize = 500;
 
-/// What is drawn as a rectangle: `bytes` are its area.
+/// A rectangle of the picture; `bytes` is its area.
 #[derive(Clone, Debug)]
 struct Tile {
     sort: &'static str,
@@ -21,7 +22,8 @@ struct Tile {
     bytes: u128,
 }
 
-/// The picture of the own types, or of those that are meant; the least of many as one.
+/// The picture of the own types, or of those with some names. If there are too many, the smallest
+/// share a rectangle.
 pub fn svg(whole: &FileTypes<'_, '_>, patterns: &[Vec<u8>]) -> Outcome<String> {
     let all = whole.names.catalog.aggregates();
     let chosen: Vec<Number> = match patterns {
@@ -70,7 +72,7 @@ fn drawing_of(tile: &Tile, room: Rectangle) -> String {
     drawing::rectangle(tile.sort, room, &label, &extent)
 }
 
-/// A rectangle for each, sorted by falling size, in strips that keep them near to squares.
+/// Lays out tiles, sorted by decreasing size, in strips that keep them nearly square.
 fn laid(tiles: &[Tile], mut room: Rectangle) -> Vec<(&Tile, Rectangle)> {
     let total: u128 = tiles.iter().map(|one| one.bytes).sum();
     let scale = room.wide * room.high / total.max(1) as f64;
@@ -92,7 +94,8 @@ fn laid(tiles: &[Tile], mut room: Rectangle) -> Vec<(&Tile, Rectangle)> {
     made
 }
 
-/// How many make the flattest of them least flat, along the shorter side.
+/// The number of tiles for a strip along the shorter side, so that the flattest is as square as
+/// possible.
 fn strip(left: &[Tile], short: f64, scale: f64) -> usize {
     let (mut total, mut flattest): (u128, f64) = (0, f64::INFINITY);
     for (count, tile) in left.iter().enumerate() {

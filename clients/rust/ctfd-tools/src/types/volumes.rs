@@ -1,37 +1,37 @@
-//! The dictionaries of a program: one, alone or over its parent, or a parent and its children that
-//! are asked as one.
+//! The dictionaries of a program: one, perhaps with its parent, or a parent and its children, which
+//! are treated as one.
 
 use ctfd::{Dictionary, Fault, Refusal, Type};
 use std::collections::HashMap;
 use std::ops::Range;
 
-/// The number of a type: that of its dictionary. Those of the children of a program in parts have
-/// the child's place, counted from 1, in front of the 16 bits of that.
+/// The number of a type in its dictionary. For a child of a program in parts, the child's index,
+/// counted from 1, is in the bits above the lowest 16.
 pub type Number = u32;
 
-/// The number from which on a child's types are its own.
+/// A child's own types have at least this number.
 const CHILD: u16 = 0x8000;
 const PLACE: u32 = 16;
-/// The bytes of a dictionary's header, and where it says how far behind it the names are.
+/// The size of a dictionary's header, and the bytes of it that contain the offset of the names
+/// after it.
 const HEADER: usize = 36;
 const NAMES_PLACE: Range<usize> = 28..32;
 
-/// The lists that a dictionary was opened with, where names of members stand.
+/// The lists from which a dictionary was opened, which contain the names of members.
 #[derive(Clone, Copy)]
 pub struct Lists<'d> {
-    /// The dictionary.
     pub ctf: &'d [u8],
-    /// The strings of its symbols.
+    /// The strings of its symbol table.
     pub strings: &'d [u8],
 }
 
 impl<'d> Lists<'d> {
-    /// How many bytes they have.
+    /// Their size in bytes.
     pub fn length(&self) -> usize {
         self.ctf.len() + self.strings.len()
     }
 
-    /// How many bytes the longest of all names has at most.
+    /// An upper bound for the length of the longest name.
     pub fn longest_name(&self) -> usize {
         let names_at = |ctf: &[u8]| {
             let place = ctf.get(NAMES_PLACE)?.try_into().ok()?;
@@ -42,7 +42,7 @@ impl<'d> Lists<'d> {
         [names, self.strings].into_iter().filter_map(of_list).max().unwrap_or(0)
     }
 
-    /// The name at a place of one of the lists, as rows of members have it.
+    /// The name at an offset in one of the lists, as rows of members refer to it.
     pub fn name(&self, list: u32, at: u64) -> &'d [u8] {
         let list = match list {
             0 => self.ctf,
@@ -55,40 +55,36 @@ impl<'d> Lists<'d> {
     }
 }
 
-/// A dictionary that is open, and the lists that it was opened with.
+/// An open dictionary, and the lists from which it was opened.
 pub struct Volume<'d> {
-    /// The dictionary.
     pub types: &'d Dictionary<'d>,
-    /// Its lists.
     pub lists: Lists<'d>,
-    /// Whether its entries go by the symbols of the first one.
+    /// Whether its entries are in the order of the first dictionary's symbols.
     pub has_first_symbols: bool,
 }
 
-/// What a dictionary says of a symbol.
+/// The type of a symbol in a dictionary.
 pub enum Entry<'d> {
-    /// A function.
     Function(ctfd::Function<'d>),
     /// The type of an object; None for void.
     Object(Option<Type<'d>>),
 }
 
-/// The dictionaries of a program: the first is the only one, or the parent of all others.
+/// The dictionaries of a program: a single one, or a parent followed by its children.
 pub struct Volumes<'d> {
     listed: Vec<Volume<'d>>,
-    /// The parent of the only one.
+    /// The parent of a single dictionary.
     parent: Option<Lists<'d>>,
-    /// Of types of children that stand in an earlier one too, the number there.
+    /// For types of children that occur in an earlier child too, the number there.
     originals: HashMap<Number, Number>,
 }
 
 impl<'d> Volumes<'d> {
-    /// A dictionary, over a parent where it has one.
+    /// A dictionary, and its parent if it has one.
     pub fn alone(volume: Volume<'d>, parent: Option<Lists<'d>>) -> Volumes<'d> {
         Volumes { listed: vec![volume], parent, originals: HashMap::new() }
     }
 
-    /// A parent and its children.
     pub fn in_parts(parent: Volume<'d>, children: Vec<Volume<'d>>) -> Volumes<'d> {
         let listed: Vec<Volume<'d>> = std::iter::once(parent).chain(children).collect();
         let mut made = Volumes { listed, parent: None, originals: HashMap::new() };
@@ -98,43 +94,43 @@ impl<'d> Volumes<'d> {
         made
     }
 
-    /// All of them; the parent of the only one is not among them.
+    /// All of them, without the parent of a single one.
     pub fn all(&self) -> &[Volume<'d>] {
         &self.listed
     }
 
-    /// The only one, or the parent of the others.
+    /// The single one, or the parent of the others.
     pub fn first(&self) -> &Volume<'d> {
         &self.listed[0]
     }
 
-    /// Where a type is: in which of these, and its number there.
+    /// The index of the dictionary that has a type, and the type's number there.
     pub fn place(number: Number) -> (usize, u16) {
         ((number >> PLACE) as usize, number as u16)
     }
 
-    /// The number of a type that the dictionary at a place calls by its own.
+    /// The number of a type, by its number in the dictionary at an index.
     pub fn number(&self, place: usize, own: u16) -> Number {
         if place == 0 || own < CHILD {
-            return own.into(); // the parent's types have their own numbers in each child
+            return own.into(); // a child refers to the parent's types by their own numbers
         }
         let number = (place as Number) << PLACE | Number::from(own);
         self.originals.get(&number).copied().unwrap_or(number)
     }
 
-    /// The same of what a question answers; 0 for void.
+    /// The same for a type of the library; 0 for void.
     pub fn number_of(&self, place: usize, of: Option<Type<'_>>) -> Number {
         of.map_or(0, |of| self.number(place, of.number()))
     }
 
-    /// A type; None where no dictionary has the number.
+    /// A type; fails if no dictionary has the number.
     pub fn get(&self, number: Number) -> Result<Type<'d>, Refusal> {
         let (place, own) = Volumes::place(number);
         let missing = Refusal { fault: Fault::NoType, place: own.into() };
         self.listed.get(place).ok_or(missing)?.types.get(own)
     }
 
-    /// The lists in which the names of a type's members stand.
+    /// The lists that contain the names of a type's members.
     pub fn lists(&self, number: Number) -> Option<&Lists<'d>> {
         match (Volumes::place(number), &self.parent) {
             ((0, own), Some(parent)) if own <= CHILD => Some(parent),
@@ -142,7 +138,7 @@ impl<'d> Volumes<'d> {
         }
     }
 
-    /// The numbers of the types of the one at a place, in order; each type once.
+    /// The numbers of the types of the dictionary at an index, in order, without copies.
     pub fn own_numbers_at(
         &self,
         place: usize,
@@ -153,7 +149,7 @@ impl<'d> Volumes<'d> {
             .filter(|number| !self.originals.contains_key(number))
     }
 
-    /// The type of a name, in the first dictionary that has it.
+    /// The type with a name, from the first dictionary that has one.
     pub fn find(&self, name: &[u8]) -> Result<Number, Refusal> {
         let found = |(place, volume): (usize, &Volume<'d>)| {
             volume.types.find(name).map(|of| self.number(place, of.number()))
@@ -161,7 +157,7 @@ impl<'d> Volumes<'d> {
         self.first_of(found)
     }
 
-    /// What is said of the first symbol of a name, and in which dictionary.
+    /// The type of the first symbol with a name, and the index of its dictionary.
     pub fn symbol(&self, name: &[u8]) -> Result<(usize, Entry<'d>), Refusal> {
         self.first_of(|(place, volume)| {
             let symbol = volume.types.symbol(name)?;
@@ -169,8 +165,8 @@ impl<'d> Volumes<'d> {
         })
     }
 
-    /// Refuses an object without a type where several dictionaries may tell it: one that does not
-    /// has 0 there.
+    /// Refuses an object without a type if there are several dictionaries: another may have the
+    /// type.
     fn check_object(&self, found: Entry<'d>) -> Result<Entry<'d>, Refusal> {
         match found {
             Entry::Object(None) if self.listed.len() > 1 => {
@@ -180,12 +176,12 @@ impl<'d> Volumes<'d> {
         }
     }
 
-    /// What is said of a symbol by its number among those of the first dictionary.
+    /// The type of a symbol, by its index in the first dictionary's table.
     pub fn entry(&self, symbol: u32) -> Option<(usize, Entry<'d>)> {
         self.entry_among(|_, volume| volume.has_first_symbols, symbol)
     }
 
-    /// What the one at a place says of a symbol by its number there.
+    /// The type of a symbol, by its index in the table of the dictionary at an index.
     pub fn entry_in(&self, place: usize, symbol: u32) -> Option<(usize, Entry<'d>)> {
         self.entry_among(|other, _| other == place, symbol)
     }
@@ -203,7 +199,7 @@ impl<'d> Volumes<'d> {
         told.next()
     }
 
-    /// The first answer; where none gives one, the refusal of the first.
+    /// The first answer; if there is none, the refusal of the first dictionary.
     fn first_of<T>(
         &self,
         ask: impl Fn((usize, &Volume<'d>)) -> Result<T, Refusal>,
@@ -219,7 +215,7 @@ impl<'d> Volumes<'d> {
     }
 }
 
-/// The number of a child's type, be it a copy or not.
+/// The number of a child's type, even if it is a copy.
 pub(super) fn child_number(place: usize, own: u16) -> Number {
     (place as Number) << PLACE | Number::from(own)
 }

@@ -23,4 +23,4 @@ returns-in-Contents c =
 pub returns-in-Members : goal.returns-in-Members
 returns-in-Members c =
     let b = bytes_of c.args.source.now in
-    c.listed.ensures ∙ members_listed c.args.chain c.kind.result b c.kind.ensures (sym c.in-Members.is ∙ c.spot_of.ensures)
+    c.reference_list.ensures ∙ members_listed c.args.chain c.kind.result b c.kind.ensures (sym c.in-Members.is ∙ c.spot_of.ensures)

@@ -11,13 +11,13 @@ use Rattle.ctf_library.proofs.SaidOfFacts.{told}
 use Rattle.ctf_library.proofs.answering.tell.Goals as goal
 
 pub returns-in-Members : goal.returns-in-Members
-returns-in-Members c = rw c.in-Members.is (told shown (λ z. as_fields (member_fields c.in-Members.window) (or_refused WRONG_KIND (members_in z))) (about.Members c.in-Members.window) (space_of c.args.space.now) c.args.t.0 (term_in c.args.x.now) _ _ c.variant.ensures c.members.ensures (λ x. refl))
+returns-in-Members c = rw c.in-Members.is (told shown (λ z. as_fields (member_fields c.in-Members.window) (or_refused WRONG_KIND (members_in z))) (about.Members c.in-Members.window) (space_of c.args.asked.now.space) c.args.asked.now.t.0 (term_in c.args.asked.now.found) _ _ c.variant.ensures c.members.ensures (λ x. refl))
 
 pub returns-in-Enumerators : goal.returns-in-Enumerators
-returns-in-Enumerators c = rw c.in-Enumerators.is (told shown (λ z. as_fields (enumerator_fields c.in-Enumerators.window) (or_refused WRONG_KIND (enumerators_in z))) (about.Enumerators c.in-Enumerators.window) (space_of c.args.space.now) c.args.t.0 (term_in c.args.x.now) _ _ c.variant-in-Enumerators.ensures c.enumerators.ensures (λ x. refl))
+returns-in-Enumerators c = rw c.in-Enumerators.is (told shown (λ z. as_fields (enumerator_fields c.in-Enumerators.window) (or_refused WRONG_KIND (enumerators_in z))) (about.Enumerators c.in-Enumerators.window) (space_of c.args.asked.now.space) c.args.asked.now.t.0 (term_in c.args.asked.now.found) _ _ c.variant-in-Enumerators.ensures c.enumerators.ensures (λ x. refl))
 
 pub returns-in-Path : goal.returns-in-Path
 returns-in-Path c =
-    let s = space_of c.args.space.now in
+    let s = space_of c.args.asked.now.space in
     let names = c.as_joined.ensures in
-    rw c.in-Path.is (told kind_of (λ k. as_fields position_fields (path s c.args.t.0 c.in-Path.names)) (about.Path c.in-Path.names) s c.args.t.0 (term_in c.args.x.now) c.args.kind _ c.requires.kind (c.position_answer.ensures ∙ ap (as_fields position_fields) (c.path.ensures ∙ ap (path s c.args.t.0) names)) (λ x. refl))
+    rw c.in-Path.is (told kind_of (λ k. as_fields position_fields (path s c.args.asked.now.t.0 c.in-Path.names)) (about.Path c.in-Path.names) s c.args.asked.now.t.0 (term_in c.args.asked.now.found) c.args.asked.now.kind _ c.requires.kind (c.position_answer.ensures ∙ ap (as_fields position_fields) (c.path.ensures ∙ ap (path s c.args.asked.now.t.0) names)) (λ x. refl))

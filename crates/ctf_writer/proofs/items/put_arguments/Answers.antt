@@ -2,7 +2,7 @@ use Rattle.std.proofs.Common.{ℕ, ◌++◌, List, ap, arith, length, sym, ◌�
 use Rattle.std.specs.List.{flat_map}
 use Rattle.std.proofs.lemmas.List.{append_assoc, length-append}
 use Rattle.ctf_model.specs.writing.WrittenRecords.{u16}
-use Rattle.ctf_writer.specs.HeldView.{written_argument}
+use Rattle.ctf_writer.specs.DraftContentView.{written_argument}
 use Rattle.ctf_writer.proofs.Joining.{even_bytes, odd_bytes, types_short}
 use Rattle.ctf_writer.proofs.items.put_arguments.Goals as goal
 

@@ -1,6 +1,6 @@
 use Rattle.std.proofs.Common.{arith}
 use Rattle.ctf_writer.specs.Tables.{names}
-use Rattle.ctf_writer.specs.HeldView.{written_enumerator}
+use Rattle.ctf_writer.specs.DraftContentView.{written_enumerator}
 use Rattle.ctf_writer.proofs.Joining.{items_more, len_more, room_for}
 use Rattle.ctf_writer.proofs.items.put_enumerators.Goals as goal
 

@@ -1,7 +1,7 @@
 use Rattle.std.proofs.Common.{◌≡◌, ◌++◌, ◌+◌, take, length, vec_capacity, vec_len}
 use Rattle.std.specs.List.{flat_map}
 use Rattle.ctf_writer.specs.Tables.{names}
-use Rattle.ctf_writer.specs.HeldView.{written_enumerator}
+use Rattle.ctf_writer.specs.DraftContentView.{written_enumerator}
 use Rattle.ctf_writer.proofs.items.put_enumerators.Given as goal
 
 abbrev pub invariant-loop-enumerator : goal.invariant-loop-enumerator

@@ -1,6 +1,6 @@
 use Rattle.std.proofs.Common.{◌≡◌, ◌++◌, ◌+◌, take, length, vec_capacity, vec_len}
 use Rattle.std.specs.List.{flat_map}
-use Rattle.ctf_writer.specs.HeldView.{written_argument}
+use Rattle.ctf_writer.specs.DraftContentView.{written_argument}
 use Rattle.ctf_writer.proofs.items.put_types.Given as goal
 
 abbrev pub invariant-loop-tnum : goal.invariant-loop-tnum

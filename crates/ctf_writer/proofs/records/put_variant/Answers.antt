@@ -7,7 +7,7 @@ use Rattle.ctf_model.specs.writing.WritingLaws.{IsKept}
 use Rattle.ctf_draft.specs.TypeView.{enumerator_of, member_of}
 use Rattle.ctf_draft.specs.declared.types.Enumerator.{Enumerator}
 use Rattle.ctf_draft.specs.declared.types.Member.{Member}
-use Rattle.ctf_writer.specs.HeldView.{written_enumerator, written_member}
+use Rattle.ctf_writer.specs.DraftContentView.{written_enumerator, written_member}
 use Rattle.ctf_writer.specs.Tables.{names}
 use Rattle.ctf_writer.proofs.Joining.{all_mapped, enumerators_joined}
 use Rattle.ctf_writer.proofs.Lengths.{aggregate_bytes, fits_aggregate, names_aggregate}

@@ -1,4 +1,4 @@
-use Rattle.ctf_writer.specs.HeldView.{written_type}
+use Rattle.ctf_writer.specs.DraftContentView.{written_type}
 use Rattle.ctf_writer.proofs.Lengths.{too_long_at}
 use Rattle.ctf_writer.proofs.sizes.records_len.Goals as goal
 

@@ -1,6 +1,6 @@
 use Rattle.std.proofs.Common.{◌≡◌, ℕ, ◌≤◌, List, take, length}
 use Rattle.std.specs.List.{flat_map}
-use Rattle.ctf_writer.specs.HeldView.{written_type}
+use Rattle.ctf_writer.specs.DraftContentView.{written_type}
 use Rattle.ctf_writer.proofs.sizes.records_len.Given as goal
 
 abbrev pub invariant-loop-t : goal.invariant-loop-t

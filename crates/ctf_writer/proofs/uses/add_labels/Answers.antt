@@ -2,7 +2,7 @@ use Rattle.std.proofs.Common.{ℕ, ◌<◌, List, arith, get_or, length, subst}
 use Rattle.std.proofs.lemmas.List.{get_or_default}
 use Rattle.std.proofs.lemmas.Result.{err_from_is_err_and}
 use Rattle.ctf_model.specs.format.Dictionary.{Label}
-use Rattle.ctf_writer.specs.HeldView.{no_label}
+use Rattle.ctf_writer.specs.DraftContentView.{no_label}
 use Rattle.ctf_writer.specs.Offsets.{with_name}
 use Rattle.ctf_writer.specs.Tables.{names}
 use Rattle.ctf_writer.specs.Uses.{IsRefused}

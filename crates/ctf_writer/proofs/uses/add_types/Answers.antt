@@ -1,6 +1,6 @@
 use Rattle.std.proofs.lemmas.Result.{err_from_is_err_and}
 use Rattle.ctf_writer.specs.Tables.{names}
-use Rattle.ctf_writer.specs.HeldView.{uses}
+use Rattle.ctf_writer.specs.DraftContentView.{uses}
 use Rattle.ctf_writer.proofs.Growing.{names_more_at, refused_among}
 use Rattle.ctf_writer.proofs.uses.add_types.Goals as goal
 

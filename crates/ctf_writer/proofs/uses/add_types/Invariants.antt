@@ -1,7 +1,7 @@
 use Rattle.std.proofs.Common.{◌≡◌, take}
 use Rattle.std.specs.List.{flat_map}
 use Rattle.ctf_writer.specs.Tables.{names}
-use Rattle.ctf_writer.specs.HeldView.{uses}
+use Rattle.ctf_writer.specs.DraftContentView.{uses}
 use Rattle.ctf_writer.specs.Uses.{with_names}
 use Rattle.ctf_writer.proofs.uses.add_types.Given as goal
 

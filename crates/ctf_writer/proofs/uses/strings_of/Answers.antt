@@ -1,6 +1,6 @@
 use Rattle.std.proofs.lemmas.Result.{err_from_is_err_and}
 use Rattle.ctf_writer.specs.Tables.{names}
-use Rattle.ctf_writer.proofs.HeldNames.{refused_label, refused_labels, refused_name, refused_types, with_all}
+use Rattle.ctf_writer.proofs.ContentNames.{refused_label, refused_labels, refused_name, refused_types, with_all}
 use Rattle.ctf_writer.proofs.uses.strings_of.Goals as goal
 
 pub returns-in_err-add-clause-refused : goal.returns-in_err-add-clause-refused

@@ -1,6 +1,6 @@
 use Rattle.std.proofs.Common.{ℕ, List, arith, ap, length}
 use Rattle.ctf_writer.specs.Tables.{names}
-use Rattle.ctf_writer.proofs.HeldParts.{fits_held, held_len, labels_are, records_are}
+use Rattle.ctf_writer.proofs.ContentParts.{fits_held, held_len, labels_are, records_are}
 use Rattle.ctf_writer.proofs.Lengths.{labels_len}
 use Rattle.ctf_writer.proofs.writing.lengths_of.Goals as goal
 

@@ -1,6 +1,6 @@
 use Rattle.std.proofs.Common.{ℕ, List, arith, ap, length}
 use Rattle.ctf_writer.specs.Tables.{names}
-use Rattle.ctf_writer.proofs.HeldParts.{fits_held, held_len, held_joined, kept_held, kept_label, kept_labels, kept_name, labels_are, records_are}
+use Rattle.ctf_writer.proofs.ContentParts.{fits_held, held_len, held_joined, kept_held, kept_label, kept_labels, kept_name, labels_are, records_are}
 use Rattle.ctf_writer.proofs.writing.put_held.Goals as goal
 
 pub reference-requires : goal.reference-requires

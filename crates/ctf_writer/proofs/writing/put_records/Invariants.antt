@@ -1,7 +1,7 @@
 use Rattle.std.proofs.Common.{◌≡◌, ◌++◌, ◌+◌, take, length, vec_capacity, vec_len}
 use Rattle.std.specs.List.{flat_map}
 use Rattle.ctf_writer.specs.Tables.{names}
-use Rattle.ctf_writer.specs.HeldView.{written_type}
+use Rattle.ctf_writer.specs.DraftContentView.{written_type}
 use Rattle.ctf_writer.proofs.writing.put_records.Given as goal
 
 abbrev pub invariant-loop-t : goal.invariant-loop-t

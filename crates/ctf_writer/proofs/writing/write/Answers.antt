@@ -2,7 +2,7 @@ use Rattle.std.proofs.Common.{◌≡◌, ℕ, Vec, Ok, ap, sym, ◌∙◌}
 use Rattle.std.specs.declared.alloc.Global.{Global}
 use Rattle.std.proofs.lemmas.Result.{IfOk-weaker}
 use Rattle.ctf_model.specs.writing.Written.{written}
-use Rattle.ctf_writer.specs.HeldView.{dictionary_of}
+use Rattle.ctf_writer.specs.DraftContentView.{dictionary_of}
 use Rattle.ctf_writer.specs.Updating.{StandsFor}
 use Rattle.ctf_writer.proofs.Made.{stands_for}
 use Rattle.ctf_writer.proofs.writing.write.Goals as goal

@@ -6,8 +6,8 @@ use Rattle.ctf_model.specs.rules.Chains.{by_value, declarator}
 use Rattle.ctf_model.specs.format.Dictionary.{Dictionary}
 use Rattle.ctf_model.specs.rules.Faults.{or_later}
 use Rattle.ctf_model.specs.declared.faults.Fault.{Fault}
-use Rattle.ctf_writer.specs.HeldView.{dictionary_of}
-use Rattle.ctf_writer.proofs.HeldParts.{refused_deep, refused_long, refused_strings, accepted}
+use Rattle.ctf_writer.specs.DraftContentView.{dictionary_of}
+use Rattle.ctf_writer.proofs.ContentParts.{refused_deep, refused_long, refused_strings, accepted}
 use Rattle.ctf_writer.proofs.writing.write_held.Goals as goal
 
 -- a refusal for chains, whatever else there is

@@ -1,6 +1,6 @@
-/* What gdb's ctfread does, from the list of its calls, by GNU's header: it goes through all types,
- * and asks of each what a symbol table wants. The types are made first, by the same header; so the
- * same is printed over GNU's own library. */
+/* What gdb's ctfread does, following the list of its calls, through GNU's header: it iterates over
+ * all types, and asks about each what a symbol table needs. The types are first made through the
+ * same header, so GNU's own library prints the same. */
 #include <ctf-api.h>
 
 #include <stdio.h>
@@ -24,7 +24,7 @@ static int on_enumerator(const char *name, int value, void *arg)
     return 0;
 }
 
-/* read_func_kind_type and read_array_type. */
+/* read_func_kind_type and read_array_type */
 static void read_parts(ctf_dict_t *fp, ctf_id_t type, int kind)
 {
     ctf_funcinfo_t info;
@@ -102,7 +102,7 @@ static void make(ctf_dict_t *fp)
     ctf_add_objt_sym(fp, "first", node);
 }
 
-/* scan_partial_symbols: objects by their names. */
+/* scan_partial_symbols: objects by name */
 static void read_symbols(ctf_dict_t *fp)
 {
     ctf_next_t *it = NULL;

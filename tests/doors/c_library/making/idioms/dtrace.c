@@ -1,6 +1,6 @@
-/* What libdtrace does with its two dictionaries, from the list of its calls: dt_open makes both and
- * imports; declarations come one by one, each followed by an update; pointers are made where they
- * are wanted; a forward is defined later. Compiled for illumos' header, or with -DGNU for GNU's. */
+/* What libdtrace does with its two dictionaries, following the list of its calls: dt_open makes
+ * both, and imports one; declarations come one by one, each followed by an update; pointers are
+ * added when needed; a forward is defined later. For illumos' header, or with -DGNU for GNU's. */
 #ifdef GNU
 #include <ctf-api.h>
 typedef ctf_dict_t dict;
@@ -20,7 +20,7 @@ typedef ctf_file_t dict;
 #include <stdio.h>
 #include <stdlib.h>
 
-/* Those of C and of D: the second is the first one's child. */
+/* The dictionaries of C and of D: D's is a child of C's. */
 static dict *of_c, *of_d;
 
 static ctf_id_t must(dict *f, ctf_id_t t, const char *what)
@@ -32,7 +32,7 @@ static ctf_id_t must(dict *f, ctf_id_t t, const char *what)
     return t;
 }
 
-/* dt_type_pointer: the pointer that is there, or one in the same dictionary or in D's. */
+/* dt_type_pointer: the existing pointer to a type, or a new one in D's dictionary. */
 static ctf_id_t pointer(dict *f, ctf_id_t t)
 {
     ctf_id_t p = ctf_type_pointer(f, t);
@@ -66,7 +66,7 @@ static void show(dict *f, const char *name)
         ctf_member_iter(f, t, on_member, f);
 }
 
-/* dt_open: both dictionaries, and the types that C has. */
+/* dt_open: both dictionaries, and the base types of C. */
 static void begin(void)
 {
     static const struct {
@@ -90,7 +90,7 @@ static void begin(void)
         exit(1);
 }
 
-/* A string type of D, over a pointer that C lacks. */
+/* A string type of D, from a pointer that C's dictionary lacks. */
 static ctf_id_t add_string(void)
 {
     ctf_id_t character = must(of_d, ctf_lookup_by_name(of_d, "char"), "char");
@@ -103,7 +103,7 @@ static ctf_id_t add_string(void)
 }
 
 /* dt_decl_sou: struct node { int value; struct later *next; char name[16]; }, member by member, and
- * the definition of struct later behind it. */
+ * then the definition of struct later. */
 static ctf_id_t declare_structs(ctf_id_t number, ctf_id_t character)
 {
     ctf_id_t node, later, to_later, array;
@@ -150,7 +150,7 @@ static void declare_enum(void)
     printf("%s %s\n", ctf_enum_name(of_d, color, 4), ctf_enum_name(of_d, color, 1));
 }
 
-/* dt_node_decl fails half-way, and what is pending goes; then it succeeds. */
+/* dt_node_decl fails half-way, and what is pending is discarded; then it succeeds. */
 static ctf_id_t declare_in_d(ctf_id_t later)
 {
     ctf_id_t whole;

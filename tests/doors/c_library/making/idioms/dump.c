@@ -1,5 +1,5 @@
-/* dump.c - objdump's way: the text of a dictionary by ctf_dump, section by section, with each line
- * decorated. Over libctfd and over GNU's library it prints the same. */
+/* dump.c - what objdump does: prints a dictionary through ctf_dump, section by section, with each
+ * line decorated. It prints the same with libctfd as with GNU's library. */
 #include <ctf-api.h>
 
 #include <stdio.h>
@@ -14,7 +14,7 @@ static void check(int is_right, const char *what)
     }
 }
 
-/* Each second line is another one, as a decorator may hand out. */
+/* Replaces every second line by a new one, as a decorator may. */
 static char *decorate(ctf_sect_names_t section, char *line, void *arg)
 {
     unsigned *lines = (unsigned *)arg;

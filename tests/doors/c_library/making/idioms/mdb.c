@@ -1,5 +1,5 @@
-/* What mdb does with synthetic types: a dictionary of its own; types of a target are copied into it,
- * others made, read back, deleted, made anew. */
+/* What mdb does with synthetic types: it has a dictionary of its own, copies types of a target into
+ * it, and makes others, which it reads, deletes and makes again. */
 #include <ctfd_libctf.h>
 #include <limits.h>
 #include <stdio.h>
@@ -16,7 +16,7 @@ static int on_type(ctf_id_t type, boolean_t root, void *arg)
     return 0;
 }
 
-/* mdb_ctf_add_type: a type of the target with all that it needs. */
+/* mdb_ctf_add_type: copies a type of the target with all types that it needs. */
 static ctf_id_t copy_type(ctf_file_t *synthetic, ctf_file_t *target)
 {
     char text[200];

@@ -1,5 +1,5 @@
-/* symbols.c - a tracer's way: types of symbols by their numbers in a symbol table, of a dictionary
- * that was made with symbols by name. Over libctfd and over GNU's library it prints the same. */
+/* symbols.c - what a tracer does: looks up the types of symbols by their numbers in a symbol table,
+ * in a dictionary made with symbols by name. It prints the same with libctfd and GNU's library. */
 #include <ctf-api.h>
 
 #include <elf.h>

@@ -1,65 +1,59 @@
-//! How gcc lays out C's types on x86: the rules of the System V interface, and its own attributes.
+//! How gcc lays out C's types on x86: by the rules of the System V interface, and its own
+//! attributes.
 //!
-//! Of a type the layout needs its size, its alignment, and how it is placed within a struct, which
-//! on i386 is not by its alignment. All is in bytes but where bits are told.
+//! The layout depends on a type's size, its alignment, and whether it is placed as a number, which
+//! i386 aligns less within structs. All is in bytes, unless noted.
 
-/// The flags of an integer's encoding.
+/// Flags of an integer's encoding.
 pub const SIGNED: u8 = 1;
-/// A character.
 pub const CHARACTER: u8 = 2;
-/// A boolean.
 pub const BOOLEAN: u8 = 4;
-/// Bits: what `aligned` knows without a number.
+/// The alignment of the attribute `aligned` without a number, in bits.
 const BIGGEST: u128 = 8 * 16;
-/// Bits: what i386 aligns numbers to within structs.
+/// The greatest alignment of numbers within structs on i386, in bits.
 const EASED: u128 = 32;
 
-/// Bytes that no type of a program has: what is longer counts as so long.
+/// The size limit of a type; longer types get this size, which no real type has.
 const LONGEST: u128 = u128::MAX >> 16;
 
-/// The size and alignment of a type; `is_number` says that the machine handles it as an integer or a
-/// double, and `is_by_user` that an attribute says its alignment.
+/// The size and alignment of a type.
 #[derive(Clone, Copy, Debug, PartialEq, Eq)]
 pub struct Shape {
-    /// Its bytes.
     pub size: u128,
-    /// What it is aligned to.
     pub align: u128,
-    /// Whether an attribute says that.
+    /// Whether an attribute sets the alignment.
     pub is_by_user: bool,
-    /// Whether it is placed as numbers are.
+    /// Whether the machine handles it as an integer or a double, and it is placed as one.
     pub is_number: bool,
 }
 
 impl Shape {
-    /// One of a size and an alignment.
+    /// A shape that is no number.
     pub const fn new(size: u128, align: u128) -> Shape {
         Shape { size, align, is_by_user: false, is_number: false }
     }
 
-    /// A number as large as it is aligned.
+    /// The shape of a number whose alignment is its size.
     pub const fn number(size: u128) -> Shape {
         Shape { size, align: size, is_by_user: false, is_number: true }
     }
 
-    /// An array, which is aligned and placed as its elements are.
+    /// The shape of an array, which is aligned and placed like its elements.
     pub fn times(self, count: u128) -> Shape {
         Shape { size: self.size.saturating_mul(count).min(LONGEST), ..self }
     }
 }
 
-/// A type that has no parts: its name, its shape, and its encoding's flags or None for a float.
+/// A base type of the compiler.
 #[derive(Clone, Copy, Debug)]
 pub struct Basic {
-    /// What the compiler calls it.
     pub name: &'static str,
-    /// Its shape.
     pub shape: Shape,
-    /// The flags of an integer.
+    /// The flags of an integer; None for a float.
     pub flags: Option<u8>,
 }
 
-/// The types without parts that the compiler knows.
+/// The base types of the compiler.
 pub fn basics(is_ilp32: bool) -> Vec<Basic> {
     let long = if is_ilp32 { 4 } else { 8 };
     let character = SIGNED | CHARACTER;
@@ -90,7 +84,7 @@ pub fn basics(is_ilp32: bool) -> Vec<Basic> {
     integers.chain(floats).collect()
 }
 
-/// The floats; on i386 a double is placed as an integer of its size is.
+/// The floats. On i386 a double is placed like an integer of its size.
 fn floats(is_ilp32: bool) -> Vec<(&'static str, Shape)> {
     let (single, double) = (Shape::new(4, 4), Shape::number(8));
     let long = if is_ilp32 { Shape::new(12, 4) } else { Shape::new(16, 16) };
@@ -113,17 +107,17 @@ fn floats(is_ilp32: bool) -> Vec<(&'static str, Shape)> {
         ("_Decimal128", quad),
     ];
     if !is_ilp32 {
-        made.push(("_Float16", Shape::new(2, 2))); // else gcc has it by an option alone
+        made.push(("_Float16", Shape::new(2, 2))); // on i386 gcc has it only with an option
     }
     made
 }
 
-/// That of a pointer.
+/// The shape of a pointer.
 pub fn pointer(is_ilp32: bool) -> Shape {
     Shape::number(if is_ilp32 { 4 } else { 8 })
 }
 
-/// An enum is an int, or as short as can be where it is packed, or as long as is needed.
+/// The shape of an enum: an int; the shortest integer if it is packed; a longer one if needed.
 pub fn enumeration(values: impl Iterator<Item = i32> + Clone, is_packed: bool) -> Shape {
     let low = i128::from(values.clone().min().unwrap_or(0));
     let high = i128::from(values.max().unwrap_or(0));
@@ -136,34 +130,30 @@ pub fn enumeration(values: impl Iterator<Item = i32> + Clone, is_packed: bool) -
     Shape::number(sizes.iter().find(fits).map_or(16, |&size| size.into()))
 }
 
-/// A member to place: with a width it is a bit-field.
+/// A member to place.
 #[derive(Clone, Copy, Debug)]
 pub struct Field {
-    /// Whether it has a name.
     pub is_named: bool,
-    /// Its shape.
     pub shape: Shape,
-    /// Its width as a bit-field.
+    /// Its width in bits, if it is a bit-field.
     pub width: Option<u64>,
 }
 
-/// What is said of a struct or union as a whole.
+/// The attributes of a struct or union.
 #[derive(Clone, Copy, Debug, Default)]
 pub struct Attributes {
-    /// Whether it is a union.
     pub is_union: bool,
-    /// Whether it is packed.
     pub is_packed: bool,
-    /// What it is aligned to.
+    /// The alignment that an attribute sets.
     pub aligned: Option<u128>,
 }
 
-/// The places of members in bits, and the shape of the whole.
+/// The layout of a struct or union.
 #[derive(Clone, Debug)]
 pub struct Laid {
-    /// Where each member begins.
+    /// The offset of each member in bits.
     pub places: Vec<u128>,
-    /// The whole.
+    /// The shape of the whole.
     pub shape: Shape,
 }
 
@@ -183,7 +173,7 @@ pub fn lay(fields: &[Field], is_ilp32: bool, attributes: Attributes) -> Laid {
     Laid { places, shape: growing.shape() }
 }
 
-/// A struct or union as it grows. All numbers are bits.
+/// A struct or union while members are added. All numbers are in bits.
 struct Growing {
     is_ilp32: bool,
     attributes: Attributes,
@@ -194,7 +184,8 @@ struct Growing {
     end: u128,
 }
 
-/// What a member is aligned to, whether an attribute said so, and whether it is placed as bits.
+/// The alignment of a member in bits, whether an attribute set it, and whether the member is placed
+/// bit by bit.
 struct Alignment {
     align: u128,
     is_by_user: bool,
@@ -202,7 +193,7 @@ struct Alignment {
 }
 
 impl Growing {
-    /// Where a member begins.
+    /// Places a member, and returns its offset.
     fn place(&mut self, field: &Field) -> u128 {
         let is_packed = self.attributes.is_packed;
         if self.attributes.is_union {
@@ -225,14 +216,16 @@ impl Growing {
         place
     }
 
-    /// Goes on to the next unit of a bit-field. gcc counts units from the last multiple of the
-    /// greatest alignment that it knows for offsets, which differs where a type says more.
+    /// Goes to the next unit of a bit-field. gcc counts units from the last multiple of the
+    /// greatest alignment that it knows for offsets, which differs if a type's alignment is
+    /// greater.
     fn round_within(&mut self, align: u128) {
         let begins = self.at - self.at % self.known;
         self.at = begins + (self.at - begins).div_ceil(align) * align;
     }
 
-    /// One of just the size of an integer that is aligned for it is placed as that.
+    /// The alignment of a member. A bit-field as wide as an integer, at an offset that is aligned
+    /// for it, is placed like that integer.
     fn alignment(&self, field: &Field) -> Alignment {
         let shape = field.shape;
         let (mut align, mut is_by_user, mut is_bits) = (1, false, false);
@@ -261,8 +254,8 @@ impl Growing {
         Alignment { align, is_by_user, is_bits }
     }
 
-    /// A member raises the alignment of the whole; a bit-field only where it has a name, and then by
-    /// its type.
+    /// Raises the alignment of the whole for a member. A bit-field raises it only if it has a name,
+    /// and then by its type.
     fn raise(&mut self, field: &Field, align: u128) {
         if field.width.is_none() {
             self.align = self.align.max(align);
@@ -282,7 +275,7 @@ impl Growing {
         }
     }
 
-    /// i386 aligns numbers to no more than 4 bytes within structs.
+    /// The alignment within structs: i386 aligns numbers to no more than 4 bytes there.
     fn ease(&self, shape: Shape, align: u128) -> u128 {
         match self.is_ilp32 && shape.is_number {
             true => align.min(EASED),

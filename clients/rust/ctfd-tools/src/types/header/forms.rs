@@ -1,7 +1,7 @@
-//! How a struct or union is said to a C compiler so that it has the places of the dictionary.
+//! Declares structs and unions so that a C compiler gives them the layout of the dictionary.
 //!
-//! The natural form is tried first, then attributes, then a packed form whose holes are members.
-//! What none of these gives is told as bytes alone.
+//! The natural form is tried first, then attributes, then a packed form whose holes are members. If
+//! none of these fits, the type is declared as bytes.
 
 use super::abi::{self, Attributes, Basic, Field, Laid, Shape, BOOLEAN, SIGNED};
 use crate::types::catalog::{Catalog, Number, Part, Record};
@@ -14,32 +14,32 @@ const BYTE: Shape = Shape::number(1);
 const WORD: Shape = Shape::number(4);
 const HIGHEST: u128 = 4096;
 
-/// A member as it is written: a part of the record, or a hole of so many bytes or bits.
+/// A member of a declaration: one of the record, or a hole.
 #[derive(Clone, Copy, Debug)]
 pub enum MemberForm<'d> {
-    /// A member, with its width where it is a bit-field.
+    /// A member of the record, with its width if it is a bit-field.
     Part(Part<'d>, Option<u64>),
-    /// So many bytes that no member has.
+    /// A hole of so many bytes.
     Bytes(u128),
-    /// So many bits that no member has.
+    /// A hole of so many bits.
     Bits(u64),
 }
 
-/// How a struct or union is said; without members where C can't say these.
+/// The form in which a struct or union is declared.
 #[derive(Clone, Debug)]
 pub struct Form<'d> {
-    /// Its members.
+    /// Its members; none if it is declared as bytes.
     pub members: Vec<MemberForm<'d>>,
-    /// What stands behind the closing brace.
+    /// The attributes after the closing brace.
     pub attributes: Attributes,
-    /// What the compiler makes of it.
+    /// The shape that the compiler gives it.
     pub shape: Shape,
-    /// Whether its bytes stand in place of its members.
+    /// Whether it has bytes in place of its members.
     pub is_bytes: bool,
 }
 
 impl Form<'_> {
-    /// The attributes as C has them, with a blank in front where there are some.
+    /// The attributes in C, after a blank if there are any.
     pub fn attribute(&self) -> String {
         let aligned = self.attributes.aligned.map(|align| format!("aligned({align})"));
         let words: Vec<String> = self
@@ -56,7 +56,7 @@ impl Form<'_> {
     }
 }
 
-/// The shapes of a catalog's types as a compiler sees them once they are said so.
+/// The forms of a catalog's structs and unions, and the shapes that a compiler gives to its types.
 pub struct Forms<'f, 'd> {
     catalog: &'f Catalog<'d>,
     is_ilp32: bool,
@@ -65,13 +65,13 @@ pub struct Forms<'f, 'd> {
 }
 
 impl<'f, 'd> Forms<'f, 'd> {
-    /// Those of the types of a catalog.
+    /// The forms for a catalog.
     pub fn new(catalog: &'f Catalog<'d>) -> Forms<'f, 'd> {
         let is_ilp32 = catalog.is_ilp32();
         Forms { catalog, is_ilp32, basics: abi::basics(is_ilp32), forms: RefCell::default() }
     }
 
-    /// That of a struct or union of which all that it holds has a form by now.
+    /// The form of a struct or union. All types that it contains must have one.
     pub fn form(&self, number: Number) -> Rc<Form<'d>> {
         if let Some(known) = self.forms.borrow().get(&number) {
             return known.clone();
@@ -81,7 +81,7 @@ impl<'f, 'd> Forms<'f, 'd> {
         made
     }
 
-    /// None for what has no size in C.
+    /// The shape of a type; None if it has no size in C.
     fn shape(&self, number: Number) -> Option<Shape> {
         let reached = self.catalog.underlying(number);
         let record = self.catalog.record(reached.number);
@@ -107,7 +107,7 @@ impl<'f, 'd> Forms<'f, 'd> {
         self.catalog.size(number).unwrap_or(0).into()
     }
 
-    /// The shape of an enum, and whether it is that of a packed one.
+    /// The shape of an enum, and whether it has to be packed.
     pub fn enumeration(&self, number: Number) -> (Shape, bool) {
         let values = self.catalog.values(number).iter().map(|one| one.value);
         let wanted = self.size(number);
@@ -120,7 +120,8 @@ impl<'f, 'd> Forms<'f, 'd> {
         (abi::enumeration(values, false), false)
     }
 
-    /// The compiler's type that an integer or float is: its own name's, or one of its size.
+    /// The compiler's type for an integer or float: the one of its name if it has the right size,
+    /// else one with its size and sign.
     pub fn alike(&self, record: &Record<'_>, number: Number) -> Option<&Basic> {
         let size = self.size(number);
         let own = self.basics.iter().find(|one| one.name.as_bytes() == record.name);
@@ -169,7 +170,7 @@ impl<'f, 'd> Forms<'f, 'd> {
         self.fitting(size, &holes, attributes).unwrap_or(bytes)
     }
 
-    /// A form, if a compiler would lay it out as the dictionary says.
+    /// A form, if a compiler would give it the layout of the dictionary.
     fn fitting(
         &self,
         size: u128,
@@ -212,7 +213,7 @@ impl<'f, 'd> Forms<'f, 'd> {
         u128::from(part.offset) + u128::from(self.catalog.span(part.of).lies)
     }
 
-    /// Each hole a member of its own, in front of what it stands before.
+    /// The members, with a member for each hole before them.
     fn with_holes(&self, number: Number) -> Vec<MemberForm<'d>> {
         let is_struct = self.catalog.kind(number) == Kind::Struct;
         let size = self.size(number);
@@ -235,7 +236,7 @@ impl<'f, 'd> Forms<'f, 'd> {
     }
 }
 
-/// The attributes that are tried: aligned, packed, and both.
+/// The attributes to try: aligned, packed, and both.
 fn attributes(size: u128) -> impl Iterator<Item = (bool, Option<u128>)> {
     let powers = (1..).map(|power| 1u128 << power).take_while(|&align| align <= HIGHEST);
     let aligns: Vec<u128> = powers.take_while(|align| size != 0 && size % align == 0).collect();
@@ -257,7 +258,7 @@ fn is_narrow(record: &Record<'_>, size: u128) -> bool {
     record.kind == Kind::Integer && bits != 0 && bits != 8 * size
 }
 
-/// Bits up to a byte, whole bytes, and bits again; nothing where members overlap.
+/// A hole as members: bits up to a byte, whole bytes, and bits again. Empty if members overlap.
 fn holes<'d>(start: u128, end: u128) -> Vec<MemberForm<'d>> {
     let length = end.saturating_sub(start);
     let bits = ((8 - start % 8) % 8).min(length);

@@ -1,6 +1,7 @@
-//! Declarations of a dictionary's types that a C compiler takes, each behind all that it needs.
+//! Declarations of a dictionary's types that a C compiler accepts, each after all that it needs.
 //!
-//! gcc's sizes and offsets are those of the dictionary; where C can't say a type, a comment tells.
+//! gcc gives them the sizes and offsets of the dictionary. If C cannot express a type, a comment
+//! says so.
 
 mod abi;
 mod forms;
@@ -21,7 +22,7 @@ use std::io::Write;
 
 const MOST_IN_PLACE: usize = 512;
 const DEEPEST: usize = 16;
-/// Writes the declarations of all own types, or of the named ones, with what these need.
+/// Writes the declarations of all own types, or of the named ones, with all that these need.
 pub fn write(
     whole: &FileTypes<'_, '_>,
     patterns: &[Vec<u8>],
@@ -49,9 +50,10 @@ pub fn write(
     Ok(())
 }
 
-/// Types in an order that a compiler takes, and the names that they have there.
+/// Types in an order that a compiler accepts, and their names in the header.
 ///
-/// A type has its own name where C allows it and no other has it, else one that begins `ctfd_`.
+/// A type keeps its own name if C allows it and no other type has it; else the name begins with
+/// `ctfd_` or ends with the type's number.
 struct Header<'h, 'd> {
     catalog: &'h Catalog<'d>,
     forms: Forms<'h, 'd>,
@@ -60,9 +62,9 @@ struct Header<'h, 'd> {
     names: RefCell<HashMap<Number, String>>,
     lengths: RefCell<HashMap<Number, usize>>,
     written: RefCell<HashSet<Number>>,
-    /// Structs that are named, in full or not, in the order in which that was met.
+    /// Structs that declarations refer to, even without their definition, in order of occurrence.
     pointed: Vec<Number>,
-    /// Those without a name that need one.
+    /// Unnamed structs that need a name.
     tagged: HashSet<Number>,
     order: Vec<Number>,
 }
@@ -104,15 +106,15 @@ impl<'h, 'd> Header<'h, 'd> {
         }
     }
 
-    /// Whether a struct or union is written where it is used: it has no name, and is short.
+    /// Whether a struct or union is written where it is used, since it is unnamed and short.
     fn is_in_place(&self, number: Number) -> bool {
         self.record(number).name.is_empty()
             && !self.tagged.contains(&number)
             && self.length(number) <= MOST_IN_PLACE
     }
 
-    /// How many members it has with those of unnamed parts, up to a bound. What stands in a type is
-    /// known before it: the order has it so.
+    /// The number of members, including those of unnamed members, up to a limit. The lengths of
+    /// contained types are known before, since these come first in the order.
     fn length(&self, number: Number) -> usize {
         if let Some(&known) = self.lengths.borrow().get(&number) {
             return known;
@@ -174,7 +176,7 @@ impl<'h, 'd> Header<'h, 'd> {
         *text += &format!("{tabs}}}{}{behind}\n", form.attribute());
     }
 
-    /// A member; the last of a struct may be an array whose length is not known.
+    /// Writes a member. The last one of a struct may be an array of unknown length.
     fn add_member(
         &self,
         said: &MemberForm<'d>,
@@ -218,20 +220,20 @@ impl<'h, 'd> Header<'h, 'd> {
         }
     }
 
-    /// Whether a declaration has the struct or union that it begins with in place.
+    /// Whether the struct or union at the base of a declaration is written in place.
     fn is_open(&self, declarator: &Declarator) -> bool {
         !declarator.has_star()
             && self.record(declarator.base).is_aggregate()
             && self.is_in_place(declarator.base)
     }
 
-    /// The type of a bit-field, without its typedefs: these name one of its width.
+    /// The type of a bit-field, without its typedefs, which name a type of the bit-field's width.
     fn bit_field(&self, part: &Part<'_>) -> &'static str {
         let end = self.catalog.resolve(part.of);
         self.forms.alike(self.record(end), end).map_or("unsigned int", |alike| alike.name)
     }
 
-    /// The base of a declaration, by a name that is declared by then.
+    /// The name of a declaration's base type, which must be declared by then.
     fn base_name(&self, number: Number) -> String {
         if number == 0 {
             return "void".to_owned();
@@ -286,11 +288,11 @@ impl<'h, 'd> Header<'h, 'd> {
     fn add_typedef(&self, number: Number, text: &mut String) {
         let name = self.name(number);
         if self.catalog.span(number).width.is_some() {
-            return; // that of a bit-field, which is written without it
+            return; // a bit-field's, which is written without it
         }
         let other = self.ordinary.borrow().get(&name).copied().unwrap_or(number);
         if other != number && !name.ends_with(&format!("__{number}")) {
-            return; // the same typedef once more
+            return; // the same typedef again
         }
         let called = |one| self.base_name(one);
         let of = self.record(number).of;
@@ -304,7 +306,7 @@ impl<'h, 'd> Header<'h, 'd> {
         }
     }
 
-    /// Numbers that the compiler has no name for.
+    /// Writes a number for which the compiler has no name.
     fn add_number(&self, number: Number, text: &mut String) {
         let record = self.record(number);
         let name = self.name(number);
@@ -323,14 +325,14 @@ impl<'h, 'd> Header<'h, 'd> {
     }
 }
 
-/// Where a member stands, and whether it is the last of a struct with others.
+/// The index of a member, and whether it is the last of several in a struct.
 #[derive(Clone, Copy)]
 struct Member {
     place: usize,
     is_last: bool,
 }
 
-/// A member's name in C, and a comment where that is not its own.
+/// The name of a member in C, and a comment with its own name if that differs.
 fn member_name<'d>(
     part: &Part<'d>,
     place: usize,
@@ -348,7 +350,7 @@ fn member_name<'d>(
     }
 }
 
-/// How a declaration begins whose struct or union stands in it.
+/// The start of a declaration with a struct or union in place.
 fn opening(declarator: &Declarator, word: &str, before: &str) -> String {
     let qualifiers: String = declarator.qualifiers.iter().map(|word| format!("{word} ")).collect();
     format!("{before}{qualifiers}{word} {{")

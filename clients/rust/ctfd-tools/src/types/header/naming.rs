@@ -1,4 +1,4 @@
-//! How types are called in a header: by their own names where C allows these and no other has them.
+//! Names of types in a header: their own if C allows it and no other type has it.
 
 use super::Header;
 use crate::types::catalog::{Number, Record};
@@ -14,7 +14,7 @@ const KEYWORDS: &str = "\
     __float128 _Float128 _Float64 _Float32 _Float64x _Float32x _Float16 __bf16 __fp16 __float80 \
     __ibm128 _Decimal32 _Decimal64 _Decimal128 __func__ linux unix i386";
 
-/// A name that a compiler takes for one.
+/// A name that a compiler accepts; None for others.
 pub(super) fn identifier(name: &[u8]) -> Option<&str> {
     let is_letter = |byte: u8| byte == b'_' || byte.is_ascii_alphabetic();
     let is_plain = name.first().copied().is_some_and(is_letter)
@@ -28,7 +28,7 @@ pub(super) fn comment(said: &str) -> String {
 }
 
 impl Header<'_, '_> {
-    /// How C calls a struct, union, enum, typedef or number.
+    /// The name in C of a struct, union, enum, typedef or number.
     pub(super) fn name(&self, number: Number) -> String {
         if let Some(known) = self.names.borrow().get(&number) {
             return known.clone();
@@ -55,7 +55,7 @@ impl Header<'_, '_> {
         }
     }
 
-    /// The type's own name if it is free; a forward and what it declares have the same.
+    /// The type's own name if it is free. A forward and the type that it declares share their name.
     fn free(&self, taken: &RefCell<HashMap<String, Number>>, number: Number) -> String {
         let record = self.record(number);
         let name = match identifier(&record.name) {
@@ -68,7 +68,7 @@ impl Header<'_, '_> {
             return format!("{name}__{number}");
         }
         if self.record(other).kind == Kind::Forward && record.kind != Kind::Forward {
-            taken.insert(name.clone(), number); // one definition has the forward's name, no second
+            taken.insert(name.clone(), number); // a second definition gets another
         }
         name
     }

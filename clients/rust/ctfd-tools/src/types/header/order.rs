@@ -1,29 +1,29 @@
-//! The order of a header: what a type needs in full stands before it.
+//! The order of a header: each type comes after those that it needs in full.
 
 use super::Header;
 use crate::types::catalog::{is_qualifier, Number};
 use ctfd::Kind;
 use std::collections::HashSet;
 
-/// A type that is still to be put in order, or of which all that it needs was.
+/// A step of the walk: before or after the types that a type needs.
 enum Step {
     Enter(Number),
     Leave(Number),
 }
 
-/// What a declaration needs.
+/// The types that a declaration needs.
 #[derive(Default)]
 struct Needs {
-    /// What stands before it, in full.
+    /// Types that must come before it, in full.
     before: Vec<Number>,
-    /// The structs that it names, and those of them without a name.
+    /// Structs that it refers to, and the unnamed ones among these.
     pointed: Vec<Number>,
     tagged: Vec<Number>,
 }
 
 impl Header<'_, '_> {
-    /// What a type needs in full stands before it: by depth first, without recursion, since chains
-    /// may be long.
+    /// Puts types in order, each after those that it needs in full: depth first, without recursion,
+    /// since chains may be long.
     pub(super) fn put_in_order(&mut self, wanted: &[Number]) {
         let mut seen = HashSet::new();
         let mut todo: Vec<Step> = wanted.iter().rev().map(|&number| Step::Enter(number)).collect();
@@ -46,7 +46,8 @@ impl Header<'_, '_> {
         }
     }
 
-    /// Names that its declaration has, and structs that it holds; pointers need none in full.
+    /// The types that a declaration refers to, and the structs that it contains. A pointer does not
+    /// need its struct in full.
     fn needs(&self, number: Number) -> Needs {
         let mut needs = Needs::default();
         let record = self.record(number);
@@ -62,7 +63,8 @@ impl Header<'_, '_> {
         needs
     }
 
-    /// What a declaration names; the struct that it holds by value first, if it is needed.
+    /// Adds the types that a declaration refers to; before these the struct that it contains, if it
+    /// must be complete.
     fn add_named_in(&self, number: Number, is_renamed: bool, needs: &mut Needs) {
         let reached = self.catalog.underlying(number);
         let end = self.record(reached.number);

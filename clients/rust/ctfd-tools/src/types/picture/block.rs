@@ -1,11 +1,11 @@
-//! A box of a picture: what it stands for, and what it says.
+//! A box of a picture, and its texts.
 
 use crate::types::drawing;
 
-/// What is drawn: `start` and `bits` in bits, `top` and `high` as parts of a row's height.
+/// A box: `start` and `bits` are in bits, `top` and `high` parts of a row's height.
 #[derive(Clone, Debug)]
 pub struct Block {
-    /// That of the type, or group, hole, padding.
+    /// The class of its type, or `group`, `hole` or `padding`.
     pub sort: &'static str,
     pub name: String,
     pub of: String,
@@ -13,7 +13,7 @@ pub struct Block {
     pub bits: u128,
     pub top: f64,
     pub high: f64,
-    /// What a group's name has of `high`.
+    /// The part of `high` for a group's name.
     pub strip: f64,
 }
 
@@ -26,12 +26,12 @@ impl Block {
         matches!(self.sort, "hole" | "padding")
     }
 
-    /// The name without those of what it stands in.
+    /// The name without those of the members that contain it.
     pub fn label(&self) -> &str {
         self.name.rsplit('.').next().unwrap_or_default()
     }
 
-    /// The name in full where there is room for it.
+    /// The full name if there is room for it, else the last part.
     pub fn name_within(&self, wide: f64) -> &str {
         match drawing::cut(&self.name, wide) == self.name {
             true => &self.name,
@@ -39,7 +39,7 @@ impl Block {
         }
     }
 
-    /// All of it in words.
+    /// The description of the box.
     pub fn description(&self) -> String {
         let (byte, bit) = (self.start / 8, self.start % 8);
         let at = match bit != 0 || self.bits % 8 != 0 {
@@ -54,7 +54,7 @@ impl Block {
     }
 }
 
-/// So many bits, or bytes where these are whole.
+/// An amount of bits, in bytes if it is whole.
 fn amount(bits: u128) -> String {
     let (count, unit) = if bits % 8 == 0 { (bits / 8, "byte") } else { (bits, "bit") };
     match count {

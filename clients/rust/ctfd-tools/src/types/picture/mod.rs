@@ -1,7 +1,8 @@
-//! A picture of a struct or union as SVG: a row a cache line, each member a box in proportion.
+//! Pictures of structs and unions in SVG: each row is a cache line, each member a box in
+//! proportion.
 //!
-//! Boxes stand where the members lie, to the bit; what lies unused is hatched. Structs and unions
-//! within are outlined, the members of a union stand one below the other.
+//! Boxes are placed to the bit, and unused bits are hatched. Nested structs and unions have an
+//! outline; the members of a union are drawn one below the other.
 
 mod block;
 
@@ -30,8 +31,8 @@ const MOST_LANES: u64 = 12;
 const DEEPEST: usize = 16;
 const MOST_BOXES: usize = 20_000;
 
-/// A row of a picture: where it begins, how many lanes high it is, and what is in it; or how many
-/// rows of one member are left out.
+/// A row of a picture: its first bit, its height in lanes, and its boxes. If `left_out` is not 0,
+/// it stands for so many rows of one member, which are not drawn.
 struct Row<'b> {
     start: u128,
     lanes: u64,
@@ -39,14 +40,14 @@ struct Row<'b> {
     left_out: u128,
 }
 
-/// The room in height that a struct or union has.
+/// The vertical range of a struct or union, as parts of a row's height.
 #[derive(Clone, Copy)]
 struct Room {
     top: f64,
     high: f64,
 }
 
-/// The picture of the first struct or union of a name.
+/// The picture of the first struct or union with a name.
 pub fn svg(whole: &FileTypes<'_, '_>, name: &[u8], cache_line: u64) -> Outcome<String> {
     let catalog = whole.names.catalog;
     let mut meant: Vec<Number> = whole.names.types_of_name(name)?.into_iter().collect();
@@ -59,7 +60,7 @@ pub fn svg(whole: &FileTypes<'_, '_>, name: &[u8], cache_line: u64) -> Outcome<S
     Ok(Picture::of(whole.names, number, cache_line)?.svg())
 }
 
-/// The boxes of one type, and its rows.
+/// The boxes of one type, and the measures of its rows.
 struct Picture<'p, 'd> {
     names: &'p Names<'p, 'd>,
     catalog: &'p Catalog<'d>,
@@ -96,7 +97,7 @@ impl<'p, 'd> Picture<'p, 'd> {
         Ok(made)
     }
 
-    /// Adds the boxes of the members of a struct or union that has some room in height.
+    /// Adds the boxes of the members of a struct or union in a vertical range.
     fn add(
         &mut self,
         number: Number,
@@ -204,7 +205,7 @@ impl<'p, 'd> Picture<'p, 'd> {
         self.add(inner, &path, start, room, depth + 1)
     }
 
-    /// The struct or union that is drawn by its members; none of what is one box.
+    /// The struct or union whose members are drawn; None if the member is a single box.
     fn inner(&self, place: &Place<'_>, depth: usize) -> Option<Number> {
         let reached = self.catalog.underlying(place.part.of);
         let is_open = self.catalog.record(reached.number).is_aggregate()
@@ -230,7 +231,7 @@ impl<'p, 'd> Picture<'p, 'd> {
         }
     }
 
-    /// How many boxes stand below each other in a struct or union.
+    /// How many boxes are below each other in a struct or union.
     fn lanes(&self, number: Number, depth: usize) -> u64 {
         if depth > DEEPEST {
             return 1;
@@ -253,8 +254,8 @@ impl<'p, 'd> Picture<'p, 'd> {
         self.inner(place, depth).map_or(1, |inner| self.lanes(inner, depth))
     }
 
-    /// The rows from the top, and what is left out of them; those that one member fills alone are
-    /// told by their number.
+    /// The rows from the top, and a text if some are left out at the end. Of many rows that one
+    /// member fills, only the first and the last are drawn, and the others counted.
     fn rows(&self) -> (Vec<Row<'_>>, Option<String>) {
         let total = (8 * u128::from(self.size)).div_ceil(self.row_bits).max(1);
         let (mut rows, mut drawn, mut place) = (Vec::new(), 0, 0);
@@ -283,7 +284,7 @@ impl<'p, 'd> Picture<'p, 'd> {
         (rows, None)
     }
 
-    /// How many rows from this one on lie within one box that is no group.
+    /// How many rows, beginning with this one, lie within a single box.
     fn alike(&self, blocks: &[&Block], place: u128, total: u128) -> u128 {
         match blocks {
             [one] if one.start <= place * self.row_bits => {
@@ -298,7 +299,6 @@ impl<'p, 'd> Picture<'p, 'd> {
         self.blocks.iter().filter(|one| one.start < end && one.end() > start).collect()
     }
 
-    /// The whole picture.
     fn svg(&self) -> String {
         let label = self.names.label(self.number);
         let mut parts = Vec::new();
@@ -369,7 +369,7 @@ impl<'p, 'd> Picture<'p, 'd> {
         }
     }
 
-    /// The members whose boxes are too narrow for their names, in lines below the row.
+    /// Lines below a row with the members whose boxes are too narrow for their names.
     fn narrow(&self, row: &Row<'_>) -> Vec<String> {
         let is_narrow = |one: &&&Block| {
             !one.is_unused()
@@ -401,7 +401,7 @@ impl<'p, 'd> Picture<'p, 'd> {
     }
 }
 
-/// The lanes that the flattest box of a row needs to be as high as one lane.
+/// The height of a row in lanes, so that its flattest box is one lane high.
 fn height(blocks: &[&Block]) -> u64 {
     let drawn = blocks.iter().filter(|one| !one.is_unused());
     let least = drawn.map(|one| one.high).fold(1.0, f64::min);

@@ -47,6 +47,6 @@ returns-clause-turns g c =
       failed = pulled.failed;
       stands = λ start before read stands.
           let Q : Option (List ℕ) → Type 0 = λ held. Stands g.M.Machine.Step start before read c.args.machine.now held (g.K.Sink.pushed c.args.sink.now) in
-          let R : List ℕ → Type 0 = λ bs. Stands g.M.Machine.Step start before (read ++ bs) c.take_in.new.machine c.take_in.new.pending (g.K.Sink.pushed c.take_in.new.sink) in
+          let R : List ℕ → Type 0 = λ bs. Stands g.M.Machine.Step start before (read ++ bs) c.take_in.new.machine c.take_in.new.self.pending (g.K.Sink.pushed c.take_in.new.sink) in
           subst R same (c.if-not-take_in.ensures.takes start before read (subst Q (sym c.self.view_is) stands));
     }

@@ -1,5 +1,0 @@
-use Rattle.ctf_library.proofs.Rising.{in_order}
-use Rattle.ctf_library.proofs.library.Library.answer_now.Goals as goal
-
-pub find_slot-requires : goal.find_slot-requires
-find_slot-requires c = in_order _ _ _ c.deref.ensures.value c.self.invariant.1
