@@ -8,11 +8,11 @@ crates/ctf_c/out), or PROGRAM. As many parts run at once as there are processors
 named, only these run; `tests/all.py no_such_part` lists all. With --whole, parts that otherwise try
 only some of their cases (growths, front, convert and others) try all.
 
-With --prove, `rt ci` comes first, and prints its progress; a line has the processor time that it
-took, and is printed again before the last line. If a mutant was refused only because of a written
-proof, its name follows, and it counts as a failure, since it may show nothing
-(tests/house/emptied.py). The parts then run on what the kit has built. One more part, `quick`,
-builds the program and the library without their proofs and compares the two builds
+With --prove, `rt ci` and the mutants come first (tests/proving.py), and print their progress; two
+lines have the processor time that they took, and are printed again before the last line. If a
+mutant was refused only because of a written proof, it counts as a failure, since it may show
+nothing (tests/house/emptied.py). The parts then run on what the kit has built. One more part,
+`quick`, builds the program and the library without their proofs and compares the two builds
 (tests/doors/packages/quick.sh). With --prove-only no part follows.
 
 The output of a part goes to a file, and is shown if the part fails. A part that needs something
@@ -21,45 +21,26 @@ STRICT=1 in the environment it counts as a failure. A line that begins with `not
 never counts as one: it is for what no package can provide, for example where no program may be
 traced.
 
-The last line is `N passed, M failed`, with what `rt ci` counts, and each part as one. The status is
+The last line is `N passed, M failed`, with what `rt ci` counts, and each mutant and part as one. The status is
 0 if M is 0.
 """
 from __future__ import annotations
 
 import argparse
 import os
-import re
-import resource
 import signal
-import subprocess
 import sys
 import tempfile
-from dataclasses import dataclass
 from pathlib import Path
 from typing import Optional
 
-from house.emptied import refused_at_a_proof
 from lanes import Lanes
 from parts import TOP, Part, archive, parts, quick, whole
+from proving import Tally, prove
 
 sys.path.insert(0, str(TOP / "scripts"))
 import built  # noqa: E402
 from kit import Kit, NoKit  # noqa: E402
-
-COUNTS = re.compile(r"([0-9]+) passed, ([0-9]+) failed")
-
-
-@dataclass
-class Tally:
-    """The numbers of passed and failed tests, and the cost of the proofs."""
-
-    passed: int = 0
-    failed: int = 0
-    cost: str = ""
-
-    def add(self, well: bool) -> None:
-        self.passed += well
-        self.failed += not well
 
 
 def sources() -> Optional[str]:
@@ -70,44 +51,10 @@ def sources() -> Optional[str]:
         return None
 
 
-def processor_minutes() -> float:
-    """The processor time in minutes of the commands that have ended."""
-    taken = resource.getrusage(resource.RUSAGE_CHILDREN)
-    return (taken.ru_utime + taken.ru_stime) / 60
-
-
-def prove(tally: Tally) -> bool:
-    """Runs the gate of proofs, adds its counts, and returns whether all passed."""
-    last, before = "", processor_minutes()
-    weak: list[str] = []
-    with subprocess.Popen(["rt", "ci"], cwd=TOP, stdout=subprocess.PIPE,
-                          stderr=subprocess.STDOUT, text=True, errors="replace",
-                          env={**os.environ, "PYTHONUNBUFFERED": "1"}) as gate:
-        assert gate.stdout
-        for line in gate.stdout:
-            print(line, end="", flush=True)
-            last = line.strip() or last
-            weak += refused_at_a_proof(line)
-    tally.cost = f"rt ci took {processor_minutes() - before:.0f} processor minutes"
-    print(tally.cost)
-    for mutant in weak:
-        print(f"weak  {mutant}: refused at a written proof alone (tests/house/emptied.py)")
-        tally.add(False)
-    counts = COUNTS.fullmatch(last)
-    if counts:
-        tally.passed += int(counts[1])
-        tally.failed += int(counts[2])
-    if not counts or (gate.returncode != 0 and counts[2] == "0"):
-        print(f"rt ci ended with status {gate.returncode}, and {last!r}")
-        tally.add(False)
-        return False
-    return gate.returncode == 0 and not weak
-
-
-def prove_and_build(tally: Tally, run: Lanes) -> None:
+def prove_and_build(tally: Tally, lanes: int, run: Lanes) -> None:
     """Proves everything, and records the kit's build as the built program."""
     before = sources()
-    is_proved = prove(tally)
+    is_proved = prove(tally, lanes)
     made = run.run().values()
     for well in made:
         tally.add(well)
@@ -157,7 +104,8 @@ def main() -> int:
     tally, is_strict = Tally(), os.environ.get("STRICT", "") not in ("", "0")
     with tempfile.TemporaryDirectory() as folder:
         if given.proves:
-            prove_and_build(tally, Lanes([archive(is_made=True)], 1, is_strict, Path(folder)))
+            prove_and_build(tally, given.lanes,
+                            Lanes([archive(is_made=True)], 1, is_strict, Path(folder)))
         if os.access(given.program, os.X_OK):
             if wanted:
                 print(says_what_is_built(given.program), flush=True)
@@ -167,8 +115,8 @@ def main() -> int:
         else:
             print(f"FAILED  there is no program {given.program}")
             tally.add(False)
-    if tally.cost:
-        print(tally.cost)
+    for cost in tally.costs:
+        print(cost)
     print(f"{tally.passed} passed, {tally.failed} failed")
     return 1 if tally.failed else 0
 

@@ -31,7 +31,6 @@ import argparse
 import os
 import re
 import shutil
-import subprocess
 import sys
 import tempfile
 from dataclasses import dataclass
@@ -39,7 +38,8 @@ from pathlib import Path
 from typing import Iterator
 
 sys.path.insert(0, str(Path(__file__).resolve().parents[1]))
-from house.further_edits import CRATES, TOP, Edit, of_the_gate  # noqa: E402
+from house.checking import TOP, check_says, command_over  # noqa: E402
+from house.further_edits import CRATES, Edit, of_the_gate  # noqa: E402
 
 ERROR = re.compile(r"^(?:\./)?(proofs/\S+\.antt):(\d+):\d+: error", re.MULTILINE)
 GOAL = re.compile(r"^note: (src/\S+: it is not proved that .*)$", re.MULTILINE)
@@ -129,39 +129,6 @@ def with_libraries(text: str) -> Path:
     if not any(folder.glob("crates/*/out/rlib")):
         raise argparse.ArgumentTypeError(f"{text} has no crates/NAME/out/rlib: build it first")
     return folder
-
-
-def listed_in_crates(name: str) -> tuple[list[str], list[str]]:
-    """The kind of a crate, and the crates that it uses, as crates.txt lists them."""
-    for line in (TOP / "crates.txt").read_text(encoding="utf-8").splitlines():
-        head, colon, uses = line.partition(":")
-        if colon and head.split()[0] == name:
-            return head.split()[1:], uses.split()
-    raise SystemExit(f"emptied: crates.txt has no {name}")
-
-
-def command_over(libraries: Path, name: str, kept: Path) -> list[str]:
-    """The command that checks a crate with built libraries, and leaves its results in `kept`."""
-    kit = Path(shutil.which("rattle") or "rattle").resolve().parents[1]
-    kinds, uses = listed_in_crates(name)
-    words = ["rattle", "check", "--crate-name", name, "src/lib.rt"]
-    words += ["--crate-type=staticlib"] if "staticlib" in kinds else []
-    for used in ["std", *uses]:
-        built = libraries / "crates" / used / "out" / "rlib" / f"{used}.rlib"
-        rlib = built if built.exists() else kit / "rlibs" / built.name
-        words += ["--extern", f"{used}={rlib}"]
-    for folder in [kit / "rlibs", *sorted(libraries.glob("crates/*/out/rlib"))]:
-        words += ["-L", f"dependency={folder}"]
-    logic = kit / "rattle" / "logic" / "antt-project.json"
-    words += ["--antt-project", str(logic), "--logic-built", str(kit / "logic_built")]
-    return [*words, "--incremental", str(kept / name)]
-
-
-def check_says(crate: Path, command: list[str]) -> str:
-    """The output of a check of a crate."""
-    ended = subprocess.run(command, cwd=crate, stdout=subprocess.PIPE, check=False,
-                           stderr=subprocess.STDOUT, text=True, errors="replace")
-    return ended.stdout
 
 
 def take_out(crate: Path, said: str) -> bool:

@@ -1,90 +1,99 @@
 #!/usr/bin/env python3
 """Tries the mutants of a crate many at a time, each check with at most one in a function.
 
-usage: tests/house/together.py [--list] CRATE..
+usage: tests/house/together.py [--all] [--control] [--lanes N] [--list] [CRATE..]
 
-The mutants are those of must-fail/ and of further-edits. A function is proved from the contracts of
-the functions that it calls, never from their bodies, and without mutants no goal is open. So if a
-goal is open in a function with a mutant, the mutant is refused, whatever else the check changed. A
-round applies to a copy of the crate as many mutants as it can, and checks the copy once; the next
-round takes the others. The first round takes as long as a check of the crate, each further one
-about as long as a few mutants would.
+The mutants are those of must-fail/, with --all also those of further-edits; without names those of
+all crates. The gate of tests/all.py calls this. Libraries must be built, for example by `rt ci`.
 
-Prints each mutant for which no goal of its function stayed open. If a written proof of the function
-no longer fits, that is said: such a refusal may mean nothing (emptied.py). Any other is to be tried
-by itself, with `tests/house/further_edits.py --only`: it is accepted, or the round could not show
-it. A mutant of a definition belongs to no function and is left out. The last line of a crate has
-the counts; the status is 1 if a mutant was not refused. With --list nothing is checked: the rounds
-are printed.
+A function is proved from the contracts of the functions that it calls, never from their bodies, and
+without mutants no goal is open. So if a goal is open in a function with a mutant, the mutant is
+refused, whatever else the check changed. A round applies to a copy of the crate as many mutants as
+it can, at most one in a function. In the copy the proofs of all other functions are replaced by
+holes, so the round proves only the functions with a mutant. The next round takes the other mutants.
+
+Prints a line for each mutant. It is refused if a goal of its function is open, in the round or in a
+check of this mutant by itself. Otherwise it is not: it is accepted, or a written proof of the
+function no longer fits. Such a refusal may mean nothing, so the mutant should remove this proof too
+(emptied.py). Not tried here are mutants of a definition, which belong to no function: those are for
+`rt must-fail`. The last line has the counts; the status is 1 if a mutant was not refused.
+
+With --control the same checks run without the mutants: then each function must be proved, since the
+holes change nothing. With --list the rounds are printed, nothing else.
 """
 from __future__ import annotations
 
 import argparse
+import os
 import re
 import shutil
-import subprocess
 import sys
 import tempfile
+from concurrent.futures import ThreadPoolExecutor
 from dataclasses import dataclass
 from pathlib import Path
-from typing import Iterator, Optional
+from typing import Iterator, Optional, Sequence
 
 sys.path.insert(0, str(Path(__file__).resolve().parents[1]))
-from house.further_edits import CRATES, TOP, Edit, further, of_the_gate  # noqa: E402
+from house.checking import TOP, check_says, command_over  # noqa: E402
+from house.crate_functions import Function, all_functions, functions  # noqa: E402
+from house.further_edits import CRATES, Edit, further, of_the_gate  # noqa: E402
 
-FUNCTION = re.compile(r"^( *)(?:pub(?:\([a-z]+\))? )?(?:const )?(?:extern \"C\" )?fn (\w+)")
-OPEN_GOAL = re.compile(r"(?:^|note: )(?:\./)?(src/[^:\s]+\.rt):(\d+):\d+: it is not proved",
+OPEN_GOAL = re.compile(r"^(?:note: )?(?:\./)?((src/[^:\s]+\.rt):(\d+):\d+: it is not proved.*)",
                        re.MULTILINE)
 AT_A_PROOF = re.compile(r"^(?:\./)?proofs/(\S+)/Answers\.antt:\d+:\d+: error", re.MULTILINE)
 UNREAD = re.compile(r"^.*error\[[a-z-]+\].*$", re.MULTILINE)
+NOT_PROVED = re.compile(r"^fn (\S+): (?:not proved|could not tell|no proof).*", re.MULTILINE)
+ENDED = re.compile(r"^only=\d+ ", re.MULTILINE)
+# Memory of one check, in bytes.
+MOST_MEMORY = 3_500_000_000
+HOLE = """use Rattle.{crate}.proofs.{module}.Statement as stated
+
+pub {name}_spec : {{M : Type 1}} → stated.statement M
+{name}_spec = ?
+"""
 
 
-@dataclass(frozen=True)
-class Function:
-    """A function of a source file with the attributes above it, by its lines, counted from 0."""
+@dataclass
+class Attempt:
+    """A mutant that was tried, whether that ended as it must, and why. A control has no mutant."""
 
-    file: str
-    name: str
-    first: int
-    last: int
+    crate: str
+    edit: str
+    is_well: bool
+    why: str
+    is_control: bool = False
 
-    def has_proof(self, place: str) -> bool:
-        """Whether the written proof at a place of proofs/ is one of this function."""
-        module = self.file.removeprefix("src/").removesuffix(".rt")
-        return place.startswith(f"{module}/") and place.split("/")[-1] == self.name
-
-
-def functions(file: str, text: str) -> Iterator[Function]:
-    """The functions of a source file. An end is a brace below the beginning, as `rt fmt` puts it."""
-    lines = text.split("\n")
-    for start, line in enumerate(lines):
-        if found := FUNCTION.match(line):
-            first = start
-            while lines[first - 1].lstrip().startswith("#["):
-                first -= 1
-            ends = (at for at in range(start, len(lines)) if lines[at] == f"{found[1]}}}")
-            last = start if line.rstrip().endswith("}") else next(ends, len(lines) - 1)
-            yield Function(file, found[2], first, last)
+    def __str__(self) -> str:
+        name = f"{self.crate}/{self.edit}"
+        if self.is_control:
+            how = "proved" if self.is_well else f"NOT PROVED: {self.why}"
+            return f"without {name}: {how}"
+        how = "refused, as it must be" if self.is_well else "NOT REFUSED"
+        return f"must-fail {name}: {how}: {self.why}"
 
 
-class Sources:
-    """The texts of a crate's files, with the mutants of a round applied."""
+class Round:
+    """The texts of a crate's files with some mutants applied, and the functions that have one."""
 
     def __init__(self, crate: Path) -> None:
         self.crate = crate
         self.texts: dict[str, str] = {}
-        self.places: dict[Function, Edit] = {}
+        self.mutants: dict[Function, Edit] = {}
+
+    @property
+    def edits(self) -> list[Edit]:
+        return list({edit.name: edit for edit in self.mutants.values()}.values())
 
     def text(self, file: str) -> str:
-        if file not in self.texts:
-            self.texts[file] = (self.crate / file).read_text(encoding="utf-8")
-        return self.texts[file]
+        """A file with the mutants so far."""
+        return self.texts.get(file) or (self.crate / file).read_text(encoding="utf-8")
 
     def function_at(self, file: str, old: str) -> Optional[Function]:
         """The function that contains a text of a source file."""
         text = (self.crate / file).read_text(encoding="utf-8")
         line = text.count("\n", 0, text.find(old))
-        around = [it for it in functions(file, text) if it.first <= line <= it.last]
+        around = [it for it in functions(self.crate, file) if it.first <= line <= it.last]
         return around[-1] if text.count(old) == 1 and around else None
 
     def has_taken(self, edit: Edit) -> bool:
@@ -93,110 +102,175 @@ class Sources:
         for file, old, new in edit.changes():
             if file.startswith("src/"):
                 place = self.function_at(file, old)
-                if place is None or place in self.places:
+                if place is None or place in self.mutants:
                     return False
                 places.add(place)
             text = texts.get(file) or self.text(file)
             if text.count(old) != 1 or "\n" in new:
                 return False
             texts[file] = text.replace(old, new)
-        self.texts = texts
-        self.places |= {place: edit for place in places}
+        if places:
+            self.texts = texts
+            self.mutants |= {place: edit for place in places}
         return bool(places)
 
-    def refused_at_goals(self, said: str) -> set[str]:
-        """The names of the mutants in whose functions a goal is open."""
-        goals = [(found[1], int(found[2]) - 1) for found in OPEN_GOAL.finditer(said)]
-        return {edit.name for place, edit in self.places.items()
-                if any(file == place.file and place.first <= line <= place.last
-                       for file, line in goals)}
+    def alone(self, name: str) -> Round:
+        """A round with a single mutant of this one."""
+        made = Round(self.crate)
+        made.has_taken(next(edit for edit in self.edits if edit.name == name))
+        return made
 
-    def refused_at_proofs(self, said: str) -> set[str]:
-        """The names of the mutants whose functions have a written proof that no longer fits."""
+    def attempt(self, edit: Edit, said: str) -> Attempt:
+        """How a mutant of this round went, by the output of the check."""
+        its = [place for place, one in self.mutants.items() if one is edit]
+        for goal, file, number in OPEN_GOAL.findall(said):
+            if any(it.file == file and it.first < int(number) <= it.last + 1 for it in its):
+                return Attempt(self.crate.name, edit.name, True, goal)
         proofs = AT_A_PROOF.findall(said)
-        return {edit.name for place, edit in self.places.items()
-                if any(map(place.has_proof, proofs))}
+        is_at_proof = any(it.has_proof(proof) for it in its for proof in proofs)
+        why = ("a written proof no longer fits" if is_at_proof
+               else "no goal of its function is open")
+        return Attempt(self.crate.name, edit.name, False, why)
 
 
-def rounds(crate: Path, edits: list[Edit]) -> Iterator[tuple[Sources, list[Edit]]]:
-    """The mutants of each round. Those that no round can take are left out."""
+def rounds(crate: Path, edits: Sequence[Edit]) -> Iterator[Round]:
+    """The rounds for some mutants. Those that no round can take are left out."""
     while edits:
-        sources = Sources(crate)
-        taken = [edit for edit in edits if sources.has_taken(edit)]
-        if not taken:
+        made = Round(crate)
+        edits = [edit for edit in edits if not made.has_taken(edit)]
+        if not made.mutants:
             return
-        yield sources, taken
-        edits = [edit for edit in edits if edit not in taken]
+        yield made
 
 
-def check(copy: Path, sources: Sources) -> str:
-    """What a check of the copy says, with the mutants of a round in it."""
-    for file, text in sources.texts.items():
-        (copy / file).write_text(text, encoding="utf-8")
-    done = subprocess.run(["rt", "check"], cwd=copy, capture_output=True, text=True, check=False,
-                          errors="replace")
-    for file in sources.texts:
-        shutil.copy(sources.crate / file, copy / file)
-    return done.stdout + done.stderr
+def left_out(crate: Path) -> list[Edit]:
+    """The mutants of must-fail/ that no round can take."""
+    edits = of_the_gate(crate)
+    taken = {edit.name for one in rounds(crate, edits) for edit in one.edits}
+    return [edit for edit in edits if edit.name not in taken]
 
 
-def copy_repository(name: str, folder: Path) -> None:
-    """Copies the crates with the libraries that are built, and all that is kept of one crate."""
-    def is_of_another(place: str, names: list[str]) -> list[str]:
-        return [] if f"/{name}/" in f"{place}/" else [it for it in names if it == "incremental"]
-
-    shutil.copytree(CRATES, folder / "crates", ignore=is_of_another)
-    for file in ("crates.txt", "HANDLES"):
-        shutil.copy(TOP / file, folder)
-
-
-def try_round(copy: Path, sources: Sources, taken: list[Edit]) -> tuple[int, int]:
-    """Tries the mutants of a round: how many are refused at a goal, and at a written proof."""
-    said = check(copy, sources)
-    if unread := UNREAD.search(said):
-        print(f"{copy.name}: a round of {len(taken)} mutants can't be read: {unread[0]}")
-    goals, proofs = sources.refused_at_goals(said), sources.refused_at_proofs(said)
-    for edit in taken:
-        if edit.name not in goals:
-            why = ("a written proof no longer fits" if edit.name in proofs
-                   else "no goal of its function is open")
-            print(f"{copy.name}: {edit.name}: {why}", flush=True)
-    return len(goals), len(proofs - goals)
+def make_room(room: Path, one: Round) -> None:
+    """Copies a crate for a round, without mutants. Each proof of a function without a mutant is
+    replaced by a hole."""
+    for part in ("src", "specs", "proofs"):
+        shutil.rmtree(room / part, ignore_errors=True)
+        if (one.crate / part).exists():
+            shutil.copytree(one.crate / part, room / part)
+    for it in all_functions(one.crate):
+        if it.place and it not in one.mutants:
+            folder = room / "proofs" / it.place
+            folder.mkdir(parents=True, exist_ok=True)
+            for file in ("Answers.antt", "Invariants.antt"):
+                (folder / file).unlink(missing_ok=True)
+            text = HOLE.format(crate=one.crate.name, module=it.place.replace("/", "."),
+                               name=it.name)
+            (folder / "Proof.antt").write_text(text, encoding="utf-8")
 
 
-def try_crate(name: str) -> int:
-    """Tries the mutants of a crate; how many were not refused."""
-    crate, tried, at_goals, at_proofs = CRATES / name, 0, 0, 0
-    edits = of_the_gate(crate) + further(crate)
+def check(one: Round, room: Path, has_mutants: bool) -> str:
+    """The output of the check of a round."""
+    make_room(room, one)
+    if has_mutants:
+        for file, text in one.texts.items():
+            (room / file).write_text(text, encoding="utf-8")
+    command = command_over(TOP, one.crate.name, room.parent / "kept") + ["--allow-holes"]
+    paths = sorted({it.path for it in one.mutants})
+    return check_says(room, command + [word for path in paths if all(paths)
+                                       for word in ("--only", path)])
+
+
+def tried_in(one: Round, room: Path) -> list[Attempt]:
+    """Checks a round with its mutants, and returns how each went."""
+    said = check(one, room, has_mutants=True)
+    unread = UNREAD.search(said)
+    if unread or not ENDED.search(said):
+        why = f"the check did not end: {unread[0] if unread else said[-300:]}"
+        return [Attempt(one.crate.name, edit.name, False, why) for edit in one.edits]
+    return [one.attempt(edit, said) for edit in one.edits]
+
+
+def try_round(one: Round, room: Path) -> list[Attempt]:
+    """Tries the mutants of a round. The checker may skip a function that calls one that it refuses,
+    so a mutant that is not refused among others is tried once more by itself."""
+    tried = tried_in(one, room)
+    if len(tried) == 1:
+        return tried
+    return [it if it.is_well else tried_in(one.alone(it.edit), room)[0] for it in tried]
+
+
+def control_round(one: Round, room: Path) -> list[Attempt]:
+    """Checks a round without its mutants. Then no goal may be open, so that all that are open in
+    the round are those of the mutants."""
+    said = check(one, room, has_mutants=False)
+    wrong = NOT_PROVED.findall(said) + UNREAD.findall(said)
+    if not ENDED.search(said):
+        wrong.append(said[-300:])
+    return [Attempt(one.crate.name, edit.name, not wrong, ", ".join(wrong), is_control=True)
+            for edit in one.edits]
+
+
+def edits_of(crate: Path, has_further: bool) -> list[Edit]:
+    return of_the_gate(crate) + (further(crate) if has_further else [])
+
+
+def try_crate(crate: Path, has_further: bool, is_control: bool) -> list[Attempt]:
+    """Tries the mutants of a crate, and prints a line for each."""
+    tried: list[Attempt] = []
     with tempfile.TemporaryDirectory() as folder:
-        copy_repository(name, Path(folder))
-        for sources, taken in rounds(crate, edits):
-            counts = try_round(Path(folder, "crates", name), sources, taken)
-            tried, at_goals, at_proofs = (tried + len(taken), at_goals + counts[0],
-                                          at_proofs + counts[1])
-    print(f"{name}: {tried} of {len(edits)} mutants tried: {at_goals} refused at a goal,"
-          f" {at_proofs} at a written proof, {tried - at_goals - at_proofs} not", flush=True)
-    return tried - at_goals - at_proofs
+        room = Path(folder, crate.name)
+        room.mkdir()
+        for one in rounds(crate, edits_of(crate, has_further)):
+            ended = (control_round if is_control else try_round)(one, room)
+            print(*ended, sep="\n", flush=True)
+            tried += ended
+    return tried
 
 
-def list_rounds(name: str) -> int:
+def lanes_by_memory(lanes: int) -> int:
+    """As many of these lanes as the free memory is enough for, at least one."""
+    free = re.search(r"^MemAvailable: +(\d+) kB", Path("/proc/meminfo").read_text(), re.MULTILINE)
+    return max(1, min(lanes, int(free[1]) * 1024 // MOST_MEMORY)) if free else 1
+
+
+def try_crates(crates: Sequence[Path], lanes: int, has_further: bool = False,
+               is_control: bool = False) -> list[Attempt]:
+    """Tries the mutants of some crates, those with the most first, some crates at once."""
+    ordered = sorted(crates, key=lambda it: -len(edits_of(it, has_further)))
+    with ThreadPoolExecutor(lanes_by_memory(lanes)) as pool:
+        tried = pool.map(lambda it: try_crate(it, has_further, is_control), ordered)
+        return [attempt for ended in tried for attempt in ended]
+
+
+def list_rounds(crate: Path, has_further: bool) -> None:
     """Prints the rounds of a crate."""
-    for _, taken in rounds(CRATES / name, of_the_gate(CRATES / name) + further(CRATES / name)):
-        print(f"{name}: {len(taken)} mutants:", " ".join(edit.name for edit in taken))
-    return 0
+    for one in rounds(crate, edits_of(crate, has_further)):
+        print(f"{crate.name}: {len(one.edits)} mutants:", *(edit.name for edit in one.edits))
+    for edit in left_out(crate):
+        print(f"{crate.name}: left out: {edit.name}")
 
 
 def main() -> int:
     assert __doc__
     options = argparse.ArgumentParser(description=__doc__.split("\n\n")[0])
+    options.add_argument("--all", action="store_true", help="also the mutants of further-edits")
+    options.add_argument("--control", action="store_true", help="checks the rounds unchanged")
+    options.add_argument("--lanes", type=int, default=len(os.sched_getaffinity(0)))
     options.add_argument("--list", action="store_true", help="prints the rounds, checks nothing")
-    options.add_argument("crates", nargs="+", metavar="CRATE")
+    options.add_argument("crates", nargs="*", metavar="CRATE")
     asked = options.parse_args()
     unknown = [name for name in asked.crates if not (CRATES / name).is_dir()]
     if unknown:
         options.error(f"no crate: {' '.join(unknown)}")
-    run = list_rounds if asked.list else try_crate
-    return 1 if sum(map(run, asked.crates)) else 0
+    crates = [CRATES / name for name in asked.crates] or sorted(CRATES.iterdir())
+    if asked.list:
+        for crate in crates:
+            list_rounds(crate, asked.all)
+        return 0
+    tried = try_crates(crates, asked.lanes, asked.all, asked.control)
+    wrong = sum(not it.is_well for it in tried)
+    print(f"together: {len(tried)} tried, {wrong} not {'proved' if asked.control else 'refused'}")
+    return 1 if wrong else 0
 
 
 if __name__ == "__main__":

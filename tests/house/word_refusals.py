@@ -21,7 +21,7 @@ DRAFT_STEP = Word(PROTOCOL / "sessions" / "DraftSteps.antt", "slot_step")
 DRAFT_CHARGE = Word(STEPS, "becomes_by")
 ADDING = Word(PROTOCOL / "sessions" / "Additions.antt", "apply_addition")
 PLAIN_ANSWER = Word(QUESTIONS, "plain_answered")
-TYPE_ANSWER = Word(QUESTIONS, "said_on")
+TYPE_ANSWER = Word(QUESTIONS, "facts_answer")
 SLOT_ANSWER = Word(PROTOCOL / "answers" / "SlotAnswers.antt", "whole_answered")
 
 CHANGES = ("Part", "Check", "Open", "Clear", "Reset", "Close", "Import", "Publish", "Withdraw",

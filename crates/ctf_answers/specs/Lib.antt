@@ -1,7 +1,7 @@
 pub mod Singles
 pub mod Items
 pub mod Fields
-pub mod Told
-pub mod Said
+pub mod TypeFields
+pub mod AnswerContent
 pub mod Counts
 pub mod Replies

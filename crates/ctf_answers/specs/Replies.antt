@@ -1,4 +1,4 @@
--- What lent replies show, and those of changes.
+-- What lent replies show, and the replies to changes.
 use Rattle.std.specs.Prelude.{ℕ, Result, Ok, Err}
 use Rattle.ctf_protocol.specs.answers.Answers as answers
 use Rattle.ctf_model.specs.declared.faults.Fault.{Fault}
@@ -14,9 +14,9 @@ change_answer (Ok counts) = Ok (counts_view counts)
 change_answer (Err fault) = Err fault
 
 -- the reply to a change
-abbrev pub said_to : ℕ → Result Counts Fault → answers.Reply
-said_to session outcome = record { session = session; outcome = change_answer outcome }
+abbrev pub change_reply : ℕ → Result Counts Fault → answers.Reply
+change_reply session outcome = record { session = session; outcome = change_answer outcome }
 
 -- the same, not yet addressed to its session
 abbrev pub unaddressed_reply : Result Counts Fault → answers.Reply
-unaddressed_reply outcome = said_to 0 outcome
+unaddressed_reply outcome = change_reply 0 outcome

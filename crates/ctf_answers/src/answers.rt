@@ -3,26 +3,26 @@ ghost use Rattle.std.specs.Prelude.{◌≡◌, ◌<◌, [], ◌∷◌, codes, le
 ghost use Rattle.ctf_protocol.specs.answers.Answers.{says, lists, number, truth, text as said_text};
 ghost use Rattle.ctf_answers.specs.Singles.{single_of};
 ghost use Rattle.ctf_answers.specs.Fields.{field_of};
-ghost use Rattle.ctf_answers.specs.Said.{entry_view, fields_view};
-ghost use Rattle.ctf_answers.specs.Told.{record_view, info_view};
+ghost use Rattle.ctf_answers.specs.AnswerContent.{entry_view, fields_view};
+ghost use Rattle.ctf_answers.specs.TypeFields.{record_view, info_view};
 
 use crate::fields::{Field, Value};
 use crate::item_lists::ItemWindow;
 use crate::singles::{KeyedValue, Single};
 use crate::type_fields::{InfoAnswer, RecordAnswer, field};
-use crate::values::Said;
+use crate::values::AnswerContent;
 use ctf_protocol::Bytes;
 use std::marker::Model;
 
 /// The answer to a request that is not refused: at most eight fields, their keys in byte order.
 #[derive(Drop)]
 pub struct Answer<'a> {
-    said: Said<'a>,
+    said: AnswerContent<'a>,
 }
 
 impl<'a> Model for Answer<'a> {
     ghost use Rattle.ctf_protocol.specs.answers.Answers.{Answer as SaidAnswer};
-    ghost use Rattle.ctf_answers.specs.Said.{fields_view};
+    ghost use Rattle.ctf_answers.specs.AnswerContent.{fields_view};
 
     ghost Value = { SaidAnswer };
 
@@ -40,7 +40,9 @@ impl<'a> Answer<'a> {
     pub fn of_success() -> Answer<'a>
         ensures { result ≡ [] }
     {
-        Answer { said: Said::Done }
+        Answer {
+            said: AnswerContent::Done,
+        }
     }
 
     /// An answer with a single value.
@@ -48,7 +50,7 @@ impl<'a> Answer<'a> {
         ensures { result ≡ says key.now (single_of value.entry) ∷ [] }
     {
         Answer {
-            said: Said::One(entry(key, value)),
+            said: AnswerContent::One(entry(key, value)),
         }
     }
 
@@ -63,7 +65,7 @@ impl<'a> Answer<'a> {
             ∷ says key2.now (single_of value2.entry) ∷ [] }
     {
         Answer {
-            said: Said::Two(entry(key, value), entry(key2, value2)),
+            said: AnswerContent::Two(entry(key, value), entry(key2, value2)),
         }
     }
 
@@ -80,7 +82,7 @@ impl<'a> Answer<'a> {
             ∷ says key2.now (single_of value2.entry) ∷ says key3.now (single_of value3.entry) ∷ [] }
     {
         Answer {
-            said: Said::Three(entry(key, value), entry(key2, value2), entry(key3, value3)),
+            said: AnswerContent::Three(entry(key, value), entry(key2, value2), entry(key3, value3)),
         }
     }
 
@@ -89,7 +91,7 @@ impl<'a> Answer<'a> {
         ensures { result ≡ lists key.now items.entry ∷ says (codes "total") (number total) ∷ [] }
     {
         Answer {
-            said: Said::Window { key, items, total },
+            said: AnswerContent::Window { key, items, total },
         }
     }
 
@@ -99,7 +101,7 @@ impl<'a> Answer<'a> {
             ∷ says (codes "varargs") (truth varargs) ∷ [] }
     {
         Answer {
-            said: Said::Signature { args, ret, varargs },
+            said: AnswerContent::Signature { args, ret, varargs },
         }
     }
 
@@ -108,7 +110,7 @@ impl<'a> Answer<'a> {
         ensures { result ≡ record_view told.entry }
     {
         Answer {
-            said: Said::Record(told),
+            said: AnswerContent::Record(told),
         }
     }
 
@@ -117,7 +119,7 @@ impl<'a> Answer<'a> {
         ensures { result ≡ info_view told.entry }
     {
         Answer {
-            said: Said::Info(told),
+            said: AnswerContent::Info(told),
         }
     }
 
@@ -126,7 +128,7 @@ impl<'a> Answer<'a> {
         ensures { result ≡ says key.now (said_text text) ∷ [] }
     {
         Answer {
-            said: Said::Made { key, text },
+            said: AnswerContent::Made { key, text },
         }
     }
 
@@ -135,15 +137,15 @@ impl<'a> Answer<'a> {
         ensures { result ≡ length self.now }
     {
         match &self.said {
-            Said::Done => 0,
-            Said::One(_) => 1,
-            Said::Made { .. } => 1,
-            Said::Two(_, _) => 2,
-            Said::Window { .. } => 2,
-            Said::Three(_, _, _) => 3,
-            Said::Signature { .. } => 3,
-            Said::Record(told) => told.len(),
-            Said::Info(_) => 8,
+            AnswerContent::Done => 0,
+            AnswerContent::One(_) => 1,
+            AnswerContent::Made { .. } => 1,
+            AnswerContent::Two(_, _) => 2,
+            AnswerContent::Window { .. } => 2,
+            AnswerContent::Three(_, _, _) => 3,
+            AnswerContent::Signature { .. } => 3,
+            AnswerContent::Record(told) => told.len(),
+            AnswerContent::Info(_) => 8,
         }
     }
 
@@ -152,7 +154,7 @@ impl<'a> Answer<'a> {
         ensures { IfSome result (λ told. self.now ≡ info_view told) }
     {
         match &self.said {
-            Said::Info(told) => Some(*told),
+            AnswerContent::Info(told) => Some(*told),
             _ => None,
         }
     }
@@ -163,17 +165,19 @@ impl<'a> Answer<'a> {
         ensures { Some (field_of result) ≡ slice_get self.now index }
     {
         match &self.said {
-            Said::Done => return field("", Single::Number(0)),
-            Said::One(a) => return field(a.key, a.value),
-            Said::Two(a, b) => return pick_two(*a, *b, index),
-            Said::Three(a, b, c) => return pick_three(*a, *b, *c, index),
-            Said::Window { key, items, total } => return pick_window(*key, items, *total, index),
-            Said::Signature { args, ret, varargs } => {
+            AnswerContent::Done => return field("", Single::Number(0)),
+            AnswerContent::One(a) => return field(a.key, a.value),
+            AnswerContent::Two(a, b) => return pick_two(*a, *b, index),
+            AnswerContent::Three(a, b, c) => return pick_three(*a, *b, *c, index),
+            AnswerContent::Window { key, items, total } => return pick_window(
+                *key, items, *total, index,
+            ),
+            AnswerContent::Signature { args, ret, varargs } => {
                 return pick_signature(args, *ret, *varargs, index);
             }
-            Said::Record(told) => return told.get(index),
-            Said::Info(told) => return told.get(index),
-            Said::Made { key, text } => return made_field(*key, text),
+            AnswerContent::Record(told) => return told.get(index),
+            AnswerContent::Info(told) => return told.get(index),
+            AnswerContent::Made { key, text } => return made_field(*key, text),
         }
     }
 }

@@ -1,7 +1,7 @@
 //! The fields of a type and of a dictionary; each is made when it is asked for.
 ghost use Rattle.std.specs.Prelude.{◌≡◌, ◌<◌, length, Some, slice_get};
 ghost use Rattle.ctf_protocol.specs.answers.Answers.{says};
-ghost use Rattle.ctf_answers.specs.Told.{record_view, size_on, tag_on, type_on, info_view};
+ghost use Rattle.ctf_answers.specs.TypeFields.{record_view, size_on, tag_on, type_on, info_view};
 ghost use Rattle.ctf_answers.specs.Singles.{single_of};
 ghost use Rattle.ctf_answers.specs.Fields.{field_of};
 

@@ -7,7 +7,7 @@ use ctf_protocol::Bytes;
 
 /// The content of an answer. A field is made when it is asked for.
 #[derive(Drop)]
-pub enum Said<'a> {
+pub enum AnswerContent<'a> {
     Done,
     One(KeyedValue<'a>),
     Two(KeyedValue<'a>, KeyedValue<'a>),

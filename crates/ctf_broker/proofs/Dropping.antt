@@ -1,5 +1,4 @@
--- What is so of a step is so where the library that it left is dropped, or all libraries are as it
--- left them.
+-- Facts of a step carry over if the library that it left is dropped from the table.
 use Rattle.std.proofs.Common.{◌≡◌, ◌≢◌, ℕ, ◌∙◌, ◌⊎◌, inl, inr}
 use Rattle.ctf_protocol.specs.answers.Answers.{Reply}
 use Rattle.ctf_protocol.specs.declared.requests.Request.{Request}

@@ -5,7 +5,7 @@ ghost use Rattle.ctf_protocol.specs.sessions.State.{empty_state};
 ghost use Rattle.ctf_protocol.specs.sessions.SlotQuestions.{answer_to};
 ghost use Rattle.ctf_protocol.specs.sessions.Steps.{publishes_kept};
 ghost use Rattle.ctf_protocol.specs.sessions.Quiet.{is_quiet, is_quiet_change, MayAnswer};
-ghost use Rattle.ctf_answers.specs.Replies.{unaddressed_reply, said_to};
+ghost use Rattle.ctf_answers.specs.Replies.{unaddressed_reply, change_reply};
 ghost use Rattle.ctf_protocol.specs.declared.requests.Request.TheVariants.{Changes};
 ghost use Rattle.ctf_broker.specs.Loading.{loads_section};
 ghost use Rattle.ctf_broker.specs.Table.{kept_for, library_at};
@@ -15,7 +15,7 @@ ghost use Rattle.ctf_library.specs.Telling.{makes_text};
 use crate::libraries::{drop_new, found_by, publish_in, step_in};
 use crate::session_library::SessionLibrary;
 use ctf_answers::{Answer, Counts};
-use ctf_library::{Loaded, MODEL_UNSAID, Pool};
+use ctf_library::{DEFAULT_MODEL, Loaded, Pool};
 use ctf_protocol::{Bytes, Change, Fault, Parts, PublicationName, Question, SlotNumber, placeless};
 use std::alloc::Global;
 use std::collections::BTreeMap;
@@ -98,7 +98,7 @@ impl Broker {
             sym: None,
             strs: None,
         };
-        match Loaded::build(self.alloc, parts, MODEL_UNSAID) {
+        match Loaded::build(self.alloc, parts, DEFAULT_MODEL) {
             Ok(loaded) => self.load(name, loaded),
             Err((fault, _parts)) => Err(fault),
         }
@@ -122,14 +122,14 @@ impl Broker {
     pub fn step(&mut self, session: u32, change: &Change) -> Result<Counts, Fault>
         requires session { session ≢ 0 }
         ensures step { Steps (library_at self.old) session (Changes change.now)
-            (said_to session result) (library_at self.new) }
+            (change_reply session result) (library_at self.new) }
         ensures others { (other : ℕ) → other ≢ session
             → kept_for self.new other ≡ kept_for self.old other }
         // Where the session holds anything, these take no memory.
         ensures quiet { is_quiet_change change.now ≡ true
             → library_at self.old session ≢ empty_state
             → IsGranted (library_at self.old) session (Changes change.now)
-            (said_to session result) (library_at self.new) }
+            (change_reply session result) (library_at self.new) }
         // Good libraries stay good, if the numbers of what is added fit their fields.
         ensures good { AreGood (library_at self.old) → FitsChange change.now
             → AreGood (library_at self.new) }
@@ -145,13 +145,13 @@ impl Broker {
     fn make(&mut self, session: u32, change: &Change) -> Result<Counts, Fault>
         requires session { session ≢ 0 }
         ensures step { Steps (library_at self.old) session (Changes change.now)
-            (said_to session result) (library_at self.new) }
+            (change_reply session result) (library_at self.new) }
         ensures others { (other : ℕ) → other ≢ session
             → kept_for self.new other ≡ kept_for self.old other }
         ensures quiet { is_quiet_change change.now ≡ true
             → library_at self.old session ≢ empty_state
             → IsGranted (library_at self.old) session (Changes change.now)
-            (said_to session result) (library_at self.new) }
+            (change_reply session result) (library_at self.new) }
     {
         let found = found_by(&self.libraries, change)?;
         step_in(

@@ -1,6 +1,6 @@
 //! Sessions and their libraries.
 ghost use Rattle.std.specs.Prelude.{◌≡◌, ◌≢◌, ℕ, IfOk, None, OnErr, true, false};
-ghost use Rattle.ctf_answers.specs.Replies.{unaddressed_reply, said_to};
+ghost use Rattle.ctf_answers.specs.Replies.{unaddressed_reply, change_reply};
 ghost use Rattle.ctf_protocol.specs.sessions.Runs.{Answered, IsGranted, Steps, found_in};
 ghost use Rattle.ctf_protocol.specs.sessions.State.{empty_state};
 ghost use Rattle.ctf_protocol.specs.sessions.Steps.{publishes_kept};
@@ -66,13 +66,13 @@ pub fn step_in(
     requires found { found
         ≡ found_in (library_at libraries.old.entries) (Changes change.now) }
     ensures step { Steps (library_at libraries.old.entries) session (Changes change.now)
-        (said_to session result) (library_at libraries.new.entries) }
+        (change_reply session result) (library_at libraries.new.entries) }
     ensures others { (other : ℕ) → other ≢ session
         → kept_for libraries.new.entries other ≡ kept_for libraries.old.entries other }
     ensures quiet { is_quiet_change change.now ≡ true
         → library_at libraries.old.entries session ≢ empty_state
         → IsGranted (library_at libraries.old.entries) session (Changes change.now)
-        (said_to session result) (library_at libraries.new.entries) }
+        (change_reply session result) (library_at libraries.new.entries) }
 {
     let Ok(entry) = libraries.entry(session) else {
         return Err(placeless(Fault::MEMORY));

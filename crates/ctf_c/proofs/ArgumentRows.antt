@@ -1,4 +1,4 @@
--- Arguments of which rows tell.
+-- Rows of arguments.
 use Rattle.std.proofs.Common.{◌≡◌, ℕ, ◌-◌, ◌<◌, ◌≤◌, Bool, true, false, List, take, length, Some, refl, ap, ◌∙◌, arith}
 use Rattle.std.specs.Prelude.{IfSome, slice_get}
 use Rattle.std.proofs.lemmas.List.{get_or-take, length-take, take_all}
@@ -6,7 +6,7 @@ use Rattle.std.proofs.lemmas.Option.{get_or_from_slice_get, slice_get-get_or}
 use Rattle.ctf_c.specs.ItemRows.{IsArgument}
 use Rattle.ctf_model.specs.format.Shown.{is_variadic, named_arguments}
 
--- one of the first arguments is told of
+-- the row of one of the first arguments
 pub taken_told : (args : List ℕ) (n k row : ℕ) → n ≤ length args → k < n → slice_get args k ≡ Some row → IfSome (slice_get (take n args) k) (λ t. IsArgument t row)
 taken_told args n k row le lt is =
     let long : length (take n args) ≡ n = length-take n args ∙ omega (arith, le) in
@@ -16,7 +16,7 @@ taken_told args n k row le lt is =
 pub taken_length : (args : List ℕ) (n : ℕ) → n ≤ length args → length (take n args) ≡ n
 taken_length args n le = length-take n args ∙ omega (arith, le)
 
--- those that are named are the first
+-- the named arguments are the first ones
 pub named_first : (args : List ℕ) → take (length (named_arguments args)) args ≡ named_arguments args
 named_first args = at (is_variadic args) refl
   where

@@ -1,4 +1,4 @@
--- Rows that are filled of a type are those that are said of its number.
+-- Rows filled for a type are those of its number.
 use Rattle.std.proofs.Common.{◌≡◌, ℕ, List, Option, Some, Result, Ok, Err, refl, sym, ap, subst, ◌∙◌}
 use Rattle.std.specs.Option.{option_map}
 use Rattle.ctf_c.specs.Given.{status_of}

@@ -1,10 +1,10 @@
--- Names are cut at zero bytes, one byte more at a time.
+-- Splitting names at zero bytes, one more byte at a time.
 use Rattle.std.proofs.Common.{◌≡◌, ◌≤◌, ◌<◌, ◌+◌, ◌-◌, ◌++◌, ℕ, zero, suc, false, eqb, List, [], ◌∷◌, map, append_assoc, append-nil, Bor, length, take, drop, get_or, refl, sym, ap, ◌∙◌, arith}
 use Rattle.std.proofs.lemmas.List.{drop_more, take_more, take_all, drop_all, length-drop, get_or-drop, map-append}
 use Rattle.std.proofs.Math.Dec.{eqb-suc-zero}
-use Rattle.ctf_c.specs.Naming.{last_name, names_from, names_given}
+use Rattle.ctf_c.specs.Naming.{last_name, names_from, names_in_bytes}
 
--- the names that are left at a place, where the name there begins at another
+-- the remaining names at an offset, where the current name begins at `from`
 abbrev pub left : List ℕ → ℕ → ℕ → List (List ℕ)
 left bytes from at = names_from (take (at - from) (drop from bytes)) (drop at bytes)
 
@@ -14,7 +14,7 @@ front bytes from at = take (at - from) (drop from bytes)
 begins : (bytes : List ℕ) (n : ℕ) → n ≡ 0 → (rest : List ℕ) → names_from (take n bytes) rest ≡ names_from [] rest
 begins bytes n e rest = rw e refl
 
--- a zero byte closes the name
+-- a zero byte ends the name
 pub closed : (bytes : List ℕ) (from at : ℕ) → at < length bytes → get_or bytes at 0 ≡ 0 → left bytes from at ≡ front bytes from at ∷ left bytes (at + 1) (at + 1)
 unfolding names_from
 closed bytes from at inside e =
@@ -26,7 +26,7 @@ no_zero : (b : ℕ) → 0 < b → eqb b 0 ≡ false
 no_zero zero h = absurd (omega (arith, h))
 no_zero (suc n) h = eqb-suc-zero n
 
--- any other is part of it
+-- any other byte belongs to it
 pub goes_on : (bytes : List ℕ) (from at : ℕ) → from ≤ at → at < length bytes → 0 < get_or bytes at 0 → left bytes from at ≡ left bytes from (at + 1)
 unfolding names_from
 goes_on bytes from at order inside e =
@@ -71,23 +71,23 @@ shown names = map (λ (name : Bor (List ℕ)). name.now) names
 behind : (old : List (Bor (List ℕ))) (x : Bor (List ℕ)) (rest : List (List ℕ)) → shown (old ++ x ∷ []) ++ rest ≡ shown old ++ (x.now ∷ rest)
 behind old x rest = ap (λ (names : List (List ℕ)). names ++ rest) (map-append (λ (name : Bor (List ℕ)). name.now) old (x ∷ [])) ∙ append_assoc (shown old) (x.now ∷ []) rest
 
-pub one_more : (bytes : List ℕ) (from at start : ℕ) (old new : List (Bor (List ℕ))) (x : Bor (List ℕ)) → at < length bytes → get_or bytes at 0 ≡ 0 → new ≡ old ++ x ∷ [] → x.now ≡ front bytes from at → start ≡ at + 1 → shown old ++ left bytes from at ≡ names_given bytes → shown new ++ left bytes start (at + 1) ≡ names_given bytes
+pub one_more : (bytes : List ℕ) (from at start : ℕ) (old new : List (Bor (List ℕ))) (x : Bor (List ℕ)) → at < length bytes → get_or bytes at 0 ≡ 0 → new ≡ old ++ x ∷ [] → x.now ≡ front bytes from at → start ≡ at + 1 → shown old ++ left bytes from at ≡ names_in_bytes bytes → shown new ++ left bytes start (at + 1) ≡ names_in_bytes bytes
 one_more bytes from at start old new x inside e more is next said =
     rw (more, next) (behind old x (left bytes (at + 1) (at + 1)) ∙ ap (λ (names : List (List ℕ)). shown old ++ names) (ap (λ (name : List ℕ). name ∷ left bytes (at + 1) (at + 1)) is ∙ sym (closed bytes from at inside e)) ∙ said)
 
-pub no_more : (bytes : List ℕ) (from at start : ℕ) (old new : List (Bor (List ℕ))) → from ≤ at → at < length bytes → 0 < get_or bytes at 0 → new ≡ old → start ≡ from → shown old ++ left bytes from at ≡ names_given bytes → shown new ++ left bytes start (at + 1) ≡ names_given bytes
+pub no_more : (bytes : List ℕ) (from at start : ℕ) (old new : List (Bor (List ℕ))) → from ≤ at → at < length bytes → 0 < get_or bytes at 0 → new ≡ old → start ≡ from → shown old ++ left bytes from at ≡ names_in_bytes bytes → shown new ++ left bytes start (at + 1) ≡ names_in_bytes bytes
 no_more bytes from at start old new order inside e same stays said =
     rw (same, stays) (ap (λ (names : List (List ℕ)). shown old ++ names) (sym (goes_on bytes from at order inside e)) ∙ said)
 
-pub last_more : (bytes : List ℕ) (from at : ℕ) (old new : List (Bor (List ℕ))) (x : Bor (List ℕ)) → length bytes ≤ at → from < length bytes → new ≡ old ++ x ∷ [] → x.now ≡ drop from bytes → shown old ++ left bytes from at ≡ names_given bytes → shown new ≡ names_given bytes
+pub last_more : (bytes : List ℕ) (from at : ℕ) (old new : List (Bor (List ℕ))) (x : Bor (List ℕ)) → length bytes ≤ at → from < length bytes → new ≡ old ++ x ∷ [] → x.now ≡ drop from bytes → shown old ++ left bytes from at ≡ names_in_bytes bytes → shown new ≡ names_in_bytes bytes
 last_more bytes from at old new x end inside more is said =
     rw more (map-append (λ (name : Bor (List ℕ)). name.now) old (x ∷ []) ∙ ap (λ (names : List (List ℕ)). shown old ++ names) (ap (λ (name : List ℕ). name ∷ []) is ∙ sym (with_last bytes from at end inside)) ∙ said)
 
-pub last_done : (bytes : List ℕ) (from at : ℕ) (old new : List (Bor (List ℕ))) → length bytes ≤ at → length bytes ≤ from → new ≡ old → shown old ++ left bytes from at ≡ names_given bytes → shown new ≡ names_given bytes
+pub last_done : (bytes : List ℕ) (from at : ℕ) (old new : List (Bor (List ℕ))) → length bytes ≤ at → length bytes ≤ from → new ≡ old → shown old ++ left bytes from at ≡ names_in_bytes bytes → shown new ≡ names_in_bytes bytes
 last_done bytes from at old new end past same said =
     rw same (sym (append-nil (shown old)) ∙ ap (λ (names : List (List ℕ)). shown old ++ names) (sym (without_last bytes from at end past)) ∙ said)
 
--- all that stands behind a place
+-- all bytes from an offset on
 pub rest_is : (bytes : List ℕ) (from : ℕ) → take (length bytes - from) (drop from bytes) ≡ drop from bytes
 rest_is bytes from =
     let long = length-drop from bytes in

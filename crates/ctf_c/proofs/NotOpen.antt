@@ -1,4 +1,4 @@
--- Where nothing is open, a step is refused.
+-- If nothing is open, a step is refused.
 use Rattle.std.proofs.Common.{◌≡◌, ℕ, List, Option, None, Result, refl, inr}
 use Rattle.ctf_c.specs.Drafting.{Creates, Steps, StepsAt, created_under}
 use Rattle.ctf_model.specs.opened.Steps.{Stepped}

@@ -1,4 +1,4 @@
--- Rows and the single calls: what a row says is what the call for one answers.
+-- Rows and single calls: a row gives the answer of the single call.
 use Rattle.std.proofs.Common.{◌≡◌, ℕ, ◌+◌, ◌<◌, List, length, Option, Some, Result, Ok, Err, refl, sym, ap, ◌∙◌, arith}
 use Rattle.std.specs.Prelude.{slice_get}
 use Rattle.ctf_c.proofs.names.Parts.{one_there}
@@ -16,7 +16,7 @@ use Rattle.ctf_model.specs.opened.Questions.{align_answered, argument_answered, 
 use Rattle.ctf_model.specs.symbols.Entries.{Signature}
 use Rattle.ctf_model.specs.symbols.SymbolQuestions.{function_of, object_of}
 
--- an answer is given in one way over what was there
+-- the same answer, whatever the output contained before
 pub one_given : {A : Type 0} (answer : Result A Fault) (status told : ℕ) (old new said : A) → Gives answer status old new → Gives answer told old said → (status ≡ told) × (new ≡ said)
 one_given (Ok n) status told old new said a b = (a.0 ∙ sym b.0, a.1 ∙ sym b.1)
 one_given (Err f) status told old new said a b = (a.0 ∙ sym b.0, a.1 ∙ sym b.1)
@@ -47,7 +47,7 @@ module _ (s : Option Open) (n : ℕ) (row : GivenSymbolRow) (h : TellsSymbol s n
 
 -- ---- arguments: ctfd_argument and ctfd_function_argument
 
--- a row that was filled is the item with its number
+-- a filled row is the item with its index
 pub item_in_row : (answer : Result (List ℕ) Fault) (from status : ℕ) (old new : List ℕ) (was count : ℕ) → GivesRows IsArgument answer from status old new was count → status ≡ 0
     → (i row : ℕ) → slice_get new i ≡ Some row → from + i < count → item_of (from + i) answer ≡ Ok row
 item_in_row (Ok items) from status old new was count h e i row there lt =

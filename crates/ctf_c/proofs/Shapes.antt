@@ -1,4 +1,4 @@
--- The shape of a type that was found.
+-- The shape of a looked-up type.
 use Rattle.std.proofs.Common.{◌≡◌, Option, Some, None, Result, Ok, ap, sym}
 use Rattle.std.specs.Option.{option_map}
 use Rattle.std.proofs.lemmas.Option.{same_Some}

@@ -1,4 +1,4 @@
--- Own types by their numbers, and rows that tell of them.
+-- Own types by number, and their rows.
 use Rattle.std.proofs.Common.{◌≡◌, ℕ, ◌+◌, ◌<◌, Bool, true, false, eqb, List, length, Option, Some, None, Result, Ok, refl, sym, ap, subst, ◌∙◌, arith, ne_eqb}
 use Rattle.std.specs.Option.{option_map}
 use Rattle.std.specs.Prelude.{IfSome, IsSome, option_and_then, slice_get}
@@ -36,7 +36,7 @@ number_there d k lt =
     let inside : k < length (own_numbers d) = omega (arith, lt, many) in
     slice_get-get_or (own_numbers d) k 0 inside ∙ ap Some (get_or-map-range_with_len (own_number d.child) 0 (length d.terms) k k 0 lt (omega arith))
 
--- what is told of one is told of the number that stands there
+-- the row of an own type is that of its number
 pub told_there : {R : Type 0} (Tells : ℕ → R → Type 0) (d : Dictionary) (k : ℕ) (row : R) → k < length d.terms → Tells (own_number d.child k) row → IfSome (slice_get (own_numbers d) k) (λ t. Tells t row)
 told_there Tells d k row lt tells = rw (number_there d k lt) tells
 
@@ -56,14 +56,14 @@ own_found s d i o a e =
     ap or_no_type (e ∙ own_at d i ∙ ap (λ (x : Dictionary). slice_get x.terms i) a)
     ∙ sym (ap (type_in s.own s.parent) (place_of_own s.own.child i))
 
--- ---- what is told of it
+-- ---- its row
 
 pub name_told : (o : Option Term) (named : Option (List ℕ)) (Stands : List ℕ → Type 0) → option_map (λ (x : Term). Some x.name) o ≡ Some named → ((name : List ℕ) → named ≡ Some name → Stands name)
     → (name : List ℕ) × (name_in (or_no_type o) ≡ Ok name) × Stands name
 name_told None named Stands h stands = absurd cc
 name_told (Some x) named Stands h stands = (x.name, refl, stands x.name (sym (same_Some _ _ h)))
 
--- what is said of what was found is said of the number
+-- facts about the looked-up type are facts about the number
 pub tells : (d : Open) (space : spaces.Space) (own : Lists) (i : ℕ) (found : Result Term Fault) (row : GivenTypeRow)
     → space ≡ space_in d → own ≡ d.own.lists → found ≡ space_type space (own_number space.own.child i) → row.tnum ≡ own_number space.own.child i
     → answer_map number_of_kind (on_shape kind_answered (shape_of found)) ≡ Ok row.kind
@@ -94,7 +94,7 @@ tells d space own i found row a b e n kind root items reference size align resol
 
 -- ---- numbers
 
--- the number of an own type is one
+-- the number of an own type is not 0
 pub own_some : (child : Bool) (i n : ℕ) → n ≡ own_number child i → 0 < n
 own_some true i n e = omega (arith, e)
 own_some false i n e = omega (arith, e)

@@ -1,3 +1,3 @@
 pub mod Casting
-mod HeldSteps
+mod NullableBoxSteps
 pub mod Lending

@@ -1,5 +1,5 @@
--- What calls from C do to drafts. The words are ours; what is done is that of libctf(3LIB):
--- ctf_create, ctf_add_type and its kin, ctf_update, ctf_discard.
+-- The effect of C calls on drafts. Source: ours, after libctf(3LIB): ctf_create, ctf_add_type and
+-- its kin, ctf_update, ctf_discard.
 use Rattle.std.specs.Prelude.{◌≡◌, ◌⊎◌, ◌==◌, ℕ, Bool, true, false, List, length, Option, None, Some, Result, Ok, Err, if◌then◌else◌}
 use Rattle.std.specs.Option.{option_map}
 use Rattle.ctf_draft.specs.Stating.{add_member_at}
@@ -18,45 +18,45 @@ use Rattle.ctf_model.specs.opened.Steps.{Stepped, created, enlarge, silent, labe
 use Rattle.ctf_c.specs.Given.{ask, status_of}
 use Rattle.ctf_model.specs.opened.Open.{Open, own_in}
 
--- the same over what is open, of its data model; the parent has to have a name
+-- the same over an open dictionary, with its data model; the parent must have a name
 abbrev pub created_under : Option Open → List ℕ → List ℕ → Result Open Fault
 created_under None parname parlabel = Err (placeless NO_SLOT)
 created_under (Some parent) parname parlabel =
     if length parname == 0 then Err (placeless BAD_REQUEST)
     else created (Some parent.own) parname parlabel parent.own.model
 
--- what a number says that a forward declares
+-- the declared kind for a number
 abbrev pub tag_numbered : ℕ → Option Tag
 tag_numbered n =
     if n == 6 then Some struct_tag
     else if n == 7 then Some union_tag
     else if n == 8 then Some enum_tag else None
 
--- a forward is added, where it is known what it declares
+-- adds a forward, if the declared kind is known
 abbrev pub forward_asked : List ℕ → Bool → Option Tag → Option Open → Result Stepped Fault
 forward_asked name root None handle = Err (placeless WRONG_KIND)
 forward_asked name root (Some tag) handle =
     ask handle (type_added (record { name = name; root = root; body = forward tag }))
 
--- a number, if it is there
+-- a number, if present
 abbrev pub number_there : Bool → ℕ → Option ℕ
 number_there true n = Some n
 number_there false n = None
 
--- a member is added at its place, to a struct or union that has a size with it
+-- adds a member at its stated offset, with the new size of its struct or union
 abbrev pub member_added_at : ℕ → Member → ℕ → Open → Result Stepped Fault
 member_added_at t m size = enlarge (λ d. silent (add_member_at d t m size))
 
--- ---- what is given
+-- ---- results
 
--- another is open in place of what was, or why it isn't is told, and what was open stays
+-- the new dictionary replaces the open one, or the status gives the refusal and the open one stays
 abbrev pub Creates : Result Open Fault → ℕ → ℕ → ℕ → Option Open → Option Open → Type 0
 Creates made status was place old new =
     ((s : Open) × ((status ≡ 0) × (place ≡ was) × (new ≡ Some s) × (made ≡ Ok s)))
     ⊎ ((f : Fault) × (((f ≡ out_of_memory) ⊎ (made ≡ Err f)) × (status ≡ status_of f)
     × (place ≡ f.place) × (new ≡ old)))
 
--- a step was made and its answer given, or why it wasn't is told, and nothing changed
+-- a step was made and its answer given, or the status gives the refusal and nothing changed
 abbrev pub Steps : Result Stepped Fault → ℕ → ℕ → ℕ → Option Open → Option Open → Type 0
 Steps outcome status was is old new =
     ((s : Open) × ((status ≡ 0) × (new ≡ Some s)
@@ -64,11 +64,11 @@ Steps outcome status was is old new =
     ⊎ ((f : Fault) × (((f ≡ out_of_memory) ⊎ (outcome ≡ Err f)) × (status ≡ status_of f)
     × (is ≡ was) × (new ≡ old)))
 
--- the same of a step whose answer is not given
+-- the same for a step whose answer is not given
 abbrev pub Adds : Result Stepped Fault → ℕ → Option Open → Option Open → Type 0
 Adds outcome status old new = (n : ℕ) × Steps outcome status 0 n old new
 
--- the same, and where the fault is
+-- the same, with the place of the fault
 abbrev pub StepsAt : Result Stepped Fault → ℕ → ℕ → ℕ → ℕ → ℕ → Option Open → Option Open
     → Type 0
 StepsAt outcome status was is before place old new =
@@ -77,7 +77,7 @@ StepsAt outcome status was is before place old new =
     ⊎ ((f : Fault) × (((f ≡ out_of_memory) ⊎ (outcome ≡ Err f)) × (status ≡ status_of f)
     × (place ≡ f.place) × (is ≡ was) × (new ≡ old)))
 
--- the same of a step that takes no memory
+-- the same for a step that takes no memory
 abbrev pub Does : Result Stepped Fault → ℕ → ℕ → ℕ → Option Open → Option Open → Type 0
 Does (Ok step) status was is old new =
     (status ≡ 0) × (is ≡ step.answer) × (new ≡ Some step.served)

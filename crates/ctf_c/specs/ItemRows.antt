@@ -1,5 +1,5 @@
--- Rows of symbols, labels and arguments. The words are ours; what a row says is what the single
--- calls answer.
+-- Rows of symbols, labels and arguments for C. Source: ours; a row gives the answers of the single
+-- calls.
 use Rattle.std.specs.Prelude.{◌≡◌, ℕ, ◌^◌, ◌==◌, min, List, length, Option, Some, Result, Ok, option_map, option_and_then, slice_get, if◌then◌else◌}
 use Rattle.std.specs.List.{range_with_len}
 use Rattle.ctf_c.specs.Given.{Gives, ask}
@@ -22,7 +22,7 @@ own_lists_of s = option_map (λ o. o.own.lists) s
 
 -- ---- labels
 
--- a row tells of a label: where its name stands in lists, and its last type
+-- the row of a label: where its name is in the lists, and its last type
 abbrev pub TellsLabel : Option Lists → Label → GivenLabelRow → Type 0
 TellsLabel lists x row =
     (option_and_then (λ s. text_in s row.name_list row.name_at) lists ≡ Some x.name)
@@ -30,26 +30,25 @@ TellsLabel lists x row =
 
 -- ---- symbols
 
--- the numbers of a program's symbols, in order: as many as 32 bits number
+-- the numbers of a program's symbols, in order, as far as 32 bits go
 abbrev pub symbol_numbers : Dictionary → List ℕ
 symbol_numbers d = range_with_len 0 (min (length d.symbols) (2 ^ 32))
 
--- what a symbol of a sort stands for: 1 an object, 2 a function, 0 anything else
+-- the class of a symbol: 1 for an object, 2 for a function, 0 for anything else
 abbrev pub class_of_sort : ℕ → ℕ
 class_of_sort sort = if sort == 1 then 1 else if sort == 2 then 2 else 0
 
--- the class of the symbol with a number
+-- the class of symbol number `n`
 abbrev pub class_answered : Dictionary → ℕ → Result ℕ Fault
 class_answered d n =
     or_refused NO_SYMBOL (option_map (λ x. class_of_sort x.sort) (slice_get d.symbols n))
 
--- what a function returns
+-- the return type of a function
 abbrev pub return_of : Result Signature Fault → Result ℕ Fault
 return_of f = answer_map (λ s. s.ret) f
 
--- a row tells of the symbol with a number what is asked of it: what it stands for; the type that a
--- function returns, and of any other the type of an object, with the status of the call that asks
--- for it alone, and 0 where that is refused; and where its name stands
+-- the row of symbol number `n`: its class; the return type of a function or the type of an object,
+-- with the status of the single call, and 0 if refused; and where its name is
 pub record TellsSymbol (s : Option Open) (n : ℕ) (row : GivenSymbolRow) : Type 0 where
   pub number : row.number ≡ n
   pub class : ask s (λ o. class_answered (own_in o) n) ≡ Ok row.symbol_class
@@ -63,14 +62,14 @@ pub record TellsSymbol (s : Option Open) (n : ℕ) (row : GivenSymbolRow) : Type
 
 -- ---- arguments
 
--- a row is the type of an argument
+-- the row of an argument is its type
 abbrev pub IsArgument : ℕ → ℕ → Type 0
 IsArgument t row = row ≡ t
 
--- those of a function type, as they are stored
+-- the arguments of a function type, as stored
 abbrev pub arguments_answered : Shape → Result (List ℕ) Fault
 arguments_answered x = or_refused WRONG_KIND (arguments_in x.behind)
 
--- those that a function of the program names
+-- the named arguments of a program's function
 abbrev pub named_list : Result Signature Fault → Result (List ℕ) Fault
 named_list f = answer_map (λ s. named_arguments s.args) f

@@ -1,4 +1,4 @@
--- Rows of types. The words are ours; what a row says of a type is what the single calls answer.
+-- Rows of types for C. Source: ours; a row gives the answers of the single calls.
 use Rattle.std.specs.Prelude.{◌≡◌, ℕ, List, length, map, Option, Some, Ok, option_and_then}
 use Rattle.std.specs.List.{range_with_len}
 use Rattle.ctf_c.specs.Given.{Gives, ask, flag, number_of_kind}
@@ -21,10 +21,9 @@ use Rattle.ctf_space.specs.TypeView.{name_in}
 abbrev pub own_numbers : Dictionary → List ℕ
 own_numbers d = map (own_number d.child) (range_with_len 0 (length d.terms))
 
--- a row tells of the type with a number what is asked of it: its kind, whether look-ups see it and
--- how long its list is; its size, its alignment, what it stands for and what it refers to, each
--- with the status of the call that asks for it alone, and 0 where that is refused; and where the
--- name stands that its record has
+-- the row of a type: its kind, visibility and list length; its size, alignment, resolved type and
+-- reference, each with the status of the single call, and 0 if refused; and where its record's name
+-- is
 pub record TellsType (s : Option Open) (t : ℕ) (row : GivenTypeRow) : Type 0 where
   pub number : row.tnum ≡ t
   pub kind : ask s (λ o. answer_map number_of_kind
@@ -43,13 +42,13 @@ pub record TellsType (s : Option Open) (t : ℕ) (row : GivenTypeRow) : Type 0 w
       × (option_and_then (λ lists. text_in lists row.name_list row.name_at) (lists_with s t)
       ≡ Some said)
 
--- a row tells what is worked out of a type: a number of each, or 0 with the status of its refusal
+-- the computed figures in a row: each a number, or 0 with the status of the refusal
 pub record TellsFigures (s : Space) (t : ℕ) (row : GivenTypeRow) : Type 0 where
   pub size : Gives (size_answered s t) row.size_status 0 row.size
   pub align : Gives (align_answered s t) row.align_status 0 row.align
   pub resolved : Gives (resolved_answered s t) row.resolved_status 0 row.resolved
 
--- the space and the layout are those of what is open
+-- the space and the layout belong to the open dictionary
 pub record IsAsked (d : Open) (lent : LentSpace) (layout : Layout) : Type 0 where
   pub space : space_of lent ≡ space_in d
   pub lists : own_lists lent ≡ d.own.lists

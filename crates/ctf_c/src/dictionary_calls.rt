@@ -3,7 +3,7 @@ ghost use Rattle.std.specs.Prelude.{◌≡◌, Ok, length};
 ghost use Rattle.ctf_c.specs.Given.{Gives, GivesText, ask, flag as flag_of, model_number as number_of_model};
 ghost use Rattle.ctf_model.specs.opened.Questions.{parent_types};
 ghost use Rattle.ctf_model.specs.opened.Open.{own_in, space_in};
-ghost use Rattle.ctf_model.specs.names.Found.{lookup};
+ghost use Rattle.ctf_model.specs.names.Lookups.{lookup};
 ghost use Rattle.ctf_model.specs.symbols.SymbolQuestions.{by_name, label_of, object_of};
 
 use crate::handle::Handle;

@@ -8,8 +8,8 @@ use ctf_open::OpenDictionary;
 use std::alloc::Global;
 use std::marker::Model;
 
-/// A dictionary on the heap, or nothing: a `Held` without type parameters, since C has no generic
-/// types.
+/// A dictionary on the heap, or nothing: a `NullableBox` without type parameters, since C has no
+/// generic types.
 #[repr(C)]
 #[derive(Drop)]
 pub struct HeapPointer {

@@ -2,10 +2,10 @@
 
 ghost use Rattle.std.specs.Prelude.{◌≡◌, IfOk};
 
-mod held;
+mod nullable_box;
 mod option_box;
 
-pub use held::Held;
+pub use nullable_box::NullableBox;
 pub use option_box::OptionBox;
 use std::alloc::{AllocError, Global};
 

@@ -1,7 +1,7 @@
 //! The export that follows a path of names.
 ghost use Rattle.std.specs.Prelude.{◌≡◌, ◌⊎◌, Err, IfOk, IfErr, Ok, map};
 ghost use Rattle.ctf_c.specs.Given.{MayGivePath, ask};
-ghost use Rattle.ctf_c.specs.Naming.{names_given};
+ghost use Rattle.ctf_c.specs.Naming.{names_in_bytes};
 ghost use Rattle.ctf_model.specs.opened.Open.{space_in};
 ghost use Rattle.ctf_layout.specs.Reached.{position_of};
 ghost use Rattle.ctf_model.specs.opened.Questions.{path_answered};
@@ -15,7 +15,7 @@ use std::alloc::{AllocError, Global};
 
 /// The names in some bytes, each ended by a zero byte, which the last one may lack.
 fn names_in(alloc: Global, bytes: &[u8]) -> Result<Vec<&[u8]>, AllocError>
-    ensures { IfOk result (λ names. map (λ name. name.now) names.items ≡ names_given bytes.now) }
+    ensures { IfOk result (λ names. map (λ name. name.now) names.items ≡ names_in_bytes bytes.now) }
 {
     let mut names = Vec::new(alloc);
     let mut from = 0;
@@ -39,9 +39,10 @@ fn path_along(
     names: &[u8],
 ) -> Result<(u64, TypeNum), Fault>
     ensures ok { IfOk result (λ at.
-        path_answered (space_in dictionary.now) (names_given names.now) t.0 ≡ Ok (position_of at)) }
+        path_answered (space_in dictionary.now) (names_in_bytes names.now) t.0
+        ≡ Ok (position_of at)) }
     ensures exact_err { IfErr result (λ f. (f ≡ out_of_memory)
-        ⊎ (path_answered (space_in dictionary.now) (names_given names.now) t.0 ≡ Err f)) }
+        ⊎ (path_answered (space_in dictionary.now) (names_in_bytes names.now) t.0 ≡ Err f)) }
 {
     let names = names_in(alloc, names)?;
     dictionary.path(t, names.as_slice())
@@ -61,7 +62,7 @@ pub extern "C" fn ctfd_path(
 ) -> u32
     ensures same { handle.new.held.dictionary ≡ handle.old.held.dictionary }
     ensures answer { MayGivePath (ask handle.old.held.dictionary (λ s.
-        path_answered (space_in s) (names_given names.now) t)) result
+        path_answered (space_in s) (names_in_bytes names.now) t)) result
         (record { offset = offset.old; tnum = to.old; place = place.old })
         (record { offset = offset.new; tnum = to.new; place = place.new }) }
 {

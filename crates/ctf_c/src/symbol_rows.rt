@@ -74,7 +74,7 @@ fn symbol_class(bytes: &[u8]) -> u32
 }
 
 /// The type that a function returns, or the type of an object.
-fn type_told(dictionary: &OpenDictionary, class: u32, number: u32) -> Result<TypeNum, Fault>
+fn symbol_type(dictionary: &OpenDictionary, class: u32, number: u32) -> Result<TypeNum, Fault>
     ensures function { class ≡ 2 → result_map_both (λ t. t.0) (λ f. f) result
         ≡ return_of (function_of (own_in dictionary.now) number) }
     ensures object { (class ≡ 2 → ⊥) → result_map_both (λ t. t.0) (λ f. f) result
@@ -99,7 +99,7 @@ fn symbol_row(dictionary: &OpenDictionary, end: usize, number: u32) -> GivenSymb
     let place = symbol_position(end, u32_at(bytes, 0));
     let class = symbol_class(bytes);
     let mut tnum = 0;
-    let type_status = give_type(type_told(dictionary, class, number), &mut tnum);
+    let type_status = give_type(symbol_type(dictionary, class, number), &mut tnum);
     GivenSymbolRow {
         name_at: place.at,
         name_list: place.list,

@@ -114,7 +114,7 @@ fn referred_type(found: &Typed<'_>) -> Result<TypeNum, Fault>
     Ok(to)
 }
 
-/// The same for the type of a number.
+/// Like `referred_type`, for the type with this number.
 #[inline(always)]
 fn reference(dictionary: &OpenDictionary, t: TypeNum) -> Result<TypeNum, Fault>
     ensures { result_map_both (λ t. t.0) (λ f. f) result

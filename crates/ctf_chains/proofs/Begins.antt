@@ -1,4 +1,4 @@
--- Where the records of a section begin, and which record begins there.
+-- The offsets of a section's records, and the record at each offset.
 use Rattle.std.proofs.Common.{◌≡◌, ℕ, zero, suc, ◌+◌, ◌-◌, ◌<◌, ◌≤◌, Bool, true, false, cond, eqb, List, [], ◌∷◌, length, take, drop, Option, Some, None, Result, Ok, Err, get_or, refl, sym, ap, subst, ◌∙◌, arith}
 use Rattle.std.specs.Prelude.{slice_get, slice_index}
 use Rattle.std.specs.Option.{option_map}
@@ -12,7 +12,7 @@ use Rattle.ctf_model.proofs.Walk.{front_len_range}
 use Rattle.ctf_records.specs.RecordView.{piece_at}
 use Rattle.ctf_chains.specs.Starts.{starts_in}
 
--- each record is the one that begins at its place, and they count up from a number
+-- each record is the one at its offset, with ascending numbers
 abbrev pub AreAt : List ℕ → ℕ → List (Result Piece Fault) → Type 0
 AreAt all index [] = Unit {0}
 AreAt all index (Ok p ∷ rest) = (piece_at all p.at index ≡ Some p) × AreAt all (index + 1) rest
@@ -35,11 +35,11 @@ walk_at all (suc bound) index at b same =
     at_ended all index (eqb (length b) 0) _
     (at_step all b index at _ (front_len b) same refl (λ n. walk_at all bound (index + 1) (at + n) (drop n b) (ap (drop n) same ∙ drop-drop n at all)))
 
--- so are the records of a section
+-- this holds of the records of a section
 pub records_at : (all : List ℕ) → AreAt all 1 (records all)
 records_at all = walk_at all (length all) 1 0 all refl
 
--- a record that begins at a place leaves room behind it
+-- a record at an offset leaves room after it
 pub at_inside : (all : List ℕ) (at index : ℕ) (p : Piece) → piece_at all at index ≡ Some p → at + 8 ≤ length all
 at_inside all at index p e = by_len (front_len (drop at all)) refl e
   where
@@ -47,13 +47,13 @@ at_inside all at index p e = by_len (front_len (drop at all)) refl e
     by_len None h e = absurd cc
     by_len (Some n) h e = let range = front_len_range (drop at all) n h in omega (arith, range.0, range.1, length-drop at all)
 
--- as many places as records
+-- there are as many offsets as records
 pub starts_count : (rs : List (Result Piece Fault)) → walk_fault rs ≡ None → length (starts_in rs) ≡ length rs
 starts_count [] whole = refl
 starts_count (Ok p ∷ rs) whole = ap suc (starts_count rs whole)
 starts_count (Err f ∷ rs) whole = absurd cc
 
--- the record with a number from 0, and that it begins at the place with that number
+-- the record with index `i` is at offset `at`
 pub record FoundAt (all : List ℕ) (first at : ℕ) (rs : List (Result Piece Fault)) (i : ℕ) : Type 0 where
   pub piece : Piece
   pub got : slice_get rs i ≡ Some (Ok piece)
@@ -70,16 +70,16 @@ found_at all first (Ok p ∷ rs) (suc i) whole are lt =
     record { piece = later.piece; got = later.got; begins = rw same later.begins }
 found_at all first (Err f ∷ rs) i whole are lt = absurd cc
 
--- the same for a place that was read from a list of all places
+-- the same for an offset from the list of all offsets
 pub record_found : (all starts : List ℕ) (i at : ℕ) → walk_fault (records all) ≡ None → starts ≡ starts_in (records all) → i < length starts → at ≡ get_or starts i at → FoundAt all 1 at (records all) i
 record_found all starts i at whole begin lt read =
     let inside : i < length (starts_in (records all)) = omega (arith, ap length begin) in
     let here : slice_index (starts_in (records all)) i ≡ at = sym (read ∙ get_or_default_zero starts i at lt ∙ ap (λ (xs : List ℕ). get_or xs i 0) begin) in
     subst (λ (place : ℕ). FoundAt all 1 place (records all) i) here (found_at all 1 (records all) i whole (records_at all) inside)
 
--- ---- where records end
+-- ---- ends of records
 
--- each record begins where the one before it ends, and the last one ends with the section
+-- each record begins where the previous one ends, and the last one ends with the section
 abbrev pub FollowOn : List ℕ → ℕ → List (Result Piece Fault) → Type 0
 FollowOn all at [] = at ≡ length all
 FollowOn all at (Ok p ∷ rest) = (p.at ≡ at) × ((n : ℕ) × (front_len (drop at all) ≡ Some n) × FollowOn all (at + n) rest)
@@ -116,7 +116,7 @@ ends_at all at (Ok p ∷ rs) zero whole on lt =
 ends_at all at (Ok p ∷ rs) (suc i) whole on lt = ends_at all (at + on.1.0) rs i whole on.1.2 (omega arith)
 ends_at all at (Err f ∷ rs) i whole on lt = absurd cc
 
--- the record with a number from 0 is as long as it is to the next one, or to the end of the section
+-- the length of a record is the distance to the next one, or to the end of the section
 pub len_found : (all starts : List ℕ) (i : ℕ) → walk_fault (records all) ≡ None → starts ≡ starts_in (records all) → i < length starts → front_len (drop (get_or starts i 0) all) ≡ Some (get_or starts (i + 1) (length all) - get_or starts i 0)
 len_found all starts i whole begin lt =
     let inside : i < length (starts_in (records all)) = omega (arith, ap length begin) in

@@ -1,4 +1,4 @@
--- The depth of a record, from those of the records that it leads to.
+-- The depth of a record, computed from the depths of its targets.
 use Rattle.std.proofs.Common.{◌≡◌, ℕ, zero, suc, ◌+◌, ◌-◌, ◌≤◌, ◌<◌, ◌⊎◌, List, [], ◌∷◌, ◌++◌, length, take, drop, Option, Some, None, get_or, slice_index_or, refl, sym, ap, subst, ◌∙◌, arith, zero-add, drop-cons}
 use Rattle.std.specs.List.{AllByRecursion}
 use Rattle.std.proofs.lemmas.List.{take-append-drop, take_more, take_all, append-nil}
@@ -23,7 +23,7 @@ IsWithin-plus es (suc n) k i h =
     let e : suc (n + k) ≡ suc n + k = omega arith in
     subst P e (IsWithin-suc es (n + k) i (IsWithin-plus es n k i h))
 
--- within a limit is within any longer one
+-- a record within a limit is within any greater limit
 pub IsWithin-more : (es : List (List ℕ)) (k m i : ℕ) → k ≤ m → IsWithin es k i → IsWithin es m i
 IsWithin-more es k m i le h =
     let e : (m - k) + k ≡ m = omega arith in
@@ -35,7 +35,7 @@ unfolding AreWithin
 AreWithin-more es zero m js le h = rw h tt
 AreWithin-more es (suc k) m js le h = All-map (IsWithin es k) (IsWithin es m) (λ j w. IsWithin-more es k m j (omega arith) w) js h
 
--- ---- the longest of several
+-- ---- the longest of several chains
 
 pub none_yet : (es : List (List ℕ)) → IsLongest es [] 0
 unfolding AreWithin
@@ -76,11 +76,11 @@ to_are es (suc k) i h = h
 
 -- ---- the places of a record
 
--- what a record leads to is what its places lead to
+-- the targets of a record are those of its places
 pub targets_are : (all : Places) (i : ℕ) → targets (steps_between all) i ≡ led_to (places_at all i)
 targets_are all i = listn.get_or-map led_to all i []
 
--- where a place leads to a record
+-- a place with a target
 pub led_at : (ps : List (Option ℕ)) (k j : ℕ) → k < length ps → slice_index_or ps k None ≡ Some j → led_to ps ≡ led_to (take k ps) ++ (j ∷ led_to (drop (suc k) ps))
 led_at ps k j lt is =
     let whole : take k ps ++ drop k ps ≡ ps = take-append-drop k ps in
@@ -89,21 +89,21 @@ led_at ps k j lt is =
     let rest : led_to (drop k ps) ≡ j ∷ led_to (drop (suc k) ps) = rw (here, is) refl in
     ap led_to (sym whole) ∙ split ∙ ap (λ r. led_to (take k ps) ++ r) rest
 
--- the next place leads to a record
+-- if the next place has a target, it is added
 pub led_more : (ps : List (Option ℕ)) (k j : ℕ) → k < length ps → slice_index_or ps k None ≡ Some j → led_to (take (k + 1) ps) ≡ led_to (take k ps) ++ (j ∷ [])
 led_more ps k j lt is =
     let more : take (k + 1) ps ≡ take k ps ++ (get_or ps k None ∷ []) = take_more ps k None lt in
     rw (more, is) (filter_map-append (λ s. s) (take k ps) (Some j ∷ []))
 
--- the next place leads nowhere
+-- if the next place has none, nothing changes
 pub led_same : (ps : List (Option ℕ)) (k : ℕ) → k < length ps → slice_index_or ps k None ≡ None → led_to (take (k + 1) ps) ≡ led_to (take k ps)
 led_same ps k lt is =
     let more : take (k + 1) ps ≡ take k ps ++ (get_or ps k None ∷ []) = take_more ps k None lt in
     rw (more, is) (filter_map-append (λ s. s) (take k ps) (None ∷ []) ∙ append-nil (led_to (take k ps)))
 
--- ---- what a visit learns
+-- ---- results of a visit
 
--- once all places are read, the longest chain is known
+-- once all places are read, the depth is known
 pub is_depth : (all : Places) (i k d : ℕ) → length (places_at all i) ≤ k → IsLongest (steps_between all) (led_to (take k (places_at all i))) d → IsDepth (steps_between all) i d
 is_depth all i k d le a =
     let e : targets (steps_between all) i ≡ led_to (take k (places_at all i)) = targets_are all i ∙ sym (ap led_to (take_all k (places_at all i) le)) in
@@ -121,7 +121,7 @@ no_step_left es (suc budget) i xs j ys e deep h =
     let P : List ℕ → Type 0 = λ js. AllByRecursion (IsWithin es budget) js in
     deep budget refl (All-at (IsWithin es budget) xs j ys (subst P e h))
 
--- a record is deep where one that it leads to is, for one step less
+-- a record is too deep if one of its targets is, for one step less
 pub deep_target : (all : Places) (budget i k j : ℕ) → k < length (places_at all i) → slice_index_or (places_at all i) k None ≡ Some j → (1 ≤ budget → IsWithin (steps_between all) (budget - 1) j → ⊥) → IsWithin (steps_between all) budget i → ⊥
 deep_target all budget i k j lt is deep h =
     no_step_left (steps_between all) budget i (led_to (take k (places_at all i))) j (led_to (drop (suc k) (places_at all i)))

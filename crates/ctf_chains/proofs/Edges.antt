@@ -1,4 +1,4 @@
--- The places of a section's records lead where the steps of its types do.
+-- The places of a section's records have the same targets as the steps of its types.
 use Rattle.std.proofs.Common.{◌≡◌, ℕ, suc, ◌+◌, ◌<◌, Bool, true, false, cond, ltb, List, [], ◌∷◌, length, map, Option, Some, None, Result, Ok, Err, get_or, refl, sym, ap, ◌∙◌}
 use Rattle.std.specs.Prelude.{IsSome, slice_get, slice_index, slice_index_or, MatchOption}
 use Rattle.std.specs.List.{filter_map}
@@ -36,13 +36,13 @@ led_by_numbers : (h : ℕ → Option ℕ) (ns : List ℕ) → led_to (map h ns) 
 led_by_numbers h [] = refl
 led_by_numbers h (n ∷ ns) = led_more (h n) (map h ns) h n ns refl (led_by_numbers h ns)
 
--- a record leads where the type that it spells does
+-- a record leads to the targets of the type that it spells
 led_by_type : (chain : Chain) (child : Bool) (count : ℕ) (t : Tables) (p : Piece) (x : Term) → term_of t p.bytes ≡ Some x → led_to (record_places chain child count (Ok p)) ≡ filter_map (own_index child count) (steps chain x.body)
 led_by_type chain child count t p x e = led_by_numbers (own_index child count) (numbers chain p.bytes) ∙ ap (filter_map (own_index child count)) (sym (spelled_numbers chain t p.bytes x e))
 
 -- ---- all records
 
--- as many types as records
+-- there are as many types as records
 types_count : (t : Tables) (rs : List (Result Piece Fault)) → walk_fault rs ≡ None → AreSpelled t rs → length (terms_in t rs) ≡ length rs
 unfolding terms_in
 types_count t [] whole spelled = refl
@@ -66,14 +66,14 @@ led_all chain child count t (Ok p ∷ rs) whole spelled = at (term_of t p.bytes)
         ∙ ap (λ (jss : List (List ℕ)). filter_map (own_index child count) (steps chain x.body) ∷ jss) e
 led_all chain child count t (Err f ∷ rs) whole spelled = absurd cc
 
--- the steps between the records are those between the types that they spell
+-- the steps between the records are those between their types
 pub steps_are : (chain : Chain) (child : Bool) (t : Tables) (rs : List (Result Piece Fault)) → walk_fault rs ≡ None → AreSpelled t rs → steps_between (section_places chain child rs) ≡ edges (steps chain) child (terms_in t rs)
 unfolding edges
 steps_are chain child t rs whole spelled = rw (types_count t rs whole spelled) (led_all chain child (length rs) t rs whole spelled)
 
 -- ---- work
 
--- a record costs what the type that it spells does
+-- the work for a record is that for its type
 work_by_type : (chain : Chain) (child : Bool) (count : ℕ) (t : Tables) (p : Piece) (x : Term) → term_of t p.bytes ≡ Some x → length (record_places chain child count (Ok p)) ≡ length (steps chain x.body)
 work_by_type chain child count t p x e = length-map (numbers chain p.bytes) (own_index child count) ∙ ap length (sym (spelled_numbers chain t p.bytes x e))
 
@@ -91,30 +91,30 @@ work_all chain child count t (Ok p ∷ rs) whole spelled = at (term_of t p.bytes
         ∙ sym (sum_by-cons (λ (y : Term). 1 + length (steps chain y.body)) x (terms_in t rs))
 work_all chain child count t (Err f ∷ rs) whole spelled = absurd cc
 
--- the records cost what the types that they spell do
+-- the work for the records is that for their types
 pub work_is : (chain : Chain) (child : Bool) (t : Tables) (rs : List (Result Piece Fault)) → walk_fault rs ≡ None → AreSpelled t rs → full_work (section_places chain child rs) ≡ steps_work (steps chain) (terms_in t rs)
 work_is chain child t rs whole spelled = work_all chain child (length rs) t rs whole spelled
 
 -- ---- the places of one record
 
--- the places of the record with a number
+-- the places of record `i`
 pub places_are : (chain : Chain) (child : Bool) (rs : List (Result Piece Fault)) (i : ℕ) (p : Piece) → slice_get rs i ≡ Some (Ok p) → places_at (section_places chain child rs) i ≡ map (own_index child (length rs)) (numbers chain p.bytes)
 places_are chain child rs i p e =
     let none : Result Piece Fault = Err (record { code = 0; place = 0 }) in
     let here : get_or rs i none ≡ Ok p = get_or_from_slice_get rs i (Ok p) none e in
     listn.get_or-map (record_places chain child (length rs)) rs i none ∙ ap (record_places chain child (length rs)) here
 
--- the place with a number
+-- the place at index `k`
 pub place_in : (child : Bool) (count : ℕ) (ns : List ℕ) (k : ℕ) → k < length ns → slice_index_or (map (own_index child count) ns) k None ≡ own_index child count (slice_index ns k)
 place_in child count ns k lt = get_or-map (own_index child count) ns k 0 None lt
 
 -- ---- as many as there are types
 
--- as many starts as records with places
+-- there are as many offsets as records with places
 pub places_count : (chain : Chain) (child : Bool) (rs : List (Result Piece Fault)) (starts : List ℕ) → walk_fault rs ≡ None → starts ≡ starts_in rs → length starts ≡ length (section_places chain child rs)
 places_count chain child rs starts whole begin = ap length begin ∙ starts_count rs whole ∙ sym (length-map rs (record_places chain child (length rs)))
 
--- an own type is one of those that are there
+-- an own type's index is in range
 pub own_inside : (child : Bool) (count n : ℕ) → MatchOption (own_index child count n) (Unit {0}) (λ j. j < count)
 own_inside child count n = at (place child n)
   where

@@ -1,4 +1,4 @@
--- Where the numbers of a record stand, and which of the types that it lists they are.
+-- The spot of a record's numbers, and which of its listed types they are.
 use Rattle.std.proofs.Common.{◌≡◌, ℕ, List, Option, Some, refl, ap, ◌∙◌, sym}
 use Rattle.ctf_model.specs.format.Record.{kind}
 use Rattle.ctf_model.specs.declared.kinds.Kind.{Kind}
@@ -10,7 +10,7 @@ use Rattle.ctf_chains.specs.declared.chain.Chain.TheVariants.{ByValue, Declarato
 use Rattle.ctf_chains.specs.declared.place.Spot.{Spot}
 use Rattle.ctf_chains.specs.declared.place.Spot.TheVariants.{Members}
 
--- where numbers stand among members, those are what a kind lists
+-- if the spot is the members, the numbers are the listed types
 members_of_kind : (chain : Chain) (k : Kind) (b : List ℕ) → Members ≡ spot chain k → listed_types_of_kind k b ≡ numbers_at (spot chain k) b
 members_of_kind ByValue KStruct b e = refl
 members_of_kind ByValue KUnion b e = refl
@@ -24,6 +24,6 @@ members_listed chain k b is e =
     ∙ members_of_kind chain k b e
     ∙ sym (ap (numbers_of_kind chain b) is)
 
--- the numbers of a record stand where its kind has them
+-- a record's numbers are at the spot of its kind
 pub numbers_by : (chain : Chain) (k : Kind) (b : List ℕ) (s : Spot) → kind b ≡ Some k → s ≡ spot chain k → numbers chain b ≡ numbers_at s b
 numbers_by chain k b s is e = ap (numbers_of_kind chain b) is ∙ ap (λ (at : Spot). numbers_at at b) (sym e)

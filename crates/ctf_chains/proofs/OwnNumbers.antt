@@ -1,4 +1,4 @@
--- Own types by their numbers: those from the first one on.
+-- Own types by number, from the first own number on.
 use Rattle.std.proofs.Common.{◌≡◌, ℕ, ◌+◌, ◌-◌, ◌<◌, ◌≤◌, Bool, true, false, cond, eqb, ltb, None, refl, ap, arith}
 use Rattle.std.proofs.lemmas.Bool.{eqb-false, ltb-false}
 use Rattle.ctf_model.specs.rules.Chains.{own_index, own_index_at}
@@ -6,7 +6,7 @@ use Rattle.ctf_model.specs.spaces.TypePlaces.{own_number}
 use Rattle.ctf_model.specs.declared.numbers.Place.TheVariants.{Nowhere, Own, Parents}
 use Rattle.ctf_model.proofs.OwnTypes.{place_of_own}
 
--- a number below the first own one
+-- a number below the first own number names no own type
 pub below_own : (child : Bool) (count n first : ℕ) → first ≡ own_number child 0 → n < first → own_index child count n ≡ None
 below_own true count n first is lt = go (eqb n 0) (ltb n 0x8000) (eqb n 0x8000) refl refl refl
   where
@@ -34,6 +34,6 @@ numbered false n first i is le at =
     let same : n ≡ i + 1 = omega arith in
     same
 
--- and one from it on
+-- a number from it on names the own type at that distance
 pub at_own : (child : Bool) (count n first i : ℕ) → first ≡ own_number child 0 → first ≤ n → i ≡ n - first → own_index child count n ≡ own_index_at count (Own i)
 at_own child count n first i is le at = rw (numbered child n first i is le at) (ap (own_index_at count) (place_of_own child i))

@@ -1,4 +1,4 @@
--- The numbers that stand in a record are those of the type that it spells.
+-- The numbers in a record are those of the type that it spells.
 use Rattle.std.proofs.Common.{◌≡◌, ℕ, List, [], ◌∷◌, map, Option, Some, None, refl, sym, ap, ◌∙◌}
 use Rattle.std.specs.Option.{option_map}
 use Rattle.std.proofs.lemmas.Option.{same_Some}
@@ -27,12 +27,12 @@ items_types width t n b ms e = members_types (numbers_in (member_len width) 4) w
 
 -- ---- bodies
 
--- the numbers of a body, where a list goes into it
+-- the numbers of a body that is made from a list
 listed : {A : Type 0} (numbers : Body → List ℕ) (make : List A → Body) (found : Option (List A)) (ns : List ℕ) (said : Body) → ((xs : List A) → found ≡ Some xs → numbers (make xs) ≡ ns) → option_map make found ≡ Some said → numbers said ≡ ns
 listed numbers make None ns said h e = absurd cc
 listed numbers make (Some xs) ns said h e = ap numbers (sym (same_Some _ _ e)) ∙ h xs refl
 
--- the numbers of what a record says are those that stand in it
+-- the numbers of a record's body are those in the record
 body_numbers : (chain : Chain) (t : Tables) (b : List ℕ) (k : Kind) (said : Body) → body_of t b k ≡ Some said → steps chain said ≡ numbers_of_kind chain b (Some k)
 body_numbers ByValue t b KUnknown said e = ap by_value (sym (same_Some _ _ e))
 body_numbers ByValue t b KInteger said e = ap by_value (sym (same_Some _ _ e))
@@ -65,7 +65,7 @@ body_numbers Declarator t b KRestrict said e = ap declarator (sym (same_Some _ _
 
 -- ---- types
 
--- the numbers of the type that a record spells are those that stand in the record
+-- the numbers of the type that a record spells are those in the record
 pub spelled_numbers : (chain : Chain) (t : Tables) (b : List ℕ) (x : Term) → term_of t b ≡ Some x → steps chain x.body ≡ numbers chain b
 unfolding term_of
 spelled_numbers chain t b x e = by_kind (kind b) (name t (u32_at b 0)) e

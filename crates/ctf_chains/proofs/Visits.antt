@@ -1,4 +1,4 @@
--- The table of depths and of visits under way.
+-- The table of depths and open visits.
 use Rattle.std.proofs.Common.{◌≡◌, ℕ, zero, suc, ◌+◌, ◌-◌, ◌≤◌, ◌<◌, ◌⊎◌, inl, inr, List, ◌∷◌, ◌++◌, length, take, drop, Option, Some, None, get_or, set, ◌≢◌, slice_index_or, slice_set, refl, sym, subst, ◌∙◌, arith, is_some, IsTrue, Bool, true, false, cond, eqb, leb}
 use Rattle.std.specs.List.{AllByRecursion}
 use Rattle.std.proofs.lemmas.Bool.{eqb-false, eqb-true, leb-false, leb-true}
@@ -7,7 +7,7 @@ use Rattle.std.proofs.lemmas.List.{get_or-set_other}
 use Rattle.ctf_model.specs.rules.Chains.{targets, IsWithin}
 use Rattle.ctf_chains.specs.Deep.{AreWithinBefore}
 use Rattle.ctf_chains.specs.Places.{Places, places_at, led_to, steps_between}
-use Rattle.ctf_chains.specs.Search.{IsDepth, busy, entry_in, Knows, Leads, OnWay, GoesOn, Found, Answers}
+use Rattle.ctf_chains.specs.Search.{IsDepth, busy, entry_in, Knows, Leads, OnWay, GoesOn, Visit, Answers}
 use Rattle.ctf_chains.specs.declared.entry.VisitState.TheVariants.{Unvisited, Depth, TooDeep}
 use Rattle.ctf_chains.proofs.Depths.{IsWithin-more, targets_are, led_at}
 use Rattle.ctf_chains.proofs.Lists.{All-at, not_empty, same_or_not}
@@ -26,17 +26,17 @@ knows_at es known i entry j lt a w (inr other) low high =
     let h : get_or known j 0 < busy = omega arith in
     rw e (a.right j l h)
 
--- a right entry more
+-- one more correct entry
 pub knows_more : (es : List (List ℕ)) (known : List ℕ) (i entry : ℕ) → i < length known → Knows es known → (1 ≤ entry → entry < busy → IsDepth es i (entry - 1)) → Knows es (slice_set known i entry)
 knows_more es known i entry lt a w = record { right = λ j l h. knows_at es known i entry j lt a w (same_or_not j i) l h }
 
--- an empty table knows nothing wrong
+-- an empty table has no wrong entry
 pub empty_knows : (es : List (List ℕ)) (known : List ℕ) → ((j : ℕ) → slice_index_or known j 0 ≡ 0) → Knows es known
 empty_knows es known h = record { right = λ j l u. absurd (omega (arith, h j)) }
 
--- ---- visits under way
+-- ---- open visits
 
--- an entry that is no depth of the budget is greater than any
+-- an entry that is no depth within the budget is greater than it
 deep_is : (budget n : ℕ) → TooDeep ≡ entry_in budget n → budget + 1 < n
 deep_is budget n e = at (eqb n 0) (leb (n - 1) budget) refl refl e
   where
@@ -64,12 +64,12 @@ descends es i (suc n) k a lt w =
     let less : f.0 < k = f.1 in
     descends es i n f.0 a (omega arith) f.2
 
--- a record whose visit leads back to it is deep
+-- a record with a visit that leads back to it is too deep
 cycle_is_deep : (es : List (List ℕ)) (known : List ℕ) (i k : ℕ) → OnWay es known i → slice_index_or known i 0 ≡ busy → IsWithin es k i → ⊥
 cycle_is_deep es known i k a is w = descends es i (suc k) k (a.leads i is) (omega arith) w
 
--- an entry that tells a depth
-pub known_depth : (es : List (List ℕ)) (known : List ℕ) (i budget d : ℕ) → Knows es known → budget ≤ 512 → Depth d ≡ entry_in budget (slice_index_or known i 0) → Found es budget i known known d
+-- an entry with a depth
+pub known_depth : (es : List (List ℕ)) (known : List ℕ) (i budget d : ℕ) → Knows es known → budget ≤ 512 → Depth d ≡ entry_in budget (slice_index_or known i 0) → Visit es budget i known known d
 known_depth es known i budget d a short e =
     let is = depth_is budget (slice_index_or known i 0) d e in
     let number : slice_index_or known i 0 ≡ d + 1 = is.0 in
@@ -83,7 +83,7 @@ known_depth es known i budget d a short e =
       ended = record { was = λ j h. h; stays = λ j h. h };
     }
 
--- and one that tells that the budget is not enough
+-- an entry showing that the budget is exceeded
 pub known_deep : (es : List (List ℕ)) (known : List ℕ) (i budget : ℕ) → Knows es known → OnWay es known i → slice_index_or known i 0 ≤ busy → TooDeep ≡ entry_in budget (slice_index_or known i 0) → IsWithin es budget i → ⊥
 known_deep es known i budget a on_way most e w = at (eqb (slice_index_or known i 0) busy) refl
   where
@@ -114,7 +114,7 @@ leads_more es h i j a (inr b) = record {
       (g.0, omega arith, g.2);
 }
 
--- while a record is visited, the visits under way lead to each record that it leads to
+-- while a record is visited, all open visits lead to its targets
 pub on_way_more : (all : Places) (known now : List ℕ) (i k j : ℕ) → k < length (places_at all i) → slice_index_or (places_at all i) k None ≡ Some j → OnWay (steps_between all) known i → GoesOn (slice_set known i busy) now → OnWay (steps_between all) now j
 on_way_more all known now i k j lt is a same = record {
   leads = λ h b. leads_more (steps_between all) h i j
@@ -126,18 +126,18 @@ on_way_more all known now i k j lt is a same = record {
     was_on_way h (inl e) b = inl e
     was_on_way h (inr other) b = inr (a.leads h (sym (get_or-set_other known i h busy 0 other) ∙ b))
 
--- before the first visit none is under way
+-- before the first visit, none is open
 pub on_way_none : (es : List (List ℕ)) (known : List ℕ) (i : ℕ) → ((j : ℕ) → slice_index_or known j 0 ≡ busy → ⊥) → OnWay es known i
 on_way_none es known i h = record { leads = λ j b. absurd (h j b) }
 
 pub none_more : (xs ys zs : List ℕ) → GoesOn xs ys → GoesOn ys zs → GoesOn xs zs
 none_more xs ys zs a b = record { was = λ j h. a.was j (b.was j h); stays = λ j h. b.stays j (a.stays j h) }
 
--- a visit that begins loses no entry
+-- beginning a visit loses no entry
 pub begun : (known : List ℕ) (i : ℕ) → i < length known → 1 ≤ slice_index_or (slice_set known i busy) i 0
 begun known i lt = let e : get_or (set known i busy) i 0 ≡ busy = get_or-set_at known i i busy 0 refl lt in omega arith
 
--- a visit that ends leaves none under way that was not before, and loses no entry
+-- ending a visit opens no other, and loses no entry
 pub ended : (known now : List ℕ) (i entry : ℕ) → i < length now → 1 ≤ entry → entry < busy → GoesOn (slice_set known i busy) now → GoesOn known (slice_set now i entry)
 ended known now i entry lt some low a = record { was = λ j h. ended_at j (same_or_not j i) h; stays = λ j h. stays_at j (same_or_not j i) h }
   where
@@ -158,9 +158,9 @@ ended known now i entry lt some low a = record { was = λ j h. ended_at j (same_
     ended_at j (inr other) h =
         sym (get_or-set_other known i j busy 0 other) ∙ a.was j (sym (get_or-set_other now i j entry 0 other) ∙ h)
 
--- ---- the records in turn
+-- ---- the records in sequence
 
--- the next record is within the limit too
+-- the next record is within the limit as well
 pub one_more_before : (es : List (List ℕ)) (limit i : ℕ) → AreWithinBefore es limit i → IsWithin es limit i → AreWithinBefore es limit (i + 1)
 one_more_before es limit i a w = record { each = λ j lt. before_or_at j lt (same_or_not j i) }
   where
@@ -168,12 +168,12 @@ one_more_before es limit i a w = record { each = λ j lt. before_or_at j lt (sam
     before_or_at j lt (inl same) = rw same w
     before_or_at j lt (inr other) = a.each j (omega arith)
 
--- what a visit with a depth says
+-- the facts after a visit with a depth
 pub found : (es : List (List ℕ)) (budget i : ℕ) (before after : List ℕ) (r : Option ℕ) → IsTrue (is_some r) → Answers es budget i before after r → IsWithin es budget i × GoesOn before after × (1 ≤ slice_index_or after i 0)
 found es budget i before after None some h = cc
 found es budget i before after (Some d) some h = (IsWithin-more es d budget i h.affordable h.depth.within, h.ended, h.entered)
 
--- the next record has an entry too
+-- the next record has an entry as well
 pub one_more_entered : (known now : List ℕ) (i : ℕ) → ((j : ℕ) → j < i → 1 ≤ slice_index_or known j 0) → GoesOn known now → 1 ≤ slice_index_or now i 0 → (j : ℕ) → j < i + 1 → 1 ≤ slice_index_or now j 0
 one_more_entered known now i all a here j lt = before_or_at (same_or_not j i)
   where

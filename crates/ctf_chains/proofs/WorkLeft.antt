@@ -1,4 +1,4 @@
--- What the search may still cost.
+-- The work that the search may still cause.
 use Rattle.std.proofs.Common.{◌≡◌, ℕ, zero, suc, ◌+◌, ◌≤◌, ◌<◌, List, [], ◌∷◌, length, Option, get_or, set, slice_index_or, slice_set, refl, subst, arith}
 use Rattle.ctf_chains.specs.Places.{Places, places_at, full_work}
 use Rattle.ctf_chains.specs.Search.{busy, debt, work_left}
@@ -10,7 +10,7 @@ work_set (places ∷ all) [] i entry a b = absurd (omega arith)
 work_set (places ∷ all) (old ∷ known) zero entry a b = omega arith
 work_set (places ∷ all) (old ∷ known) (suc i) entry a b = omega (arith, work_set all known i entry (omega arith) (omega arith))
 
--- to open a record pays for its places
+-- opening a record pays for its places
 pub work_opened : (all : Places) (known : List ℕ) (i : ℕ) → i < length all → i < length known → slice_index_or known i 0 ≡ 0 → work_left all (slice_set known i busy) + (1 + length (places_at all i)) ≡ work_left all known
 work_opened all known i a b is =
     let P : ℕ → Type 0 = λ v. work_left all (set known i busy) + debt (places_at all i) v ≡ work_left all known + 0 in
@@ -21,12 +21,12 @@ owed_none : (places : List (Option ℕ)) (entry : ℕ) → 1 ≤ entry → debt 
 owed_none places zero some = absurd (omega arith)
 owed_none places (suc entry) some = refl
 
--- to close it costs nothing
+-- closing it costs nothing
 pub work_closed : (all : Places) (known : List ℕ) (i entry : ℕ) → i < length all → i < length known → 1 ≤ slice_index_or known i 0 → 1 ≤ entry → work_left all (slice_set known i entry) ≡ work_left all known
 work_closed all known i entry a b was some =
     omega (arith, work_set all known i entry a b, owed_none (places_at all i) (get_or known i 0) was, owed_none (places_at all i) entry some)
 
--- a table with all entries leaves none
+-- a full table leaves no work
 pub none_left : (all : Places) (known : List ℕ) → ((j : ℕ) → j < length all → 1 ≤ slice_index_or known j 0) → work_left all known ≡ 0
 unfolding work_left
 none_left [] known h = refl
@@ -36,7 +36,7 @@ none_left (places ∷ all) (entry ∷ known) h =
     let rest : work_left all known ≡ 0 = none_left all known (λ j lt. h (suc j) (omega arith)) in
     omega arith
 
--- an empty table leaves all the work
+-- an empty table leaves all work
 pub all_left : (all : Places) (known : List ℕ) → length known ≡ length all → ((j : ℕ) → slice_index_or known j 0 ≡ 0) → work_left all known ≡ full_work all
 unfolding work_left
 all_left [] known e h = refl

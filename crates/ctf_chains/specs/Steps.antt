@@ -1,4 +1,4 @@
--- Steps from type to type, by their sort. Source: ours.
+-- Steps from type to type, for both sorts of chains. Source: ours.
 use Rattle.std.specs.Prelude.{ℕ, ◌+◌, List, [], ◌∷◌, length, sum_by, Result, Ok, Err, IsSome}
 use Rattle.ctf_model.specs.rules.Chains.{by_value, declarator}
 use Rattle.ctf_model.specs.format.Name.{Tables}
@@ -9,12 +9,12 @@ use Rattle.ctf_model.specs.declared.faults.Fault.{Fault}
 use Rattle.ctf_chains.specs.declared.chain.Chain.{Chain}
 use Rattle.ctf_chains.specs.declared.chain.Chain.TheVariants.{ByValue, Declarator}
 
--- the numbers of the types that steps of a sort lead to
+-- the type numbers that steps of a sort lead to
 abbrev pub steps : Chain → Body → List ℕ
 steps ByValue = by_value
 steps Declarator = declarator
 
--- what the types cost: one for each, and one for each number that its steps lead to
+-- the work for these types: 1 for each, and 1 for each number that its steps lead to
 abbrev pub steps_work : (Body → List ℕ) → List Term → ℕ
 steps_work steps types = sum_by (λ x. 1 + length (steps x.body)) types
 

@@ -1,4 +1,4 @@
--- What `Types` shows of the section that it stands for.
+-- What `Types` shows of its section.
 use Rattle.std.specs.Prelude.{Bool, List, Result}
 use Rattle.ctf_model.specs.format.Section.{Piece, records}
 use Rattle.ctf_model.specs.declared.faults.Fault.{Fault}
@@ -9,10 +9,10 @@ use Rattle.ctf_chains.specs.declared.types.Types.{Types}
 abbrev pub records_in : Types → List (Result Piece Fault)
 records_in g = records g.bytes.now
 
--- whether low type numbers are those of a parent
+-- whether low type numbers belong to a parent
 abbrev pub is_child : Types → Bool
 is_child g = g.child
 
--- the sort of steps
+-- the sort of chain
 abbrev pub chain_in : Types → Chain
 chain_in g = g.chain

@@ -37,7 +37,7 @@ pub fn first_deep_type(
     first_deep_with::<Brand>(alloc, &types, Blank::new(1))
 }
 
-/// The same, with a ledger of its own that nobody reads.
+/// The same, counting its work in a ledger of its own that is not returned.
 fn first_deep_with<L: Ledger>(
     alloc: Global,
     types: &Types<'_>,

@@ -1,4 +1,4 @@
--- What the record of a type says is what the type says of itself.
+-- The record of a type gives the type's own fields.
 use Rattle.std.proofs.Common.{◌≡◌, ◌<◌, ℕ, length, Option, Some, refl, sym, ap, ◌∙◌}
 use Rattle.std.specs.Prelude.{IfSome, slice_index}
 use Rattle.std.specs.Option.{option_map}
@@ -64,18 +64,18 @@ values_counted d r n own is =
     let x = own_spelled d r own in
     rw (x.says, spelled_numbers ByValue (tables_of d) (bytes_of r) x.type x.says, is) refl
 
--- the reference of its record names it
+-- the reference in its record leads to its name
 pub referred_name : (d : Checked) (r : Record) → IsOwn d r → option_map (λ x. Some x.name) (term_of (tables_of d) (bytes_of r)) ≡ Some (name (tables_of d) (u32_at (bytes_of r) 0))
 referred_name d r own = let x = own_spelled d r own in rw (x.says, x.named) refl
 
--- whether it is visible
+-- whether look-ups see it
 pub root_said : (d : Checked) (r : Record) → IsOwn d r → option_map (λ x. x.root) (term_of (tables_of d) (bytes_of r)) ≡ Some (is_root (bytes_of r))
 root_said d r own =
     let x = own_spelled d r own in
     let s = head_says (tables_of d) (bytes_of r) x.type x.says in
     rw (x.says, s.root_is) refl
 
--- ---- with its name, and whether it is visible
+-- ---- with name and visibility
 
 pub all_described : (d : Checked) (r : Record) (f : Facts) → IsOwn d r → option_map (λ x. x.name) (term_of (tables_of d) (bytes_of r)) ≡ Some f.name → f.root ≡ is_root (bytes_of r)
     → option_map (λ x. shape x.body) (term_of (tables_of d) (bytes_of r)) ≡ Some f.shape → option_map facts (term_of (tables_of d) (bytes_of r)) ≡ Some f
@@ -87,7 +87,7 @@ all_described d r f own name_is root_is shape_is =
     let same_shape = same_Some _ _ (sym (ap (option_map (λ (y : Term). shape y.body)) x.says) ∙ shape_is) in
     rw (x.says, same_name, same_shape, ← same_root) refl
 
--- the number that a step by value leads to
+-- the type number of a step by value
 pub value_number : (d : Checked) (r : Record) (item : ℕ) → IsOwn d r → IfSome (term_of (tables_of d) (bytes_of r)) (λ x. item < length (by_value x.body)) → item < length (numbers ByValue (bytes_of r))
 value_number d r item own inside =
     let x = own_spelled d r own in

@@ -1,4 +1,4 @@
--- The record with a number, by the place at which it begins.
+-- The record with a number, by its offset.
 use Rattle.std.proofs.Common.{◌≡◌, ℕ, zero, suc, ◌+◌, ◌<◌, ◌≤◌, ◌⊎◌, inl, inr, Bool, true, false, eqb, take, drop, List, [], ◌∷◌, length, Option, Some, None, Result, Ok, Err, refl, sym, ap, ◌∙◌, arith}
 use Rattle.std.specs.Prelude.{slice_get}
 use Rattle.std.specs.Option.{option_map}
@@ -38,7 +38,7 @@ numbered_from all (Ok q ∷ rs) first (suc i) p whole are e n is =
     rw (other_number q.index n (omega arith)) (numbered_from all rs (first + 1) i p whole are.1 e n (omega arith))
 numbered_from all (Err f ∷ rs) first i p whole are e n is = absurd cc
 
--- the record found by its place is the one with the number
+-- the record at an offset is the one with the number
 pub found_numbered : (all : List ℕ) (index i : ℕ) (p : Piece) → walk_fault (records all) ≡ None → slice_get (records all) i ≡ Some (Ok p) → index ≡ i + 1 → piece_numbered (records all) index ≡ Some p
 found_numbered all index i p whole e is = numbered_from all (records all) 1 i p whole (records_at all) e index is
 
@@ -60,6 +60,6 @@ none_from all (Ok q ∷ rs) first n whole are out =
     later (inr h) = inr (omega arith)
 none_from all (Err f ∷ rs) first n whole are out = absurd cc
 
--- a number that is no record's
+-- a number without a record
 pub none_numbered : (all : List ℕ) (index : ℕ) → walk_fault (records all) ≡ None → (index < 1) ⊎ (1 + length (records all) ≤ index) → piece_numbered (records all) index ≡ None
 none_numbered all index whole out = none_from all (records all) 1 index whole (records_at all) out

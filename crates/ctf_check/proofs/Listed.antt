@@ -1,4 +1,4 @@
--- The types that a record lists, one after the other.
+-- The types that a record lists, one after another.
 use Rattle.std.proofs.Common.{◌≡◌, ℕ, ◌+◌, ◌-◌, ◌<◌, ◌≤◌, max, Bool, true, false, cond, eqb, List, length, drop, ap, refl, arith}
 use Rattle.std.specs.Prelude.{slice_index, ◌||◌}
 use Rattle.std.specs.List.{list_any}
@@ -30,7 +30,7 @@ pub enough_end : (child : Bool) (ns : List ℕ) (i : ℕ) → length ns ≤ i �
 unfolding enough_among
 enough_end child ns i le = ap (enough_among child) (drop_all i ns le)
 
--- in a dictionary that is no child so many types are enough as a number says
+-- in a dictionary that is no child, the bound for a number is the number
 pub enough_plain : (child : Bool) (n : ℕ) → child ≡ false → n ≡ enough_for child n
 enough_plain child n plain = rw plain (go (eqb n 0) refl)
   where

@@ -1,4 +1,4 @@
--- The first type that a long chain begins at, as it is found and as the rule says it.
+-- The first type with a chain that is too long, as it is searched and as the rule states it.
 use Rattle.std.proofs.Common.{◌≡◌, ℕ, ◌+◌, ◌<◌, Bool, List, length, Option, Some, None, Result, refl, sym, ap, subst, ◌∙◌, arith}
 use Rattle.std.specs.List.{filter_map}
 use Rattle.std.specs.Prelude.{IfSome}
@@ -19,7 +19,7 @@ use Rattle.ctf_chains.specs.declared.chain.Chain.{Chain}
 use Rattle.ctf_check.specs.Stages.{chain_place}
 use Rattle.ctf_check.proofs.Terms.{each_spelled, terms_length}
 
--- the least deep type, numbered from 1, is the place that the rule gives
+-- the least deep type, counted from 1, is the rule's place
 deep_place : (es : List (List ℕ)) (r : Option ℕ) (found : Option ℕ) → Agrees r (DeepFrom es 0 (length es)) → IsLeastDeep es longest_chain found → r ≡ option_map (λ i. i + 1) found
 deep_place es None None h d = refl
 deep_place es None (Some i) h d = let inside = d.inside in absurd (h (i + 1) (i, omega arith, omega arith, d.deep, refl))
@@ -35,12 +35,12 @@ deep_place es (Some p) (Some i) h d = ap (λ (n : ℕ). Some n) same
     same : p ≡ i + 1
     same = let is = h.0.4 in omega (arith, not_less, not_more)
 
--- there are as many types in the graph of steps
+-- the graph of steps has as many types
 edges_length : (step : Body → List ℕ) (child : Bool) (xs : List Term) → length (edges step child xs) ≡ length xs
 unfolding edges
 edges_length step child xs = length-map xs (λ (x : Term). filter_map (own_index child (length xs)) (step x.body))
 
--- what was found is the rule's place
+-- the type found is at the rule's place
 pub found_place : (chain : Chain) (child : Bool) (t : Tables) (xs : List (Result Piece Fault)) (o found : Option ℕ) → o ≡ found → walk_fault xs ≡ None → IsLeastDeepType chain child xs o → AreSpelled t xs → chain_place chain t child xs ≡ option_map (λ i. i + 1) found
 found_place chain child t xs o found same whole least spelled =
     let es = edges (steps chain) child (terms_in t xs) in

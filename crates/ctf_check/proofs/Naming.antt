@@ -1,4 +1,4 @@
--- The types that are read from the bytes of a record are those that its type names.
+-- The types that are read from a record's bytes are those that its type refers to.
 use Rattle.std.proofs.Common.{◌≡◌, ℕ, zero, suc, Bool, List, [], ◌∷◌, ◌++◌, drop, map, Option, Some, None, Result, Ok, Err, refl, sym, ap, ◌∙◌}
 use Rattle.std.specs.List.{AllByRecursion}
 use Rattle.std.specs.Option.{option_map, option_and_then}
@@ -23,12 +23,12 @@ use Rattle.ctf_check.proofs.Terms.{IsSpelled}
 
 -- ---- lists
 
--- what a reader of items leaves behind
+-- a successful bind had a value
 bind_some : {A B : Type 0} (o : Option A) (f : A → Option B) (y : B) → o >>= f ≡ Some y → (x : A) × (o ≡ Some x) × (f x ≡ Some y)
 bind_some None f y e = absurd cc
 bind_some (Some x) f y e = (x, refl, e)
 
--- what is made of a value comes from it
+-- a mapped value was present before
 map_some : {A B : Type 0} (f : A → B) (o : Option A) (y : B) → option_map f o ≡ Some y → (x : A) × (o ≡ Some x) × (f x ≡ y)
 map_some f None y e = absurd cc
 map_some f (Some x) y e = (x, refl, let same : f x ≡ y = cc in same)
@@ -47,14 +47,14 @@ arguments_types (suc n) b xs e =
 
 -- ---- one record
 
--- a body that is there is the one that is named
+-- equal bodies refer to equal types
 names_of_same : (x y : Body) → Some x ≡ Some y → references y ≡ references x
 names_of_same x y e = ap references (sym (same_Some x y e))
 
 abbrev named_by_kind : Kind → List ℕ → List ℕ
 named_by_kind k b = in_head (reference_of_kind k b) ++ listed_types_of_kind k b
 
--- the types that a body names are those that stand in its record
+-- the types that a body refers to are those in its record
 body_names : (t : Tables) (b : List ℕ) (k : Kind) (x : Body) → body_of t b k ≡ Some x → references x ≡ named_by_kind k b
 body_names t b KUnknown x e = names_of_same (term.unknown) x e
 body_names t b KInteger x e = names_of_same (term.integer (scalar b)) x e
@@ -71,7 +71,7 @@ body_names t b KVolatile x e = names_of_same (term.volatile (field b)) x e
 body_names t b KConst x e = names_of_same (term.const (field b)) x e
 body_names t b KRestrict x e = names_of_same (term.restrict (field b)) x e
 
--- what a record that spells a type has
+-- the kind and body of a record that spells a type
 pub said_body : (t : Tables) (b : List ℕ) (x : Term) → term_of t b ≡ Some x → (k : Kind) × (kind b ≡ Some k) × (body_of t b k ≡ Some x.body)
 unfolding term_of
 said_body t b x e =
@@ -80,20 +80,20 @@ said_body t b x e =
     let body = bind_some (body_of t b k.0) _ x text.2 in
     (k.0, k.1, body.1 ∙ ap (λ (o : Option Term). option_map (λ y. y.body) o) body.2)
 
--- the types that it names are those that stand in the record
+-- the types that it refers to are those in the record
 pub record_names : (t : Tables) (b : List ℕ) (x : Term) → term_of t b ≡ Some x → references x.body ≡ named_types b
 record_names t b x e =
     let k = said_body t b x e in
     body_names t b k.0 x.body k.2 ∙ ap (λ (o : Option Kind). in_head (option_and_then (λ k. reference_of_kind k b) o) ++ listed_types_at o b) (sym k.1)
 
--- where a record spells a type, the test of its bytes is that of the type
+-- if a record spells a type, the test of its bytes is that of the type
 misnames_said : (t : Tables) (child : Bool) (count : ℕ) (b : List ℕ) (x : Term) → term_of t b ≡ Some x → misnames child count b ≡ is_misnaming t child count b
 unfolding misnames is_misnaming
 misnames_said t child count b x e = rw (e, record_names t b x e) refl
 
 -- ---- all records
 
--- the first record that misnames is the same by bytes and by types
+-- the first record with a missing type is the same by bytes and by types
 pub first_said : (t : Tables) (child : Bool) (count : ℕ) (xs : List (Result Piece Fault)) → AllByRecursion (IsSpelled t) xs → first_that_misnames child count xs ≡ first_misnaming t child count xs
 unfolding first_that_misnames first_misnaming
 first_said t child count [] all = refl

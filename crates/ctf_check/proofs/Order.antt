@@ -1,4 +1,4 @@
--- The first fault, stage by stage: the header, the records, the names.
+-- The first fault, stage by stage: header, records, names.
 use Rattle.std.proofs.Common.{◌≡◌, ℕ, zero, suc, ◌+◌, Bool, true, false, cond, eqb, ltb, drop, List, [], ◌∷◌, ◌++◌, length, Option, Some, None, Result, refl, sym, ap, subst, ◌∙◌, arith, ◌⊎◌, inl, inr}
 use Rattle.std.specs.Prelude.{map}
 use Rattle.std.specs.Option.{option_or}
@@ -10,7 +10,7 @@ use Rattle.ctf_model.specs.declared.faults.Fault.{Fault}
 use Rattle.ctf_model.specs.declared.sections.Section.TheVariants.{STypes}
 use Rattle.ctf_check.specs.Stages.{records_fault, types_fault, symbols_fault, fault_before_chains}
 
--- ---- one list of rules after the other
+-- ---- one list of rules after another
 
 or_later-or : (code : ℕ) (here : Option ℕ) (a b : Option Fault) → or_later code here (option_or a b) ≡ option_or (or_later code here a) b
 or_later-or code None a b = refl
@@ -23,7 +23,7 @@ first_append code (x ∷ xs) ys s =
     ap (λ (f : Option Fault). or_later code (x s) f) (first_append (code + 1) xs ys s ∙ ap (λ (n : ℕ). option_or (first_broken (code + 1) xs s) (first_broken n ys s)) same)
     ∙ or_later-or code (x s) (first_broken (code + 1) xs s) (first_broken (code + suc (length xs)) ys s)
 
--- ---- where reading record by record stops
+-- ---- where reading stops
 
 abbrev IsStop : Fault → Type 0
 IsStop f = (f.code ≡ 10) ⊎ (f.code ≡ 11)
@@ -43,7 +43,7 @@ stop_step : (b : List ℕ) (index at : ℕ) (later : ℕ → List (Result Piece 
 stop_step b index at later None f h e = subst IsStop (some_same _ f e) (stop_either _ index)
 stop_step b index at later (Some n) f h e = h n e
 
--- it stops by the rule of whole records or by that of known kinds
+-- reading stops by the rule of whole records or of known kinds
 walk_stop : (bound index at : ℕ) (b : List ℕ) (f : Fault) → walk_fault (walk bound index at b) ≡ Some f → IsStop f
 unfolding walk
 walk_stop zero index at b f e = absurd cc
@@ -57,7 +57,7 @@ by_code : (f : Fault) (more : Option Fault) → IsStop f → or_later 10 (place_
 by_code f more (inl e) = rw e refl
 by_code f more (inr e) = rw e refl
 
--- the three rules of the records are one stage
+-- the three rules of records form one stage
 records_stage : (w : Option Fault) (many : Bool) (names : Option Fault) → ((f : Fault) → w ≡ Some f → IsStop f)
     → or_later 10 (place_of 10 w) (or_later 11 (place_of 11 w) (or_later 12 (cond many (Some 32767) None) names)) ≡ option_or (option_or w (cond many (Some (record { code = 12; place = 32767 })) None)) names
 records_stage None true names h = refl
@@ -66,18 +66,18 @@ records_stage (Some f) many names h = by_code f (or_later 12 (cond many (Some 32
 
 -- ---- the stages
 
--- the faults of types: their references, then their chains
+-- the faults of types: references, then chains
 abbrev of_types : Lists → Option Fault
 of_types s = types_fault (tables s) (is_child (fields s.ctf)) (types s.ctf)
 
--- the three rules of types are one stage
+-- the three rules of types form one stage
 types_stage : (a b c : Option ℕ) (more : Option Fault) → or_later 14 a (or_later 15 b (or_later 16 c more)) ≡ option_or (or_later 14 a (or_later 15 b (or_later 16 c None))) more
 types_stage (Some p) b c more = refl
 types_stage None (Some p) c more = refl
 types_stage None None (Some p) more = refl
 types_stage None None None more = refl
 
--- the faults of names, then of types, then of symbols
+-- the faults of names, types and symbols, in order
 abbrev from_names : Lists → Option Fault
 from_names s = or_later 13 (bad_name s) (option_or (of_types s) (symbols_fault s))
 
@@ -101,7 +101,7 @@ pub at_names : (s : Lists) (bad : Option ℕ) → header_fault s.ctf ≡ None �
 unfolding bad_name
 at_names s bad e w b = past_header s e ∙ ap (λ (r : Option Fault). option_or r (from_names s)) w ∙ ap (λ (o : Option ℕ). or_later 13 o (option_or (of_types s) (symbols_fault s))) (sym b)
 
--- the rules in front of those of chains are kept where each stage in front of them finds no fault
+-- the rules before those of chains are kept if no earlier stage has a fault
 pub before_chains : (s : Lists) → header_fault s.ctf ≡ None → records_fault (types s.ctf) ≡ None → bad_name s ≡ None → bad_reference s ≡ None → fault_before_chains s ≡ None
 unfolding fault_before_chains rules
 before_chains s header few named there =
@@ -110,7 +110,7 @@ before_chains s header few named there =
     ∙ ap (option_or (header_fault s.ctf)) (records_stage (walk_fault (types s.ctf)) (ltb 32766 (length (types s.ctf))) last (types_stop s.ctf)) in
     staged ∙ rw (header, few, named, there) refl
 
--- ---- where no rule is broken, no stage finds a fault
+-- ---- without a broken rule, no stage has a fault
 
 none_first : (a b : Option Fault) → option_or a b ≡ None → (a ≡ None) × (b ≡ None)
 none_first None b e = (refl, e)
@@ -142,7 +142,7 @@ faultless s e =
       funcs = none_place 17 (bad_funcs s) _ (none_first (of_types s) (symbols_fault s) (none_later 13 (bad_name s) (option_or (of_types s) (symbols_fault s)) later.1)).1;
     }
 
--- records that are few enough are read to the end
+-- if there are not too many records, they are read to the end
 pub read_whole : (rs : List (Result Piece Fault)) → records_fault rs ≡ None → walk_fault rs ≡ None
 read_whole rs e = (none_first (walk_fault rs) _ e).0
 

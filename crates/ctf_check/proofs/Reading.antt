@@ -11,7 +11,7 @@ step_len : (b : List ℕ) (index at : ℕ) (later : ℕ → List (Result Piece F
 step_len b index at later bound None h = omega arith
 step_len b index at later bound (Some n) h = omega (arith, h n)
 
--- no more records than bytes
+-- there are no more records than bytes
 pub walk_len : (bound index at : ℕ) (b : List ℕ) → length (walk bound index at b) ≤ bound
 unfolding walk
 walk_len zero index at b = omega arith

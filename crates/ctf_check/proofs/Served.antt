@@ -1,4 +1,5 @@
--- A walk through records: what the next one adds to the first bad name; where there are enough types.
+-- A walk through records: the effect of the next record on the first bad name; and the case that
+-- there are enough types.
 use Rattle.std.proofs.Common.{◌≡◌, ℕ, ◌+◌, ◌≤◌, Bool, true, false, cond, eqb, List, [], ◌∷◌, Option, Some, None, Result, Ok, Err, refl, sym, ap, ◌∙◌, arith}
 use Rattle.std.specs.Prelude.{◌||◌, not}
 use Rattle.std.specs.List.{list_any}
@@ -63,7 +64,7 @@ enough_record child count b few le = at (has_long_tag b) le
     at true h = let none : ⊥ = omega (arith, few, h) in absurd none
     at false h = enough_numbers child count (named_types b) few h
 
--- where there are enough types, no record names one that is not there
+-- if there are enough types, no record refers to a missing one
 pub none_misnames : (child : Bool) (count : ℕ) (rs : List (Result Piece Fault)) → count ≤ 32766 → records_enough child rs ≤ count → first_that_misnames child count rs ≡ None
 unfolding records_enough first_that_misnames
 none_misnames child count [] few le = refl

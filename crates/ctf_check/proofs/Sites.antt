@@ -1,4 +1,4 @@
--- Names one after the other.
+-- Names one after another.
 use Rattle.std.proofs.Common.{◌≡◌, ℕ, suc, ◌+◌, ◌-◌, ◌*◌, ◌/◌, ◌<◌, ◌≤◌, Bool, true, false, cond, drop, List, [], ◌∷◌, ◌++◌, Option, Some, None, Result, Ok, refl, sym, ap, ◌∙◌, arith}
 use Rattle.std.specs.Prelude.{is_none}
 use Rattle.std.proofs.Math.Nat.{mul-suc}
@@ -40,7 +40,7 @@ pub item_sites_end : (start len count i : ℕ) (b : List ℕ) → count ≤ i �
 unfolding item_sites
 item_sites_end start len count i b le = let k : count - i ≡ 0 = omega arith in rw k refl
 
--- ---- the first name that is bad, part by part
+-- ---- the first bad name, part by part
 
 pub nameless_append : (t : Tables) (xs ys : List Site) → first_nameless t (xs ++ ys) ≡ option_or (first_nameless t xs) (first_nameless t ys)
 unfolding first_nameless
@@ -64,7 +64,7 @@ sites_parts t ctf a b c p q r =
     let front = header_sites (fields ctf) in
     nameless_append t front (labels ++ of_records) ∙ rw (p, q, r) (ap (option_or (first_nameless t front)) (nameless_append t labels of_records))
 
--- ---- the same, where a header says they are
+-- ---- the same with the parts that a header gives
 
 pub header_part : (t : Tables) (ctf : List ℕ) (h : Fields) → h ≡ fields ctf
     → first_nameless t (header_sites h) ≡ first_nameless t (header_sites (fields ctf))
@@ -80,7 +80,7 @@ pub record_part : (t : Tables) (ctf : List ℕ) (h : Fields) (r : ℕ × ℕ) (r
     → first_nameless t (record_sites r.0 rs) ≡ first_nameless t (record_sites (36 + (fields ctf).typeoff) (types ctf))
 record_part t ctf h r rs e f g = rw (f, e, g) refl
 
--- ---- records, one after the other
+-- ---- records, one after another
 
 pub record_then_rest : (t : Tables) (start : ℕ) (p : Piece) (rest : List (Result Piece Fault))
     → first_nameless t (record_sites start (Ok p ∷ rest)) ≡ option_or (first_nameless t (own_sites (start + p.at) p.bytes)) (first_nameless t (record_sites start rest))

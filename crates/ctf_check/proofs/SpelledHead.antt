@@ -1,4 +1,4 @@
--- What the head of a record says is so of the type that it spells.
+-- The head of a record has the values of the type that it spells.
 use Rattle.std.proofs.Common.{◌≡◌, ℕ, List, Option, Some, None, refl, ap, subst, ◌∙◌}
 use Rattle.std.specs.Option.{option_map}
 use Rattle.std.proofs.lemmas.Option.{same_Some}
@@ -15,7 +15,7 @@ use Rattle.ctf_records.specs.ByKind.{size_of_kind, reference_of_kind, declared_o
 
 -- ---- a body, by kind
 
--- what a record of a kind says of a body
+-- the fields of a record of this kind are those of the body
 record SaysOf (b : List ℕ) (k : Kind) (x : Body) : Type 0 where
   pub kind_is : k ≡ kind_of x
   pub size_is : size_of_kind k b ≡ size_of x
@@ -25,16 +25,16 @@ record SaysOf (b : List ℕ) (k : Kind) (x : Body) : Type 0 where
 says : (b : List ℕ) (k : Kind) (x : Body) → k ≡ kind_of x → size_of_kind k b ≡ size_of x → reference_of_kind k b ≡ reference_of x → declared_of_kind k b ≡ declared_by x → SaysOf b k x
 says b k x kind_is size_is reference_is declares_is = record { kind_is = kind_is; size_is = size_is; reference_is = reference_is; declares_is = declares_is }
 
--- a body that is made is the one that is there
+-- the same for an equal body
 made : (b : List ℕ) (k : Kind) (x y : Body) → SaysOf b k x → Some x ≡ Some y → SaysOf b k y
 made b k x y s e = subst (λ (z : Body). SaysOf b k z) (same_Some x y e) s
 
--- so is one that is made of a list
+-- the same for a body made from a list
 made_of : {A : Type 0} (b : List ℕ) (k : Kind) (make : List A → Body) (o : Option (List A)) (y : Body) → ((xs : List A) → o ≡ Some xs → SaysOf b k (make xs)) → option_map make o ≡ Some y → SaysOf b k y
 made_of b k make None y of e = absurd cc
 made_of b k make (Some xs) y of e = made b k (make xs) y (of xs refl) e
 
--- the body that is read of a record, by its kind
+-- the same for the body read from a record
 says_of : (t : Tables) (b : List ℕ) (k : Kind) (x : Body) → body_of t b k ≡ Some x → SaysOf b k x
 says_of t b KUnknown x e = made b KUnknown term.unknown x (says b KUnknown term.unknown refl refl refl refl) e
 says_of t b KInteger x e = made b KInteger (term.integer (scalar b)) x (says b KInteger (term.integer (scalar b)) refl refl refl refl) e
@@ -53,7 +53,7 @@ says_of t b KRestrict x e = made b KRestrict (term.restrict (field b)) x (says b
 
 -- ---- a type
 
--- what a record says in its head of a type
+-- the head of a record has the values of the type
 pub record HeadSays (b : List ℕ) (x : Term) : Type 0 where
   pub kind_is : kind b ≡ Some (kind_of x.body)
   pub root_is : is_root b ≡ x.root
@@ -61,12 +61,12 @@ pub record HeadSays (b : List ℕ) (x : Term) : Type 0 where
   pub reference_is : reference_in b ≡ reference_of x.body
   pub declares_is : declared_in b ≡ declared_by x.body
 
--- what a step that is made leaves behind
+-- a successful bind had a value
 bind_some : {A B : Type 0} (o : Option A) (f : A → Option B) (y : B) → o >>= f ≡ Some y → (x : A) × (o ≡ Some x) × (f x ≡ Some y)
 bind_some None f y e = absurd cc
 bind_some (Some x) f y e = (x, refl, e)
 
--- what a record that spells a type is made of
+-- the parts of a record that spells a type
 record Parts (t : Tables) (b : List ℕ) (x : Term) : Type 0 where
   pub kind_read : Kind
   pub kind_there : kind b ≡ Some kind_read
@@ -86,7 +86,7 @@ parts t b x e =
       body_is = body.1 ∙ ap (λ (o : Option Term). option_map (λ y. y.body) o) body.2;
     }
 
--- a record that spells a type says in its head what the type has
+-- the head of a record that spells a type has the type's values
 pub head_says : (t : Tables) (b : List ℕ) (x : Term) → term_of t b ≡ Some x → HeadSays b x
 head_says t b x e =
     let p = parts t b x e in

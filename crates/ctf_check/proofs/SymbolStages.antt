@@ -1,4 +1,4 @@
--- The faults of symbols, one rule after the other.
+-- The faults of symbols, one rule after another.
 use Rattle.std.proofs.Common.{◌≡◌, ℕ, ◌%◌, ◌<◌, Bool, true, ltb, List, [], length, Option, Some, None, refl, ◌∙◌}
 use Rattle.std.specs.Prelude.{unwrap_or}
 use Rattle.std.proofs.lemmas.Bool.{lt-ltb}
@@ -11,7 +11,7 @@ use Rattle.ctf_model.specs.format.Lists.{Lists}
 use Rattle.ctf_model.specs.symbols.Symbols.{Symbol, symbols, symbols_of, with_types}
 use Rattle.ctf_model.specs.declared.sections.Section.TheVariants.{SObjects, SFunctions}
 use Rattle.ctf_entries.specs.Sound.{bad_place}
-use Rattle.ctf_check.specs.Stages.{entries_fault, first_mistold, symbols_fault}
+use Rattle.ctf_check.specs.Stages.{entries_fault, first_missing, symbols_fault}
 
 -- ---- the parts that the code reads
 
@@ -23,7 +23,7 @@ pub entries_are : (s : Lists) (table objects functions : List ℕ) → table ≡
 unfolding entries symbols
 entries_are s table objects functions e o f = rw (e, o, f) refl
 
-mistold_are : (s : Lists) (child : Bool) (count : ℕ) (es : List Entry) → es ≡ entries s → child ≡ is_child (fields s.ctf) → count ≡ length (types s.ctf) → first_mistold child count es ≡ bad_symbol_type s
+mistold_are : (s : Lists) (child : Bool) (count : ℕ) (es : List Entry) → es ≡ entries s → child ≡ is_child (fields s.ctf) → count ≡ length (types s.ctf) → first_missing child count es ≡ bad_symbol_type s
 unfolding bad_symbol_type
 mistold_are s child count es e c n = rw (e, c, n) refl
 

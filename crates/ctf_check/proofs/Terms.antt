@@ -1,4 +1,4 @@
--- What the records of a dictionary spell where no rule is broken.
+-- The types that the records of a faultless dictionary spell.
 use Rattle.std.proofs.Common.{◌≡◌, ℕ, zero, suc, ◌+◌, ◌-◌, ◌/◌, ◌<◌, ◌≤◌, Bool, true, false, cond, eqb, take, drop, List, [], ◌∷◌, ◌++◌, length, Option, Some, None, Result, Ok, Err, refl, sym, ap, subst, ◌∙◌, arith}
 use Rattle.std.specs.Prelude.{is_none, IsSome, slice_get}
 use Rattle.std.specs.List.{AllByRecursion}
@@ -26,12 +26,12 @@ use Rattle.ctf_check.proofs.Sites.{nameless_append}
 
 -- ---- one record
 
--- a test that does not pass leaves it to the later ones
+-- a test that fails passes on to the later ones
 none_here : (bad : Bool) (place : ℕ) (later : Option ℕ) → cond bad (Some place) later ≡ None → (bad ≡ false) × (later ≡ None)
 none_here true place later e = absurd cc
 none_here false place later e = (refl, e)
 
--- what is there is not missing
+-- a present value is not none
 not_none : {A : Type 0} (o : Option A) → is_none o ≡ false → o ≡ None → ⊥
 not_none None e n = absurd cc
 not_none (Some x) e n = absurd cc
@@ -50,13 +50,13 @@ name_of t b x e = by_kind (kind b) (name t (u32_at b 0)) e
     by_kind (Some k) None e = absurd cc
     by_kind (Some k) (Some text) e = by_body text (body_of t b k) e
 
--- a record spells a type of a name that is there
+-- a record spells a type with a valid name
 pub record Spelled (t : Tables) (b : List ℕ) : Type 0 where
   pub type : Term
   pub says : term_of t b ≡ Some type
   pub named : name t (u32_at b 0) ≡ Some type.name
 
--- where no site is nameless, all are named
+-- if no site is nameless, all have names
 named_all : (t : Tables) (xs : List Site) → first_nameless t xs ≡ None → AreNamed t xs
 unfolding first_nameless
 named_all t [] e = tt
@@ -64,7 +64,7 @@ named_all t (x ∷ xs) e =
     let here = none_here (is_none (name t x.reference)) x.place (first_nameless t xs) e in
     (not_none (name t x.reference) here.0, named_all t xs here.1)
 
--- a whole record whose names are good spells a type
+-- a whole record with valid names spells a type
 spelled_whole : (t : Tables) (b : List ℕ) (place : ℕ) (more : List Site) → IsWhole b → AreNamed t (record { place = place; reference = u32_at b 0 } ∷ (list_sites place b (kind b) ++ more)) → Spelled t b
 spelled_whole t b place more whole named =
     let x = spelled t b place whole named.0 (split_front t (list_sites place b (kind b)) more named.1) in
@@ -90,7 +90,7 @@ none_last (Some p) b e = absurd cc
 last_nameless : (t : Tables) (xs ys : List Site) → first_nameless t (xs ++ ys) ≡ None → first_nameless t ys ≡ None
 last_nameless t xs ys e = none_last (first_nameless t xs) (first_nameless t ys) (sym (nameless_append t xs ys) ∙ e)
 
--- nor is one behind the sites of a record
+-- nor is one after the sites of a record
 later_nameless : (t : Tables) (b : List ℕ) (place : ℕ) (more : List Site) → first_nameless t (record { place = place; reference = u32_at b 0 } ∷ (list_sites place b (kind b) ++ more)) ≡ None → first_nameless t more ≡ None
 unfolding first_nameless
 later_nameless t b place more e = last_nameless t (list_sites place b (kind b)) more (none_here (is_none (name t (u32_at b 0))) place (first_nameless t (list_sites place b (kind b) ++ more)) e).1
@@ -115,7 +115,7 @@ records_named t ctf e =
     let front = header_sites (fields ctf) in
     last_nameless t labels of_records (last_nameless t front (labels ++ of_records) e)
 
--- where records and names are good, each record spells a type
+-- if records and names are valid, each record spells a type
 pub spelled_from : (s : Lists) → walk_fault (types s.ctf) ≡ None → first_nameless (tables s) (sites s.ctf) ≡ None → AllByRecursion (IsSpelled (tables s)) (types s.ctf)
 unfolding types
 spelled_from s read named = walk_spelled (tables s) (36 + (fields s.ctf).typeoff) _ 1 0 _ read (records_named (tables s) s.ctf named)
@@ -123,7 +123,7 @@ spelled_from s read named = walk_spelled (tables s) (36 + (fields s.ctf).typeoff
 pub all_spelled : (s : Lists) → first_fault s ≡ None → AllByRecursion (IsSpelled (tables s)) (types s.ctf)
 all_spelled s e = let f = faultless s e in spelled_from s f.read f.named
 
--- ---- the same in the words of ctf_chains
+-- ---- the same in the terms of ctf_chains
 
 type_there : (t : Tables) (b : List ℕ) → IsSome (term_of t b) → Spelled t b
 type_there t b h = at (term_of t b) refl h
@@ -174,7 +174,7 @@ numbered_index (Ok q ∷ xs) n p e = at (eqb q.index n) refl (numbered_index xs 
     at true test later e = let same : q ≡ p = cc in ap (λ (x : Piece). x.index) (sym same) ∙ eqb-true q.index n test
     at false test later e = later e
 
--- the records count up from a number
+-- the records are numbered in sequence
 abbrev AreNumbered : ℕ → List (Result Piece Fault) → Type 0
 AreNumbered i [] = Unit {0}
 AreNumbered i (Ok p ∷ xs) = (p.index ≡ i) × AreNumbered (i + 1) xs
@@ -193,7 +193,7 @@ unfolding walk
 walk_numbered zero i at b = tt
 walk_numbered (suc bound) i at b = counted_cond (eqb (length b) 0) i _ (counted_step b i at _ (front_len b) (λ n. walk_numbered bound (i + 1) (at + n) (drop n b)))
 
--- what the record with a number spells
+-- the type that a record spells
 abbrev pub spelled_at : Tables → Option Piece → Option Term
 spelled_at t o = option_and_then (λ p. term_of t p.bytes) o
 
@@ -227,7 +227,7 @@ types_numbered : (ctf : List ℕ) → AreNumbered 1 (types ctf)
 unfolding types
 types_numbered ctf = walk_numbered _ 1 0 _
 
--- the type with a number, from 1 on, is what the record with that number spells
+-- type number `n`, counted from 1, is what record number `n` spells
 pub type_is : (s : Lists) (n : ℕ) → first_fault s ≡ None → spelled_at (tables s) (piece_numbered (types s.ctf) n) ≡ cond (eqb n 0) None (slice_get (said_by s).terms (n - 1))
 unfolding said_by
 type_is s n e = at (eqb n 0) refl

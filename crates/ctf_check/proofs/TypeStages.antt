@@ -16,14 +16,14 @@ use Rattle.ctf_check.proofs.Naming.{first_said}
 use Rattle.ctf_check.proofs.Order.{at_names, before_chains, read_whole}
 use Rattle.ctf_check.proofs.Terms.{IsSpelled, each_spelled, all_are_spelled, spelled_from}
 
--- the first fault, whichever tables name the types
+-- the first fault, whichever the string tables
 abbrev pub IsFaultOfTypes : Bool → List (Result Piece Fault) → Option Fault → Type 0
 IsFaultOfTypes child rs fault = (t : Tables) → AreSpelled t rs → types_fault t child rs ≡ fault
 
 abbrev pub IsFaultOfChains : Bool → List (Result Piece Fault) → Option Fault → Type 0
 IsFaultOfChains child rs fault = (t : Tables) → AreSpelled t rs → chains_fault t child rs ≡ fault
 
--- what was found by the bytes is the fault of references, or leaves it to the chains
+-- the fault found in the bytes is that of references, or the chains decide
 staged : (child : Bool) (count : ℕ) (rs : List (Result Piece Fault)) (bad : Option ℕ) (t : Tables) → bad ≡ first_that_misnames child count rs → count ≡ length rs → walk_fault rs ≡ None → AreSpelled t rs → types_fault t child rs ≡ or_later 14 bad (chains_fault t child rs)
 staged child count rs bad t found same whole spelled =
     let all = each_spelled t rs whole spelled in
@@ -36,14 +36,14 @@ at_reference child count rs place found same whole = λ t spelled. staged child 
 pub past_references : (child : Bool) (count : ℕ) (rs : List (Result Piece Fault)) (fault : Option Fault) → None ≡ first_that_misnames child count rs → count ≡ length rs → walk_fault rs ≡ None → IsFaultOfChains child rs fault → IsFaultOfTypes child rs fault
 past_references child count rs fault found same whole chains = λ t spelled. staged child count rs None t found same whole spelled ∙ chains t spelled
 
--- the same of a fault that may be out of memory
+-- the same for a fault that may be out of memory
 pub or_memory : (child : Bool) (count : ℕ) (rs : List (Result Piece Fault)) (f : Fault) → None ≡ first_that_misnames child count rs → count ≡ length rs → walk_fault rs ≡ None → (f ≡ out_of_memory) ⊎ IsFaultOfChains child rs (Some f) → (f ≡ out_of_memory) ⊎ IsFaultOfTypes child rs (Some f)
 or_memory child count rs f found same whole (inl e) = inl e
 or_memory child count rs f found same whole (inr chains) = inr (past_references child count rs (Some f) found same whole chains)
 
 -- ---- the whole dictionary
 
--- where header, records and names are good, the first fault is that of the types, or else of the symbols
+-- if header, records and names are valid, the first fault is that of the types, else of the symbols
 pub at_types : (s : Lists) (b : List ℕ) (child : Bool) (bad : Option ℕ) (fault : Option Fault) → header_fault s.ctf ≡ None → records b ≡ types s.ctf → records_fault (records b) ≡ None → bad ≡ first_nameless (tables s) (sites s.ctf) → bad ≡ None → child ≡ is_child (fields s.ctf) → IsFaultOfTypes child (records b) fault → first_fault s ≡ option_or fault (symbols_fault s)
 at_types s b child bad fault header part few named none same is =
     let few' : records_fault (types s.ctf) ≡ None = ap records_fault (sym part) ∙ few in
@@ -53,12 +53,12 @@ at_types s b child bad fault header part few named none same is =
     let types_are : types_fault (tables s) (is_child (fields s.ctf)) (types s.ctf) ≡ fault = ap (λ (c : Bool). types_fault (tables s) c (types s.ctf)) (sym same) ∙ here (tables s) spelled in
     at_names s None header few' (sym named') ∙ ap (λ (f : Option Fault). option_or f (symbols_fault s)) types_are
 
--- the same of a fault that may be out of memory
+-- the same for a fault that may be out of memory
 pub at_types_or_memory : (s : Lists) (b : List ℕ) (child : Bool) (bad : Option ℕ) (f : Fault) → header_fault s.ctf ≡ None → records b ≡ types s.ctf → records_fault (records b) ≡ None → bad ≡ first_nameless (tables s) (sites s.ctf) → bad ≡ None → child ≡ is_child (fields s.ctf) → (f ≡ out_of_memory) ⊎ IsFaultOfTypes child (records b) (Some f) → (f ≡ out_of_memory) ⊎ (first_fault s ≡ Some f)
 at_types_or_memory s b child bad f header part few named none same (inl e) = inl e
 at_types_or_memory s b child bad f header part few named none same (inr is) = inr (at_types s b child bad (Some f) header part few named none same is)
 
--- the same of a fault that may stand for any of chains, where no type names one that is not there
+-- the same for any fault of chains, if no reference is missing
 pub at_types_or_late : (s : Lists) (b : List ℕ) (child : Bool) (count : ℕ) (bad : Option ℕ) (f : Fault) → header_fault s.ctf ≡ None → records b ≡ types s.ctf → records_fault (records b) ≡ None → bad ≡ first_nameless (tables s) (sites s.ctf) → bad ≡ None → child ≡ is_child (fields s.ctf) → count ≡ length (records b) → (first_that_misnames child count (records b) ≡ None) ⊎ IsFaultOfTypes child (records b) (Some f) → (fault_before_chains s ≡ None) ⊎ (first_fault s ≡ Some f)
 unfolding bad_name bad_reference
 at_types_or_late s b child count bad f header part few named none same counted (inl there) =

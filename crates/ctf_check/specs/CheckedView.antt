@@ -10,22 +10,22 @@ use Rattle.ctf_records.specs.RecordView.{piece}
 use Rattle.ctf_check.specs.declared.checked.Checked.{Checked}
 use Rattle.ctf_records.specs.declared.record.Record.{Record}
 
--- the lists that it was handed in as
+-- the lists that it was made from
 abbrev pub lists_of : Checked → Lists
 lists_of d = d.judged.now.kept.lists
 
--- its tables of names
+-- its string tables
 abbrev pub tables_of : Checked → Tables
 tables_of d = tables (lists_of d)
 
--- the dictionary that it is
+-- the dictionary that the lists encode
 abbrev pub dictionary_of : Checked → Dictionary
 dictionary_of d = said_by (lists_of d)
 
--- the own type with a number; they count from 1
+-- the own type number `n`; the count starts at 1
 abbrev pub type_at : Dictionary → ℕ → Option Term
 type_at d n = if n == 0 then None else slice_get d.terms (n - 1)
 
--- the record is the one that has its number there
+-- the record is the dictionary's own record with its number
 abbrev pub IsOwn : Checked → Record → Type 0
 IsOwn d r = piece_numbered (types (lists_of d).ctf) r.index ≡ Some (piece r)

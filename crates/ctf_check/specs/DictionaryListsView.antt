@@ -1,4 +1,4 @@
--- What lists show that are owned or lent.
+-- What owned or lent dictionary lists show.
 use Rattle.std.specs.Prelude.{Bool, true, false}
 use Rattle.ctf_check.specs.ListsView.{lists_in}
 use Rattle.ctf_check.specs.declared.holding.DictionaryLists.{DictionaryLists}

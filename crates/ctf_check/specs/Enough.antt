@@ -1,4 +1,5 @@
--- How many types are enough, so that none that records name is missing. The words are ours.
+-- A bound on the type numbers that records refer to: with that many types, no reference is missing.
+-- Source: ours.
 use Rattle.std.specs.Prelude.{ℕ, ◌+◌, ◌==◌, max, Bool, List, [], ◌∷◌, Result, Ok, Err, if◌then◌else◌}
 use Rattle.ctf_model.specs.rules.References.{has_long_tag}
 use Rattle.ctf_model.specs.format.Section.{Piece}
@@ -8,7 +9,7 @@ use Rattle.ctf_model.specs.declared.faults.Fault.{Fault}
 use Rattle.ctf_model.specs.declared.numbers.Place.{Place}
 use Rattle.ctf_model.specs.declared.numbers.Place.TheVariants.{Nowhere, Own, Parents}
 
--- for the type at the place of a number: more than a dictionary may have where there is no such
+-- for the number at a place; 32,767, more than any dictionary has, if no type can be there
 abbrev pub enough_at : ℕ → Place → ℕ
 enough_at n Nowhere = if n == 0 then 0 else 32767
 enough_at n (Own i) = i + 1
@@ -17,7 +18,7 @@ enough_at n (Parents i) = 0
 abbrev pub enough_for : Bool → ℕ → ℕ
 enough_for child n = enough_at n (place child n)
 
--- for each of some numbers
+-- for several numbers: the greatest bound
 unfoldable pub enough_among : Bool → List ℕ → ℕ
 enough_among child [] = 0
 enough_among child (n ∷ ns) = max (enough_for child n) (enough_among child ns)
@@ -26,7 +27,7 @@ enough_among child (n ∷ ns) = max (enough_for child n) (enough_among child ns)
 unfoldable pub record_enough : Bool → List ℕ → ℕ
 record_enough child b = if has_long_tag b then 32767 else enough_among child (named_types b)
 
--- for all records
+-- for all records up to a fault
 unfoldable pub records_enough : Bool → List (Result Piece Fault) → ℕ
 records_enough child [] = 0
 records_enough child (Ok p ∷ rest) = max (record_enough child p.bytes) (records_enough child rest)

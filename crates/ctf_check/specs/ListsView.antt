@@ -1,4 +1,4 @@
--- The lists that a dictionary is handed in as, and what lent ones show.
+-- The lists that a dictionary is made from, and what lent ones show.
 use Rattle.std.specs.Prelude.{ℕ, List, Option, option_copied}
 use Rattle.ctf_model.specs.format.Lists.{Lists}
 use Rattle.ctf_check.specs.declared.lists.LentLists.{LentLists}

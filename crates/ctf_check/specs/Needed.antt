@@ -1,5 +1,4 @@
--- The greatest number of a parent's type that records name, read from their bytes,
--- and that is told of symbols.
+-- The greatest number of a parent's type that records and symbols refer to, read from the bytes.
 use Rattle.std.specs.Prelude.{ℕ, max, List, [], ◌∷◌, Result, Ok, Err}
 use Rattle.ctf_model.specs.symbols.Entries.{Entry, types_named}
 use Rattle.ctf_model.specs.rules.Needs.{greatest_in_parent}
@@ -15,7 +14,7 @@ records_need [] = 0
 records_need (Ok p ∷ rest) = max (record_needs p.bytes) (records_need rest)
 records_need (Err f ∷ rest) = 0
 
--- the same of what is told of symbols
+-- the greatest that symbols' entries refer to
 unfoldable pub entries_need : List Entry → ℕ
 entries_need [] = 0
-entries_need (e ∷ es) = max (greatest_in_parent (types_named e.told)) (entries_need es)
+entries_need (e ∷ es) = max (greatest_in_parent (types_named e.info)) (entries_need es)

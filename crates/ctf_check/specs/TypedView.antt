@@ -8,7 +8,7 @@ use Rattle.ctf_check.specs.declared.typed.Typed.{Typed}
 use Rattle.ctf_records.specs.RecordView.{bytes_of}
 use Rattle.ctf_records.specs.declared.record.Record.{Record}
 
--- the dictionary that has it
+-- the dictionary that contains it
 abbrev pub dictionary_in : Typed → Checked
 dictionary_in x = x.dictionary
 
@@ -16,6 +16,6 @@ dictionary_in x = x.dictionary
 abbrev pub record_in : Typed → Record
 record_in x = x.source
 
--- the type that its record spells; there is one
+-- the type that its record spells; there always is one
 abbrev pub term_in : Typed → Option Term
 term_in x = term_of (tables_of x.dictionary) (bytes_of x.source)

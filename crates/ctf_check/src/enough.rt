@@ -18,7 +18,7 @@ pub fn more(a: usize, b: usize) -> usize
     if a < b { b } else { a }
 }
 
-/// How many are enough for a number.
+/// The least number of types with which a reference to this number names one.
 #[tactic(auto, using(crate::proofs::Listed::enough_plain))]
 #[inline(always)]
 fn enough_for(child: bool, number: TypeNum) -> usize
@@ -34,7 +34,7 @@ fn enough_for(child: bool, number: TypeNum) -> usize
     }
 }
 
-/// How many are enough for the types that a record names after its head.
+/// The least number of types with which the references after a record's head each name one.
 #[tactic(auto, using(crate::proofs::Listed::enough_next, crate::proofs::Listed::enough_end))]
 #[inline(always)]
 fn enough_for_listed(child: bool, term: &Record<'_>) -> usize
@@ -48,7 +48,7 @@ fn enough_for_listed(child: bool, term: &Record<'_>) -> usize
     enough
 }
 
-/// How many are enough for all types that a record names.
+/// The least number of types with which all references of a record each name one.
 #[tactic(auto, unfolding(crate::specs::Enough::record_enough, crate::specs::Enough::enough_among))]
 pub fn enough_for_record(child: bool, term: &Record<'_>) -> usize
     ensures { result ≡ record_enough child (bytes_of term.now) }

@@ -4,7 +4,7 @@ ghost use Rattle.std.specs.Prelude.{◌≡◌, IfErr, OnOk, None, Some, if◌the
 ghost use Rattle.std.specs.List.{list_any};
 ghost use Rattle.std.specs.Option.{option_map, option_or};
 ghost use Rattle.ctf_model.specs.symbols.Entries.{types_named};
-ghost use Rattle.ctf_model.specs.symbols.Entries as told;
+ghost use Rattle.ctf_model.specs.symbols.Entries as info;
 ghost use Rattle.ctf_model.specs.rules.References.{is_missing as missing};
 ghost use Rattle.ctf_entries.specs.FunctionView.{signature};
 ghost use Rattle.ctf_check.specs.Stages.{entries_fault};
@@ -32,7 +32,7 @@ impl Numbers {
     /// Whether the type of an object is missing.
     fn misses_object(self, said: Option<TypeNum>) -> bool
         ensures { result ≡ list_any (missing self.child self.count)
-            (types_named (told.object (option_map (λ t. t.0) said))) }
+            (types_named (info.object (option_map (λ t. t.0) said))) }
     {
         match said {
             Some(number) => self.is_missing(number),
@@ -43,10 +43,10 @@ impl Numbers {
     /// Whether a type in the signature of a function is missing.
     fn misses_signature(self, said: Option<Signature<'_>>) -> bool
         ensures { result ≡ list_any (missing self.child self.count)
-            (types_named (told.function (option_map signature said.entry))) }
+            (types_named (info.function (option_map signature said.entry))) }
     {
         match said {
-            Some(told) => self.is_missing(told.ret) || self.misses_argument(told.args),
+            Some(info) => self.is_missing(info.ret) || self.misses_argument(info.args),
             None => false,
         }
     }
@@ -78,11 +78,11 @@ pub fn judge_entries(
 {
     let mut objects = objects;
     let mut functions = functions;
-    let mut mistold = None;
+    let mut missing = None;
     for x in symbols {
         if x.symbol.is_object() {
             let misses = numbers.misses_object(type_in(objects));
-            mistold = or_here(mistold, misses, x.number);
+            missing = or_here(missing, misses, x.number);
             objects = behind_object(objects);
             continue;
         }
@@ -93,10 +93,10 @@ pub fn judge_entries(
             });
         }
         let misses = numbers.misses_signature(signature_of(functions));
-        mistold = or_here(mistold, misses, x.number);
+        missing = or_here(missing, misses, x.number);
         functions = behind_function(functions);
     }
-    match mistold {
+    match missing {
         Some(place) => Err(Fault {
             code: Fault::BAD_SYMBOL_TYPE,
             place,

@@ -119,7 +119,7 @@ impl<'a> Judged<'a> {
         let _ = &self.held;
     }
 
-    /// Its lists, handed back if it owns them.
+    /// Takes the lists out; `None` if they are only lent.
     pub fn into_parts(self) -> Option<Parts>
         ensures { option_map lists_owned result ≡ lists_owned_by self.entry }
     {

@@ -5,11 +5,11 @@ ghost use Rattle.ctf_model.specs.format.Section.{records};
 ghost use Rattle.ctf_records.specs.ListedTypes.{listed_types};
 ghost use Rattle.ctf_records.specs.RecordView.{bytes_of};
 ghost use Rattle.ctf_model.specs.symbols.Entries.{types_named};
-ghost use Rattle.ctf_entries.specs.EntriesView.{told_in};
+ghost use Rattle.ctf_entries.specs.EntriesView.{info_in};
 ghost use Rattle.ctf_entries.specs.FunctionView.{signature};
 ghost use Rattle.ctf_check.specs.Needed.{entries_need as entries_need_in, record_needs as record_needs_in, records_need as records_need_in};
 
-use ctf_entries::{Entries, Signature, Told};
+use ctf_entries::{Entries, Signature, SymbolInfo};
 use ctf_model::{Place, TypeNum};
 use ctf_records::{Record, Records};
 use ctf_views::Args;
@@ -81,21 +81,21 @@ fn args_need(args: Args<'_>) -> u16
 
 /// The greatest number of a parent's type that a signature names.
 #[tactic(auto, unfolding(ctf_model::specs::rules::Needs::greatest_in_parent))]
-fn signature_needs(told: Signature<'_>) -> u16
+fn signature_needs(info: Signature<'_>) -> u16
     ensures { result ≡ greatest_in_parent
-        ((signature told.entry).ret ∷ (signature told.entry).args) }
+        ((signature info.entry).ret ∷ (signature info.entry).args) }
 {
-    greater(in_parent(told.ret), args_need(told.args))
+    greater(in_parent(info.ret), args_need(info.args))
 }
 
 /// The greatest number of a parent's type in what a dictionary says of a symbol.
 #[tactic(auto, unfolding(ctf_model::specs::rules::Needs::greatest_in_parent))]
-fn told_needs(told: Told<'_>) -> u16
-    ensures { result ≡ greatest_in_parent (types_named (told_in told.entry)) }
+fn info_needs(info: SymbolInfo<'_>) -> u16
+    ensures { result ≡ greatest_in_parent (types_named (info_in info.entry)) }
 {
-    match told {
-        Told::Object(Some(number)) => in_parent(number),
-        Told::Function(Some(signature)) => signature_needs(signature),
+    match info {
+        SymbolInfo::Object(Some(number)) => in_parent(number),
+        SymbolInfo::Function(Some(signature)) => signature_needs(signature),
         _ => 0,
     }
 }
@@ -107,7 +107,7 @@ pub fn entries_need(entries: Entries<'_>) -> u16
 {
     let mut greatest = 0;
     for entry in entries {
-        greatest = greater(greatest, told_needs(entry.told));
+        greatest = greater(greatest, info_needs(entry.info));
     }
     greatest
 }

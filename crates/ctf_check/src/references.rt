@@ -85,8 +85,8 @@ fn search_records(types: &[u8], numbers: Numbers) -> Option<u64>
     None
 }
 
-/// The same, given how many types are enough for the records: only if there are fewer are the
-/// records read, to find the first one.
+/// The same, given a bound on the type numbers that the records refer to. The records are read, to
+/// find the first one, only if there are fewer types.
 #[tactic(auto, using(crate::proofs::Served::none_misnames))]
 pub fn bad_reference(types: &[u8], numbers: Numbers, enough: usize) -> Option<u64>
     requires enough { enough ≡ records_enough numbers.child (records types.now) }

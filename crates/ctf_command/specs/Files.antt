@@ -1,4 +1,4 @@
--- How a file is read. Source: ours.
+-- Reading a file. Source: ours.
 use Rattle.std.specs.Prelude.{◌≡◌, ℕ, List, ⊤, Result, Ok, Err, Vec}
 use Rattle.std.specs.declared.alloc.Global.{Global}
 use Rattle.std.specs.Borrow.{Bor}
@@ -11,17 +11,17 @@ use Rattle.ctf_dump.specs.declared.ends.DumpEnd.TheVariants.{Unread, Refused, Me
 abbrev pub longest_file : ℕ
 longest_file = 67108864
 
--- which file gave which bytes, or why none
+-- relates a file's name to its bytes, or to the reason that it was not read
 abbrev pub Readings : Type 1
 Readings = List ℕ → Result (List ℕ) DumpEnd → Type 0
 
--- what a file gave: its bytes, or why none
+-- the bytes of a file, or the reason that it was not read
 abbrev pub bytes_given : Result (Vec ℕ Global) DumpEnd → Result (List ℕ) DumpEnd
 bytes_given (Ok bytes) = Ok bytes.items
 bytes_given (Err end) = Err end
 
--- why the file of this name was not read: it is too long, and then that holds; or it can't be
--- opened or read; or memory was refused
+-- why a file was not read: it is too long (and then `Long` holds), it cannot be opened or read, or
+-- memory ran out
 abbrev pub IsUnread : Bor (List ℕ) → Type 0 → DumpEnd → Type 0
 IsUnread name Long (Refused file fault) =
     (file ≡ name) × (fault ≡ placeless STAGE_FULL) × Long

@@ -1,5 +1,5 @@
 pub mod Status
-pub mod Asked
+pub mod Argument
 pub mod Files
 pub mod Started
 pub mod Starts

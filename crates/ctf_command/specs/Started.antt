@@ -1,10 +1,10 @@
--- What is published when the service starts. Source: ours.
+-- The publications at the start of the service. Source: ours.
 use Rattle.std.specs.Prelude.{◌≡◌, ◌≢◌, ◌⊎◌, ⊤, ℕ, ◌≤◌, List, [], ◌∷◌, ◌++◌, length, All, map, Some, None, IsSome, Result, Ok, Err}
-use Rattle.ctf_model.specs.spaces.Kept.{kept_unsaid}
+use Rattle.ctf_model.specs.spaces.Kept.{as_kept}
 use Rattle.ctf_protocol.specs.sessions.State.{Publication, empty_state}
 use Rattle.ctf_broker.specs.Loading.{loads_section, section_alone}
 use Rattle.ctf_broker.specs.Table.{Libraries, library_at}
-use Rattle.ctf_command.specs.Asked.{Asked, all_asked}
+use Rattle.ctf_command.specs.Argument.{Argument, all_arguments}
 use Rattle.ctf_command.specs.Files.{Readings, longest_file}
 use Rattle.ctf_answers.specs.Replies.{unaddressed_reply}
 use Rattle.ctf_dump.specs.declared.ends.DumpEnd.{DumpEnd}
@@ -12,56 +12,56 @@ use Rattle.ctf_dump.specs.declared.ends.DumpEnd.TheVariants.{Unread, Refused, Me
 use Rattle.ctf_command.specs.declared.starts.NotStarted.{NotStarted}
 use Rattle.ctf_command.specs.declared.starts.NotStarted.TheVariants.{Misused, File}
 
--- this section is published for the operator under this name, behind what was; else all is as
--- before
+-- the section is published for the operator under this name, after the others; all else is
+-- unchanged
 pub record IsPublished (name section : List ℕ) (old new : Libraries) : Type 0 where
   pub own : library_at new 0
       ≡ record (library_at old 0) {
         published = (library_at old 0).published
-            ++ record { name = name; kept = kept_unsaid (section_alone section) } ∷ [];
+            ++ record { name = name; kept = as_kept (section_alone section) } ∷ [];
       }
   pub others : (session : ℕ) → session ≢ 0 → library_at new session ≡ library_at old session
 
--- a section that its file gave, of so many bytes at most, is published for the operator
-pub record IsPublishedFile (gave : Readings) (asked : Asked) (old new : Libraries) : Type 0 where
+-- a section read from its file, within the size limit, is published for the operator
+pub record IsPublishedFile (gave : Readings) (asked : Argument) (old new : Libraries) : Type 0 where
   pub section : List ℕ
   pub short : length section ≤ longest_file
   pub given : gave asked.file (Ok section)
   pub published : IsPublished asked.name section old new
 
--- a file's bytes, and the name under which they are published
+-- the content of a file, and the name that it is published under
 pub record PublishedFile : Type 0 where
   pub name : List ℕ
   pub file : List ℕ
   pub section : List ℕ
 
--- what asks for it
-abbrev pub asked_for : PublishedFile → Asked
-asked_for p = record { name = p.name; file = p.file }
+-- the publication that was asked for
+abbrev pub argument_for : PublishedFile → Argument
+argument_for p = record { name = p.name; file = p.file }
 
 -- its publication
 abbrev pub publication_of : PublishedFile → Publication
-publication_of p = record { name = p.name; kept = kept_unsaid (section_alone p.section) }
+publication_of p = record { name = p.name; kept = as_kept (section_alone p.section) }
 
--- just what these files gave is published, in their order, and no other session holds anything
-pub record HasPublished (gave : Readings) (asked : List Asked) (new : Libraries) : Type 0 where
+-- exactly the sections of these files are published, in order, and no other session holds anything
+pub record HasPublished (gave : Readings) (asked : List Argument) (new : Libraries) : Type 0 where
   pub files : List PublishedFile
-  pub asks : map asked_for files ≡ asked
+  pub asks : map argument_for files ≡ asked
   pub given : All (λ p. gave p.file (Ok p.section)) files
   pub own : library_at new 0 ≡ record empty_state { published = map publication_of files }
   pub others : (session : ℕ) → session ≢ 0 → library_at new session ≡ empty_state
 
--- the words ask for publications, and these are there
+-- the arguments ask for publications, and these are published
 pub record IsStarted (gave : Readings) (words : List (List ℕ)) (new : Libraries) : Type 0 where
-  pub asked : List Asked
-  pub all : all_asked words ≡ Some asked
+  pub asked : List Argument
+  pub all : all_arguments words ≡ Some asked
   pub has : HasPublished gave asked new
 
 -- ---- why the service did not start
 
--- where a file was read, its section was refused under that name, with the file's name; where
--- it was not, that is why
-abbrev pub IsUnpublished : Libraries → Asked → Result (List ℕ) DumpEnd → NotStarted → Type 0
+-- if the file was read, its section was refused under that name, and the file is named; otherwise
+-- the reason is that of the reading
+abbrev pub IsUnpublished : Libraries → Argument → Result (List ℕ) DumpEnd → NotStarted → Type 0
 IsUnpublished old asked (Err end) why = why ≡ File end
 IsUnpublished old asked (Ok section) (File Memory) = ⊤
 IsUnpublished old asked (Ok section) (File (Refused file fault)) =
@@ -71,26 +71,26 @@ IsUnpublished old asked (Ok section) (File (Unread file)) = ⊥
 IsUnpublished old asked (Ok section) (File Write) = ⊥
 IsUnpublished old asked (Ok section) Misused = ⊥
 
--- so it is of what the file gave
-pub record IsUnpublishedFile (gave : Readings) (asked : Asked) (old : Libraries)
+-- the same, for what reading the file gave
+pub record IsUnpublishedFile (gave : Readings) (asked : Argument) (old : Libraries)
     (why : NotStarted) : Type 0 where
   pub outcome : Result (List ℕ) DumpEnd
   pub given : gave asked.file outcome
   pub refused : IsUnpublished old asked outcome why
 
--- all files in front were published, and then one was not
+-- all files before one were published, and that one was not
 pub record IsCutOff (gave : Readings) (words : List (List ℕ)) (why : NotStarted) : Type 0 where
-  pub front : List Asked
-  pub last : Asked
-  pub behind : List Asked
-  pub all : all_asked words ≡ Some (front ++ last ∷ behind)
+  pub front : List Argument
+  pub last : Argument
+  pub behind : List Argument
+  pub all : all_arguments words ≡ Some (front ++ last ∷ behind)
   pub before : Libraries
   pub has : HasPublished gave front before
   pub refused : IsUnpublishedFile gave last before why
 
--- a word is wrong; or none is, and memory was refused before a file was read, or one of the files
--- was not published
+-- an argument is wrong; or memory ran out before any file was read, or one of the files was not
+-- published
 abbrev pub IsUnstarted : Readings → List (List ℕ) → NotStarted → Type 0
-IsUnstarted gave words Misused = all_asked words ≡ None
+IsUnstarted gave words Misused = all_arguments words ≡ None
 IsUnstarted gave words (File end) =
-    IsSome (all_asked words) × ((end ≡ Memory) ⊎ IsCutOff gave words (File end))
+    IsSome (all_arguments words) × ((end ≡ Memory) ⊎ IsCutOff gave words (File end))

@@ -5,15 +5,14 @@ use Rattle.ctf_wire.specs.declared.run_faults.RunFault.TheVariants.{Read, Write,
 use Rattle.clap.specs.declared.error.kind.ErrorKind.{ErrorKind}
 use Rattle.clap.specs.declared.error.kind.ErrorKind.TheVariants.{DisplayHelp, DisplayVersion, OutOfMemory}
 
--- After a run that ended before its input did.
+-- after a run that ended before its input did
 abbrev pub status_after : RunFault → ℕ
 status_after Read = 3
 status_after Write = 3
 status_after ReadBound = 3
 status_after Memory = 4
 
--- Beside a text on the words of the command line: one that they asked for,
--- or one on what is wrong with them.
+-- after a text about the command line: one that was asked for, or an error message
 abbrev pub status_beside : ErrorKind → ℕ
 status_beside DisplayHelp = 0
 status_beside DisplayVersion = 0

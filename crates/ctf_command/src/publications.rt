@@ -2,7 +2,7 @@
 ghost use Rattle.std.specs.Prelude.{◌≡◌, IfOk, is_some, option_map, map};
 ghost use Rattle.std.specs.List.{list_all};
 ghost use Rattle.ctf_protocol.specs.sessions.Publications.{is_name_byte, is_publication_name};
-ghost use Rattle.ctf_command.specs.Asked.{all_asked, asked_by, asked_of};
+ghost use Rattle.ctf_command.specs.Argument.{all_arguments, argument_in, argument_shown};
 
 use ctf_protocol::PublicationName;
 use std::alloc::{AllocError, Global};
@@ -39,7 +39,7 @@ fn is_name(bytes: &[u8]) -> bool
 
 /// Whether a word is NAME=FILE.
 fn is_wanted(word: &str) -> bool
-    ensures { result ≡ is_some (asked_by word.now) }
+    ensures { result ≡ is_some (argument_in word.now) }
 {
     match word.split_once('=') {
         Some((name, _)) => is_name(name.as_bytes()),
@@ -49,7 +49,7 @@ fn is_wanted(word: &str) -> bool
 
 /// Whether all words are NAME=FILE. Takes no memory.
 pub fn are_wanted(words: &[&str]) -> bool
-    ensures { result ≡ is_some (all_asked (map (λ w. w.now) words.now)) }
+    ensures { result ≡ is_some (all_arguments (map (λ w. w.now) words.now)) }
 {
     for text in words {
         if !is_wanted(text) {
@@ -61,7 +61,7 @@ pub fn are_wanted(words: &[&str]) -> bool
 
 /// The name and the file of a word NAME=FILE. The first `=` separates the two.
 pub fn wanted_by<'a>(alloc: Global, word: &'a str) -> Result<Option<Wanted<'a>>, AllocError>
-    ensures { IfOk result (λ wanted. option_map asked_of wanted ≡ asked_by word.now) }
+    ensures { IfOk result (λ wanted. option_map argument_shown wanted ≡ argument_in word.now) }
 {
     let Some((name, file)) = word.split_once('=') else {
         return Ok(None);
@@ -78,8 +78,8 @@ pub fn all_wanted<'a>(
     alloc: Global,
     words: &[&'a str],
 ) -> Result<Option<Vec<Wanted<'a>>>, AllocError>
-    ensures { IfOk result (λ all. option_map (λ v. map asked_of v.items) all
-        ≡ all_asked (map (λ w. w.now) words.now)) }
+    ensures { IfOk result (λ all. option_map (λ v. map argument_shown v.items) all
+        ≡ all_arguments (map (λ w. w.now) words.now)) }
 {
     let mut all = Vec::new(alloc);
     for word in words {

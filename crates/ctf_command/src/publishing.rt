@@ -2,7 +2,7 @@
 ghost use Rattle.std.specs.Prelude.{◌≡◌, IfOk, IfErr, IsOk, map};
 ghost use Rattle.ctf_broker.specs.Table.{library_at};
 ghost use Rattle.ctf_laws.specs.Good.{AreGood};
-ghost use Rattle.ctf_command.specs.Asked.{asked_of};
+ghost use Rattle.ctf_command.specs.Argument.{argument_shown};
 ghost use Rattle.ctf_command.specs.Files.{bytes_given};
 ghost use Rattle.ctf_command.specs.Started.{IsPublished, IsPublishedFile, IsStarted, IsUnpublished, IsUnpublishedFile, IsUnstarted};
 
@@ -23,7 +23,7 @@ fn publish_read<'a>(
     ensures read { IfOk result (λ done. IsOk read.entry) }
     ensures published { IfOk result (λ done. IfOk read.entry (λ bytes.
         IsPublished wanted.now.name bytes.items broker.old broker.new)) }
-    ensures refused { IfErr result (λ why. IsUnpublished broker.old (asked_of wanted.now)
+    ensures refused { IfErr result (λ why. IsUnpublished broker.old (argument_shown wanted.now)
         (bytes_given read.entry) why) }
 {
     let bytes = read.map_err(NotStarted::File)?;
@@ -41,9 +41,9 @@ fn publish<'a, F: FileReader>(
 ) -> Result<(), NotStarted<'a>>
     ensures good { AreGood (library_at broker.old) → AreGood (library_at broker.new) }
     ensures published { IfOk result (λ done. IsPublishedFile (F.gave files.now)
-        (asked_of wanted.now) broker.old broker.new) }
+        (argument_shown wanted.now) broker.old broker.new) }
     ensures refused { IfErr result (λ why. IsUnpublishedFile (F.gave files.now)
-        (asked_of wanted.now) broker.old why) }
+        (argument_shown wanted.now) broker.old why) }
 {
     publish_read(broker, wanted, files.read(wanted.file))
 }

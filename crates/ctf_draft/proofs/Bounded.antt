@@ -1,4 +1,4 @@
--- What bounds of a draft's types say, and what changes them.
+-- Bounds of a draft's types, and what changes them.
 use Rattle.std.proofs.Common.{◌≡◌, ℕ, zero, suc, ◌<◌, ◌≤◌, Bool, true, false, cond, ltb, List, [], ◌∷◌, length, map, Option, Some, None, Vec, is_some, refl, sym, subst, ◌∙◌, arith, ◌⊎◌, inl, inr}
 use Rattle.std.specs.Prelude.{MatchOption, slice_index_or}
 use Rattle.std.specs.List.{AllByRecursion, cons_option, filter_map}
@@ -21,7 +21,7 @@ use Rattle.ctf_draft.specs.Bounding.{IsAbove, IsBounded, IsLifted, IsNoted, IsNo
 use Rattle.ctf_draft.specs.declared.depths.Depths.{Depths}
 use Rattle.ctf_draft.proofs.Lifting.{both_of, each_of, still_over}
 
--- what holds of the own types that numbers name holds of a number
+-- a fact of each named own type holds for the number
 pub match_of : (P Q : ℕ → Type 0) → ((j : ℕ) → P j → Q j) → (o : Option ℕ) → MatchOption o (Unit {0}) P → MatchOption o (Unit {0}) Q
 match_of P Q f None h = tt
 match_of P Q f (Some j) h = f j h
@@ -30,7 +30,7 @@ match_both : (P Q R : ℕ → Type 0) → ((j : ℕ) → P j → Q j → R j) �
 match_both P Q R f None h g = tt
 match_both P Q R f (Some j) h g = f j h g
 
--- ---- what bounds say
+-- ---- facts from bounds
 
 module _ (d : Draft) (x : Depths) (ok : IsBounded d x) where
   abbrev own : ℕ → Option ℕ
@@ -86,7 +86,7 @@ noted_bounded d x y same grows ok = record {
     at i j (inl low) = inl low
     at i j (inr here) = inr (grows j i here)
 
--- bounds of which none is known
+-- empty bounds are large enough for every type
 pub none_over : (bounds : List ℕ) (i j : ℕ) → bounds ≡ [] → IsOver bounds i j
 none_over bounds i j none = rw none (omega arith)
 
@@ -116,13 +116,13 @@ low_or_high i n = at (ltb i n) refl
     at true h = inl (ltb-true i n h)
     at false h = inr (ltb-false i n h)
 
--- a type that is not there leads nowhere
+-- an index beyond the types has no content
 pub past_end : (ts : List Term) (i : ℕ) → length ts ≤ i → (slice_index_or ts i nothing).body ≡ term.unknown
 past_end [] i le = refl
 past_end (x ∷ ts) zero le = absurd (omega arith)
 past_end (x ∷ ts) (suc i) le = past_end ts i (omega arith)
 
--- bounds that are the same for all types that there are
+-- bounds that are the same for all existing types
 pub front_bounded : (d : Draft) (count : ℕ) (x y : Depths) → count_of d ≡ count → y.above.items ≡ x.above.items → ((k : ℕ) → k < count → bound y.bounds.items k ≡ bound x.bounds.items k) → IsBounded d x → IsBounded d y
 front_bounded d count x y all same front ok = record {
   over = λ i. at i (low_or_high i count);
@@ -149,7 +149,7 @@ Over d x i = AllByRecursion (IsOverAt d x.bounds.items i) (by_value (own_body (c
 abbrev Noted : Draft → Depths → ℕ → Type 0
 Noted d x i = AllByRecursion (IsNotedAt d (above_of x.above.items) i) (by_value (own_body (content d) i))
 
--- numbers that name what they did
+-- the number names the same own type in both drafts
 abbrev pub SameAt : Draft → Draft → ℕ → Type 0
 SameAt d e n = own_index (is_some e.parent) (count_of e) n ≡ own_index (is_some d.parent) (count_of d) n
 
@@ -171,7 +171,7 @@ module _ (d e : Draft) (x : Depths) (border : length d.updated.terms ≤ length 
   pub noted_still : (i : ℕ) (ns : List ℕ) → AllByRecursion (SameAt d e) ns → AllByRecursion (IsNotedAt d (above_of x.above.items) i) ns → AllByRecursion (IsNotedAt e (above_of x.above.items) i) ns
   noted_still i ns same h = both_of (SameAt d e) (IsNotedAt d (above_of x.above.items) i) (IsNotedAt e (above_of x.above.items) i) (λ n. noted_same i n) ns same h
 
-  -- the same types, by the numbers that they lead to
+  -- types with the same targets by value
   pub same_bounded : ((i : ℕ) → (by_value (own_body (content e) i) ≡ by_value (own_body (content d) i)) × AllByRecursion (SameAt d e) (by_value (own_body (content d) i))) → IsBounded d x → IsBounded e x
   same_bounded each ok = record {
     over = λ i. let h = each i in subst (AllByRecursion (IsOverAt e x.bounds.items i)) (sym h.0) (over_still i (by_value (own_body (content d) i)) h.1 (ok.over i));

@@ -1,4 +1,4 @@
--- What numbers of a draft come to, step by step.
+-- The figure of a draft's number, step by step.
 use Rattle.std.proofs.Common.{◌≡◌, ℕ, suc, ◌+◌, ◌-◌, ◌<◌, Bool, true, false, cond, eqb, length, Option, Some, None, Result, Ok, Err, is_some, refl, sym, ap, ◌∙◌, arith}
 use Rattle.std.specs.Prelude.{MatchOption, slice_get, option_map}
 use Rattle.std.proofs.lemmas.Option.{slice_get_within}
@@ -22,7 +22,7 @@ use Rattle.ctf_draft.specs.Sizing.{alias_target, size_from}
 use Rattle.ctf_draft.specs.declared.sizing.Sizing.{Sizing}
 
 module _ (figure : Figure) (parents : ℕ → Result ℕ Fault) (d : Dictionary) (k n : ℕ) where
-  -- no type
+  -- number 0
   pub none_step : n ≡ 0 → comes_to figure parents d (suc k) n ≡ figure.of_none
   unfolding comes_to
   none_step zero_is = rw zero_is refl
@@ -53,7 +53,7 @@ module _ (figure : Figure) (parents : ℕ → Result ℕ Fault) (d : Dictionary)
       at (Parents i) e z = absurd (not_parents i e)
       at (Own i) e z = rw (e, z) (past i e (slice_get d.terms i) refl)
 
--- ---- where so many numbers may follow on each other
+-- ---- a bound on the numbers that are followed
 
 module _ (figure : Figure) (parents : ℕ → Result ℕ Fault) (d : Dictionary) (most n : ℕ) where
   pub none_follow : most ≡ 0 → comes_to figure parents d most n ≡ Err incomplete
@@ -80,7 +80,7 @@ module _ (figure : Figure) (parents : ℕ → Result ℕ Fault) (d : Dictionary)
   pub elsewhere_at : 0 < most → (r : Result ℕ Fault) → ((k : ℕ) → r ≡ comes_to figure parents d (suc k) n) → r ≡ comes_to figure parents d most n
   elsewhere_at lt r h = h (most - 1) ∙ sym (some_follow lt)
 
--- by what its size hangs on
+-- the size, from what it is computed from
 pub by_sizing : (said model : DataModel) → said ≡ model → (parents : ℕ → Result ℕ Fault) (d : Dictionary) (most n : ℕ) → 0 < most → (i : ℕ) (body : Body) (s : Sizing) → own_index d.child (length d.terms) n ≡ Some i → option_map (λ x. x.body) (slice_get d.terms i) ≡ Some body → ((f : ℕ → Result ℕ Fault) → size_body said f body ≡ size_from f s) → comes_to (sizing model) parents d most n ≡ size_from (comes_to (sizing model) parents d (most - 1)) s
 by_sizing said model same parents d most n lt i body s own got says =
     let f = comes_to (sizing model) parents d (most - 1) in
@@ -106,7 +106,7 @@ renamed_says f n (term.enum said xs) = refl
 renamed_says f n (term.forward t) = refl
 renamed_says f n term.unknown = refl
 
--- by the type that it stands for
+-- the resolved type, from the type that a typedef or qualifier stands for
 pub by_renaming : (parents : ℕ → Result ℕ Fault) (d : Dictionary) (most n : ℕ) → 0 < most → (i : ℕ) (body : Body) (t : Option ℕ) → own_index d.child (length d.terms) n ≡ Some i → option_map (λ x. x.body) (slice_get d.terms i) ≡ Some body → t ≡ alias_target body → comes_to resolving parents d most n ≡ by_renamed (comes_to resolving parents d (most - 1)) n t
 by_renaming parents d most n lt i body t own got says =
     let f = comes_to resolving parents d (most - 1) in
@@ -132,19 +132,19 @@ named_nowhere d n child other some not_own = record {
   refused = λ figure k. missing_step figure (parents_figure figure d.parent) (content d) k n some (λ i at. other i (rw child at at)) not_own;
 }
 
--- a parent's type comes to what it does in the parent alone
+-- the figure of a parent's type is the same in the parent alone
 pub parents_step : (d : Draft) (p : Dictionary) (model : DataModel) (figure : Figure) (k n i : ℕ) → d.parent ≡ Some p → place true n ≡ Parents i → comes_to figure (parents_figure figure d.parent) (content d) (suc k) n ≡ figure_in figure (space_alone p model) n
 parents_step d p model figure k n i is at =
     let here : place (is_some d.parent) n ≡ Parents i = rw is at in
     of_parents figure (parents_figure figure d.parent) (content d) k n i here ∙ ap (λ (q : Option Dictionary). parents_figure figure q n) is
 
--- by what its alignment hangs on
+-- the alignment, from what it is computed from
 pub by_aligning : (said model : DataModel) → said ≡ model → (parents : ℕ → Result ℕ Fault) (d : Dictionary) (most n : ℕ) → 0 < most → (i : ℕ) (body : Body) (s : Sizing) → own_index d.child (length d.terms) n ≡ Some i → option_map (λ x. x.body) (slice_get d.terms i) ≡ Some body → ((f : ℕ → Result ℕ Fault) → align_body said f body ≡ size_from f s) → comes_to (aligning model) parents d most n ≡ size_from (comes_to (aligning model) parents d (most - 1)) s
 by_aligning said model same parents d most n lt i body s own got says =
     let f = comes_to (aligning model) parents d (most - 1) in
     own_at (aligning model) parents d most n lt i body own got ∙ ap (λ (m : DataModel). align_body m f body) (sym same) ∙ says f
 
--- what comes to the same
+-- equal figures
 pub same_found : (found : Option (Result ℕ Fault)) (a b : Result ℕ Fault) → a ≡ b → MatchOption found (Unit {0}) (λ r. r ≡ a) → MatchOption found (Unit {0}) (λ r. r ≡ b)
 same_found None a b same h = tt
 same_found (Some r) a b same h = h ∙ same

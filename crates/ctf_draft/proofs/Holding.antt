@@ -43,7 +43,7 @@ last_one [] y (suc i) same = absurd (omega (arith, same))
 last_one (x ∷ terms) y zero same = absurd (omega (arith, same))
 last_one (x ∷ terms) y (suc i) same = last_one terms y i (omega (arith, same))
 
--- ---- what a type that is accepted names
+-- ---- references of an accepted type
 
 pub all_unmet : (rows : List Row) → first_met rows ≡ None → AllByRecursion (λ row. row.met ≡ false) rows
 all_unmet [] h = tt
@@ -56,7 +56,7 @@ all_unmet (row ∷ rows) h = at row.met refl h (all_unmet rows)
 pub accepted_named : (d : Draft) (x : Term) → first_met (against_type d x) ≡ None → AllByRecursion (λ n. is_absent d n ≡ false) (by_value x.body)
 accepted_named d x none = named_by_value (is_absent d) x.body (all_unmet (against_type d x) none).1.1.0
 
--- ---- what is seen in code
+-- ---- drafts in code
 
 module _ (parname parlabel : List ℕ) (parent : Option Dictionary) (model : DataModel) where
   abbrev made : ℕ → ℕ → List Term → List Label → Draft
@@ -65,7 +65,7 @@ module _ (parname parlabel : List ℕ) (parent : Option Dictionary) (model : Dat
   all_same : (u v x y : ℕ) (terms : List Term) (labels others : List Label) → (all_of (made x y terms others)).terms ≡ (all_of (made u v terms labels)).terms
   all_same u v x y terms labels others = all_terms parname parlabel parent model x y terms others ∙ sym (all_terms parname parlabel parent model u v terms labels)
 
-  -- other labels, or more that is updated
+  -- other labels, or more updated items
   pub terms_bounded : (d : Depths) (u v x y : ℕ) (terms : List Term) (labels others : List Label) → u ≤ x → x ≤ length terms → IsBounded (made u v terms labels) d → IsBounded (made x y terms others) d
   terms_bounded d u v x y terms labels others le few ok =
       let all = all_same u v x y terms labels others in
@@ -97,7 +97,7 @@ module _ (parname parlabel : List ℕ) (parent : Option Dictionary) (model : Dat
         ap (λ (ts : List Term). (get_or ts j nothing).body) (all_terms parname parlabel parent model u v (set terms s y) labels)
         ∙ ap (λ (z : Term). z.body) (get_or-set_at terms s j y nothing same lt)
 
-    -- where what the changed type leads to is bounded, all is
+    -- if the targets of the changed type are bounded, all are
     pub changed_bounded : s < length terms → AllByRecursion (IsOverAt (made u v terms labels) d.bounds.items s) (by_value y.body) → AllByRecursion (IsNotedAt (made u v terms labels) (above_of d.above.items) s) (by_value y.body) → IsBounded (made u v terms labels) d → IsBounded (made u v (set terms s y) labels) d
     changed_bounded lt over noted ok = record { over = λ i. over_at i (same_or_not i s); noted = λ i. noted_at i (same_or_not i s) }
       where
@@ -113,13 +113,13 @@ module _ (parname parlabel : List ℕ) (parent : Option Dictionary) (model : Dat
         noted_at i (inr other) = subst (λ (b : Body). AllByRecursion (IsNotedAt (made u v (set terms s y) labels) (above_of d.above.items) i) (by_value b)) (sym (body_other i other))
             (noted_still (made u v terms labels) (made u v (set terms s y) labels) d border_same i (by_value (own_body (content (made u v terms labels)) i)) (numbers_same (by_value (own_body (content (made u v terms labels)) i))) (ok.noted i))
 
-  -- what the type at a place leads to
+  -- the body of the type at an index
   body_was : (u v : ℕ) (items : List DraftType) (labels : List Label) (s : ℕ) (t : DraftType) → s < length items → t ≡ get_or items s t → own_body (content (made u v (map type_of items) labels)) s ≡ (type_of t).body
   body_was u v items labels s t lt is =
       ap (λ (ts : List Term). (get_or ts s nothing).body) (all_terms parname parlabel parent model u v (map type_of items) labels)
       ∙ ap (λ (x : Term). x.body) (get_or-map type_of items s t nothing lt ∙ ap type_of (sym is))
 
-  -- a pending type is among all
+  -- a pending type's index is in range
   pub place_inside : (u v : ℕ) (items : List DraftType) (labels : List Label) (n i : ℕ) (e : Draft) → made u v (map type_of items) labels ≡ e → StandsPending e n i → i < length items
   place_inside u v items labels n i e view at =
       let inside = (own_inside (is_some e.parent) (count_of e) n i at.own).1 in
@@ -131,7 +131,7 @@ module _ (parname parlabel : List ℕ) (parent : Option Dictionary) (model : Dat
     low : s < length (map type_of items)
     low = let e = length-map items type_of in omega (arith, e, lt)
 
-    -- it leads where it did
+    -- a change that keeps the targets by value
     pub alike_bounded : by_value (type_of new).body ≡ by_value (type_of t).body → IsBounded (made u v (map type_of (set items s new)) labels) d
     alike_bounded same =
         let here : by_value (own_body (content (made u v (map type_of items) labels)) s) ≡ by_value (type_of new).body = ap by_value (body_was u v items labels s t lt is) ∙ sym same in
@@ -148,7 +148,7 @@ module _ (parname parlabel : List ℕ) (parent : Option Dictionary) (model : Dat
         let count : u ≡ length (take u (map type_of items)) = omega (arith, length-take u (map type_of items), length-map items type_of, few) in
         match_of (λ j. IsOver d.bounds.items s j × IsNoted u (above_of d.above.items) s j) (IsNoted (length (take u (map type_of items))) (above_of d.above.items) s) (λ j p. subst (λ (k : ℕ). IsNoted k (above_of d.above.items) s j) count p.1) (own_index (is_some parent) (count_of (made u v (map type_of items) labels)) n) (subst (IsReady u d s) own h)
 
-    -- one that is ready has one member more
+    -- one more member in a type that is ready for it
     pub member_bounded : (m : term.Member) (size : ℕ) (o : Option ℕ) → u ≤ length items → o ≡ own_index (is_some parent) (count_of (made u v (map type_of items) labels)) m.tnum → IsReady u d s o → type_of new ≡ with_body (with_member m size (type_of t).body) (type_of t) → IsBounded (made u v (map type_of (set items s new)) labels) d
     member_bounded m size o few own ready made_so =
         let was = body_was u v items labels s t lt is in
@@ -158,7 +158,7 @@ module _ (parname parlabel : List ℕ) (parent : Option Dictionary) (model : Dat
         (subst (λ (b : Body). AllByRecursion (IsOverAt (made u v (map type_of items) labels) d.bounds.items s) (by_value b)) (sym now) (with_member_all (IsOverAt (made u v (map type_of items) labels) d.bounds.items s) m size (own_body (content (made u v (map type_of items) labels)) s) (ok.over s) (over_new m.tnum o own ready)))
         (subst (λ (b : Body). AllByRecursion (IsNotedAt (made u v (map type_of items) labels) (above_of d.above.items) s) (by_value b)) (sym now) (with_member_all (IsNotedAt (made u v (map type_of items) labels) (above_of d.above.items) s) m size (own_body (content (made u v (map type_of items) labels)) s) (ok.noted s) (noted_new m.tnum o few own ready))) ok)
 
-    -- or memory for that was refused
+    -- the same, or out of memory
     pub pushed_bounded : {A E : Type 0} (r : Result A E) (m : term.Member) (size : ℕ) (o : Option ℕ) → u ≤ length items → o ≡ own_index (is_some parent) (count_of (made u v (map type_of items) labels)) m.tnum → IsReady u d s o → OnOk r (type_of new ≡ with_body (with_member m size (type_of t).body) (type_of t)) → OnErr r (type_of new ≡ type_of t) → IsBounded (made u v (map type_of (set items s new)) labels) d
     pushed_bounded (Ok a) m size o few own ready done left = member_bounded m size o few own ready done
     pushed_bounded (Err e) m size o few own ready done left = alike_bounded (ap (λ (x : Term). by_value x.body) left)
@@ -167,7 +167,7 @@ module _ (parname parlabel : List ℕ) (parent : Option Dictionary) (model : Dat
     enumerated_bounded (Ok a) e done left = alike_bounded (ap (λ (x : Term). by_value x.body) done ∙ with_enumerator_by e (type_of t).body)
     enumerated_bounded (Err f) e done left = alike_bounded (ap (λ (x : Term). by_value x.body) left)
 
-  -- the front alone is left, which is sound by itself
+  -- after a discard only the updated part is left, which is bounded by itself
   pub discarded_bounded : (d x : Depths) (u v : ℕ) (terms : List Term) (labels others : List Label) → u ≤ length terms → IsSound (made u v (take u terms) others) → ((k : ℕ) → k < u → bound x.bounds.items k ≡ bound d.bounds.items k) → IsBounded (made u v terms labels) d → IsBounded (made u v (take u terms) others) x
   discarded_bounded d x u v terms labels others few sound front ok = record { over = λ i. over_at i (low_or_high i u); noted = λ i. noted_at i }
     where
@@ -210,7 +210,7 @@ module _ (parname parlabel : List ℕ) (parent : Option Dictionary) (model : Dat
       noted_at : (i : ℕ) → AllByRecursion (IsNotedAt (made u v (take u terms) others) (above_of x.above.items) i) (by_value (own_body (content (made u v (take u terms) others)) i))
       noted_at i = each_of (IsNotedAt (made u v (take u terms) others) (above_of x.above.items) i) (λ n. noted_one i n (own_index (is_some parent) (count_of (made u v (take u terms) others)) n) refl) (by_value (own_body (content (made u v (take u terms) others)) i))
 
-  -- one type more, which is ready
+  -- one more type that is ready
   pub type_bounded : (d : Depths) (u v : ℕ) (terms : List Term) (labels : List Label) (y : Term) (o : Option ℕ) → u ≤ length terms → IsSound (made u v terms labels)
       → AllByRecursion (λ n. own_index (is_some parent) (count_of (made u v terms labels)) n ≡ o) (by_value y.body) → AllByRecursion (λ n. is_absent (made u v terms labels) n ≡ false) (by_value y.body)
       → IsReady u d (length terms) o → IsBounded (made u v terms labels) d → IsBounded (made u v (terms ++ y ∷ []) labels) d
@@ -270,7 +270,7 @@ module _ (parname parlabel : List ℕ) (parent : Option Dictionary) (model : Dat
       noted_at i (inl (inr same)) = subst (λ (b : Body). AllByRecursion (IsNotedAt (made u v (terms ++ y ∷ []) labels) (above_of d.above.items) i) (by_value b)) (sym (new_body i same))
           (noted_still (made u v terms labels) (made u v (terms ++ y ∷ []) labels) d border i (by_value y.body) (same_numbers (by_value y.body) there) (all_map (λ n. own_index (is_some parent) (count_of (made u v terms labels)) n ≡ o) (IsNotedAt (made u v terms labels) (above_of d.above.items) i) (λ n own. noted_new i n same own) (by_value y.body) held_so))
 
-  -- nothing is there
+  -- an empty draft
   pub none_bounded : (d : Depths) (u v : ℕ) (items : List DraftType) (labels : List Label) → items ≡ [] → IsBounded (made u v (map type_of items) labels) d
   none_bounded d u v items labels none = record { over = λ i. rw (leads i) tt; noted = λ i. rw (leads i) tt }
     where

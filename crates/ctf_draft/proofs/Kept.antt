@@ -1,4 +1,4 @@
--- What is known of types stays right while other types change.
+-- Known reaches stay correct while other types change.
 use Rattle.std.proofs.Common.{◌≡◌, ℕ, zero, suc, ◌<◌, cond, eqb, List, [], ◌∷◌, length, Option, Some, None, Result, refl, sym, ap, subst, ◌∙◌}
 use Rattle.std.specs.Prelude.{MatchOption, slice_get, option_map}
 use Rattle.std.specs.List.{AllByRecursion, cons_option, filter_map}
@@ -17,17 +17,17 @@ use Rattle.ctf_model.proofs.OwnTypes.{own_of, targets_are}
 use Rattle.ctf_model.proofs.Anywhere.{all_map}
 use Rattle.ctf_draft.proofs.Figuring.{own_step}
 
--- ---- two dictionaries, of which some own types are the same and lead to such
+-- ---- two dictionaries that share some own types, which lead only to each other
 
 abbrev own : Dictionary → ℕ → Option ℕ
 own d n = own_index d.child (length d.terms) n
 
--- a number of the second names what it does in the first, and if that is an own type it is one of those
+-- the number names the same in both, and if that is an own type, a shared one
 pub record StaysSame (a b : Dictionary) (Kept : ℕ → Type 0) (n : ℕ) : Type 0 where
   pub same : own b n ≡ own a n
   pub kept : MatchOption (own a n) (Unit {0}) Kept
 
--- the types that stay, among which steps by value lead to no others
+-- the shared types, from which steps by value lead to no others
 pub record Stay (a b : Dictionary) (Kept : ℕ → Type 0) : Type 0 where
   pub child : b.child ≡ a.child
   pub inside : (j : ℕ) → Kept j → (j < length a.terms) × (j < length b.terms)
@@ -57,7 +57,7 @@ module _ (a b : Dictionary) (Kept : ℕ → Type 0) (stay : Stay a b Kept) where
   kept_targets : (j : ℕ) → Kept j → AllByRecursion Kept (targets (value_edges a) j)
   kept_targets j k = subst (AllByRecursion Kept) (sym (targets_are a j)) (kept_led (by_value (own_body a j)) (stay.closed j k))
 
-  -- what holds of each, where each of them is kept
+  -- a fact of shared types carries over
   each : (P Q : ℕ → Type 0) → ((j : ℕ) → Kept j → P j → Q j) → (js : List ℕ) → AllByRecursion Kept js → AllByRecursion P js → AllByRecursion Q js
   each P Q f [] k h = tt
   each P Q f (j ∷ js) k h = (f j k.0 h.0, each P Q f js k.1 h.1)
@@ -92,7 +92,7 @@ module _ (a b : Dictionary) (Kept : ℕ → Type 0) (stay : Stay a b Kept) where
         at None f = refl
         at (Some z) f = let is = own_of d.child (length d.terms) n i e (slice_get_within d.terms i z f) in absurd cc
 
-    -- of a number that names no own type
+    -- a number that names no own type
     same_elsewhere : (m n : ℕ) → own a n ≡ None → own b n ≡ None → comes_to figure parents b (suc m) n ≡ comes_to figure parents a (suc m) n
     unfolding comes_to
     same_elsewhere m n x y = ap (λ (r : Result ℕ Fault). cond (eqb n 0) figure.of_none r) (rw stay.child (at (place a.child n) refl))

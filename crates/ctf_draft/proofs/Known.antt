@@ -1,4 +1,4 @@
--- What is known of the types of a draft stays right when something is added to it.
+-- Known reaches of a draft's types stay correct when something is added.
 use Rattle.std.proofs.Common.{◌≡◌, ℕ, ◌<◌, ◌≤◌, Bool, true, false, List, [], ◌∷◌, ◌++◌, length, map, set, get_or, Option, Some, None, is_some, refl, sym, ap, subst, ◌∙◌, arith, ◌⊎◌, inl, inr, ◌≢◌, length-append}
 use Rattle.std.specs.Prelude.{MatchOption, slice_index_or}
 use Rattle.std.specs.List.{AllByRecursion, list_any}
@@ -31,7 +31,7 @@ use Rattle.ctf_draft.proofs.Views.{all_terms, seen}
 apart : true ≡ false → ⊥
 apart h = cc
 
--- what holds of each number holds of those in a list
+-- a fact of every number holds for a list of numbers
 all_of_same : (P : ℕ → Type 0) → ((n : ℕ) → P n) → (ns : List ℕ) → AllByRecursion P ns
 all_of_same P f [] = tt
 all_of_same P f (n ∷ ns) = (f n, all_of_same P f ns)
@@ -43,7 +43,7 @@ found (Some r) h = (r, refl)
 -- ---- from one draft to another
 
 module _ (d e : Draft) (known : List (Option Reach)) (knows : Knows d known) (parent : e.parent ≡ d.parent) (model : e.model ≡ d.model) where
-  -- a number of the one names what it does in the other
+  -- the number names the same own type in both drafts
   abbrev Same : ℕ → Type 0
   Same n = own_index (is_some e.parent) (count_of e) n ≡ own_index (is_some d.parent) (count_of d) n
 
@@ -99,12 +99,12 @@ module _ (d e : Draft) (known : List (Option Reach)) (knows : Knows d known) (pa
           (all_map (StaysSame (content d) (content e) (IsKnown known)) (IsKnownAt e known) (λ n h. subst (λ (o : Option ℕ). MatchOption o (Unit {0}) (IsKnown known)) (sym h.same) h.kept) (by_value (own_body (content d) j)) (stay.closed j k));
     }
 
--- ---- what a sound draft names
+-- ---- references of a sound draft
 
 members_pass : (p : ℕ → Bool) (ns : List ℕ) → list_any p ns ≡ false → AllByRecursion (λ n. p n ≡ false) ns
 members_pass p ns h = none_all p (λ n. p n ≡ false) (λ n g. g) ns h
 
--- what a type leads to by value it names
+-- a type's targets by value are among its references
 pub named_by_value : (p : ℕ → Bool) (x : Body) → list_any p (references x) ≡ false → AllByRecursion (λ n. p n ≡ false) (by_value x)
 named_by_value p (term.typedef t) h = members_pass p (t ∷ []) h
 named_by_value p (term.volatile t) h = members_pass p (t ∷ []) h
@@ -130,20 +130,20 @@ index_stays a b n (Own i) le h =
     let high = lt-ltb i b (omega arith) in
     rw (low, high) refl
 
--- a number that is there names what it does among more types
+-- an existing number names the same type if more types are added
 pub there_stays : (d : Draft) (b n : ℕ) → count_of d ≤ b → is_absent d n ≡ false → own_index (is_some d.parent) b n ≡ own_index (is_some d.parent) (count_of d) n
 there_stays d b n le h = index_stays (count_of d) b n (place (is_some d.parent) n) le (there_not_missing d n h)
 
 pub sound_names : (d : Draft) → IsSound d → (j : ℕ) → j < count_of d → AllByRecursion (λ n. is_absent d n ≡ false) (by_value (own_body (content d) j))
 sound_names d ok j lt = named_by_value (is_absent d) (own_body (content d) j) (all_got (NamesThere d) (all_of d).terms j (slice_index_or (content d).terms j nothing) ok.all.named (slice_get-get_or (content d).terms j nothing lt))
 
--- ---- what is seen in code
+-- ---- drafts in code
 
 module _ (parname parlabel : List ℕ) (parent : Option Dictionary) (model : DataModel) (known : List (Option Reach)) (u v : ℕ) (terms : List Term) (labels : List Label) where
   abbrev before : Draft
   before = seen parname parlabel parent model u v terms labels
 
-  -- one type more
+  -- one more type
   pub type_known : (x : Term) → IsSound before → Knows before known → Knows (seen parname parlabel parent model u v (terms ++ x ∷ []) labels) known
   type_known x ok knows =
       let e = seen parname parlabel parent model u v (terms ++ x ∷ []) labels in
@@ -158,7 +158,7 @@ module _ (parname parlabel : List ℕ) (parent : Option Dictionary) (model : Dat
       ap (λ (ts : List Term). (get_or ts j nothing).body) b ∙ ap (λ (y : Term). y.body) (get_or_append_left terms (x ∷ []) nothing j (omega (arith, ca, lt))) ∙ sym (ap (λ (ts : List Term). (get_or ts j nothing).body) a))
       (λ j lt k. all_map (λ n. is_absent before n ≡ false) _ (λ n h. there_stays before (count_of e) n more h) (by_value (own_body (content before) j)) (sound_names before ok j lt))
 
-  -- another type at a place of which nothing is known
+  -- another type at an index without an entry
   pub other_known : (s : ℕ) (y : Term) → slice_index_or known s None ≡ None → Knows before known → Knows (seen parname parlabel parent model u v (set terms s y) labels) known
   other_known s y none knows =
       let e = seen parname parlabel parent model u v (set terms s y) labels in
@@ -171,7 +171,7 @@ module _ (parname parlabel : List ℕ) (parent : Option Dictionary) (model : Dat
       ap (λ (ts : List Term). (get_or ts j nothing).body) b ∙ ap (λ (z : Term). z.body) (get_or-set_other terms s j y nothing other) ∙ sym (ap (λ (ts : List Term). (get_or ts j nothing).body) a))
       (λ j lt k. all_of_same (λ n. own_index (is_some parent) (count_of e) n ≡ own_index (is_some parent) (count_of before) n) (λ n. ap (λ (c : ℕ). own_index (is_some parent) c n) same) (by_value (own_body (content before) j)))
 
--- other labels, or another border between what is updated and what is pending
+-- other labels, or another border between updated and pending items
 pub terms_known : (parname parlabel : List ℕ) (parent : Option Dictionary) (model : DataModel) (known : List (Option Reach)) (u v x y : ℕ) (terms : List Term) (labels others : List Label) → Knows (seen parname parlabel parent model u v terms labels) known → Knows (seen parname parlabel parent model x y terms others) known
 terms_known parname parlabel parent model known u v x y terms labels others knows =
     let d = seen parname parlabel parent model u v terms labels in
@@ -184,7 +184,7 @@ terms_known parname parlabel parent model known u v x y terms labels others know
 
 -- ---- tables
 
--- a table that says the same
+-- a table with the same entries
 pub same_known : (d : Draft) (a b : List (Option Reach)) → ((j : ℕ) → slice_index_or b j None ≡ slice_index_or a j None) → Knows d a → Knows d b
 same_known d a b same knows = record {
   right = λ j r is. knows.right j r (sym (same j) ∙ is);
@@ -195,7 +195,7 @@ same_known d a b same knows = record {
     at n None h = tt
     at n (Some j) h = ap is_some (same j) ∙ h
 
--- one of which all is forgotten
+-- a table with all entries removed
 pub none_known : (d : Draft) (b : List (Option Reach)) → ((j : ℕ) → slice_index_or b j None ≡ None) → Knows d b
 none_known d b none = record {
   right = λ j r is. let no = none j in absurd cc;

@@ -1,4 +1,4 @@
--- Labels as the map holds them.
+-- Labels as stored in the map.
 use Rattle.std.proofs.Common.{◌≡◌, ℕ, ◌++◌, Bool, false, List, [], ◌∷◌, map, Option, Some, None, is_some, Vec, refl, ap, ◌∙◌}
 use Rattle.std.specs.Prelude.{◌||◌, nat_eq}
 use Rattle.std.specs.Cmp.Lexicographic.{pointwise}
@@ -15,7 +15,7 @@ keys_named : (test : List ℕ → Bool) (es : List (Vec ℕ Global × ℕ)) → 
 keys_named test [] = refl
 keys_named test (e ∷ es) = ap (λ b. test e.0.items || b) (keys_named test es)
 
--- a name is found where a label has it
+-- a name is found if a label has it
 pub has_is : (name : List ℕ) (es : List (Vec ℕ Global × ℕ)) → is_some (lookup (λ (k : Vec ℕ Global). pointwise nat_eq name k.items) es) ≡ list_any (bytes_eq name) (map (λ l. l.name) (labels_in es))
 has_is name es = is_some-lookup (λ (k : Vec ℕ Global). pointwise nat_eq name k.items) es ∙ keys_named (bytes_eq name) es
 
@@ -23,7 +23,7 @@ none_is : {A : Type 0} (o : Option A) → is_some o ≡ false → o ≡ None
 none_is None h = refl
 none_is (Some a) h = absurd cc
 
--- and is not found where none has it
+-- and not found if none has it
 pub fresh_is : (name : List ℕ) (es : List (Vec ℕ Global × ℕ)) → list_any (bytes_eq name) (map (λ l. l.name) (labels_in es)) ≡ false → lookup (λ (k : Vec ℕ Global). pointwise nat_eq name k.items) es ≡ None
 fresh_is name es h = none_is (lookup (λ (k : Vec ℕ Global). pointwise nat_eq name k.items) es) (has_is name es ∙ h)
 

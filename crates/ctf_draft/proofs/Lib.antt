@@ -1,6 +1,6 @@
 pub mod Among
 pub mod LabelMap
-pub mod TakenNames
+pub mod NamesInUse
 pub mod Views
 pub mod Pending
 pub mod ValueTypes

@@ -1,4 +1,4 @@
--- Bounds are lifted, type by type.
+-- Increasing bounds, type by type.
 use Rattle.std.proofs.Common.{◌≡◌, ℕ, zero, suc, ◌+◌, ◌<◌, ◌≤◌, Bool, true, false, eqb, List, [], ◌∷◌, ◌++◌, length, take, drop, set, get_or, Vec, refl, sym, ap, subst, ◌∙◌, arith, ◌⊎◌, inl, inr, ◌≢◌}
 use Rattle.std.specs.Prelude.{◌==◌, ◌||◌, min, slice_index, slice_index_or}
 use Rattle.std.specs.List.{AllByRecursion, list_any}
@@ -13,7 +13,7 @@ use Rattle.ctf_model.proofs.Alls.{all_joined}
 use Rattle.ctf_model.proofs.Anywhere.{all_map}
 use Rattle.ctf_draft.specs.Bounding.{IsAbove, IsLifted, IsNoted, IsOver, above_of, bound}
 
--- what holds of each number holds of those in a list
+-- a fact of every number holds for a list of numbers
 pub each_of : (P : ℕ → Type 0) → ((n : ℕ) → P n) → (ns : List ℕ) → AllByRecursion P ns
 each_of P f [] = tt
 each_of P f (n ∷ ns) = (f n, each_of P f ns)
@@ -32,7 +32,7 @@ not_lifted first above a = record {
   enough = λ j. each_of (Enough a a j) (λ p. inr refl) (slice_index_or above j []);
 }
 
--- a greater bound of the holder, and the same of what it holds
+-- a greater bound of the container, and the same bound of its content
 over_more : (a b : List ℕ) (p j : ℕ) → bound a p ≤ bound b p → bound b j ≡ bound a j → IsOver a p j → IsOver b p j
 over_more a b p j le same over = omega (arith, le, same, over)
 
@@ -48,7 +48,7 @@ lifted_more first above a b c x y = record {
     at j p (inl over) (inr same) = inl (over_more b c p j (y.more p) same over)
     at j p (inr was) (inr same) = inr (same ∙ was)
 
--- all above a type of a new bound are enough
+-- the bounds of all containers of the changed type are large enough
 pub one_lifted : (first : ℕ) (above : List (List ℕ)) (a c : List ℕ) (i least : ℕ) → i < length a → first ≤ i → bound a i < least → IsLifted first above (set a i least) c → AllByRecursion (λ p. min 513 (least + 1) ≤ bound c p) (slice_index_or above i []) → IsLifted first above a c
 one_lifted first above a c i least inside behind low x done = record {
   more = λ j. let m = x.more j in grown j (same_or_not j i) m;
@@ -80,7 +80,7 @@ one_lifted first above a c i least inside behind low x done = record {
         (subst (λ (k : ℕ). AllByRecursion (λ p. min 513 (least + 1) ≤ bound c p) (slice_index_or above k [])) (sym same) done) (x.enough j)
     at j (inr other) = all_map (Enough (set a i least) c j) (Enough a c j) (λ p e. as_before j p other e) (slice_index_or above j []) (x.enough j)
 
--- one more of those above is enough
+-- the bound of one more container is large enough
 pub one_done : (b c : List ℕ) (least p k : ℕ) (holders : List ℕ) → k < length holders → p ≡ slice_index holders k → min 513 (least + 1) ≤ bound c p → ((j : ℕ) → bound b j ≤ bound c j) → AllByRecursion (λ q. min 513 (least + 1) ≤ bound b q) (take k holders) → AllByRecursion (λ q. min 513 (least + 1) ≤ bound c q) (take (k + 1) holders)
 one_done b c least p k holders lt is high more done =
     let P : ℕ → Type 0 = λ q. min 513 (least + 1) ≤ bound c q in
@@ -88,7 +88,7 @@ one_done b c least p k holders lt is high more done =
     let old = all_map (λ q. min 513 (least + 1) ≤ bound b q) P (λ q h. let m = more q in omega (arith, h, m)) (take k holders) done in
     subst (AllByRecursion P) (sym (take_more holders k 0 lt)) (all_joined P (take k holders) (slice_index holders k ∷ []) old (one, tt))
 
--- ---- who is above a type
+-- ---- containers of a type
 
 pub those_above : (lists : List (Vec ℕ Global)) (i : ℕ) (v : Vec ℕ Global) → i < length lists → v ≡ get_or lists i v → slice_index_or (above_of lists) i [] ≡ v.items
 those_above lists i v lt is = get_or-map (λ (w : Vec ℕ Global). w.items) lists i v [] lt ∙ ap (λ (w : Vec ℕ Global). w.items) (sym is)
@@ -98,13 +98,13 @@ none_above [] i le = refl
 none_above (v ∷ lists) zero le = absurd (omega arith)
 none_above (v ∷ lists) (suc i) le = none_above lists i (omega arith)
 
--- a bound that is there
+-- an existing bound
 pub bound_is : (xs : List ℕ) (i : ℕ) → i < length xs → bound xs i ≡ slice_index xs i
 bound_is [] i lt = absurd (omega (arith, lt))
 bound_is (x ∷ xs) zero lt = refl
 bound_is (x ∷ xs) (suc i) lt = bound_is xs i (omega (arith, lt))
 
--- an empty list more
+-- one more empty list
 pub empty_more : (lists : List (Vec ℕ Global)) (v : Vec ℕ Global) (k : ℕ) → v.items ≡ [] → slice_index_or (above_of (lists ++ v ∷ [])) k [] ≡ slice_index_or (above_of lists) k []
 empty_more [] v zero is = is
 empty_more [] v (suc k) is = refl
@@ -129,7 +129,7 @@ new_there (x ∷ xs) p = later (x == p) (new_there xs p)
     later true h = refl
     later false h = h
 
--- a longer list of those above a type
+-- one more container of a type
 pub longer_above : (lists : List (Vec ℕ Global)) (j : ℕ) (v w : Vec ℕ Global) (more : List ℕ) → j < length lists → v ≡ get_or lists j v → w.items ≡ v.items ++ more → (k p : ℕ) → IsAbove (above_of lists) k p → IsAbove (above_of (set lists j w)) k p
 longer_above lists j v w more lt is longer k p h = at (same_or_not k j)
   where
@@ -157,7 +157,7 @@ one_above lists j p w xs lt longer =
 pub same_above : (a b : List (Vec ℕ Global)) → ((k : ℕ) → slice_index_or (above_of b) k [] ≡ slice_index_or (above_of a) k []) → (k p : ℕ) → IsAbove (above_of a) k p → IsAbove (above_of b) k p
 same_above a b same k p h = ap (list_any (λ q. q == p)) (same k) ∙ h
 
--- what holds of all in a list holds of one that stands there
+-- a fact of every item of a list holds for one in it
 pub at_one : (P : ℕ → Type 0) (p : ℕ) (xs : List ℕ) → list_any (λ q. q == p) xs ≡ true → AllByRecursion P xs → P p
 at_one P p [] h a = absurd cc
 at_one P p (x ∷ xs) h a = at (eqb x p) refl h (λ g. at_one P p xs g a.1)
@@ -166,7 +166,7 @@ at_one P p (x ∷ xs) h a = at (eqb x p) refl h (λ g. at_one P p xs g a.1)
     at true e g more = subst P (eqb-true x p e) a.0
     at false e g more = more g
 
--- what was over a type is so still
+-- a bound that was large enough still is
 pub still_over : (first : ℕ) (above : List (List ℕ)) (a b : List ℕ) (i j : ℕ) → IsLifted first above a b → IsNoted first above i j → min 513 (bound a j + 1) ≤ bound b i → IsOver b i j
 still_over first above a b i j x (inl low) high = let same = x.settled j low in omega (arith, same, high)
 still_over first above a b i j x (inr here) high = at (at_one (Enough a b j) i (slice_index_or above j []) here (x.enough j))
@@ -175,14 +175,14 @@ still_over first above a b i j x (inr here) high = at (at_one (Enough a b j) i (
     at (inl over) = over
     at (inr same) = omega (arith, same, high)
 
--- what is written through a slice of the whole
+-- writing through a slice of the whole list
 pub written : (n : ℕ) (ys xs : List ℕ) → length ys ≡ n → take n (ys ++ drop (length ys) xs) ≡ ys
 written n ys xs len = ap (λ (m : ℕ). take m (ys ++ drop (length ys) xs)) (sym len) ∙ take-append_seam ys (drop (length ys) xs)
 
 pub lifted_same : (first : ℕ) (lists others : List (Vec ℕ Global)) (a b c e : List ℕ) → others ≡ lists → b ≡ a → e ≡ c → IsLifted first (above_of lists) a c → IsLifted first (above_of others) b e
 lifted_same first lists others a b c e x y z h = rw (x, y, z) h
 
--- the front of bounds, and one behind it
+-- the bounds of a prefix, and the one after it
 pub front_bound : (n : ℕ) (xs : List ℕ) (k : ℕ) → k < n → bound (take n xs) k ≡ bound xs k
 front_bound zero xs k lt = absurd (omega arith)
 front_bound (suc n) [] k lt = refl

@@ -1,4 +1,4 @@
--- A member is added as it is planned.
+-- Adding a member at its planned offset.
 use Rattle.std.proofs.Common.{◌≡◌, ℕ, zero, suc, Bool, true, false, cond, List, [], ◌∷◌, take, drop, Option, Some, None, Result, Ok, Err, refl, ap, ◌∙◌, ◌⊎◌, inl, inr}
 use Rattle.ctf_model.specs.drafts.Adders.{Added, add_member, against_member, against_place, body_at, is_deep, place_member, put_member, replace_body, size_with, with_member}
 use Rattle.ctf_model.specs.drafts.Drafts.{Draft, space_of}

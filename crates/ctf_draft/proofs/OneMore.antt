@@ -1,4 +1,5 @@
--- What is known of types stays right when one of them gets a member that leaves its depth and its alignment as they were.
+-- Known reaches stay correct when a type gets a member that does not change its depth and
+-- alignment.
 use Rattle.std.proofs.Common.{◌≡◌, ℕ, zero, suc, ◌<◌, ◌≤◌, Bool, true, false, List, [], ◌∷◌, ◌++◌, length, map, set, get_or, Option, Some, None, Result, Ok, Err, is_some, refl, sym, ap, subst, ◌∙◌, arith, ◌⊎◌, inl, inr, ◌≢◌}
 use Rattle.std.specs.Prelude.{MatchOption, OnErr, OnOk, slice_index_or}
 use Rattle.std.specs.List.{AllByRecursion, cons_option, filter_map}
@@ -29,9 +30,9 @@ use Rattle.ctf_draft.proofs.Kept.{same_figure}
 use Rattle.ctf_draft.proofs.Lifting.{both_of}
 use Rattle.ctf_draft.proofs.Views.{all_terms, seen}
 
--- ---- one member more
+-- ---- one more member
 
--- what holds of all that a type leads to holds of those from before
+-- a fact of all targets holds for the previous ones
 front_all : (P : ℕ → Type 0) (m : Member) (size : ℕ) (body : Body) → AllByRecursion P (by_value (with_member m size body)) → AllByRecursion P (by_value body)
 front_all P m size (term.struct old ms) h = (all_split P (map (λ (x : Member). x.tnum) ms) (m.tnum ∷ []) (subst (AllByRecursion P) (map-append (λ (x : Member). x.tnum) ms (m ∷ [])) h)).0
 front_all P m size (term.union old ms) h = (all_split P (map (λ (x : Member). x.tnum) ms) (m.tnum ∷ []) (subst (AllByRecursion P) (map-append (λ (x : Member). x.tnum) ms (m ∷ [])) h)).0
@@ -69,7 +70,7 @@ one_greatest f (x ∷ ms) m = rw (one_greatest f ms m) (greater_assoc (f x.tnum)
 true_false : true ≡ false → ⊥
 true_false h = cc
 
--- it is aligned as before
+-- the alignment is unchanged
 same_aligned : (model : DataModel) (f : ℕ → Result ℕ Fault) (m : Member) (size : ℕ) (body : Body) → (counts_more body ≡ false) ⊎ (greater (align_body model f body) (f m.tnum) ≡ align_body model f body) → align_body model f (with_member m size body) ≡ align_body model f body
 same_aligned model f m size (term.struct old []) (inl h) = absurd (true_false h)
 same_aligned model f m size (term.struct old []) (inr h) = sym (unit_greater (f m.tnum)) ∙ h
@@ -111,13 +112,13 @@ module _ (x : Dictionary) where
       at None g more = more
       at (Some j) g more = (g, more)
 
-  -- a type is as deep as what it leads to lets it be
+  -- a type is at most one deeper than its targets
   end_within : (k j : ℕ) → AllByRecursion (EndsAt x k) (by_value (own_body x j)) → IsWithin (value_edges x) k j
   unfolding IsWithin
   end_within zero j h = targets_are x j ∙ none_end (by_value (own_body x j)) h
   end_within (suc k) j h = subst (AllByRecursion (IsWithin (value_edges x) k)) (sym (targets_are x j)) (all_end k (by_value (own_body x j)) h)
 
--- ---- two drafts, of which the second has one member more in type i
+-- ---- two drafts; in the second, type `i` has one more member
 
 module _ (d e : Draft) (known : List (Option Reach)) (i : ℕ) (m : Member) (size : ℕ) (parent : e.parent ≡ d.parent) (model : e.model ≡ d.model) (count : count_of e ≡ count_of d)
     (others : (j : ℕ) → j ≢ i → own_body (content e) j ≡ own_body (content d) j) (here : own_body (content e) i ≡ with_member m size (own_body (content d) i))
@@ -147,15 +148,15 @@ module _ (d e : Draft) (known : List (Option Reach)) (i : ℕ) (m : Member) (siz
   closed : (j : ℕ) → IsKnown known j → AllByRecursion (IsKnownAt d known) (by_value (own_body (content d) j))
   closed j k = let it = found (slice_index_or known j None) k in knows.closed j it.0 it.1
 
-  -- what holds of each that a type leads to, in the second draft: of the type with one more
+  -- a fact of all targets in the second draft: for type `i`
   each_here : (P : ℕ → Type 0) (j : ℕ) → j ≡ i → P m.tnum → AllByRecursion P (by_value (own_body (content d) j)) → AllByRecursion P (by_value (own_body (content e) j))
   each_here P j same new h = subst (λ (b : Body). AllByRecursion P (by_value b)) (sym (one_more j same)) (with_member_all P m size (own_body (content d) j) h new)
 
-  -- and of another one
+  -- for another type
   each_other : (P : ℕ → Type 0) (j : ℕ) → j ≢ i → AllByRecursion P (by_value (own_body (content d) j)) → AllByRecursion P (by_value (own_body (content e) j))
   each_other P j other h = subst (λ (b : Body). AllByRecursion P (by_value b)) (sym (others j other)) h
 
-  -- and in the first
+  -- the same, for the first draft
   each_before : (P : ℕ → Type 0) (j : ℕ) → AllByRecursion P (by_value (own_body (content e) j)) → AllByRecursion P (by_value (own_body (content d) j))
   each_before P j h = at (same_or_not j i)
     where
@@ -193,7 +194,7 @@ module _ (d e : Draft) (known : List (Option Reach)) (i : ℕ) (m : Member) (siz
       at zero le j b = let less = b.less in absurd (omega (arith, le, less))
       at (suc k) le j b = let less = b.less in IsWithin-more before b.reach.depth k j (omega (arith, le, less)) (knows.right j b.reach b.is).depth.within
 
-  -- the same where the type that has one member more is within so many steps
+  -- the same if type `i` is within that many steps
   below_within : (k : ℕ) → IsWithin before k i → EndsAt (content d) k m.tnum
   below_within k w = below_ends k ((knows.right i stays.reach stays.is).depth.least k w)
 
@@ -233,7 +234,7 @@ module _ (d e : Draft) (known : List (Option Reach)) (i : ℕ) (m : Member) (siz
   abbrev number : ℕ → ℕ
   number j = own_number (is_some d.parent) j
 
-  -- of a number that names no own type
+  -- a number that names no own type
   new_elsewhere : (n : ℕ) → own_index (is_some d.parent) (count_of d) n ≡ None → new n ≡ old n
   new_elsewhere n none =
       ap (λ (k : DataModel). comes_to (aligning k) (parents_figure (aligning k) e.parent) (content e) most_numbers n) model
@@ -264,7 +265,7 @@ module _ (d e : Draft) (known : List (Option Reach)) (i : ℕ) (m : Member) (siz
   new_rule : (k j : ℕ) → IsKnown known j → k ≤ longest_chain → IsWithin after k j → new (own_number (is_some e.parent) j) ≡ align_body e.model new (own_body (content e) j)
   new_rule k j is short w = let lt = inside j is in own_figure (aligning e.model) (figures_ask.aligning_asks e.model) (space_of e) k j short (omega (arith, lt, count)) w
 
-  -- what the new member's alignment does to that of its type
+  -- the alignment of the type does not change
   stays_aligned : (k : ℕ) → k ≤ longest_chain → IsWithin before k i → (counts_more (own_body (content d) i) ≡ false) ⊎ (greater (align_body d.model old (own_body (content d) i)) (old m.tnum) ≡ align_body d.model old (own_body (content d) i))
   stays_aligned k short w =
       let is : stays.reach.align ≡ align_body d.model old (own_body (content d) i) = (knows.right i stays.reach stays.is).aligned ∙ old_rule k i here_known short w in
@@ -321,7 +322,7 @@ module _ (d e : Draft) (known : List (Option Reach)) (i : ℕ) (m : Member) (siz
       all j h (inl same) = each_here (IsKnownAt e known) j same (known_at m.tnum below_known) (all_map (IsKnownAt d known) (IsKnownAt e known) known_at (by_value (own_body (content d) j)) h)
       all j h (inr other) = each_other (IsKnownAt e known) j other (all_map (IsKnownAt d known) (IsKnownAt e known) known_at (by_value (own_body (content d) j)) h)
 
--- ---- what is seen in code
+-- ---- drafts in code
 
 pub by_either : {P : Type 0} (b : Bool) → (b ≡ true → P) → (b ≡ false → P) → P
 by_either true f g = f refl
@@ -347,7 +348,7 @@ module _ (parname parlabel : List ℕ) (parent : Option Dictionary) (model : Dat
       (ap (λ (ts : List Term). (get_or ts s nothing).body) (all (set terms s y)) ∙ ap (λ (z : Term). z.body) (get_or-set_at terms s s y nothing refl lt) ∙ is)
       knows stays
 
-  -- one member more, or memory for it was refused
+  -- one more member, or out of memory
   pub pushed_known : {A E : Type 0} (r : Result A E) (s : ℕ) (x y : Term) (m : Member) (size : ℕ) → s < length terms → get_or terms s nothing ≡ x → OnOk r (y ≡ with_body (with_member m size x.body) x) → OnErr r (y ≡ x) → Stays (made terms) known s m.tnum → Knows (made terms) known → Knows (made (set terms s y)) known
   pushed_known (Ok a) s x y m size lt is done left stays knows =
       let was : own_body (content (made terms)) s ≡ x.body = ap (λ (ts : List Term). (get_or ts s nothing).body) (all terms) ∙ ap (λ (z : Term). z.body) is in

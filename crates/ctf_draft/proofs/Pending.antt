@@ -1,4 +1,4 @@
--- A pending type, and one that is written over.
+-- A pending type, and one whose body is replaced.
 use Rattle.std.proofs.Common.{◌≡◌, ℕ, zero, suc, ◌+◌, ◌-◌, ◌<◌, ◌≤◌, Bool, true, false, cond, ltb, List, [], ◌∷◌, length, map, take, set, get_or, Option, Some, None, Result, Ok, is_some, refl, sym, ap, subst, ◌∙◌, arith}
 use Rattle.std.specs.Prelude.{slice_get, option_map}
 use Rattle.std.proofs.lemmas.Bool.{ltb-true}
@@ -26,7 +26,7 @@ use Rattle.ctf_draft.proofs.Views.{all_terms, one_other, seen}
 pub own_type : (d : Draft) (n i : ℕ) → own_index (is_some d.parent) (count_of d) n ≡ Some i → space_type (space_of d) n ≡ or_no_type (slice_get (content d).terms i)
 own_type d n i own = let h = own_inside (is_some d.parent) (count_of d) n i own in rw h.0 refl
 
--- where a pending number stands among the pending types
+-- the index of a pending number among the pending types
 pub pending_is : (d : Draft) (n i : ℕ) → StandsPending d n i → pending_place d n ≡ Some (i - length d.updated.terms)
 pending_is d n i at = rw at.own (past (ltb i (length d.updated.terms)) refl)
   where
@@ -42,7 +42,7 @@ module _ (parname parlabel : List ℕ) (parent : Option Dictionary) (model : Dat
   pub body_found : x.body ≡ body_at (seen parname parlabel parent model u v terms labels) n
   body_found = sym (ap found_body found)
 
-  -- in place of it stands one with another body
+  -- its body is replaced by another one
   pub written_over : (body : Body) → replace_body (seen parname parlabel parent model u v terms labels) n body ≡ seen parname parlabel parent model u v (set terms i (with_body body x)) labels
   written_over body =
       let count : length (take u terms) ≡ u = simp length-take (omega arith) in
@@ -89,7 +89,7 @@ module _ (parname parlabel : List ℕ) (parent : Option Dictionary) (model : Dat
   pub left_here : (new : DraftType) → type_of new ≡ type_of t → seen parname parlabel parent model u v (map type_of (set items i new)) labels ≡ seen parname parlabel parent model u v (map type_of items) labels
   left_here new same = ap (λ (ts : List Term). seen parname parlabel parent model u v ts labels) (map-set_same type_of items i new t (same ∙ ap type_of is))
 
--- the type at an own place
+-- the type at an own index
 pub seen_type : (parname parlabel : List ℕ) (parent : Option Dictionary) (model : DataModel) (u v : ℕ) (items : List DraftType) (labels : List Label) (n i : ℕ) (d : Draft) → seen parname parlabel parent model u v (map type_of items) labels ≡ d → place (is_some parent) n ≡ Own i → space_type (space_of d) n ≡ or_no_type (slice_get (map type_of items) i)
 seen_type parname parlabel parent model u v items labels n i d view at =
     ap (λ (e : Draft). space_type (space_of e) n) (sym view) ∙ here (seen parname parlabel parent model u v (map type_of items) labels) at
@@ -98,7 +98,7 @@ seen_type parname parlabel parent model u v items labels n i d view at =
     here : (e : Draft) → place (is_some e.parent) n ≡ Own i → space_type (space_of e) n ≡ or_no_type (slice_get (content e).terms i)
     here e own = rw own refl
 
--- none stands behind the last
+-- there is none after the last one
 pub none_at : (items : List DraftType) (i : ℕ) → length items ≤ i → slice_get (map type_of items) i ≡ None
 none_at [] i le = refl
 none_at (t ∷ items) zero le = absurd (omega arith)

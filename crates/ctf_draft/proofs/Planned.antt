@@ -1,4 +1,4 @@
--- Whether a type is deep, and what is planned for a member of it.
+-- Whether a type is deep, and the plan for a member of it.
 use Rattle.std.proofs.Common.{◌≡◌, ℕ, zero, suc, ◌≤◌, Bool, true, false, List, [], ◌∷◌, Option, Some, None, Result, Ok, Err, is_some, refl, sym, ap, ◌∙◌, arith, ◌⊎◌, inr}
 use Rattle.std.specs.Prelude.{IfOk, IfErr, MatchOption, not}
 use Rattle.std.specs.List.{AllByRecursion, list_all}
@@ -64,7 +64,7 @@ plan_err d n tnum offset (Err f) h e = inr (plan_of_shallow d n tnum offset h �
 
 -- ---- by bounds
 
--- a type whose bound is known is not deep
+-- a type with a known bound is not deep
 pub bounded_shallow : (d : Draft) (x : Depths) → IsBounded d x → (n i : ℕ) → own_index (is_some d.parent) (count_of d) n ≡ Some i → bound x.bounds.items i ≤ 512 → is_deep d n ≡ false
 bounded_shallow d x ok n i own low =
     let short = true_within (value_edges (content d)) longest_chain i (within_bound d x ok longest_chain i low (omega arith)) in

@@ -1,4 +1,4 @@
--- How deep a type is, and how it is aligned, by the types that it leads to.
+-- The depth and alignment of a type, from its targets.
 use Rattle.std.proofs.Common.{◌≡◌, ℕ, suc, ◌+◌, ◌-◌, ◌<◌, ◌≤◌, Bool, true, false, cond, ltb, List, [], ◌∷◌, length, map, take, get_or, Option, Some, None, Result, Ok, Err, is_some, refl, sym, ap, subst, ◌∙◌, arith, set, ◌⊎◌, inl, inr, ◌≢◌}
 use Rattle.std.specs.Prelude.{min, max, slice_get, slice_index, slice_index_or, slice_set, option_map, MatchOption}
 use Rattle.std.specs.List.{AllByRecursion, filter_map}
@@ -54,7 +54,7 @@ places_are d i = listn.get_or-map (λ (x : Term). map (own_index d.child (length
 pub place_count : (d : Dictionary) (i : ℕ) → length (places_at (value_places d) i) ≡ length (by_value (own_body d i))
 place_count d i = ap length (places_are d i) ∙ length-map (by_value (own_body d i)) (own_index d.child (length d.terms))
 
--- where one of the numbers leads
+-- the target of one of the numbers
 pub place_is : (d : Dictionary) (i k n : ℕ) → k < length (by_value (own_body d i)) → n ≡ slice_index (by_value (own_body d i)) k → slice_index_or (places_at (value_places d) i) k None ≡ own_index d.child (length d.terms) n
 place_is d i k n lt is =
     ap (λ ps. slice_index_or ps k None) (places_are d i)
@@ -97,7 +97,7 @@ first_is f (m ∷ ms) =
     let one : min 1 (suc (length ms)) ≡ 1 = omega arith in
     rw one (sym (greater_unit (f m.tnum)))
 
--- by what its alignment hangs on
+-- the alignment, from what it is computed from
 align_is : (model : DataModel) (f : ℕ → Result ℕ Fault) (body : Body) → align_body model f body ≡ greater (own_align model body) (greatest_of f (take (aligned_by body) (by_value body)))
 align_is model f (term.integer x) = sym (greater_unit (Ok x.size))
 align_is model f (term.float x) = sym (greater_unit (Ok x.size))
@@ -130,11 +130,11 @@ few (term.const t) = omega arith
 few (term.restrict t) = omega arith
 few (term.union said ms) = omega arith
 
--- nothing is read yet
+-- nothing has been read yet
 pub none_read : (f : ℕ → Result ℕ Fault) (base : Result ℕ Fault) (ts : List ℕ) (n : ℕ) → base ≡ greater base (greatest_of f (take (min 0 n) ts))
 none_read f base ts n = let none : min 0 n ≡ 0 = omega arith in rw none (sym (greater_unit base))
 
--- one more is read
+-- one more has been read
 pub one_read : (f : ℕ → Result ℕ Fault) (base : Result ℕ Fault) (ts : List ℕ) (k n : ℕ) (a b : Result ℕ Fault) → k < length ts → a ≡ greater base (greatest_of f (take (min k n) ts)) → b ≡ f (slice_index ts k) → cond (ltb k n) (greater a b) a ≡ greater base (greatest_of f (take (min (k + 1) n) ts))
 one_read f base ts k n a b lt is one = at (ltb k n) refl
   where
@@ -151,17 +151,17 @@ one_read f base ts k n a b lt is one = at (ltb k n) refl
         let after : min (k + 1) n ≡ n = omega arith in
         rw after (is ∙ ap (λ (m : ℕ). greater base (greatest_of f (take m ts))) before)
 
--- ---- what is found
+-- ---- results
 
--- of a number that names no own type
+-- a number that names no own type
 pub elsewhere_is : (d : Draft) (n : ℕ) (r : Result ℕ Fault) → ((k : ℕ) → r ≡ comes_to (aligning d.model) (parents_figure (aligning d.model) d.parent) (content d) (suc k) n) → r ≡ align (space_of d) n
 elsewhere_is d n r h = h 513 ∙ ap (λ (k : ℕ). comes_to (aligning d.model) (parents_figure (aligning d.model) d.parent) (content d) k n) (sym most_is)
 
--- of one that names an own type
+-- a number that names an own type
 pub named_is : (d : Draft) (n j : ℕ) (r : Reach) → own_index (is_some d.parent) (count_of d) n ≡ Some j → IsReach d j r → r.align ≡ align (space_of d) n
 named_is d n j r own h = let at = own_inside (is_some d.parent) (count_of d) n j own in h.aligned ∙ ap (align (space_of d)) (sym at.2)
 
--- of a type, once all that it leads to are read
+-- a type, once all its targets are read
 pub reach_is : (d : Draft) (i k depth : ℕ) (a : Result ℕ Fault) (r : Reach) → i < count_of d → depth ≤ longest_chain → length (by_value (own_body (content d) i)) ≤ k
     → IsLongest (steps_between (value_places (content d))) (led_to (take k (places_at (value_places (content d)) i))) depth
     → a ≡ greater (own_align d.model (own_body (content d) i)) (greatest_of (align (space_of d)) (take (min k (aligned_by (own_body (content d) i))) (by_value (own_body (content d) i))))
@@ -182,7 +182,7 @@ reach_is d i k depth a r lt short whole longest aligned same_depth same_align =
 
 -- ---- the table
 
--- nothing that is known is lost
+-- no entry is lost
 pub known_grows : (known : List (Option Reach)) (i : ℕ) (r : Reach) → i < length known → (j : ℕ) → IsKnown known j → IsKnown (slice_set known i (Some r)) j
 known_grows known i r lt j k = at (same_or_not j i)
   where
@@ -201,7 +201,7 @@ below_grows d a b f (n ∷ ns) h = (at (own_index (is_some d.parent) (count_of d
     at None k = tt
     at (Some j) k = f j k
 
--- of one more of the types that a type leads to something is known
+-- one more target has an entry
 pub below_more : (d : Draft) (known : List (Option Reach)) (ns : List ℕ) (k n : ℕ) → k < length ns → n ≡ slice_index ns k → IsKnownAt d known n → AllByRecursion (IsKnownAt d known) (take k ns) → AllByRecursion (IsKnownAt d known) (take (k + 1) ns)
 below_more d known ns k n lt is here h =
     let one : IsKnownAt d known (slice_index ns k) = subst (IsKnownAt d known) is here in
@@ -231,12 +231,12 @@ either a b m e = at (ltb a b) refl
     at true h = let lt : a < b = ltb-true a b h in inr (omega arith)
     at false h = let le : b ≤ a = ltb-false a b h in inl (omega arith)
 
--- what is known already answers
+-- the answer from a known entry
 pub known_answers : (d : Draft) (i budget : ℕ) (r : Reach) (o : Option Reach) → IsReach d i r → MatchOption o (budget < r.depth) (λ s. (s ≡ r) × (r.depth ≤ budget)) → Answers d i budget o
 known_answers d i budget r None is h = λ w. let least = is.depth.least budget w in omega (arith, h, least)
 known_answers d i budget r (Some s) is h = record { reach = subst (IsReach d i) (sym h.0) is; affordable = subst (λ (q : Reach). q.depth ≤ budget) (sym h.0) h.1 }
 
--- ---- one of the types that a type leads to
+-- ---- one of the targets
 
 module _ (d : Draft) (i : ℕ) (body : Body) (got : option_map (λ x. x.body) (slice_get (content d).terms i) ≡ Some body) where
   same_body : own_body (content d) i ≡ body
@@ -267,7 +267,7 @@ module _ (d : Draft) (i : ℕ) (body : Body) (got : option_map (λ x. x.body) (s
         (λ le v. deep le (subst (λ (es : List (List ℕ)). IsWithin es (budget - 1) j) (edges_are (content d)) v))
         (subst (λ (es : List (List ℕ)). IsWithin es budget i) (sym (edges_are (content d))) w)
 
-    -- something is known of it then
+    -- its target then has an entry
     pub below_named : (j : ℕ) (known : List (Option Reach)) → o ≡ Some j → IsKnown known j → AllByRecursion (IsKnownAt d known) (take k (by_value (own_body (content d) i))) → AllByRecursion (IsKnownAt d known) (take (k + 1) (by_value (own_body (content d) i)))
     below_named j known to known_j h =
         let here : own_index (is_some d.parent) (count_of d) n ≡ Some j = sym own ∙ to in

@@ -3,7 +3,7 @@ use Rattle.std.proofs.Common.{◌≡◌, ℕ, zero, suc, ◌<◌, ◌≤◌, Boo
 use Rattle.std.specs.Prelude.{◌&&◌, replicate}
 use Rattle.std.proofs.lemmas.Bool.{eqb-true, eqb-false, leb-true, le-leb}
 use Rattle.std.proofs.lemmas.List.{map-set, take_all}
-use Rattle.ctf_draft.specs.MarksView.{are_within, said_in}
+use Rattle.ctf_draft.specs.MarksView.{are_within, reach_in_round}
 use Rattle.ctf_draft.specs.declared.mark.Mark.{Mark}
 use Rattle.ctf_draft.specs.declared.reach.Reach.{Reach}
 
@@ -28,7 +28,7 @@ module _ (r : ℕ) where
   within_both [] ys h k = k
   within_both (x ∷ xs) ys h k = let p = parts (leb x.round r) (are_within r xs) h in both (leb x.round r) (are_within r (xs ++ ys)) p.0 (within_both xs ys p.1 k)
 
-  -- so it is once the marks are as many as wanted
+  -- the same after resizing the marks
   pub within_resized : (b : Bool) (n k : ℕ) (old : Mark) (xs ys : List Mark) → ys ≡ cond b (take n xs ++ replicate k old) xs → old.round ≡ 0 → are_within r xs ≡ true → are_within r ys ≡ true
   within_resized true n k old xs ys is zero_is h = rw is (within_both (take n xs) (replicate k old) (within_front n xs h) (within_all k old (le-leb old.round r (omega arith))))
   within_resized false n k old xs ys is zero_is h = rw is h
@@ -38,7 +38,7 @@ module _ (r : ℕ) where
   within_set (y ∷ ys) zero x le h = let p = parts (leb y.round r) (are_within r ys) h in both (leb x.round r) (are_within r ys) (le-leb x.round r le) p.1
   within_set (y ∷ ys) (suc i) x le h = let p = parts (leb y.round r) (are_within r ys) h in both (leb y.round r) (are_within r (set ys i x)) p.0 (within_set ys i x le p.1)
 
--- what is of a round is of a later one too
+-- a mark within a round is within a later one
 pub within_later : (r s : ℕ) (xs : List Mark) → r ≤ s → are_within r xs ≡ true → are_within s xs ≡ true
 within_later r s [] le h = refl
 within_later r s (x ∷ xs) le h =
@@ -46,8 +46,8 @@ within_later r s (x ∷ xs) le h =
     let low : x.round ≤ r = leb-true x.round r p.0 in
     both (leb x.round s) (are_within s xs) (le-leb x.round s (omega arith)) (within_later r s xs le p.1)
 
--- and says nothing there
-pub none_said : (r s : ℕ) (xs : List Mark) → r < s → are_within r xs ≡ true → (j : ℕ) → get_or (map (said_in s) xs) j None ≡ None
+-- and shows nothing there
+pub none_said : (r s : ℕ) (xs : List Mark) → r < s → are_within r xs ≡ true → (j : ℕ) → get_or (map (reach_in_round s) xs) j None ≡ None
 none_said r s [] lt h j = refl
 none_said r s (x ∷ xs) lt h zero = at (eqb x.round s) refl
   where
@@ -59,8 +59,8 @@ none_said r s (x ∷ xs) lt h zero = at (eqb x.round s) refl
     at false e = refl
 none_said r s (x ∷ xs) lt h (suc j) = none_said r s xs lt (parts (leb x.round r) (are_within r xs) h).1 j
 
--- room for more says nothing
-pub same_said : (r k : ℕ) (old : Mark) → old.round ≡ 0 → 0 < r → (xs : List Mark) (j : ℕ) → get_or (map (said_in r) (xs ++ replicate k old)) j None ≡ get_or (map (said_in r) xs) j None
+-- added room shows nothing
+pub same_said : (r k : ℕ) (old : Mark) → old.round ≡ 0 → 0 < r → (xs : List Mark) (j : ℕ) → get_or (map (reach_in_round r) (xs ++ replicate k old)) j None ≡ get_or (map (reach_in_round r) xs) j None
 same_said r zero old none lt [] j = refl
 same_said r (suc k) old none lt [] zero = at (eqb old.round r) refl
   where
@@ -71,7 +71,7 @@ same_said r (suc k) old none lt [] (suc j) = same_said r k old none lt [] j
 same_said r k old none lt (x ∷ xs) zero = refl
 same_said r k old none lt (x ∷ xs) (suc j) = same_said r k old none lt xs j
 
-pub room_said : (r : ℕ) (b : Bool) (n k : ℕ) (old : Mark) (xs ys : List Mark) → ys ≡ cond b (take n xs ++ replicate k old) xs → old.round ≡ 0 → 0 < r → length xs ≤ n → (j : ℕ) → get_or (map (said_in r) ys) j None ≡ get_or (map (said_in r) xs) j None
+pub room_said : (r : ℕ) (b : Bool) (n k : ℕ) (old : Mark) (xs ys : List Mark) → ys ≡ cond b (take n xs ++ replicate k old) xs → old.round ≡ 0 → 0 < r → length xs ≤ n → (j : ℕ) → get_or (map (reach_in_round r) ys) j None ≡ get_or (map (reach_in_round r) xs) j None
 room_said r true n k old xs ys is none lt le j = rw (is, take_all n xs le) (same_said r k old none lt xs j)
 room_said r false n k old xs ys is none lt le j = rw is refl
 
@@ -82,6 +82,6 @@ same_round r = at (eqb r r) refl
     at true e = refl
     at false e = let other = eqb-false r r e in absurd (other refl)
 
--- a mark of this round says what it is
-pub said_now : (r i : ℕ) (reach : Reach) (xs : List Mark) → map (said_in r) (set xs i (record { round = r; reach = reach })) ≡ set (map (said_in r) xs) i (Some reach)
-said_now r i reach xs = map-set (said_in r) xs i (record { round = r; reach = reach }) ∙ ap (set (map (said_in r) xs) i) (ap (λ (b : Bool). cond b (Some reach) None) (same_round r))
+-- a mark of this round shows its own reach
+pub said_now : (r i : ℕ) (reach : Reach) (xs : List Mark) → map (reach_in_round r) (set xs i (record { round = r; reach = reach })) ≡ set (map (reach_in_round r) xs) i (Some reach)
+said_now r i reach xs = map-set (reach_in_round r) xs i (record { round = r; reach = reach }) ∙ ap (set (map (reach_in_round r) xs) i) (ap (λ (b : Bool). cond b (Some reach) None) (same_round r))

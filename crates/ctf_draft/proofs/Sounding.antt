@@ -16,7 +16,7 @@ use Rattle.ctf_draft.specs.Planning.{against_name, planned}
 use Rattle.ctf_draft.specs.declared.plan.Plan.{Plan}
 use Rattle.ctf_draft.proofs.MemberAdded.{member_accepted}
 
--- of what went well or left all as it was
+-- after a change that succeeded, or left everything as it was
 pub either_sound : {A E : Type 0} (r : Result A E) (before changed after : Draft) → OnOk r (after ≡ changed) → OnErr r (after ≡ before) → IsSound before → IsSound changed → IsSound after
 either_sound (Ok a) before changed after is same old new = subst IsSound (sym is) new
 either_sound (Err e) before changed after is same old new = subst IsSound (sym same) old
@@ -26,12 +26,12 @@ unfolding new_draft
 empty_sound parent parname parlabel model named clean clean_label grown_up alike =
     new_sound parent parname parlabel model (empty_draft (above parent) parname parlabel model) named (rw (clean, clean_label, grown_up, alike) refl)
 
--- parents as a draft is given them, and without their models
+-- parents as given to a draft, and without their models
 pub same_above : {P : Type 0} (kept : P → Kept) (parent : Option P) → option_map (λ p. said_by (kept p).lists) parent ≡ above (option_map (λ p. modelled_by (kept p)) parent)
 same_above kept None = refl
 same_above kept (Some p) = refl
 
--- a member that is added as it is planned
+-- a member added at its planned offset
 pub planned_sound : (d : Draft) (n : ℕ) (name : List ℕ) (tnum : ℕ) (offset : Option ℕ) (p : Plan) → IsSound d → against_name d n name tnum ≡ None → planned d n tnum offset ≡ Ok p → IsSound (replace_body d n (with_member (record { name = name; tnum = tnum; offset = p.offset }) p.size (body_at d n)))
 planned_sound d n name tnum offset p ok none h =
     member_sound d n name tnum offset (record { draft = replace_body d n (with_member (record { name = name; tnum = tnum; offset = p.offset }) p.size (body_at d n)); answer = p.offset }) ok (member_accepted d n name tnum offset p none h)

@@ -1,4 +1,4 @@
--- A member whose place is stated is added, or why it isn't; and a draft stays sound with it.
+-- A member with a stated offset is added or refused; the draft stays sound.
 use Rattle.std.proofs.Common.{◌≡◌, ℕ, ◌*◌, ◌^◌, ◌<◌, ◌≤◌, Bool, true, false, cond, eqb, ltb, leb, List, [], ◌∷◌, ◌++◌, take, length, map, set, Option, Some, None, Result, Ok, Err, is_some, refl, sym, ap, subst, ◌∙◌, arith}
 use Rattle.std.specs.Prelude.{◌||◌, is_none, slice_get, unwrap_or}
 use Rattle.std.specs.List.{AllByRecursion, list_any}
@@ -27,7 +27,7 @@ use Rattle.ctf_draft.specs.Stating.{add_member_at, against_stated, begins_behind
 use Rattle.ctf_draft.proofs.MemberAdded.{first_back, first_front}
 use Rattle.ctf_draft.proofs.Pending.{own_type}
 
--- ---- members that begin behind a size
+-- ---- members that begin after the size
 
 pub any_front : (p : Member → Bool) (ms : List Member) (m : Member) → list_any p ms ≡ true → list_any p (ms ++ m ∷ []) ≡ true
 any_front p [] m h = absurd cc
@@ -48,7 +48,7 @@ any_last p (x ∷ ms) m h = at (p x) (any_last p ms m h)
 pub none_last : (p : Member → Bool) (ms : List Member) (m : Member) → list_any p ms ≡ false → p m ≡ false → list_any p (ms ++ m ∷ []) ≡ false
 none_last p ms m h own = let alone : list_any p (m ∷ []) ≡ false = rw own refl in none_joined p ms (m ∷ []) h alone
 
--- those that begin inside a size begin inside a greater one
+-- members inside a size are inside a greater one
 none_in : (old size : ℕ) → old ≤ size → (ms : List Member) → AllByRecursion (FitsMember old) ms → list_any (begins_behind size) ms ≡ false
 none_in old size le [] h = refl
 none_in old size le (m ∷ ms) h = rw (at (ltb (8 * size) m.offset) refl, none_in old size le ms h.1) refl
@@ -84,7 +84,7 @@ fits_at d n i ok at = go (slice_get (content d).terms i) refl
 pub none_left : (d : Draft) (n i size : ℕ) → IsSound d → StandsPending d n i → unwrap_or (size_of (body_at d n)) 0 ≤ size → list_any (begins_behind size) (present_members d n) ≡ false
 none_left d n i size ok at le = none_of (body_at d n) size (fits_at d n i ok at) le
 
--- ---- what is refused, and what is accepted
+-- ---- refusals and success
 
 not_far : (n : ℕ) → n < 2 ^ 64 → is_too_far n ≡ false
 not_far n lt = at (leb (2 ^ 64) n) refl
@@ -121,7 +121,7 @@ module _ (d : Draft) (n : ℕ) (m : Member) (size : ℕ) where
   pub stated_deep : against_name d n m.name m.tnum ≡ None → is_deep d m.tnum ≡ true → add_member_at d n m size ≡ Err (placeless 44)
   stated_deep none deep = behind_name none ∙ ap (λ b. answer (cond b (Some (placeless 44)) (first_met (against_stated d n m size)))) deep
 
-  -- what is left to judge
+  -- the remaining checks
   behind_depth : against_name d n m.name m.tnum ≡ None → is_deep d m.tnum ≡ false → m.offset < 2 ^ 64 → size < 2 ^ 64 → add_member_at d n m size ≡ answer (cond (list_any (begins_behind size) (present_members d n ++ m ∷ [])) (Some (placeless 45)) None)
   behind_depth none deep low small =
       behind_name none
@@ -151,7 +151,7 @@ is_name : (name : List ℕ) → has_zero name ≡ false → IsName name
 is_name [] h = tt
 is_name (b ∷ name) h = let both = or_parts (eqb b 0) (has_zero name) h in let some = eqb-false b 0 both.0 in (omega (arith, some), is_name name both.1)
 
--- pending types may be others, as many, where these fit and name what is there
+-- replacing pending types, if the new ones fit and refer to existing types
 renewed : (d : Draft) (ts : List Term) → IsSound d → length ts ≡ length d.pending.terms → AllByRecursion Fits ts → AllByRecursion (NamesThere d) ts → IsSound (with_pending d ts)
 renewed d ts ok same fits named =
     let old = length-append d.updated.terms d.pending.terms in
@@ -187,7 +187,7 @@ other_sound d n x i body ok known fits named =
     rw (known.pending, known.found)
     (renewed d (set d.pending.terms i (with_body body x)) ok (length-set d.pending.terms i (with_body body x)) (all_set Fits d.pending.terms i (with_body body x) rest.1 new) (all_set (NamesThere d) d.pending.terms i (with_body body x) rest_named.1 named))
 
--- members that are there fit a size behind which none begins
+-- existing members fit a size if none begins after it
 each_fits : (old size : ℕ) (ms : List Member) → AllByRecursion (FitsMember old) ms → list_any (begins_behind size) ms ≡ false → AllByRecursion (FitsMember size) ms
 each_fits old size [] h none = tt
 each_fits old size (m ∷ ms) h none =

@@ -1,4 +1,4 @@
--- A draft in code as the definitions see it: its types and labels in two parts.
+-- A draft in code as the definitions see it: types and labels in two parts.
 use Rattle.std.proofs.Common.{◌≡◌, ℕ, false, zero, suc, ◌+◌, ◌-◌, ◌≤◌, List, [], ◌∷◌, ◌++◌, length, map, take, drop, set, Option, None, Result, Ok, refl, ap, arith}
 use Rattle.std.proofs.Math.Seq.{drop-length}
 use Rattle.std.proofs.lemmas.List.{take_all, take-append-le, drop-append-le, take-append-drop, length-drop, drop-set-add, take-set-le}
@@ -24,7 +24,7 @@ none_behind zero xs = refl
 none_behind (suc n) [] = refl
 none_behind (suc n) (x ∷ xs) = none_behind n xs
 
--- ---- what is seen of types and labels, of which so many are updated
+-- ---- types and labels, of which the first ones are updated
 
 module _ (parname parlabel : List ℕ) (parent : Option Dictionary) (model : DataModel) (u v : ℕ) where
   abbrev pub seen : List Term → List Label → Draft
@@ -56,7 +56,7 @@ pub settled_is : (parname parlabel : List ℕ) (parent : Option Dictionary) (mod
 settled_is parname parlabel parent model u v terms labels =
     rw (take_all (length terms) terms (omega arith), take_all (length labels) labels (omega arith), drop-length terms, drop-length labels, take-append-drop u terms, take-append-drop v labels) refl
 
--- ---- what is accepted
+-- ---- successful additions
 
 pub type_accepted : (d : Draft) (new : NewType) → first_met (against_type d (new_term new)) ≡ None → add_type d new ≡ Ok (record { draft = with_type d (new_term new); answer = next_number d })
 unfolding add_type
@@ -66,11 +66,11 @@ pub label_accepted : (d : Draft) (l : Label) → first_met (against_label d l.na
 unfolding add_label
 label_accepted d l none = rw none refl
 
--- a name that is free
+-- an unused name
 pub label_free : (name : List ℕ) (d : Draft) (labels : List Label) → (content d).labels ≡ labels → has_zero name ≡ false → list_any (bytes_eq name) (map (λ l. l.name) labels) ≡ false → first_met (against_label d name) ≡ None
 label_free name d labels all zeros none = rw (zeros, all, none) refl
 
--- what is answered, by what is seen before and after
+-- the answer, from the views before and after
 pub added : (d e : Draft) (x : Term) (after : Draft) (n : ℕ) → d ≡ e → with_type e x ≡ after → next_number d ≡ n → (let r : Result Added Fault = Ok (record { draft = with_type d x; answer = next_number d }) in r) ≡ Ok (record { draft = after; answer = n })
 added d e x after n is one number = rw (number, is, one) refl
 

@@ -1,4 +1,4 @@
--- The labels that stand in a map.
+-- Labels in a map.
 use Rattle.std.specs.Prelude.{ℕ, List, map, Vec}
 use Rattle.std.specs.declared.alloc.Global.{Global}
 use Rattle.ctf_model.specs.format.Dictionary.{Label}

@@ -1,6 +1,6 @@
 pub mod ParentView
 pub mod KeysView
-pub mod TakenView
+pub mod NamesInUseView
 pub mod TypeView
 pub mod NewView
 pub mod LabelView

@@ -1,4 +1,4 @@
--- The new types that a draft is handed.
+-- The new types that are passed to a draft.
 use Rattle.std.specs.Prelude.{ℕ, map}
 use Rattle.ctf_model.specs.drafts.NewTypes as new
 use Rattle.ctf_model.specs.format.Term.{Scalar}

@@ -1,4 +1,4 @@
--- The parent that a draft keeps.
+-- The parent that a draft stores.
 use Rattle.std.specs.Prelude.{Option}
 use Rattle.std.specs.Option.{option_map}
 use Rattle.ctf_model.specs.format.Dictionary.{Dictionary, said_by}
@@ -10,6 +10,6 @@ use Rattle.ctf_draft.specs.declared.parents.Parent.{Parent}
 abbrev pub parent_in : Option Parent → Option Dictionary
 parent_in parent = option_map (λ p. said_by p.judged.value.kept.lists) parent
 
--- its sizes and alignments are those of its types
+-- its layout fits its types
 abbrev pub FitsParent : DataModel → Parent → Type 0
 FitsParent model p = Fits (space_alone (said_by p.judged.value.kept.lists) model) p.layout

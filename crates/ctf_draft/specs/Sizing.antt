@@ -1,4 +1,4 @@
--- What the size of a type, and the type that it stands for, hang on. The words are ours.
+-- What a type's size and resolved type are computed from. Source: ours.
 use Rattle.std.specs.Prelude.{ℕ, ◌*◌, min, length, Option, Some, None, Result, Ok, Err}
 use Rattle.ctf_model.specs.rules.Chains.{by_value}
 use Rattle.ctf_model.specs.figures.Figures.{enum_size, incomplete, times}
@@ -10,13 +10,13 @@ use Rattle.ctf_model.specs.declared.faults.Fault.{Fault}
 use Rattle.ctf_draft.specs.declared.sizing.Sizing.{Sizing}
 use Rattle.ctf_draft.specs.declared.sizing.Sizing.TheVariants.{Itself, One, Row}
 
--- a size, where other types have those that f says
+-- the size, given those of other types
 abbrev pub size_from : (ℕ → Result ℕ Fault) → Sizing → Result ℕ Fault
 size_from f (Itself size) = size
 size_from f (One t) = f t.0
 size_from f (Row count t) = times count (f t.0)
 
--- the type that a typedef or a qualifier stands for
+-- the type that a typedef or qualifier stands for
 abbrev pub alias_target : Body → Option ℕ
 alias_target (term.typedef t) = Some t
 alias_target (term.volatile t) = Some t
@@ -30,7 +30,7 @@ width (term.integer scalar) = Some scalar.bits
 width (term.float scalar) = Some scalar.bits
 width _ = None
 
--- the alignment of a type apart from those that it hangs on
+-- the alignment of a type, apart from the types that it is computed from
 abbrev pub own_align : DataModel → Body → Result ℕ Fault
 own_align model (term.integer scalar) = Ok scalar.size
 own_align model (term.float scalar) = Ok scalar.size
@@ -41,8 +41,7 @@ own_align model (term.forward tag) = Err incomplete
 own_align model term.unknown = Err incomplete
 own_align model _ = Ok 0
 
--- how many of the types that it leads to by value its alignment hangs on:
--- of a struct's the first alone
+-- the number of types by value that the alignment is computed from: of a struct only the first
 abbrev pub aligned_by : Body → ℕ
 aligned_by (term.struct said members) = min 1 (length members)
 aligned_by body = length (by_value body)
@@ -51,7 +50,7 @@ abbrev pub width_found : Result Term Fault → Result (Option ℕ) Fault
 width_found (Err f) = Err f
 width_found (Ok x) = Ok (width x.body)
 
--- how many bits a value of a size fills: all of them, where no width is said
+-- the width in bits: all bits of the size if no width is stated
 abbrev pub filled_bits : ℕ → Option ℕ → ℕ
 filled_bits size None = 8 * size
 filled_bits size (Some bits) = bits

@@ -1,4 +1,4 @@
--- The types that types of a draft stand for.
+-- What the types of a draft stand for.
 use Rattle.std.specs.Prelude.{ℕ, List, map}
 use Rattle.ctf_model.specs.format.Term as term
 use Rattle.ctf_model.specs.format.Term.{Scalar, Term}
@@ -26,7 +26,7 @@ member_of m = record { name = m.name; tnum = m.tnum.0; offset = m.offset }
 abbrev pub enumerator_of : Enumerator → term.Enumerator
 enumerator_of e = record { name = e.name; value = e.value }
 
--- of a size, with an encoding
+-- an integer or float with this size and encoding
 abbrev pub scalar_of : ℕ → Encoding → Scalar
 scalar_of size e = record { size = size; encoding = e.encoding; offset = e.offset; bits = e.bits }
 

@@ -1,6 +1,6 @@
 //! Bounds on the depths of types, and the types that contain them.
 ghost use Rattle.std.specs.Prelude.{◌≡◌, ◌+◌, ◌<◌, ◌≤◌, ℕ, [], true, length, min, slice_index_or, MatchOption, OnOk};
-ghost use Rattle.ctf_draft.specs.Bounding.{IsAbove, IsBounded, IsLifted, IsNoted, IsOver, IsReady, above_of, bound, over_held};
+ghost use Rattle.ctf_draft.specs.Bounding.{IsAbove, IsBounded, IsLifted, IsNoted, IsOver, IsReady, above_of, bound, needed_bound};
 ghost use Rattle.ctf_model.specs.drafts.Drafts.{Draft as Making, count_of};
 
 use std::alloc::{AllocError, Global};
@@ -137,7 +137,7 @@ impl Depths {
 
     /// The bound of a type that contains this one, or none.
     fn bound_over(&self, held: Option<usize>) -> u16
-        ensures { result ≡ over_held self.now.bounds.items held }
+        ensures { result ≡ needed_bound self.now.bounds.items held }
     {
         match held {
             Some(j) => over(self.bound(j)),
@@ -260,7 +260,7 @@ impl Depths {
         Ok(())
     }
 
-    /// Prepares for a new type, which contains one of the others or none.
+    /// Prepares for a new type; `held` is the index of the type that it contains by value, if any.
     pub(crate) fn make_next(
         &mut self,
         alloc: Global,

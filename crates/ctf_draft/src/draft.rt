@@ -138,7 +138,7 @@ impl Draft {
         self.depths.truncate(self.updated);
     }
 
-    /// Marks all additions as updated; the given dictionary has them.
+    /// Ends an update: all additions now belong to the dictionary, which was written with them.
     pub fn settle(&mut self, dictionary: Rc<Judged<'static>>)
         requires denotes { Denotes dictionary.value.kept.lists (content self.old.draft) }
         requires model { dictionary.value.kept.model ≡ self.old.draft.model }

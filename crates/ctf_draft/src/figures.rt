@@ -20,7 +20,7 @@ use ctf_space::Space;
 pub(crate) const MOST_NUMBERS: u16 = 514;
 
 impl Draft {
-    /// The index of an own type, from 0, if the number is one's.
+    /// The index, from 0, of the own type with this number; `None` for any other number.
     #[inline(always)]
     pub(crate) fn own_index(&self, n: TypeNum) -> Option<usize>
         ensures { let d = self.now.draft in

@@ -38,6 +38,7 @@ mod items;
 mod labels;
 mod mark;
 mod marks;
+mod names_in_use;
 mod naming;
 mod new_types;
 mod parents;
@@ -49,7 +50,6 @@ mod reaching;
 mod sizing;
 mod stating;
 mod staying;
-mod taken_names;
 mod types;
 mod widths;
 

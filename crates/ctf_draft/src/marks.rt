@@ -25,12 +25,12 @@ pub(crate) struct Marks {
 
 impl Model for Marks {
     ghost use Rattle.std.specs.Prelude.{◌≡◌, ◌<◌, List, Option, map, true};
-    ghost use Rattle.ctf_draft.specs.MarksView.{are_within, said_in};
+    ghost use Rattle.ctf_draft.specs.MarksView.{are_within, reach_in_round};
     ghost use Rattle.ctf_draft.specs.declared.reach.Reach.{Reach};
 
     ghost Value = { List (Option Reach) };
 
-    ghost view = { λ m. map (said_in m.round) m.marks.items };
+    ghost view = { λ m. map (reach_in_round m.round) m.marks.items };
 
     ghost invariant = { λ m. (0 < m.round) × (are_within m.round m.marks.items ≡ true) };
 }

@@ -1,12 +1,12 @@
 //! Types as they are added to a draft, without members or enumerators.
 ghost use Rattle.std.specs.Prelude.{◌≡◌, [], IfOk};
 ghost use Rattle.ctf_draft.specs.NewView.{new_body_of, new_of};
-ghost use Rattle.ctf_draft.specs.TakenView.{names_in};
+ghost use Rattle.ctf_draft.specs.NamesInUseView.{names_in};
 ghost use Rattle.ctf_draft.specs.TypeView.{body_of, type_of};
 ghost use Rattle.ctf_model.specs.drafts.Fitting.{FitsNew};
 ghost use Rattle.ctf_model.specs.drafts.NewTypes.{new_body, new_term};
 
-use crate::taken_names::Taken;
+use crate::names_in_use::NamesInUse;
 use crate::types::{AggregateKind, Body, DraftType, ReferenceKind, ScalarKind};
 use ctf_model::{Bytes, TypeNum};
 use ctf_records::Tag;
@@ -65,7 +65,7 @@ pub(crate) fn draft_type(alloc: Global, new: NewType<'_>) -> Result<DraftType, A
 {
     let NewType { name, root, body } = new;
     let body = body_from(alloc, body)?;
-    let taken = Taken::new(alloc);
+    let taken = NamesInUse::new(alloc);
     Ok(DraftType {
         name,
         root,

@@ -2,7 +2,7 @@
 ghost use Rattle.std.specs.Prelude.{◌≡◌, ◌+◌, ◌<◌, ◌^◌, ◌⊎◌, ℕ, IfOk, IfErr, MatchOption, Option, Some, is_some, option_map, true, false, unwrap_or, Ok, Err};
 ghost use Rattle.ctf_draft.specs.Pending.{StandsPending};
 ghost use Rattle.ctf_draft.specs.Reaching.{Knows};
-ghost use Rattle.ctf_draft.specs.Planning.{planned, planned_shallow, planned_with, stands_behind};
+ghost use Rattle.ctf_draft.specs.Planning.{planned, planned_shallow, planned_with, last_of_struct};
 ghost use Rattle.ctf_draft.specs.TypeView.{body_of, member_of};
 ghost use Rattle.ctf_model.specs.drafts.Adders.{body_at, is_deep};
 ghost use Rattle.ctf_model.specs.drafts.Drafts.{count_of, space_of};
@@ -58,8 +58,8 @@ fn checked_plan(offset: u128, size: u128) -> Result<Plan, Fault>
 
 impl Body {
     /// The last member of a struct, after which a new one comes.
-    fn stands_behind(&self) -> Option<&Member>
-        ensures { option_map (λ m. member_of m.now) result ≡ stands_behind (body_of self.now) }
+    fn last_of_struct(&self) -> Option<&Member>
+        ensures { option_map (λ m. member_of m.now) result ≡ last_of_struct (body_of self.now) }
     {
         match self {
             Body::Aggregate(AggregateKind::Struct, _, members) => members.as_slice().last(),
@@ -68,7 +68,7 @@ impl Body {
     }
 
     /// The size that is stored, or 0.
-    pub(crate) fn said_size(&self) -> u64
+    pub(crate) fn stated_size(&self) -> u64
         ensures { result ≡ unwrap_or (size_of (body_of self.now)) 0 }
     {
         match self {
@@ -130,7 +130,7 @@ impl Draft {
             → result ≡ own_place_in (space_of self.now.draft) (body_at self.now.draft n.0) tnum }
         ensures small { IfOk result (λ place. place < 2 ^ 71) }
     {
-        let Some(last) = self.pending_body(n, i).stands_behind() else {
+        let Some(last) = self.pending_body(n, i).last_of_struct() else {
             return Ok(0);
         };
         let bits = self.bits_filled(last.tnum)?;
@@ -169,7 +169,7 @@ impl Draft {
         if offset.is_some() {
             return offset;
         }
-        match self.pending_body(n, i).stands_behind() {
+        match self.pending_body(n, i).last_of_struct() {
             Some(_) => None,
             None => Some(0),
         }
@@ -201,7 +201,7 @@ impl Draft {
     {
         let bits = self.bits_filled(tnum)?;
         let place = place?;
-        let said = self.pending_body(n, i).said_size();
+        let said = self.pending_body(n, i).stated_size();
         checked_plan(place, grown_size(said, place, bits))
     }
 

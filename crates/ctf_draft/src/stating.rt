@@ -57,7 +57,7 @@ impl Draft {
             ≡ list_any (begins_behind size) (present_members self.now.draft n.0) }
     {
         let body = self.pending_body(n, i);
-        if body.said_size() <= size {
+        if body.stated_size() <= size {
             return false;
         }
         body.has_behind(size)

@@ -1,8 +1,8 @@
 //! Types of a draft, which own their names and their lists.
 ghost use Rattle.std.specs.Prelude.{◌≡◌};
-ghost use Rattle.ctf_draft.specs.TakenView.{names_given, names_in};
+ghost use Rattle.ctf_draft.specs.NamesInUseView.{nonempty_names, names_in};
 
-use crate::taken_names::Taken;
+use crate::names_in_use::NamesInUse;
 use ctf_model::{Bytes, TypeNum};
 use ctf_records::Tag;
 use ctf_views::{ArrayInfo, Encoding};
@@ -73,6 +73,6 @@ pub struct DraftType {
     pub root: bool,
     pub body: Body,
     /// The names that its members or enumerators have.
-    pub(crate) taken: Taken,
-    ghost kept: { taken ≡ names_given (names_in body) },
+    pub(crate) taken: NamesInUse,
+    ghost kept: { taken ≡ nonempty_names (names_in body) },
 }

@@ -1,4 +1,4 @@
--- Names of plain bytes, which are escaped as they stand.
+-- Names of plain bytes, which need no escapes.
 use Rattle.std.proofs.Common.{◌≡◌, ℕ, ◌+◌, ◌<◌, ◌≤◌, Bool, true, false, List, [], ◌∷◌, ◌++◌, length, get_or, take, refl, sym, ap, ◌∙◌}
 use Rattle.std.specs.Prelude.{◌&&◌}
 use Rattle.std.specs.List.{flat_map}
@@ -10,14 +10,14 @@ use Rattle.ctf_model.specs.dumps.Texts.{is_plain}
 one : (b : ℕ) → is_plain b ≡ true → escape b ≡ b ∷ []
 one b plain = rw plain refl
 
--- the first ones, and one more
+-- the first bytes, and one more
 walked : (name : List ℕ) (k : ℕ) → k < length name → flat_map escape (take k name) ++ escape (get_or name k 0) ≡ flat_map escape (take (k + 1) name)
 walked name k h =
     sym (ap (flat_map escape) (take_more name k 0 h)
     ∙ flat_map-append escape (take k name) (get_or name k 0 ∷ [])
     ∙ ap (λ (t : List ℕ). flat_map escape (take k name) ++ t) (append-nil (escape (get_or name k 0))))
 
--- where all were gone through
+-- once all bytes are done
 pub all_walked : (name : List ℕ) (k : ℕ) → length name ≤ k → flat_map escape (take k name) ≡ flat_map escape name
 all_walked name k h = ap (flat_map escape) (take_all k name h)
 

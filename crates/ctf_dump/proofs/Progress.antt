@@ -1,15 +1,15 @@
--- A text that is written piece by piece.
+-- A text written piece by piece.
 use Rattle.std.proofs.Common.{ℕ, List, [], ◌++◌, Some, None, refl, sym, ap, subst, ◌∙◌, append_assoc, append-nil}
 use Rattle.std.specs.Prelude.{Option}
 use Rattle.std.specs.Io.KnownBytes.{Appends, Keeps}
 use Rattle.std.proofs.KnownBytes.{Appends-nil, Appends-trans}
 use Rattle.ctf_dump.specs.Progress.{HasBegun, HasWritten}
 
--- nothing was written yet
+-- nothing is written yet
 pub nothing_yet : (a : Option (List ℕ)) (all : List ℕ) → HasWritten a a all all
 nothing_yet a all = record { done = []; written = Appends-nil a; joined = refl }
 
--- one piece more
+-- one more piece
 pub one_more : (a b c : Option (List ℕ)) (all piece rest : List ℕ) → HasWritten a b all (piece ++ rest) → Appends b c piece → HasWritten a c all rest
 one_more a b c all piece rest w p =
     record {
@@ -32,7 +32,7 @@ not_begun (Some xs) (Some ys) all keeps = record { rest = all; front = record { 
 pub begun_nothing : (a : Option (List ℕ)) (all : List ℕ) → HasBegun a a all
 begun_nothing a all = record { rest = all; front = nothing_yet a all }
 
--- pieces were written, and then a front of the next
+-- pieces were written, then a prefix of the next one
 pub begun_next : (a b c : Option (List ℕ)) (all piece rest : List ℕ) → HasWritten a b all (piece ++ rest) → HasBegun b c piece → HasBegun a c all
 begun_next a b c all piece rest w begun =
     let front = begun.front in
@@ -41,7 +41,7 @@ begun_next a b c all piece rest w begun =
       front = one_more a b c all front.done (begun.rest ++ rest) (subst (HasWritten a b all) (ap (λ (xs : List ℕ). xs ++ rest) (sym front.joined) ∙ append_assoc front.done begun.rest rest) w) front.written;
     }
 
--- a front of what stands in front is one of the whole
+-- a prefix of the first part is a prefix of the whole
 pub begun_front : (a b : Option (List ℕ)) (first second : List ℕ) → HasBegun a b first → HasBegun a b (first ++ second)
 begun_front a b first second begun =
     let front = begun.front in
@@ -50,7 +50,7 @@ begun_front a b first second begun =
       front = record { done = front.done; written = front.written; joined = sym (append_assoc front.done begun.rest second) ∙ ap (λ (xs : List ℕ). xs ++ second) front.joined };
     }
 
--- and so is what stands in front with a front of what stands behind
+-- so is the first part with a prefix of the second
 pub begun_behind : (a b c : Option (List ℕ)) (first second : List ℕ) → Appends a b first → HasBegun b c second → HasBegun a c (first ++ second)
 begun_behind a b c first second written begun =
     let front = begun.front in

@@ -1,4 +1,4 @@
--- The texts of code are those of the definition.
+-- The texts of the code are those of the definition.
 use Rattle.std.proofs.Common.{◌≡◌, ℕ, List, [], ◌∷◌, ◌++◌, Bool, true, false, Option, Some, None, Result, Ok, Err, refl, sym, ap, subst, ◌∙◌, append_assoc, append-nil}
 use Rattle.std.specs.Prelude.{codes, decimal}
 use Rattle.std.specs.Io.KnownBytes.{Appends}
@@ -40,14 +40,14 @@ root_is : (b : Bool) → root_text b ≡ 32 ∷ visible b
 root_is true = refl
 root_is false = refl
 
--- what stands behind the details
+-- the words after the details
 abbrev behind : Space → ℕ → List (List ℕ)
 behind s n = codes ":" ∷ or_fault in_quotes (spelled_name s n) ∷ with_value (codes "bytes") (or_fault decimal (size s n)) ∷ with_value (codes "align") (or_fault decimal (align s n)) ∷ []
 
 figures_are : (s : Space) (n : ℕ) → figures_text s n ≡ after_blanks (behind s n)
 figures_are s n = simp (append_assoc, append-nil)
 
--- one text, however its parts are joined
+-- one text, however its parts are grouped
 joined : (d k q v w f nl : List ℕ) → (codes "type " ++ (d ++ (codes " " ++ (k ++ (codes " " ++ (q ++ ((32 ∷ v) ++ w))))))) ++ (f ++ nl) ≡ codes "type" ++ (((32 ∷ d) ++ ((32 ∷ k) ++ ((32 ∷ q) ++ ((32 ∷ v) ++ (w ++ f))))) ++ nl)
 joined d k q v w f nl = simp append_assoc
 
@@ -83,7 +83,7 @@ lists_are (term.enum said es) = refl
 lists_are (term.forward tag) = refl
 lists_are term.unknown = refl
 
--- what was found, if anything
+-- the result, if successful
 abbrev found_in : Result Term Fault → Option Term
 found_in (Ok x) = Some x
 found_in (Err fault) = None
@@ -92,23 +92,23 @@ found_back : (found : Option Term) → found ≡ found_in (or_no_type found)
 found_back None = refl
 found_back (Some x) = refl
 
--- the line of a type that was found, and those of its list
+-- the line of a looked-up type, and those of its list
 pub type_lines_are : (a b c : Option (List ℕ)) (s : Space) (n : ℕ) (found : Option Term) (f : Facts) (v : Shown) (x : Term) → or_no_type found ≡ Ok x → option_map facts found ≡ Some f → option_map (λ y. shown y.body) found ≡ Some v
     → Appends a b (typed_text s n f) → Appends b c (lines_behind v) → Appends a c (lines_of_type s n x)
-type_lines_are a b c s n found f v x e told behind_it first second =
+type_lines_are a b c s n found f v x e info behind_it first second =
     let is = found_back found ∙ ap found_in e in
-    let same : facts x ≡ f = same_Some (facts x) f (sym (ap (option_map facts) is) ∙ told) in
+    let same : facts x ≡ f = same_Some (facts x) f (sym (ap (option_map facts) is) ∙ info) in
     let seen : shown x.body ≡ v = same_Some (shown x.body) v (sym (ap (option_map (λ (y : Term). shown y.body)) is) ∙ behind_it) in
     Appends-trans a b c (type_line s n x) (list_lines x.body)
     (subst (Appends a b) (ap (typed_text s n) (sym same) ∙ type_line_is s n x) first)
     (subst (Appends b c) (ap lines_behind (sym seen) ∙ sym (lists_are x.body)) second)
 
--- its line is written, and then a front of its list
+-- its line is written, then a prefix of its list
 pub type_begun : (a b c : Option (List ℕ)) (s : Space) (n : ℕ) (found : Option Term) (f : Facts) (v : Shown) (x : Term) → or_no_type found ≡ Ok x → option_map facts found ≡ Some f → option_map (λ y. shown y.body) found ≡ Some v
     → Appends a b (typed_text s n f) → HasBegun b c (lines_behind v) → HasBegun a c (lines_of_type s n x)
-type_begun a b c s n found f v x e told behind_it first second =
+type_begun a b c s n found f v x e info behind_it first second =
     let is = found_back found ∙ ap found_in e in
-    let same : facts x ≡ f = same_Some (facts x) f (sym (ap (option_map facts) is) ∙ told) in
+    let same : facts x ≡ f = same_Some (facts x) f (sym (ap (option_map facts) is) ∙ info) in
     let seen : shown x.body ≡ v = same_Some (shown x.body) v (sym (ap (option_map (λ (y : Term). shown y.body)) is) ∙ behind_it) in
     begun_behind a b c (type_line s n x) (list_lines x.body)
     (subst (Appends a b) (ap (typed_text s n) (sym same) ∙ type_line_is s n x) first)

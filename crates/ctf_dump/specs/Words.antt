@@ -1,6 +1,5 @@
--- The text of a type's line, from what is found of the type.
--- What a whole line is stands in Dump.antt of ctf_model; here
--- words are joined to one text.
+-- The line of a type as one text. Dump.antt of ctf_model defines the whole line; here its words are
+-- joined.
 use Rattle.std.specs.Prelude.{ℕ, ◌++◌, Bool, true, false, List, [], ◌∷◌, Option, Some, None, codes, decimal}
 use Rattle.std.specs.List.{flat_map}
 use Rattle.ctf_model.specs.format.Dictionary.{Dictionary}
@@ -13,7 +12,7 @@ use Rattle.ctf_model.specs.spaces.Space.{Space}
 use Rattle.ctf_model.specs.format.Term.{Term}
 use Rattle.ctf_model.specs.names.TypeNames.{spelled_name}
 
--- ---- words that are there where they are said
+-- ---- optional words
 
 abbrev pub size_text : Option ℕ → List ℕ
 size_text None = []
@@ -58,7 +57,7 @@ root_text false = codes " hidden"
 
 -- ---- a type
 
--- what it says of itself by what stands behind its head
+-- the words that depend on what follows the record's head
 abbrev pub behind_text : Shown → Shape → List ℕ
 behind_text (members items) x = size_text x.size
 behind_text (enumerators items) x = size_text x.size
@@ -71,23 +70,23 @@ behind_text nothing x = to_text x.reference
 abbrev pub shape_text : Shape → List ℕ
 shape_text x = behind_text x.behind x
 
--- a type with a number
+-- the words for type `n` itself
 abbrev pub facts_text : ℕ → Facts → List ℕ
 facts_text n x =
     codes "type " ++ (decimal n ++ (codes " " ++ (name_of_kind x.shape.kind ++ (codes " "
     ++ (in_quotes x.name ++ (root_text x.root ++ shape_text x.shape))))))
 
--- how it is spelled, and what it comes to
+-- its name in C, its size and its alignment
 abbrev pub figures_text : Space → ℕ → List ℕ
 figures_text s n =
     codes " : " ++ (or_fault in_quotes (spelled_name s n) ++ (codes " bytes="
     ++ (or_fault decimal (size s n) ++ (codes " align=" ++ or_fault decimal (align s n)))))
 
--- the line of a type that has these facts
+-- the line of a type with these facts
 abbrev pub typed_text : Space → ℕ → Facts → List ℕ
 typed_text s n x = facts_text n x ++ (figures_text s n ++ codes "\n")
 
--- the lines of members or enumerators
+-- the lines of its members or enumerators
 abbrev pub lines_behind : Shown → List ℕ
 lines_behind (members items) = flat_map member_line items
 lines_behind (enumerators items) = flat_map value_line items

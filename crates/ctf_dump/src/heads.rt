@@ -13,7 +13,7 @@ ghost use Rattle.ctf_views.specs.ItemsView.{label as label_shown};
 
 use crate::line::{DumpFault, Line};
 use ctf_check::Checked;
-use ctf_entries::{Entry, Signature, Told};
+use ctf_entries::{Entry, Signature, SymbolInfo};
 use ctf_model::TypeNum;
 use ctf_views::{Args, Label};
 use std::alloc::AllocError;
@@ -151,19 +151,19 @@ fn object_line<W: Write>(
 fn function_line<W: Write>(
     number: u32,
     name: &[u8],
-    told: Signature<'_>,
+    info: Signature<'_>,
     line: &mut Line,
     out: &mut W,
 ) -> Result<(), DumpFault>
     requires { line.old ≡ [] }
     ensures written { OnOk result (Appends (W.contents out.old) (W.contents out.new)
-        (function_text number name.now (signature told.entry))) }
+        (function_text number name.now (signature info.entry))) }
     ensures empty { OnOk result (line.new ≡ []) }
     ensures quiet { IfErr result (λ f. f ≡ DumpFault.Memory
         → Keeps (W.contents out.old) (W.contents out.new)) }
 {
     put_symbol(line, "function ", number, name)?;
-    put_signature(line, told.ret, told.args)?;
+    put_signature(line, info.ret, info.args)?;
     line.end(out)
 }
 
@@ -180,11 +180,11 @@ fn symbol_line<W: Write>(entry: Entry<'_>, line: &mut Line, out: &mut W) -> Resu
     let Entry {
         number,
         symbol,
-        told,
+        info,
     } = entry;
-    match told {
-        Told::Object(Some(tnum)) => object_line(number, symbol.name(), tnum, line, out),
-        Told::Function(Some(told)) => function_line(number, symbol.name(), told, line, out),
+    match info {
+        SymbolInfo::Object(Some(tnum)) => object_line(number, symbol.name(), tnum, line, out),
+        SymbolInfo::Function(Some(info)) => function_line(number, symbol.name(), info, line, out),
         _ => Ok(()),
     }
 }

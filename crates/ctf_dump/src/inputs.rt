@@ -8,8 +8,8 @@ pub struct InputFile<'a> {
     pub bytes: Bytes,
 }
 
-/// A dictionary and, if there are any, its parent, the symbols of its program, and the strings of
-/// these; and the data model of that program, which is the parent's too.
+/// The files of a dump: a dictionary, and optionally its parent, and the symbol table of its
+/// program with that table's strings. The data model holds for the dictionary and the parent.
 #[derive(Drop)]
 pub struct Inputs<'a> {
     pub ctf: InputFile<'a>,

@@ -1,4 +1,4 @@
--- A few bytes tell whether a name is empty and whether it is a mark.
+-- The first few bytes of a name decide whether it is empty or a mark.
 use Rattle.std.proofs.Common.{◌≡◌, ℕ, zero, suc, ◌+◌, ◌<◌, Bool, true, false, eqb, List, [], ◌∷◌, length, take, get_or, refl, ap, arith}
 use Rattle.std.specs.Prelude.{◌&&◌}
 use Rattle.std.specs.List.{before_first, position_or_len}
@@ -7,7 +7,7 @@ use Rattle.std.proofs.lemmas.Bool.{ne_eqb}
 use Rattle.ctf_model.specs.format.Name.{is_zero}
 use Rattle.ctf_model.specs.symbols.Symbols.{is_mark}
 
--- a name that begins with a zero byte is empty; another goes on
+-- a name that begins with a zero byte is empty; any other continues
 pub name_cons : (x : ℕ) (xs : List ℕ) → is_zero x ≡ false → before_first is_zero (x ∷ xs) ≡ x ∷ before_first is_zero xs
 name_cons x xs e = let one : 1 + position_or_len is_zero xs ≡ suc (position_or_len is_zero xs) = omega arith in rw (e, one) refl
 
@@ -25,7 +25,7 @@ front_case : (x n : ℕ) (xs m : List ℕ) (b : Bool) → is_zero x ≡ b → ((
 front_case x n xs m true e rest lt = rw (name_none x (take n xs) e, name_none x xs e) refl
 front_case x n xs m false e rest lt = rw (name_cons x (take n xs) e, name_cons x xs e) (later_case x n xs m rest lt)
 
--- more bytes than a name has tell whether it is the one that begins a text
+-- more bytes than a name has decide whether a text begins with that name
 pub same_in_front : (t m : List ℕ) (n : ℕ) → length m < n → bytes_eq (before_first is_zero (take n t)) m ≡ bytes_eq (before_first is_zero t) m
 same_in_front t m zero lt = absurd (omega arith)
 same_in_front [] m (suc n) lt = refl

@@ -4,8 +4,8 @@ use Rattle.std.specs.Prelude.{not, ◌&&◌, ◌||◌}
 use Rattle.std.proofs.lemmas.Bool.{ltb-false, lt-ltb}
 use Rattle.std.proofs.lemmas.List.{length-drop, nil_from_length}
 use Rattle.ctf_model.specs.format.Bytes.{number, u16_at}
-use Rattle.ctf_model.specs.symbols.Entries.{Entry, entries_of, entry_len, function_sites_of, is_bad_entry, is_silent, kind_number, argument_count, type_told, signature_in}
-use Rattle.ctf_model.specs.symbols.Entries as told
+use Rattle.ctf_model.specs.symbols.Entries.{Entry, entries_of, entry_len, function_sites_of, is_bad_entry, is_silent, kind_number, argument_count, object_type, signature_in}
+use Rattle.ctf_model.specs.symbols.Entries as info
 use Rattle.ctf_model.specs.format.Spelling.{items, argument_of}
 use Rattle.ctf_model.specs.symbols.Symbols.{Symbol, is_object}
 use Rattle.ctf_entries.specs.Sound.{bad_place}
@@ -18,7 +18,7 @@ long_entry b = at (is_silent b)
     at true = omega arith
     at false = omega arith
 
--- a good entry is inside, if there is one
+-- a good entry is inside its section
 pub good_entry : (b : List ℕ) → is_bad_entry b ≡ false → 0 < length b → entry_len b ≤ length b
 good_entry b good some = at (ltb 0 (length b)) (ltb (length b) (entry_len b)) refl refl good
   where
@@ -39,19 +39,19 @@ said_signature b behind args n e d c read = let here : items argument_of 2 (argu
 pub drop_short : (b : List ℕ) → length b < 2 → drop 2 b ≡ []
 drop_short b lt = nil_from_length (drop 2 b) (omega (arith, length-drop 2 b))
 
--- ---- the first of the symbols that are left
+-- ---- the first of the remaining symbols
 
 pub entries_none : (xs : List (ℕ × Symbol)) (o f : List ℕ) → xs ≡ [] → entries_of xs o f ≡ []
 unfolding entries_of
 entries_none xs o f e = rw e refl
 
-pub entries_object : (all xs : List (ℕ × Symbol)) (x : ℕ × Symbol) (o p f : List ℕ) (t : Option ℕ) → all ≡ x ∷ xs → is_object x.1 ≡ true → t ≡ type_told o → p ≡ drop 2 o
-    → entries_of all o f ≡ record { number = x.0; name = x.1.name; told = told.object t } ∷ entries_of xs p f
+pub entries_object : (all xs : List (ℕ × Symbol)) (x : ℕ × Symbol) (o p f : List ℕ) (t : Option ℕ) → all ≡ x ∷ xs → is_object x.1 ≡ true → t ≡ object_type o → p ≡ drop 2 o
+    → entries_of all o f ≡ record { number = x.0; name = x.1.name; info = info.object t } ∷ entries_of xs p f
 unfolding entries_of
 entries_object all xs x o p f t e is d b = rw (e, is, d, b) refl
 
-pub entries_function : (all xs : List (ℕ × Symbol)) (x : ℕ × Symbol) (o f g : List ℕ) (s : Option told.Signature) → all ≡ x ∷ xs → is_object x.1 ≡ false → s ≡ signature_in f → g ≡ drop (entry_len f) f
-    → entries_of all o f ≡ record { number = x.0; name = x.1.name; told = told.function s } ∷ entries_of xs o g
+pub entries_function : (all xs : List (ℕ × Symbol)) (x : ℕ × Symbol) (o f g : List ℕ) (s : Option info.Signature) → all ≡ x ∷ xs → is_object x.1 ≡ false → s ≡ signature_in f → g ≡ drop (entry_len f) f
+    → entries_of all o f ≡ record { number = x.0; name = x.1.name; info = info.function s } ∷ entries_of xs o g
 unfolding entries_of
 entries_function all xs x o f g s e is d b = rw (e, is, d, b) refl
 
@@ -59,7 +59,7 @@ pub sound_object : (all xs : List (ℕ × Symbol)) (x : ℕ × Symbol) (f : List
 unfolding bad_place function_sites_of
 sound_object all xs x f e is h = rw (e, is) at h
 
--- a function of which no entry is bad has a good one, and so have those behind it
+-- if no function has a bad entry, the first one's entry is good, and so are those after it
 pub sound_function : (all xs : List (ℕ × Symbol)) (x : ℕ × Symbol) (f : List ℕ) → all ≡ x ∷ xs → is_object x.1 ≡ false → bad_place all f ≡ None → (is_bad_entry f ≡ false) × (bad_place xs (drop (entry_len f) f) ≡ None)
 unfolding bad_place function_sites_of
 sound_function all xs x f e is h = at (is_bad_entry f) refl (rw (e, is) at h)

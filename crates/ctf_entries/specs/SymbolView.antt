@@ -6,7 +6,7 @@ use Rattle.ctf_model.specs.symbols.Symbols.{Symbol}
 use Rattle.ctf_entries.specs.declared.symbol.Symbol as lent
 use Rattle.ctf_entries.specs.declared.considered.Numbered.{Numbered}
 
--- its name goes up to the first zero byte
+-- its name ends at the first zero byte
 abbrev pub symbol : lent.Symbol → Symbol
 symbol x =
     record {

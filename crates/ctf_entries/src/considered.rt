@@ -18,7 +18,7 @@ pub struct Numbered<'a> {
 
 /// A considered symbol, and the symbols after it.
 #[derive(Drop)]
-pub(crate) struct Found<'a> {
+pub(crate) struct FirstSymbol<'a> {
     pub first: Numbered<'a>,
     pub behind: &'a [u8],
 }
@@ -37,7 +37,7 @@ pub(crate) fn first_considered<'a>(
     sym: &'a [u8],
     names: SymbolNames<'a>,
     number: u64,
-) -> Option<Found<'a>>
+) -> Option<FirstSymbol<'a>>
     requires near { number + length sym.now ≤ 2 ^ 63 }
     ensures near { IfSome result (λ f. f.first.number + 1 + length f.behind.now ≤ 2 ^ 63) }
     ensures first { MatchOption result
@@ -56,7 +56,7 @@ pub(crate) fn first_considered<'a>(
                 number: number as u32,
                 symbol,
             };
-            return Some(Found { first, behind });
+            return Some(FirstSymbol { first, behind });
         }
         rest = behind;
         number += 1;

@@ -8,20 +8,20 @@ ghost use Rattle.ctf_entries.specs.Left.{entries_left, IsFirst};
 ghost use Rattle.ctf_entries.specs.Sound.{bad_place};
 ghost use Rattle.ctf_entries.specs.SymbolView.{symbol};
 
-use crate::considered::{Found, first_considered};
+use crate::considered::{FirstSymbol, first_considered};
 use crate::function::{behind_function, signature_of};
 use crate::object::{behind_object, type_in};
 use crate::signature::Signature;
 use crate::symbol::Symbol;
 use crate::symbol_strings::SymbolNames;
-use crate::untold::Untold;
+use crate::unread::Unread;
 use ctf_model::TypeNum;
 use std::marker::Model;
 
 /// What a dictionary says of a symbol: the type of an object, the signature of a function, or
 /// nothing.
 #[derive(Drop)]
-pub enum Told<'a> {
+pub enum SymbolInfo<'a> {
     Object(Option<TypeNum>),
     Function(Option<Signature<'a>>),
 }
@@ -31,73 +31,73 @@ pub enum Told<'a> {
 pub struct Entry<'a> {
     pub number: u32,
     pub symbol: Symbol<'a>,
-    pub told: Told<'a>,
+    pub info: SymbolInfo<'a>,
 }
 
 /// The first entry, and what is left after it.
 #[derive(Drop)]
-struct Taken<'a> {
+struct FirstEntry<'a> {
     first: Entry<'a>,
-    left: Untold<'a>,
+    left: Unread<'a>,
 }
 
 /// Takes the entry of the first symbol, which is an object.
-fn take_object<'a>(untold: Untold<'a>, found: Found<'a>) -> Taken<'a>
-    requires first { IsFirst untold found }
+fn take_object<'a>(unread: Unread<'a>, found: FirstSymbol<'a>) -> FirstEntry<'a>
+    requires first { IsFirst unread found }
     requires near { found.first.number + 1 + length found.behind.now ≤ 2 ^ 63 }
     requires object { is_object (symbol found.first.symbol) ≡ true }
-    ensures { entries_left untold.entry ≡ entry result.first ∷ entries_left result.left }
+    ensures { entries_left unread.entry ≡ entry result.first ∷ entries_left result.left }
 {
     let first = Entry {
         number: found.first.number,
         symbol: found.first.symbol,
-        told: Told::Object(type_in(untold.objects)),
+        info: SymbolInfo::Object(type_in(unread.objects)),
     };
-    let left = Untold {
+    let left = Unread {
         sym: found.behind,
-        names: untold.names,
+        names: unread.names,
         number: found.first.number as u64 + 1,
-        objects: behind_object(untold.objects),
-        functions: untold.functions,
+        objects: behind_object(unread.objects),
+        functions: unread.functions,
     };
-    Taken { first, left }
+    FirstEntry { first, left }
 }
 
 /// Takes the entry of the first symbol, which is a function.
-fn take_function<'a>(untold: Untold<'a>, found: Found<'a>) -> Taken<'a>
-    requires first { IsFirst untold found }
+fn take_function<'a>(unread: Unread<'a>, found: FirstSymbol<'a>) -> FirstEntry<'a>
+    requires first { IsFirst unread found }
     requires near { found.first.number + 1 + length found.behind.now ≤ 2 ^ 63 }
     requires function { is_object (symbol found.first.symbol) ≡ false }
-    ensures { entries_left untold.entry ≡ entry result.first ∷ entries_left result.left }
+    ensures { entries_left unread.entry ≡ entry result.first ∷ entries_left result.left }
 {
     let first = Entry {
         number: found.first.number,
         symbol: found.first.symbol,
-        told: Told::Function(signature_of(untold.functions)),
+        info: SymbolInfo::Function(signature_of(unread.functions)),
     };
-    let left = Untold {
+    let left = Unread {
         sym: found.behind,
-        names: untold.names,
+        names: unread.names,
         number: found.first.number as u64 + 1,
-        objects: untold.objects,
-        functions: behind_function(untold.functions),
+        objects: unread.objects,
+        functions: behind_function(unread.functions),
     };
-    Taken { first, left }
+    FirstEntry { first, left }
 }
 
 /// Takes the entry of the first considered symbol, if there is one.
 #[tactic(auto, using(crate::proofs::Telling::entries_none))]
-fn first_entry<'a>(untold: Untold<'a>) -> Option<Taken<'a>>
-    ensures { MatchOption result (entries_left untold.entry ≡ [])
-        (λ t. entries_left untold.entry ≡ entry t.first ∷ entries_left t.left) }
+fn first_entry<'a>(unread: Unread<'a>) -> Option<FirstEntry<'a>>
+    ensures { MatchOption result (entries_left unread.entry ≡ [])
+        (λ t. entries_left unread.entry ≡ entry t.first ∷ entries_left t.left) }
 {
-    match first_considered(untold.sym, untold.names, untold.number) {
+    match first_considered(unread.sym, unread.names, unread.number) {
         None => None,
         Some(found) => {
             if found.first.symbol.is_object() {
-                Some(take_object(untold, found))
+                Some(take_object(unread, found))
             } else {
-                Some(take_function(untold, found))
+                Some(take_function(unread, found))
             }
         }
     }
@@ -106,7 +106,7 @@ fn first_entry<'a>(untold: Untold<'a>) -> Option<Taken<'a>>
 /// The remaining entries, in the order of their symbols.
 #[derive(Drop)]
 pub struct Entries<'a> {
-    untold: Untold<'a>,
+    unread: Unread<'a>,
 }
 
 impl<'a> Model for Entries<'a> {
@@ -116,7 +116,7 @@ impl<'a> Model for Entries<'a> {
 
     ghost Value = { List SaidEntry };
 
-    ghost view = { λ it. entries_left it.untold };
+    ghost view = { λ it. entries_left it.unread };
 }
 
 impl<'a> Entries<'a> {
@@ -133,14 +133,14 @@ impl<'a> Entries<'a> {
             (with_types (symbols_of (option_copied strs.entry) sym.now)) objects.now functions.now }
     {
         let names = SymbolNames::new(strs);
-        let untold = Untold {
+        let unread = Unread {
             sym,
             names,
             number: 0,
             objects,
             functions,
         };
-        Entries { untold }
+        Entries { unread }
     }
 }
 
@@ -152,8 +152,8 @@ impl<'a> Iterator for Entries<'a> {
     ghost remaining = { item_count (λ rest. rest) };
 
     fn next(&mut self) -> Option<Entry<'a>> {
-        let taken = first_entry(self.untold)?;
-        self.untold = taken.left;
+        let taken = first_entry(self.unread)?;
+        self.unread = taken.left;
         Some(taken.first)
     }
 }

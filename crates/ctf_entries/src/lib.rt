@@ -31,10 +31,10 @@ mod object;
 mod signature;
 mod symbol;
 mod symbol_strings;
-mod untold;
+mod unread;
 
 pub use considered::{Considered, Numbered};
-pub use entries::{Entries, Entry, Told};
+pub use entries::{Entries, Entry, SymbolInfo};
 pub use function::{behind_function, is_bad_entry, signature_of};
 pub use object::{behind_object, type_in};
 pub use signature::Signature;

@@ -1,7 +1,7 @@
 //! The entry of an object.
 ghost use Rattle.std.specs.Prelude.{◌≡◌, drop};
 ghost use Rattle.std.specs.Option.{option_map};
-ghost use Rattle.ctf_model.specs.symbols.Entries.{type_told as type_said_in};
+ghost use Rattle.ctf_model.specs.symbols.Entries.{object_type as type_said_in};
 
 use ctf_model::TypeNum;
 use ctf_sections::bytes::u16_at;

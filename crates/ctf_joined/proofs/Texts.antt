@@ -1,4 +1,4 @@
--- One more text, and the text at a place.
+-- One more text in a list, and the text at an index.
 use Rattle.std.proofs.Common.{◌≡◌, ℕ, zero, suc, ◌+◌, ◌-◌, ◌<◌, ◌≤◌, ◌==◌, ◌&&◌, List, [], ◌∷◌, ◌++◌, Bool, true, false, drop, get_or, length, nat_le, take, refl, sym, ap, ◌∙◌, subst, arith}
 use Rattle.std.proofs.lemmas.Bool.{false≢true, eqb-true}
 use Rattle.std.proofs.lemmas.List.{drop-append-le, length-append, length-drop, take-append-le}
@@ -28,7 +28,7 @@ rise-within from (end ∷ ends) last r =
     let more = rise-within end ends last parts.1 in
     omega (arith, step, more)
 
--- ---- the text at a place
+-- ---- the text at an index
 
 pub text-at : (bytes : List ℕ) (from : ℕ) (ends : List ℕ) (i : ℕ) → i < length ends → get_or (texts_from bytes from ends) i [] ≡ take (get_or ends i 0 - get_or (from ∷ ends) i 0) (drop (get_or (from ∷ ends) i 0) bytes)
 text-at bytes from [] i h = absurd (omega arith)
@@ -42,7 +42,7 @@ text-inside from (end ∷ ends) last zero r h =
     (parts.0, rise-within end ends last parts.1)
 text-inside from (end ∷ ends) last (suc i) r h = text-inside end ends last i (rise-parts from end ends last r).1 (omega (arith, h))
 
--- ---- one more
+-- ---- one more text
 
 true-le : (a b : ℕ) → a ≤ b → nat_le a b ≡ true
 true-le a b h = grind (arith, h)

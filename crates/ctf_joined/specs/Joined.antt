@@ -1,4 +1,4 @@
--- The texts of a list.
+-- Concatenation of a list of texts.
 use Rattle.std.specs.Prelude.{ℕ, List}
 use Rattle.ctf_joined.specs.Texts.{texts_from}
 use Rattle.ctf_joined.specs.declared.joined.Joined.{Joined}

@@ -1,12 +1,12 @@
--- Texts that stand one behind the other in bytes.
+-- Texts that follow one another in one byte list.
 use Rattle.std.specs.Prelude.{ℕ, ◌-◌, ◌==◌, ◌&&◌, List, [], ◌∷◌, Bool, drop, nat_le, take}
 
--- the texts from a place on, by where each of them ends
+-- the texts of `bytes` from offset `from` on, given where each one ends
 abbrev pub texts_from : List ℕ → ℕ → List ℕ → List (List ℕ)
 texts_from bytes from [] = []
 texts_from bytes from (end ∷ ends) = take (end - from) (drop from bytes) ∷ texts_from bytes end ends
 
--- no end is before the one in front of it, and the last is the last of all
+-- the ends never decrease, and the last one is `last`
 abbrev pub rise : ℕ → List ℕ → ℕ → Bool
 rise from [] last = from == last
 rise from (end ∷ ends) last = nat_le from end && rise end ends last

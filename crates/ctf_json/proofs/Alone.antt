@@ -7,8 +7,8 @@ use Rattle.serde_json.specs.Data.{Num}
 use Rattle.ctf_json.specs.Kept.{IsKept, kept_data}
 use Rattle.ctf_json.specs.Memory.{IsLeft}
 use Rattle.ctf_json.specs.Passed.{begun}
-use Rattle.ctf_json.specs.PlainReader.{IsField, token_said}
-use Rattle.ctf_json.specs.Told.{told, told_number}
+use Rattle.ctf_json.specs.PlainReader.{IsField, field_token}
+use Rattle.ctf_json.specs.TreeData.{tree_data, number_or_null}
 use Rattle.ctf_json.specs.Values.{data_of}
 use Rattle.ctf_json.specs.declared.values.Field.{Field}
 use Rattle.ctf_json.specs.declared.values.Field.TheVariants as field
@@ -16,27 +16,27 @@ use Rattle.ctf_json.specs.declared.wanted.Wanted.{Wanted}
 use Rattle.serde_json.specs.Read.{number_of}
 use Rattle.ctf_json.proofs.Left.{left_next}
 
-alone_with : (a : Parse Items) (o : Parse Members) (f : Field) (ts : List Token) → value_with a o (token_said f ∷ ts) ≡ Some (begun (token_said f), ts)
+alone_with : (a : Parse Items) (o : Parse Members) (f : Field) (ts : List Token) → value_with a o (field_token f ∷ ts) ≡ Some (begun (field_token f), ts)
 alone_with a o field.Null ts = refl
 alone_with a o (field.Bool b) ts = refl
 alone_with a o (field.Number s) ts = refl
 alone_with a o (field.String s) ts = refl
 
-kept_number : (w : Wanted) (o : Option Num) → kept_data w (told_number o) ≡ told_number o
+kept_number : (w : Wanted) (o : Option Num) → kept_data w (number_or_null o) ≡ number_or_null o
 kept_number w None = refl
 kept_number w (Some n) = refl
 
-kept_field : (w : Wanted) (f : Field) → kept_data w (told (begun (token_said f))) ≡ data_of f
+kept_field : (w : Wanted) (f : Field) → kept_data w (tree_data (begun (field_token f))) ≡ data_of f
 kept_field w field.Null = refl
 kept_field w (field.Bool b) = refl
 kept_field w (field.Number s) = kept_number w (number_of s.now)
 kept_field w (field.String s) = refl
 
 pub field_kept : (w : Wanted) (depth : ℕ) (f : Field) (old ts : List Token) → IsField old f ts → IsKept w (value depth old) (data_of f) ts
-field_kept w depth f old ts is = (begun (token_said f), ap (value depth) is.0 ∙ value_is depth (token_said f ∷ ts) ∙ alone_with _ _ f ts, is.1, kept_field w f)
+field_kept w depth f old ts is = (begun (field_token f), ap (value depth) is.0 ∙ value_is depth (field_token f ∷ ts) ∙ alone_with _ _ f ts, is.1, kept_field w f)
 
 pub field_left : (f : Field) (old ts : List Token) → IsField old f ts → IsLeft old ts
-field_left f old ts is = left_next old (token_said f) ts is.0
+field_left f old ts is = left_next old (field_token f) ts is.0
 
 pub field_shorter : (f : Field) (old ts : List Token) → IsField old f ts → length ts < length old
 field_shorter f old ts is = omega (arith, ap length is.0)

@@ -1,4 +1,4 @@
--- The fields of a line, by their places.
+-- The fields of a line, by the index of their key.
 use Rattle.std.proofs.Common.{◌≡◌, ℕ, suc, ◌<◌, List, [], ◌∷◌, length, get_or, set, Bool, true, false, ◌&&◌, ◌||◌, not, cond, Option, Some, None, option_map, refl, sym, ap, ◌∙◌, subst, bytes_eq, arith}
 use Rattle.std.specs.Prelude.{⊤, if◌then◌else◌}
 use Rattle.std.proofs.lemmas.Bool.{false≢true}
@@ -7,14 +7,14 @@ use Rattle.serde_json.specs.Data.{Data, Members, put}
 use Rattle.serde_json.specs.Find.{get_member}
 use Rattle.serde_json.proofs.Views.{get_member-put, get_member-put_other}
 use Rattle.ctf_json.specs.Keys.{place_in}
-use Rattle.ctf_json.specs.Told.{is_one_of}
-use Rattle.ctf_json.specs.Values.{keys, members_said, put_some, data_of}
+use Rattle.ctf_json.specs.TreeData.{is_one_of}
+use Rattle.ctf_json.specs.Values.{keys, members_data, put_some, data_of}
 use Rattle.ctf_json.specs.declared.values.Field.{Field}
 
 abbrev Fields : Type 0
 Fields = List (Option Field)
 
--- what stands at a name
+-- the value at a name
 abbrev pub at_name : List ℕ → List (List ℕ) → Fields → Option Data
 at_name q [] vs = None
 at_name q (k ∷ ks) [] = None
@@ -28,7 +28,7 @@ both_true : (a b : Bool) → a && b ≡ true → (a ≡ true) × (b ≡ true)
 both_true true b e = (refl, e)
 both_true false b e = absurd (false≢true e)
 
--- ---- members at names
+-- ---- members by name
 
 put_same : (q k : List ℕ) (v : Option Data) (ms : Members) → q ≡ k → get_member q ms ≡ None → get_member q (put_some k v ms) ≡ v
 put_same q k None ms e none = none
@@ -49,28 +49,28 @@ is_not : (b : Bool) → not b ≡ true → b ≡ false
 is_not true e = absurd (false≢true e)
 is_not false e = refl
 
-pub not_there : (q : List ℕ) (ks : List (List ℕ)) (vs : Fields) → is_one_of q ks ≡ false → get_member q (members_said ks vs) ≡ None
+pub not_there : (q : List ℕ) (ks : List (List ℕ)) (vs : Fields) → is_one_of q ks ≡ false → get_member q (members_data ks vs) ≡ None
 not_there q [] vs e = refl
 not_there q (k ∷ ks) [] e = refl
 not_there q (k ∷ ks) (v ∷ vs) e =
     let parts = or_false (bytes_eq q k) (is_one_of q ks) e in
-    put_other q k (option_map data_of v) (members_said ks vs) (apart_from q k parts.0) ∙ not_there q ks vs parts.1
+    put_other q k (option_map data_of v) (members_data ks vs) (apart_from q k parts.0) ∙ not_there q ks vs parts.1
 
 module _ (q k : List ℕ) (ks : List (List ℕ)) (v : Option Field) (vs : Fields) where
-  member_by : (b : Bool) → bytes_eq q k ≡ b → is_one_of k ks ≡ false → get_member q (members_said ks vs) ≡ at_name q ks vs → get_member q (put_some k (option_map data_of v) (members_said ks vs)) ≡ (if b then option_map data_of v else at_name q ks vs)
+  member_by : (b : Bool) → bytes_eq q k ≡ b → is_one_of k ks ≡ false → get_member q (members_data ks vs) ≡ at_name q ks vs → get_member q (put_some k (option_map data_of v) (members_data ks vs)) ≡ (if b then option_map data_of v else at_name q ks vs)
   member_by true e alone more =
       let same : q ≡ k = (bytes_eq-Decides q k).0 e in
-      put_same q k (option_map data_of v) (members_said ks vs) same (not_there q ks vs (ap (λ x. is_one_of x ks) same ∙ alone))
-  member_by false e alone more = put_other q k (option_map data_of v) (members_said ks vs) (apart_from q k e) ∙ more
+      put_same q k (option_map data_of v) (members_data ks vs) same (not_there q ks vs (ap (λ x. is_one_of x ks) same ∙ alone))
+  member_by false e alone more = put_other q k (option_map data_of v) (members_data ks vs) (apart_from q k e) ∙ more
 
-pub member_is : (q : List ℕ) (ks : List (List ℕ)) (vs : Fields) → apart ks ≡ true → get_member q (members_said ks vs) ≡ at_name q ks vs
+pub member_is : (q : List ℕ) (ks : List (List ℕ)) (vs : Fields) → apart ks ≡ true → get_member q (members_data ks vs) ≡ at_name q ks vs
 member_is q [] vs e = refl
 member_is q (k ∷ ks) [] e = refl
 member_is q (k ∷ ks) (v ∷ vs) e =
     let parts = both_true (not (is_one_of k ks)) (apart ks) e in
     member_by q k ks v vs (bytes_eq q k) refl (is_not (is_one_of k ks) parts.0) (member_is q ks vs parts.1)
 
--- ---- places
+-- ---- indexes
 
 abbrev IsNowhere : Option ℕ → Type 0
 IsNowhere None = ⊤
@@ -84,7 +84,7 @@ unmapped : (o : Option ℕ) → option_map suc o ≡ None → o ≡ None
 unmapped None e = refl
 unmapped (Some n) e = absurd (subst IsNowhere (sym e) tt)
 
--- where the place is not the first
+-- an index after the first
 behind_first : (o : Option ℕ) (i : ℕ) → option_map suc o ≡ Some i → (n : ℕ) × (o ≡ Some n) × (i ≡ suc n)
 behind_first None i e = absurd (subst IsNowhere e tt)
 behind_first (Some n) i e = (n, refl, ap or_zero (sym e))
@@ -112,14 +112,14 @@ no_place q [] vs e = refl
 no_place q (k ∷ ks) [] e = refl
 no_place q (k ∷ ks) (v ∷ vs) e = no_place_by q k ks v vs (bytes_eq q k) e (no_place q ks vs)
 
--- what a line has at a name that has a place
-pub field_is : (q : List ℕ) (vs : Fields) (i : ℕ) → Some i ≡ place_in q keys → option_map data_of (get_or vs i None) ≡ get_member q (members_said keys vs)
+-- the value of a line at a name with an index
+pub field_is : (q : List ℕ) (vs : Fields) (i : ℕ) → Some i ≡ place_in q keys → option_map data_of (get_or vs i None) ≡ get_member q (members_data keys vs)
 field_is q vs i e = sym (member_is q keys vs refl ∙ at_place q keys vs i (sym e))
 
-pub no_field : (q : List ℕ) (vs : Fields) → None ≡ place_in q keys → None ≡ get_member q (members_said keys vs)
+pub no_field : (q : List ℕ) (vs : Fields) → None ≡ place_in q keys → None ≡ get_member q (members_data keys vs)
 no_field q vs e = sym (member_is q keys vs refl ∙ no_place q keys vs (sym e))
 
--- ---- a field that is kept
+-- ---- storing a field
 
 pub same_eq : (a b : List ℕ) (c : Bool) → bytes_eq a b ≡ c → bytes_eq b a ≡ c
 same_eq a b true e = (bytes_eq-Decides b a).1 (sym ((bytes_eq-Decides a b).0 e))
@@ -134,7 +134,7 @@ first_of true x u y = refl
 first_of false x u y = refl
 
 module _ (k q l : List ℕ) (ks : List (List ℕ)) (v : Option Field) (vs : Fields) (f : Field) where
-  -- l is the first name of the list
+  -- `l` is the first name of the list
   set_first : k ≡ l → at_name q (l ∷ ks) (Some f ∷ vs) ≡ cond (bytes_eq k q) (Some (data_of f)) (at_name q (l ∷ ks) (v ∷ vs))
   set_first e =
       let same : bytes_eq q l ≡ bytes_eq k q = sym (same_eq q l (bytes_eq q l) refl) ∙ ap (λ x. bytes_eq x q) (sym e) in

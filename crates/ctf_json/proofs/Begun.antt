@@ -1,4 +1,4 @@
--- Values by the token that they begin with.
+-- Values by their first token.
 use Rattle.std.proofs.Common.{◌≡◌, ℕ, List, ◌∷◌, Bool, true, false, is_some, Option, Some, None, refl, sym, ap, ◌∙◌, subst}
 use Rattle.std.proofs.lemmas.Bool.{false≢true}
 use Rattle.json.specs.Token.{Token}
@@ -7,11 +7,11 @@ use Rattle.json.proofs.Grammar.{value_is}
 use Rattle.serde_json.specs.Data as tree
 use Rattle.serde_json.specs.Data.{Num, Data}
 use Rattle.serde_json.specs.Read.{number_of}
-use Rattle.ctf_json.specs.Told.{told, told_number, in_range}
+use Rattle.ctf_json.specs.TreeData.{tree_data, number_or_null, in_range}
 use Rattle.ctf_json.specs.Passed.{begun, passed_value}
 use Rattle.ctf_json.proofs.Turns.{IsNone, passed-some}
 
--- what is kept of a value, where nothing is kept of what nests
+-- the stored part of a value, if nothing nested is stored
 abbrev pub plain : Json → Json
 plain null = null
 plain (boolean b) = boolean b
@@ -44,14 +44,14 @@ module _ (a : Parse Items) (o : Parse Members) where
   plain-with Token.null ts rest j e = read_is null j ts rest e
   plain-with Token.bad ts rest j e = absurd (subst IsNone e tt)
 
--- a value that was passed, and what is kept of it
+-- a skipped value and its stored part
 pub passed-plain : (depth : ℕ) (t : Token) (ts rest : List Token) → passed_value depth (t ∷ ts) ≡ Some rest
     → (j : Json) × (value depth (t ∷ ts) ≡ Some (j, rest)) × (in_range j ≡ true) × (plain j ≡ begun t)
 passed-plain depth t ts rest e =
     let p = passed-some in_range (value depth (t ∷ ts)) rest e in
     (p.0, p.1, p.2, plain-with _ _ t ts rest p.0 (sym (value_is depth (t ∷ ts)) ∙ p.1))
 
--- ---- tests that nothing passes but numbers and texts
+-- ---- tests that only numbers and texts pass
 
 pub record IsPlainTest (test : Data → Bool) : Type 0 where
   pub null_not : test tree.null ≡ false
@@ -60,8 +60,8 @@ pub record IsPlainTest (test : Data → Bool) : Type 0 where
   pub object_not : (ms : tree.Members) → test (tree.object ms) ≡ false
 
 module _ (test : Data → Bool) (is : IsPlainTest test) where
-  -- what is kept of a value tests as the value
-  pub test-plain : (j : Json) → test (told (plain j)) ≡ test (told j)
+  -- the test of the stored part is that of the value
+  pub test-plain : (j : Json) → test (tree_data (plain j)) ≡ test (tree_data j)
   test-plain null = refl
   test-plain (boolean b) = refl
   test-plain (number s) = refl
@@ -69,11 +69,11 @@ module _ (test : Data → Bool) (is : IsPlainTest test) where
   test-plain (array js) = is.null_not ∙ sym (is.array_not _)
   test-plain (object ms) = is.null_not ∙ sym (is.object_not _)
 
-  number_valued : (o : Option Num) → test (told_number o) ≡ true → is_some o ≡ true
+  number_valued : (o : Option Num) → test (number_or_null o) ≡ true → is_some o ≡ true
   number_valued None e = absurd (false≢true (sym is.null_not ∙ e))
   number_valued (Some n) e = refl
 
-  good : (t : Token) → test (told (begun t)) ≡ true → in_range (begun t) ≡ true
+  good : (t : Token) → test (tree_data (begun t)) ≡ true → in_range (begun t) ≡ true
   good Token.begin_object e = refl
   good Token.end_object e = refl
   good Token.begin_array e = refl
@@ -85,7 +85,7 @@ module _ (test : Data → Bool) (is : IsPlainTest test) where
   good Token.null e = refl
   good Token.bad e = refl
 
-  single-with : (a : Parse Items) (o : Parse Members) (t : Token) (ts : List Token) → test (told (begun t)) ≡ true → value_with a o (t ∷ ts) ≡ Some (begun t, ts)
+  single-with : (a : Parse Items) (o : Parse Members) (t : Token) (ts : List Token) → test (tree_data (begun t)) ≡ true → value_with a o (t ∷ ts) ≡ Some (begun t, ts)
   single-with a o Token.begin_object ts e = absurd (false≢true (sym is.null_not ∙ e))
   single-with a o Token.end_object ts e = absurd (false≢true (sym is.null_not ∙ e))
   single-with a o Token.begin_array ts e = absurd (false≢true (sym is.null_not ∙ e))
@@ -97,6 +97,6 @@ module _ (test : Data → Bool) (is : IsPlainTest test) where
   single-with a o Token.null ts e = absurd (false≢true (sym is.null_not ∙ e))
   single-with a o Token.bad ts e = absurd (false≢true (sym is.null_not ∙ e))
 
-  -- a value of one token
-  pub single : (depth : ℕ) (t : Token) (ts : List Token) → test (told (begun t)) ≡ true → (value depth (t ∷ ts) ≡ Some (begun t, ts)) × (in_range (begun t) ≡ true)
+  -- a value of a single token
+  pub single : (depth : ℕ) (t : Token) (ts : List Token) → test (tree_data (begun t)) ≡ true → (value depth (t ∷ ts) ≡ Some (begun t, ts)) × (in_range (begun t) ≡ true)
   single depth t ts e = (value_is depth (t ∷ ts) ∙ single-with _ _ t ts e, good t e)

@@ -1,4 +1,4 @@
--- The value of a text that is digits alone.
+-- The value of a text of digits only.
 use Rattle.std.proofs.Common.{is_some, lit<, ◌≤◌, ◌≡◌, ◌≢◌, ◌==◌, ℕ, ◌<◌, ◌^◌, List, [], length, slice_index, true, false, Some, refl, sym, ap, ◌∙◌, arith, append-nil}
 use Rattle.std.specs.Prelude.{nat_lt}
 use Rattle.std.proofs.lemmas.Bool.Decides.{nat_tests}
@@ -42,7 +42,7 @@ not_minus n h = grind (arith, nat_tests)
 own : IsNumeralModel (AllDigits 10) (digits_value 10)
 own = numerals_by_value (AllDigits 10) tells_digits
 
--- a few digits have a value
+-- a number with few digits is in range
 pub few_valued : (ds : List ℕ) → 0 < length ds → length ds ≤ 19 → AllDigits 10 ds → is_some (number_of ds) ≡ true
 few_valued ds some few all =
     let short : digits_value 10 ds < 10 ^ 19 = digits_value_short own ds 19 all few in

@@ -1,4 +1,4 @@
--- Whether a byte stands in a text.
+-- Whether a byte occurs in a text.
 use Rattle.std.proofs.Common.{◌≡◌, ℕ, suc, zero, ◌+◌, ◌<◌, ◌≤◌, Bool, true, false, ◌||◌, ◌==◌, List, [], ◌∷◌, length, get_or, drop, refl, sym, ap, ◌∙◌, arith}
 use Rattle.std.proofs.lemmas.List.{drop_all, drop_more}
 use Rattle.std.specs.Prelude.{slice_index}
@@ -41,7 +41,7 @@ or_moved true false r = refl
 or_moved false true r = refl
 or_moved false false r = refl
 
--- one byte more was looked at
+-- one more byte was checked
 pub looked_on : (b : ℕ) (xs : List ℕ) (i : ℕ) (f : Bool) → i < length xs → has_byte b xs ≡ (f || has_byte b (drop i xs)) → has_byte b xs ≡ (((get_or xs i 0 == b) || f) || has_byte b (drop (i + 1) xs))
 looked_on b xs i f h e = e ∙ ap (λ l. f || has_byte b l) (drop_more xs i 0 h) ∙ or_moved f (get_or xs i 0 == b) (has_byte b (drop (i + 1) xs))
 

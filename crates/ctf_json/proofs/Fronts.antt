@@ -1,11 +1,11 @@
--- Items and members that were read in front of others.
+-- Items and members that were parsed before others.
 use Rattle.std.proofs.Common.{◌≡◌, ℕ, List, [], ◌∷◌, ◌++◌, Bool, true, false, ◌&&◌, cond, Option, Some, None, refl, sym, ap, ◌∙◌, bytes_eq}
 use Rattle.std.proofs.lemmas.Bool.{false≢true}
 use Rattle.json.specs.Token.{Token}
 use Rattle.json.specs.Json as json
 use Rattle.json.specs.Find as found
 use Rattle.serde_json.specs.Data.{Data, Items, item}
-use Rattle.ctf_json.specs.Told.{told, told_items, in_range, items_in_range, members_in_range}
+use Rattle.ctf_json.specs.TreeData.{tree_data, items_data, in_range, items_in_range, members_in_range}
 use Rattle.ctf_json.specs.Values.{front, are}
 
 -- ---- items
@@ -14,11 +14,11 @@ true_first : (a b : Bool) → a ≡ true → a && b ≡ b
 true_first true b e = refl
 true_first false b e = absurd (false≢true e)
 
--- these items, which say xs, were read in front of others
+-- these items, with data `xs`, were parsed before others
 pub record Fronts {A : Type 0} (test : Data → Bool) (says : A → Data) (xs : List A) (f : json.Items → json.Items) : Type 0 where
   pub good : (js : json.Items) → items_in_range (f js) ≡ items_in_range js
-  pub tested : (js : json.Items) → are test (told_items (f js)) ≡ are test (told_items js)
-  pub said : (js : json.Items) → told_items (f js) ≡ front says xs (told_items js)
+  pub tested : (js : json.Items) → are test (items_data (f js)) ≡ are test (items_data js)
+  pub said : (js : json.Items) → items_data (f js) ≡ front says xs (items_data js)
 
 pub no_front : {A : Type 0} (test : Data → Bool) (says : A → Data) → Fronts test says [] (λ js. js)
 no_front test says = record {
@@ -31,17 +31,17 @@ pub front-snoc : {A : Type 0} (says : A → Data) (xs : List A) (x : A) (ds : It
 front-snoc says [] x ds = refl
 front-snoc says (y ∷ xs) x ds = ap (item (says y)) (front-snoc says xs x ds)
 
-pub one_more : {A : Type 0} (test : Data → Bool) (says : A → Data) (xs : List A) (f : json.Items → json.Items) (x : A) (j : json.Json) → Fronts test says xs f → in_range j ≡ true → test (told j) ≡ true → told j ≡ says x
+pub one_more : {A : Type 0} (test : Data → Bool) (says : A → Data) (xs : List A) (f : json.Items → json.Items) (x : A) (j : json.Json) → Fronts test says xs f → in_range j ≡ true → test (tree_data j) ≡ true → tree_data j ≡ says x
     → Fronts test says (xs ++ x ∷ []) (λ js. f (json.item j js))
 one_more test says xs f x j so_far good ok is = record {
   good = λ js. so_far.good (json.item j js) ∙ true_first (in_range j) (items_in_range js) good;
-  tested = λ js. so_far.tested (json.item j js) ∙ true_first (test (told j)) (are test (told_items js)) ok;
-  said = λ js. so_far.said (json.item j js) ∙ ap (λ d. front says xs (item d (told_items js))) is ∙ sym (front-snoc says xs x (told_items js));
+  tested = λ js. so_far.tested (json.item j js) ∙ true_first (test (tree_data j)) (are test (items_data js)) ok;
+  said = λ js. so_far.said (json.item j js) ∙ ap (λ d. front says xs (item d (items_data js))) is ∙ sym (front-snoc says xs x (items_data js));
 }
 
 -- ---- members
 
--- these members, of which g has the last of each name, were read in front of others
+-- these members were parsed before others; `g` gives the last one of each name
 pub record Before (f : json.Members → json.Members) (g : List ℕ → Option json.Json) : Type 0 where
   pub good : (ms : json.Members) → members_in_range (f ms) ≡ members_in_range ms
   pub last : (q : List ℕ) (ms : json.Members) → found.get_member q (f ms) ≡ found.later_or (found.get_member q ms) (g q)

@@ -1,4 +1,4 @@
--- Whether a byte stands in a text, seen some at a time through the mask of those that are that byte.
+-- Whether a byte occurs in a text, checked blockwise by bit masks.
 use Rattle.std.proofs.Common.{◌≡◌, ℕ, ◌+◌, ◌-◌, ◌*◌, ◌<◌, ◌≤◌, Bool, true, false, ◌||◌, ◌==◌, cond, List, [], ◌∷◌, ◌++◌, length, drop, take, refl, sym, ap, ◌∙◌, arith}
 use Rattle.std.specs.Prelude.{nat_eq, not}
 use Rattle.std.proofs.lemmas.Bool.Decides.{nat_tests}
@@ -44,15 +44,15 @@ split b d i n = ap (has_byte b) (chunk-drop i n d) ∙ joined b (chunk i n d) (d
 passed : (b : ℕ) (d : List ℕ) (i n : ℕ) → bits_of b (chunk i n d) ≡ 0 → has_byte b (drop i d) ≡ has_byte b (drop (i + n) d)
 passed b d i n e = split b d i n ∙ ap (λ h. h || has_byte b (drop (i + n) d)) (none b (chunk i n d) e)
 
--- what stands in the end of a text stands in it
+-- a byte in the rest of a text is in the text
 in_end : (b : ℕ) (d : List ℕ) (i : ℕ) → has_byte b (drop i d) ≡ true → has_byte b d ≡ true
 in_end b d i h = sym (ap (has_byte b) (take-append-drop i d)) ∙ joined b (take i d) (drop i d) ∙ or_true (has_byte b (take i d)) (has_byte b (drop i d)) h
 
--- some bytes are it
+-- the byte is in this block
 pub met : (b : ℕ) (d : List ℕ) (i n : ℕ) → 0 < bits_of b (chunk i n d) → has_byte b d ≡ true
 met b d i n more = in_end b d i (split b d i n ∙ ap (λ h. h || has_byte b (drop (i + n) d)) (some b (chunk i n d) more))
 
--- none of the next ones is
+-- it is not in this block
 pub gone_on : (b : ℕ) (d : List ℕ) (i n : ℕ) → has_byte b d ≡ has_byte b (drop i d) → bits_of b (chunk i n d) ≡ 0 → has_byte b d ≡ has_byte b (drop (i + n) d)
 gone_on b d i n so_far e = so_far ∙ passed b d i n e
 
@@ -60,7 +60,7 @@ not_true : (h : Bool) → (h ≡ true → ⊥) → h ≡ false
 not_true true never = absurd (never refl)
 not_true false never = refl
 
--- nor is any of the last, among which are all that were not looked at
+-- nor in the last block, which covers all remaining bytes
 pub ended : (b : ℕ) (d : List ℕ) (i j n : ℕ) → j + n ≡ length d → j ≤ i → has_byte b d ≡ has_byte b (drop i d) → bits_of b (chunk j n d) ≡ 0 → has_byte b d ≡ false
 ended b d i j n all le so_far e =
     let behind : has_byte b (drop (j + n) d) ≡ false = ap (has_byte b) (drop_all (j + n) d (omega (arith, all))) in
@@ -68,7 +68,7 @@ ended b d i j n all le so_far e =
     let same : drop (i - j) (drop j d) ≡ drop i d = drop-drop (i - j) j d ∙ ap (λ k. drop k d) (omega (arith, le)) in
     so_far ∙ not_true (has_byte b (drop i d)) (λ there. let clash : true ≡ false = sym (in_end b (drop j d) (i - j) (ap (has_byte b) same ∙ there)) ∙ last in cc)
 
--- the last of them tell
+-- the last block decides
 pub last_told : (b : ℕ) (d : List ℕ) (i j n bits : ℕ) → j + n ≡ length d → j ≤ i → has_byte b d ≡ has_byte b (drop i d) → bits ≡ bits_of b (chunk j n d) → not (nat_eq bits 0) ≡ has_byte b d
 last_told b d i j n bits all le so_far is = by_test (nat_eq bits 0) refl
   where

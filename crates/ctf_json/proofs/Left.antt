@@ -1,4 +1,4 @@
--- What is left of tokens.
+-- The remaining tokens.
 use Rattle.std.proofs.Common.{◌≡◌, ℕ, List, [], ◌∷◌, Bool, true, false, ◌||◌, Option, Some, None, refl, ap, ◌∙◌, subst}
 use Rattle.json.specs.Token.{Token}
 use Rattle.json.specs.Json.{read_key}

@@ -1,4 +1,4 @@
--- Lexemes of a text, from a place on.
+-- Lexemes of a text, from an offset on.
 use Rattle.std.proofs.Common.{◌≡◌, ℕ, suc, ◌+◌, ◌-◌, ◌<◌, ◌≤◌, Bool, true, false, not, ◌||◌, cond, ◌==◌, nat_lt, List, [], ◌∷◌, ◌++◌, length, take, drop, get_or, Option, Some, None, add-zero, lt_of_not-le, refl, sym, ap, ◌∙◌, subst, arith}
 use Rattle.std.proofs.lemmas.List.{drop_more, append_assoc, append-nil, drop-drop, drop_all, get_or-drop, get_or_default, get_or_past, length-drop}
 use Rattle.std.proofs.lemmas.Bool.{false≢true, true≢false, or_parts, not-true, eqb-true, ne_eqb}
@@ -10,7 +10,7 @@ use Rattle.json.specs.Lex.{Lexeme, token, Class, quote, backslash, operator, spa
 use Rattle.json.specs.Align.{is_blank}
 use Rattle.json.specs.Run.{is_plain}
 
--- ---- what stands first
+-- ---- the first lexeme
 
 abbrev pub first_lexeme : Class → List ℕ → Lexeme
 first_lexeme quote t = token (string_token (content plain (drop 1 t)))
@@ -35,7 +35,7 @@ pub lex-nil : lex between [] ≡ []
 unfolding lex
 lex-nil = refl
 
--- ---- one byte more
+-- ---- one more byte
 
 abbrev next_of : Class → List ℕ → List Lexeme
 next_of quote xs = lex in_string xs
@@ -51,7 +51,7 @@ behind operator x xs h = refl
 behind space x xs h = absurd (true≢false h)
 behind other x xs h = refl
 
--- behind the first lexeme of a text
+-- after the first lexeme of a text
 lex_behind : (c : Class) (t : List ℕ) → class (head t) ≡ c → is_blank c ≡ false → drop 1 (lex between t) ≡ next_of c (drop 1 t)
 unfolding lex
 lex_behind c [] e h = absurd (true≢false (ap is_blank e ∙ h))
@@ -147,12 +147,12 @@ string_quote : (xs : List ℕ) → lex in_string (34 ∷ xs) ≡ lex between xs
 unfolding lex
 string_quote xs = refl
 
--- a string that is closed at a place
+-- a string that is closed at `stop`
 pub string_passed : (d : List ℕ) (i stop : ℕ) → stop ≡ i + prefix_len is_plain (drop i d) → stop < length d → get_or d stop 0 ≡ 34 → lex in_string (drop i d) ≡ lex between (drop (stop + 1) d)
 string_passed d i stop is h e =
     string_run (drop i d) ∙ ap (lex in_string) (drop-drop _ i d ∙ ap (λ k. drop k d) (sym is) ∙ drop_more d stop 0 h ∙ ap (λ x. x ∷ drop (stop + 1) d) e) ∙ string_quote (drop (stop + 1) d)
 
--- ---- what a string spells
+-- ---- the content of a string
 
 pub prepend-prepend : (a b : List ℕ) (r : Option (List ℕ)) → prepend a (prepend b r) ≡ prepend (a ++ b) r
 prepend-prepend a b None = refl
@@ -193,7 +193,7 @@ content_closed d i stop is h e =
     content-to_stop d i stop is ∙ ap (prepend (take (stop - i) (drop i d))) (ap (content plain) (drop_more d stop 0 h ∙ ap (λ x. x ∷ drop (stop + 1) d) e) ∙ quote_ends (drop (stop + 1) d))
     ∙ ap Some (append-nil _)
 
--- ---- a string that is not closed
+-- ---- unclosed strings
 
 nothing_spelled : content plain [] ≡ None
 unfolding content
@@ -234,7 +234,7 @@ content_open d i stop is within not_quote not_escape = content-to_stop d i stop 
     by_place true e = there (grind (arith, e))
     by_place false e = ap (content plain) (drop_all stop d (grind (arith, e))) ∙ nothing_spelled
 
--- ---- a quote at a place
+-- ---- a quote at an offset
 
 pub record AtQuote (d : List ℕ) (p : ℕ) : Type 0 where
   pub within : p < length d

@@ -1,4 +1,4 @@
--- What a line has at a name, by its fields and its lists.
+-- The value of a line at a name, from its fields and lists.
 use Rattle.std.proofs.Common.{◌≡◌, ℕ, ◌<◌, List, [], ◌∷◌, length, set, Bool, true, false, cond, codes, Option, Some, None, option_map, option_and_then, Vec, Global, refl, sym, ap, ◌∙◌, subst, bytes_eq}
 use Rattle.std.specs.Prelude.{⊤, if◌then◌else◌}
 use Rattle.std.proofs.lemmas.Bool.{false≢true}
@@ -10,9 +10,9 @@ use Rattle.serde_json.proofs.Views.{get_member-put, get_member-put_other}
 use Rattle.ctf_joined.specs.Joined.{texts}
 use Rattle.ctf_joined.specs.declared.joined.Joined.{Joined}
 use Rattle.ctf_json.specs.Keys.{place_in, wanted_at}
-use Rattle.ctf_json.specs.Told.{told_number}
+use Rattle.ctf_json.specs.TreeData.{number_or_null}
 use Rattle.ctf_model.specs.declared.numbers.TypeNum.{TypeNum}
-use Rattle.ctf_json.specs.Values.{args_without, fits, keys, line_said, members_said, names_without, numbers_said, put_some, data_of, texts_said}
+use Rattle.ctf_json.specs.Values.{args_without, fits, keys, line_data, members_data, names_without, numbers_data, put_some, data_of, texts_data}
 use Rattle.ctf_json.specs.declared.values.Field.{Field}
 use Rattle.ctf_json.specs.declared.values.Field.TheVariants as field
 use Rattle.ctf_json.specs.declared.line.Line.{Line}
@@ -27,7 +27,7 @@ names_key = codes "names"
 abbrev args_key : List ℕ
 args_key = codes "args"
 
--- d in place of what is there, where this is so
+-- the first value, if the condition holds and it is present, else the second
 abbrev over : Bool → Option Data → Option Data → Option Data
 over true None o = o
 over true (Some d) o = Some d
@@ -46,19 +46,19 @@ put_over q k None ms = over_none (bytes_eq q k) (get_member q ms)
 put_over q k (Some d) ms = put_by q k d ms (bytes_eq q k) refl
 
 abbrev as_names : Option Joined → Option Data
-as_names o = option_map (λ v. array (texts_said (texts v))) o
+as_names o = option_map (λ v. array (texts_data (texts v))) o
 
 abbrev as_args : Option (Vec TypeNum Global) → Option Data
-as_args o = option_map (λ v. array (numbers_said v.items)) o
+as_args o = option_map (λ v. array (numbers_data v.items)) o
 
--- what a line of these parts has at a name
+-- the value at a name in a line of these parts
 abbrev parts : List ℕ → Option Data → Option Data → Option Data → Option Data
 parts q args names field = over (bytes_eq q args_key) args (over (bytes_eq q names_key) names field)
 
 line_at : (q : List ℕ) (args names : Option Data) (ms : Members) → get_member q (put_some args_key args (put_some names_key names ms)) ≡ parts q args names (get_member q ms)
 line_at q args names ms = put_over q args_key args (put_some names_key names ms) ∙ ap (over (bytes_eq q args_key) args) (put_over q names_key names ms)
 
--- ---- which list is wanted
+-- ---- the wanted list
 
 abbrev IsTexts : Wanted → Type 0
 IsTexts Texts = ⊤
@@ -99,7 +99,7 @@ at_names key e = (bytes_eq-Decides key names_key).0 (texts_by (bytes_eq key name
 pub at_args : (key : List ℕ) → wanted_at key ≡ Numbers → key ≡ args_key
 at_args key e = (bytes_eq-Decides key args_key).0 (numbers_by (bytes_eq key names_key) (bytes_eq key args_key) e)
 
--- ---- looking
+-- ---- look-ups
 
 pub names_here : (key : List ℕ) (args names : Option Data) (ms : Members) → wanted_at key ≡ Texts → get_member key (put_some args_key args (put_some names_key names ms)) ≡ over true names (get_member key ms)
 names_here key args names ms e = line_at key args names ms ∙ ap (λ k. parts k args names (get_member key ms)) (at_names key e)
@@ -117,7 +117,7 @@ no_array field.Null = refl
 no_array (field.Bool b) = refl
 no_array (field.Number s) = no_array_number (number_of s.now)
   where
-    no_array_number : (o : Option Num) → as_array (told_number o) ≡ None
+    no_array_number : (o : Option Num) → as_array (number_or_null o) ≡ None
     no_array_number None = refl
     no_array_number (Some n) = refl
 no_array (field.String s) = refl
@@ -132,51 +132,51 @@ no_list [] q vs = refl
 no_list (k ∷ ks) q [] = refl
 no_list (k ∷ ks) q (v ∷ vs) = no_list_by (bytes_eq q k) v (at_name q ks vs) (no_list ks q vs)
 
--- the list that stands at each of the two
-pub names_listed : (line : Line) → option_and_then as_array (get names_key (line_said line)) ≡ option_map (λ v. texts_said (texts v)) line.names
-names_listed line = ap (option_and_then as_array) (line_at names_key (as_args line.args) (as_names line.names) (members_said keys line.fields.all)) ∙ by_names line.names
+-- the lists at the two names
+pub names_listed : (line : Line) → option_and_then as_array (get names_key (line_data line)) ≡ option_map (λ v. texts_data (texts v)) line.names
+names_listed line = ap (option_and_then as_array) (line_at names_key (as_args line.args) (as_names line.names) (members_data keys line.fields.all)) ∙ by_names line.names
   where
-    field_none : option_and_then as_array (get_member names_key (members_said keys line.fields.all)) ≡ None
+    field_none : option_and_then as_array (get_member names_key (members_data keys line.fields.all)) ≡ None
     field_none = ap (option_and_then as_array) (member_is names_key keys line.fields.all refl) ∙ no_list keys names_key line.fields.all
 
-    by_names : (o : Option Joined) → option_and_then as_array (over true (as_names o) (get_member names_key (members_said keys line.fields.all))) ≡ option_map (λ v. texts_said (texts v)) o
+    by_names : (o : Option Joined) → option_and_then as_array (over true (as_names o) (get_member names_key (members_data keys line.fields.all))) ≡ option_map (λ v. texts_data (texts v)) o
     by_names None = field_none
     by_names (Some v) = refl
 
-pub args_listed : (line : Line) → option_and_then as_array (get args_key (line_said line)) ≡ option_map (λ v. numbers_said v.items) line.args
-args_listed line = ap (option_and_then as_array) (line_at args_key (as_args line.args) (as_names line.names) (members_said keys line.fields.all)) ∙ by_args line.args
+pub args_listed : (line : Line) → option_and_then as_array (get args_key (line_data line)) ≡ option_map (λ v. numbers_data v.items) line.args
+args_listed line = ap (option_and_then as_array) (line_at args_key (as_args line.args) (as_names line.names) (members_data keys line.fields.all)) ∙ by_args line.args
   where
-    field_none : option_and_then as_array (get_member args_key (members_said keys line.fields.all)) ≡ None
+    field_none : option_and_then as_array (get_member args_key (members_data keys line.fields.all)) ≡ None
     field_none = ap (option_and_then as_array) (member_is args_key keys line.fields.all refl) ∙ no_list keys args_key line.fields.all
 
-    by_args : (o : Option (Vec TypeNum Global)) → option_and_then as_array (over true (as_args o) (get_member args_key (members_said keys line.fields.all))) ≡ option_map (λ v. numbers_said v.items) o
+    by_args : (o : Option (Vec TypeNum Global)) → option_and_then as_array (over true (as_args o) (get_member args_key (members_data keys line.fields.all))) ≡ option_map (λ v. numbers_data v.items) o
     by_args None = field_none
     by_args (Some v) = refl
 
-pub got_names : (key : List ℕ) (line : Line) (v : Joined) → Texts ≡ wanted_at key → line.names ≡ Some v → Some (array (texts_said (texts v))) ≡ get key (line_said line)
+pub got_names : (key : List ℕ) (line : Line) (v : Joined) → Texts ≡ wanted_at key → line.names ≡ Some v → Some (array (texts_data (texts v))) ≡ get key (line_data line)
 got_names key line v w e =
-    sym (names_here key (as_args line.args) (as_names line.names) (members_said keys line.fields.all) (sym w) ∙ ap (λ o. over true (as_names o) (get_member key (members_said keys line.fields.all))) e)
+    sym (names_here key (as_args line.args) (as_names line.names) (members_data keys line.fields.all) (sym w) ∙ ap (λ o. over true (as_names o) (get_member key (members_data keys line.fields.all))) e)
 
-pub got_args : (key : List ℕ) (line : Line) (v : Vec TypeNum Global) (ns : List TypeNum) → Numbers ≡ wanted_at key → line.args ≡ Some v → ns ≡ v.items → Some (array (numbers_said ns)) ≡ get key (line_said line)
+pub got_args : (key : List ℕ) (line : Line) (v : Vec TypeNum Global) (ns : List TypeNum) → Numbers ≡ wanted_at key → line.args ≡ Some v → ns ≡ v.items → Some (array (numbers_data ns)) ≡ get key (line_data line)
 got_args key line v ns w e is =
-    ap (λ l. Some (array (numbers_said l))) is
-    ∙ sym (args_here key (as_args line.args) (as_names line.names) (members_said keys line.fields.all) (sym w) ∙ ap (λ o. over true (as_args o) (get_member key (members_said keys line.fields.all))) e)
+    ap (λ l. Some (array (numbers_data l))) is
+    ∙ sym (args_here key (as_args line.args) (as_names line.names) (members_data keys line.fields.all) (sym w) ∙ ap (λ o. over true (as_args o) (get_member key (members_data keys line.fields.all))) e)
 
-pub got_no_names : (key : List ℕ) (line : Line) (o : Option Data) → Texts ≡ wanted_at key → line.names ≡ None → o ≡ get_member key (members_said keys line.fields.all) → o ≡ get key (line_said line)
+pub got_no_names : (key : List ℕ) (line : Line) (o : Option Data) → Texts ≡ wanted_at key → line.names ≡ None → o ≡ get_member key (members_data keys line.fields.all) → o ≡ get key (line_data line)
 got_no_names key line o w e is =
-    is ∙ sym (names_here key (as_args line.args) (as_names line.names) (members_said keys line.fields.all) (sym w) ∙ ap (λ o. over true (as_names o) (get_member key (members_said keys line.fields.all))) e)
+    is ∙ sym (names_here key (as_args line.args) (as_names line.names) (members_data keys line.fields.all) (sym w) ∙ ap (λ o. over true (as_names o) (get_member key (members_data keys line.fields.all))) e)
 
-pub got_no_args : (key : List ℕ) (line : Line) (o : Option Data) → Numbers ≡ wanted_at key → line.args ≡ None → o ≡ get_member key (members_said keys line.fields.all) → o ≡ get key (line_said line)
+pub got_no_args : (key : List ℕ) (line : Line) (o : Option Data) → Numbers ≡ wanted_at key → line.args ≡ None → o ≡ get_member key (members_data keys line.fields.all) → o ≡ get key (line_data line)
 got_no_args key line o w e is =
-    is ∙ sym (args_here key (as_args line.args) (as_names line.names) (members_said keys line.fields.all) (sym w) ∙ ap (λ o. over true (as_args o) (get_member key (members_said keys line.fields.all))) e)
+    is ∙ sym (args_here key (as_args line.args) (as_names line.names) (members_data keys line.fields.all) (sym w) ∙ ap (λ o. over true (as_args o) (get_member key (members_data keys line.fields.all))) e)
 
-pub got_plain : (key : List ℕ) (line : Line) (o : Option Data) → Nothing ≡ wanted_at key → o ≡ get_member key (members_said keys line.fields.all) → o ≡ get key (line_said line)
-got_plain key line o w is = is ∙ sym (plain_here key (as_args line.args) (as_names line.names) (members_said keys line.fields.all) (sym w))
+pub got_plain : (key : List ℕ) (line : Line) (o : Option Data) → Nothing ≡ wanted_at key → o ≡ get_member key (members_data keys line.fields.all) → o ≡ get key (line_data line)
+got_plain key line o w is = is ∙ sym (plain_here key (as_args line.args) (as_names line.names) (members_data keys line.fields.all) (sym w))
 
--- ---- keeping
+-- ---- additions
 
 module _ (key q : List ℕ) where
-  -- what a line has at a name that is not this key's
+  -- the value at a name other than this key
   apart : (k : List ℕ) → bytes_eq key q ≡ false → bytes_eq key k ≡ true → bytes_eq q k ≡ false
   apart k other is = same_eq k q false (ap (λ x. bytes_eq x q) (sym ((bytes_eq-Decides key k).0 is)) ∙ other)
 
@@ -194,7 +194,7 @@ module _ (key q : List ℕ) where
       ap (λ b. over b (Some d) (over (bytes_eq q names_key) names x)) not ∙ sym (ap (λ b. over b args (over (bytes_eq q names_key) names x)) not)
 
   module _ (args : Option (Vec TypeNum Global)) (names : Option Joined) (f : Data) (x : Option Data) where
-    -- a field at a key takes the place of a list there
+    -- a field at a key replaces a list there
     field_by : (w : Wanted) (b : Bool) → bytes_eq key q ≡ b → wanted_at key ≡ w → parts q (as_args (args_without w args)) (as_names (names_without w names)) (cond b (Some f) x) ≡ cond b (Some f) (parts q (as_args args) (as_names names) x)
     field_by Texts true same is = ap (λ k. parts k (as_args args) None (Some f)) (sym ((bytes_eq-Decides key q).0 same) ∙ at_names key is)
     field_by Numbers true same is = ap (λ k. parts k None (as_names names) (Some f)) (sym ((bytes_eq-Decides key q).0 same) ∙ at_args key is)
@@ -211,8 +211,8 @@ module _ (key q : List ℕ) where
     field_by Nothing false other is = refl
 
 -- the parts of a line at a name
-pub line_parts : (q : List ℕ) (line : Line) → get q (line_said line) ≡ parts q (as_args line.args) (as_names line.names) (at_name q keys line.fields.all)
-line_parts q line = line_at q (as_args line.args) (as_names line.names) (members_said keys line.fields.all) ∙ ap (parts q (as_args line.args) (as_names line.names)) (member_is q keys line.fields.all refl)
+pub line_parts : (q : List ℕ) (line : Line) → get q (line_data line) ≡ parts q (as_args line.args) (as_names line.names) (at_name q keys line.fields.all)
+line_parts q line = line_at q (as_args line.args) (as_names line.names) (members_data keys line.fields.all) ∙ ap (parts q (as_args line.args) (as_names line.names)) (member_is q keys line.fields.all refl)
 
 pub texts_fit : (w : Wanted) (v : Joined) → fits w (was.Texts v) ≡ true → w ≡ Texts
 texts_fit Texts v e = refl
@@ -224,28 +224,28 @@ numbers_fit Texts v e = absurd (false≢true e)
 numbers_fit Numbers v e = refl
 numbers_fit Nothing v e = absurd (false≢true e)
 
--- a value at a key, and all else as it was
+-- a value at a key, with everything else unchanged
 abbrev pub has : List ℕ → List (Option Field) → Option Joined → Option (Vec TypeNum Global) → Option Data
-has q fields names args = get_member q (put_some args_key (as_args args) (put_some names_key (as_names names) (members_said keys fields)))
+has q fields names args = get_member q (put_some args_key (as_args args) (put_some names_key (as_names names) (members_data keys fields)))
 
 has_parts : (q : List ℕ) (fields : List (Option Field)) (names : Option Joined) (args : Option (Vec TypeNum Global)) → has q fields names args ≡ parts q (as_args args) (as_names names) (at_name q keys fields)
-has_parts q fields names args = line_at q (as_args args) (as_names names) (members_said keys fields) ∙ ap (parts q (as_args args) (as_names names)) (member_is q keys fields refl)
+has_parts q fields names args = line_at q (as_args args) (as_names names) (members_data keys fields) ∙ ap (parts q (as_args args) (as_names names)) (member_is q keys fields refl)
 
 pub list_kept : (key q : List ℕ) (fields : List (Option Field)) (names : Option Joined) (args : Option (Vec TypeNum Global)) (v : Joined) → key ≡ names_key
-    → has q fields (Some v) args ≡ cond (bytes_eq key q) (Some (array (texts_said (texts v)))) (has q fields names args)
+    → has q fields (Some v) args ≡ cond (bytes_eq key q) (Some (array (texts_data (texts v)))) (has q fields names args)
 list_kept key q fields names args v is =
-    has_parts q fields (Some v) args ∙ names_kept key q (as_args args) (as_names names) (array (texts_said (texts v))) (at_name q keys fields) (bytes_eq key q) refl is
-    ∙ ap (cond (bytes_eq key q) (Some (array (texts_said (texts v))))) (sym (has_parts q fields names args))
+    has_parts q fields (Some v) args ∙ names_kept key q (as_args args) (as_names names) (array (texts_data (texts v))) (at_name q keys fields) (bytes_eq key q) refl is
+    ∙ ap (cond (bytes_eq key q) (Some (array (texts_data (texts v))))) (sym (has_parts q fields names args))
 
 pub numbers_kept : (key q : List ℕ) (fields : List (Option Field)) (names : Option Joined) (args : Option (Vec TypeNum Global)) (v : Vec TypeNum Global) → key ≡ args_key
-    → has q fields names (Some v) ≡ cond (bytes_eq key q) (Some (array (numbers_said v.items))) (has q fields names args)
+    → has q fields names (Some v) ≡ cond (bytes_eq key q) (Some (array (numbers_data v.items))) (has q fields names args)
 numbers_kept key q fields names args v is =
-    has_parts q fields names (Some v) ∙ args_kept key q (as_args args) (as_names names) (array (numbers_said v.items)) (at_name q keys fields) (bytes_eq key q) refl is
-    ∙ ap (cond (bytes_eq key q) (Some (array (numbers_said v.items)))) (sym (has_parts q fields names args))
+    has_parts q fields names (Some v) ∙ args_kept key q (as_args args) (as_names names) (array (numbers_data v.items)) (at_name q keys fields) (bytes_eq key q) refl is
+    ∙ ap (cond (bytes_eq key q) (Some (array (numbers_data v.items)))) (sym (has_parts q fields names args))
 
 pub field_kept : (key q : List ℕ) (old new : Line) (i : ℕ) (f : Field) → place_in key keys ≡ Some i → i < length old.fields.all → new.fields.all ≡ set old.fields.all i (Some f)
     → new.names ≡ names_without (wanted_at key) old.names → new.args ≡ args_without (wanted_at key) old.args
-    → get q (line_said new) ≡ cond (bytes_eq key q) (Some (data_of f)) (get q (line_said old))
+    → get q (line_data new) ≡ cond (bytes_eq key q) (Some (data_of f)) (get q (line_data old))
 field_kept key q old new i f place h fields names args =
     line_parts q new ∙ ap (λ a. parts q (as_args a) (as_names new.names) (at_name q keys new.fields.all)) args ∙ ap (λ n. parts q (as_args (args_without (wanted_at key) old.args)) (as_names n) (at_name q keys new.fields.all)) names
     ∙ ap (λ x. parts q (as_args (args_without (wanted_at key) old.args)) (as_names (names_without (wanted_at key) old.names)) (at_name q keys x)) fields

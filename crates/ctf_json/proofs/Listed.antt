@@ -1,4 +1,4 @@
--- Lists of what is wanted, an item at a time.
+-- Lists of wanted items, one item at a time.
 use Rattle.std.proofs.Common.{◌≡◌, ℕ, zero, suc, ◌-◌, ◌<◌, ◌≤◌, List, [], ◌∷◌, ◌++◌, length, nat_le, Bool, true, false, ◌&&◌, cond, is_some, Option, Some, None, option_map, option_and_then, refl, sym, ap, ◌∙◌, subst, arith}
 use Rattle.std.specs.Prelude.{if◌then◌else◌}
 use Rattle.json.specs.Token.{Token}
@@ -9,14 +9,14 @@ use Rattle.serde_json.specs.Data as tree
 use Rattle.serde_json.specs.Data.{Num, Data, unsigned}
 use Rattle.serde_json.specs.Find.{as_str}
 use Rattle.ctf_model.specs.declared.numbers.TypeNum.{TypeNum}
-use Rattle.ctf_json.specs.Told.{told, told_items, in_range, items_in_range}
+use Rattle.ctf_json.specs.TreeData.{tree_data, items_data, in_range, items_in_range}
 use Rattle.ctf_json.specs.Passed.{begun, tokens_behind, passed_items, passed_value}
-use Rattle.ctf_json.specs.Values.{are, front, is_small, is_text, number_said, small}
+use Rattle.ctf_json.specs.Values.{are, front, is_small, is_text, number_data, small}
 use Rattle.ctf_json.proofs.Begun.{IsPlainTest, passed-plain, single, test-plain}
 use Rattle.ctf_json.proofs.Fronts.{Fronts, mapped, no_front, one_more, unmoved}
 use Rattle.ctf_json.proofs.Turns.{IsNone, passed-some, refuse_item, refused_behind}
 
--- ---- more turns than are needed
+-- ---- more turns than needed
 
 module _ (p : Parse Json) (empty : p [] ≡ None) (shorter : (ts : List Token) (q : Json × List Token) → p ts ≡ Some q → length q.1 < length ts) where
   no_items_left : (n : ℕ) (ts : List Token) → length ts ≤ 0 → items p n ts ≡ None
@@ -80,7 +80,7 @@ small_by : (b : Bool) (m : ℕ) (t : TypeNum) → Some t ≡ (if b then Some (re
 small_by true m n e = (refl, ap number_or (sym e))
 small_by false m n e = absurd (subst IsNone (sym e) tt)
 
-pub number_is : (d : Data) (n : TypeNum) → Some n ≡ small d → (is_small d ≡ true) × (d ≡ number_said n)
+pub number_is : (d : Data) (n : TypeNum) → Some n ≡ small d → (is_small d ≡ true) × (d ≡ number_data n)
 number_is tree.null n e = absurd (subst IsNone (sym e) tt)
 number_is (tree.boolean b) n e = absurd (subst IsNone (sym e) tt)
 number_is (tree.number (unsigned m)) n e =
@@ -99,7 +99,7 @@ refused_by false b ts e = refl
 -- ---- turns
 
 module _ {A : Type 0} (test : Data → Bool) (plain_test : IsPlainTest test) (says : A → Data) (depth : ℕ) where
-  -- what was read so far: xs in front, and these tokens are left
+  -- the items parsed so far, and the remaining tokens
   abbrev pub SoFar : List Token → List A → List Token → Type 0
   SoFar old xs left =
       (n : ℕ) × (length left ≤ n) × (f : Items → Items) × (items (value depth) (length old) old ≡ parse_map f (items (value depth) n left)) × Fronts test says xs f × (length left ≤ length old)
@@ -110,7 +110,7 @@ module _ {A : Type 0} (test : Data → Bool) (plain_test : IsPlainTest test) (sa
   refused : (old left : List Token) (xs : List A) → SoFar old xs left → ((n : ℕ) → length left ≤ n → tokens_behind items_in_range (items (value depth) n left) ≡ None) → passed_items depth old ≡ None
   refused old left xs s none = refused_behind items_in_range s.2 s.4.good (items (value depth) (length old) old) (items (value depth) s.0 left) s.3 (none s.0 s.1)
 
-  -- no item, or one that is refused
+  -- no item, or a refused one
   pub refused_here : (old left : List Token) (xs : List A) → SoFar old xs left → after_end_array left ≡ None → passed_value depth left ≡ None → passed_items depth old ≡ None
   refused_here old left xs s going none = refused old left xs s (λ n h. refuse_item (value depth) n left going none)
 
@@ -119,7 +119,7 @@ module _ {A : Type 0} (test : Data → Bool) (plain_test : IsPlainTest test) (sa
       let less = skip_value-shorter depth left r (ap (option_map (λ x. x.1)) e) in
       (omega (arith, less, h), omega (arith, less, h))
 
-  -- an item that is none of these, with what is left of the list
+  -- an item of another type, and the rest of the list
   first_of : (left : List Token) (n : ℕ) (j : Json) (r : List Token) → value depth left ≡ Some (j, r) → length left ≤ n → after_end_array left ≡ None → items (value depth) n left ≡ parse_map (item j) (items (value depth) (length r) r)
   first_of left n j r e h going =
       let less = behind left j r n e h in
@@ -134,21 +134,21 @@ module _ {A : Type 0} (test : Data → Bool) (plain_test : IsPlainTest test) (sa
       let j = passed-plain depth t ts r first in
       refused old left xs s (λ n h. ap (tokens_behind items_in_range) (first_of left n j.0 r (ap (value depth) is ∙ j.1) h going) ∙ refused_rest (items (value depth) (length r) r) j.0 none)
 
-  -- a list with an item that is none of these
-  pub other : (old left : List Token) (xs : List A) (t : Token) (ts r rest : List Token) → SoFar old xs left → after_end_array left ≡ None → left ≡ t ∷ ts → passed_value depth (t ∷ ts) ≡ Some r → test (told (begun t)) ≡ false → passed_items depth r ≡ Some rest
-      → (js : Items) × (items (value depth) (length old) old ≡ Some (js, rest)) × (items_in_range js ≡ true) × (are test (told_items js) ≡ false)
+  -- a list with an item of another type
+  pub other : (old left : List Token) (xs : List A) (t : Token) (ts r rest : List Token) → SoFar old xs left → after_end_array left ≡ None → left ≡ t ∷ ts → passed_value depth (t ∷ ts) ≡ Some r → test (tree_data (begun t)) ≡ false → passed_items depth r ≡ Some rest
+      → (js : Items) × (items (value depth) (length old) old ≡ Some (js, rest)) × (items_in_range js ≡ true) × (are test (items_data js) ≡ false)
   other old left xs t ts r rest s going is first not more =
       let j = passed-plain depth t ts r first in
       let ks = passed-some items_in_range (items (value depth) (length r) r) rest more in
-      let no : test (told j.0) ≡ false = sym (test-plain test plain_test j.0) ∙ ap (λ x. test (told x)) j.3 ∙ not in (
+      let no : test (tree_data j.0) ≡ false = sym (test-plain test plain_test j.0) ∙ ap (λ x. test (tree_data x)) j.3 ∙ not in (
         s.2 (item j.0 ks.0),
         s.3 ∙ ap (parse_map s.2) (first_of left s.0 j.0 r (ap (value depth) is ∙ j.1) s.1 going ∙ ap (parse_map (item j.0)) ks.1),
         s.4.good (item j.0 ks.0) ∙ ap (λ b. b && items_in_range ks.0) j.2 ∙ ks.2,
-        s.4.tested (item j.0 ks.0) ∙ ap (λ b. b && are test (told_items ks.0)) no,
+        s.4.tested (item j.0 ks.0) ∙ ap (λ b. b && are test (items_data ks.0)) no,
       )
 
-  -- one more of these
-  pub one_more_read : (old left : List Token) (xs : List A) (x : A) (t : Token) (ts : List Token) → SoFar old xs left → after_end_array left ≡ None → left ≡ t ∷ ts → test (told (begun t)) ≡ true → told (begun t) ≡ says x → SoFar old (xs ++ x ∷ []) ts
+  -- one more item
+  pub one_more_read : (old left : List Token) (xs : List A) (x : A) (t : Token) (ts : List Token) → SoFar old xs left → after_end_array left ≡ None → left ≡ t ∷ ts → test (tree_data (begun t)) ≡ true → tree_data (begun t) ≡ says x → SoFar old (xs ++ x ∷ []) ts
   one_more_read old left xs x t ts s going is ok said =
       let one = single test plain_test depth t ts ok in
       let longer = ap length is in
@@ -162,9 +162,9 @@ module _ {A : Type 0} (test : Data → Bool) (plain_test : IsPlainTest test) (sa
         omega (arith, longer, s.5),
       )
 
-  -- all are of these
+  -- all items are of the wanted type
   pub all_read : (old left rest : List Token) (xs : List A) → SoFar old xs left → after_end_array left ≡ Some rest
-      → (js : Items) × (items (value depth) (length old) old ≡ Some (js, rest)) × (items_in_range js ≡ true) × (are test (told_items js) ≡ true) × (told_items js ≡ front says xs tree.no_items)
+      → (js : Items) × (items (value depth) (length old) old ≡ Some (js, rest)) × (items_in_range js ≡ true) × (are test (items_data js) ≡ true) × (items_data js ≡ front says xs tree.no_items)
   all_read old left rest xs s end = (
     s.2 json.no_items,
     s.3 ∙ ap (parse_map s.2) (items_end (value depth) s.0 left rest s.1 end),

@@ -1,4 +1,4 @@
--- A number at the front of a text that is digits alone, and behind which a comma or a brace stands.
+-- A number at the front of a text that has only digits, before a comma or a brace.
 use Rattle.std.proofs.Common.{◌≡◌, ℕ, suc, ◌+◌, ◌-◌, ◌<◌, ◌≤◌, Bool, true, false, ◌&&◌, ◌||◌, cond, ◌==◌, nat_le, List, [], ◌∷◌, length, take, drop, Some, None, option_and_then, ◌⊎◌, inl, inr, refl, sym, ap, ◌∙◌, subst, arith}
 use Rattle.std.proofs.lemmas.Bool.{ne_eqb, eqb-true, leb-true, and_parts}
 use Rattle.std.proofs.lemmas.Bool.Decides.{nat_tests}
@@ -86,7 +86,7 @@ all_digits : (xs : List ℕ) → AllDigits 10 (take (prefix_len is_ascii_digit x
 all_digits [] = tt
 all_digits (x ∷ xs) = all_byte (is_ascii_digit x) x (prefix_len is_ascii_digit xs) xs refl (all_digits xs)
 
--- ---- what ends it
+-- ---- its end
 
 abbrev pub Ends : ℕ → Type 0
 Ends x = (x ≡ 44) ⊎ (x ≡ 125)

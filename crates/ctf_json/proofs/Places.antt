@@ -1,4 +1,4 @@
--- The place of a key in a list, found from the front.
+-- The index of a key in a list, searched from the front.
 use Rattle.std.proofs.Common.{◌≡◌, ℕ, suc, ◌+◌, ◌<◌, ◌≤◌, List, length, get_or, map, drop, true, false, Option, Some, None, option_map, Bor, bytes_eq, sym, ap, ◌∙◌, refl, arith}
 use Rattle.std.specs.Prelude.{if◌then◌else◌}
 use Rattle.std.proofs.lemmas.List.{drop_more, drop_all}
@@ -31,6 +31,6 @@ place_on name ks i d h e all =
 pub place_nowhere : (name : List ℕ) (ks : List (Bor (List ℕ))) (i : ℕ) → length ks ≤ i → place_in name (texts ks) ≡ from_here name ks i → None ≡ place_in name (texts ks)
 place_nowhere name ks i h all = sym (all ∙ ap (λ l. option_map (λ n. i + n) (place_in name (texts l))) (drop_all i ks h))
 
--- a name that is a key has its place
+-- a name equal to a key has its index
 pub same_place : (name key : List ℕ) (ks : List (List ℕ)) (place : ℕ) → bytes_eq name key ≡ true → place_in key ks ≡ Some place → Some place ≡ place_in name ks
 same_place name key ks place e h = sym (ap (λ (n : List ℕ). place_in n ks) ((bytes_eq-Decides name key).0 e) ∙ h)

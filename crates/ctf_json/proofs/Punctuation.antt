@@ -1,4 +1,4 @@
--- What `punctuate` gives, by the first byte of the text.
+-- The result of `punctuate`, by the first byte of the text.
 use Rattle.std.proofs.Common.{◌≡◌, ◌≢◌, ℕ, Bool, true, false, cond, ◌==◌, List, [], ◌∷◌, drop, Option, Some, None, ◌⊎◌, inl, inr, refl, sym, ap, ◌∙◌, subst}
 use Rattle.std.proofs.lemmas.Bool.{true≢false, false≢true, eqb-true, or_cases}
 use Rattle.std.specs.Prelude.{⊤}
@@ -23,7 +23,7 @@ at_operator c t k e = lex_first operator t (ap class e ∙ k) refl ∙ ap (λ x.
 pub at_string : (t : List ℕ) (o : Option (List ℕ)) → head t ≡ 34 → content plain (drop 1 t) ≡ o → lex between t ≡ token (string_token o) ∷ rest t
 at_string t o e found = lex_first quote t (ap class e) refl ∙ ap (λ r. token (string_token r) ∷ rest t) found
 
--- ---- a word is a number, a literal or bad
+-- ---- a word is a number, a literal or invalid
 
 abbrev pub IsWord : Token → Type 0
 IsWord begin_object = ⊥
@@ -160,7 +160,7 @@ pub closes_by_operator : (t : List ℕ) → (head t ≡ 125) ⊎ (head t ≡ 93)
 closes_by_operator t (inl e) = ap class e
 closes_by_operator t (inr e) = ap class e
 
--- ---- from the reader's places
+-- ---- from the reader's states
 
 pub begun : (place : reader.Place) (t : List ℕ) (ts : List Token) → begins_at place ≡ true → ((p : Place) → may_begin p ≡ true → punctuate p (lex between t) ≡ ts) → tokens_at place t ≡ ts
 begun Fresh t ts e f = f fresh refl

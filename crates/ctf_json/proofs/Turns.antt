@@ -1,10 +1,10 @@
--- Values that are passed, a turn at a time.
+-- Skipped values, one turn at a time.
 use Rattle.std.proofs.Common.{◌≡◌, ℕ, suc, zero, ◌-◌, ◌<◌, List, [], Bool, true, false, ◌&&◌, cond, Option, Some, None, option_and_then, refl, sym, ap, ◌∙◌, subst}
 use Rattle.std.specs.Prelude.{⊤}
 use Rattle.json.specs.Token.{Token}
 use Rattle.json.specs.Json.{Json, array, object, Items, item, Members, member, Parse, parse_map, after_end_array, read_key, items_step, members_step, items, members}
 use Rattle.json.proofs.Grammar.{items_more, members_more}
-use Rattle.ctf_json.specs.Told.{in_range, items_in_range, members_in_range}
+use Rattle.ctf_json.specs.TreeData.{in_range, items_in_range, members_in_range}
 use Rattle.ctf_json.specs.Passed.{tokens_behind}
 
 abbrev pub IsNone : {A : Type 0} → Option A → Type 0
@@ -36,7 +36,7 @@ pub passed-object : (r : Option (Members × List Token)) → tokens_behind in_ra
 passed-object None = refl
 passed-object (Some p) = refl
 
--- ---- items and members in front
+-- ---- leading items and members
 
 passed-item : (j : Json) (r : Option (Items × List Token)) → tokens_behind items_in_range (parse_map (item j) r) ≡ cond (in_range j) (tokens_behind items_in_range r) None
 passed-item j None = never (in_range j)
@@ -46,7 +46,7 @@ passed-member : (k : List ℕ) (j : Json) (r : Option (Members × List Token)) �
 passed-member k j None = never (in_range j)
 passed-member k j (Some p) = both (in_range j) (members_in_range p.0) (Some p.1)
 
--- ---- what was passed
+-- ---- skipped values
 
 pub chosen : (b : Bool) (ts r : List Token) → cond b (Some ts) None ≡ Some r → (b ≡ true) × (ts ≡ r)
 chosen true ts r e = (refl, ap or_nothing e)
@@ -93,9 +93,9 @@ module _ (p : Parse Json) where
   refuse_member zero k ts s e f = refl
   refuse_member (suc n) k ts s e f = ap (λ o. tokens_behind members_in_range (option_and_then (λ q. members_step p (members p n) q.0 q.1) o)) e ∙ refused-member k (members p n) (p s) f
 
--- ---- what is refused behind others
+-- ---- refusals after others
 
--- what is read is refused where what others stand in front of is
+-- if the rest is refused, so is the whole
 pub refused_behind : {A : Type 0} (good : A → Bool) (f : A → A) → ((a : A) → good (f a) ≡ good a) → (whole rest : Option (A × List Token)) → whole ≡ parse_map f rest → tokens_behind good rest ≡ None → tokens_behind good whole ≡ None
 refused_behind good f same whole None is e = ap (tokens_behind good) is
 refused_behind good f same whole (Some p) is e = ap (tokens_behind good) is ∙ ap (λ b. cond b (Some p.1) None) (same p.0) ∙ e

@@ -1,4 +1,4 @@
--- Which bytes of a text are one, as a number with a bit for each. Source: ours.
+-- Byte classes of a text as bit masks. Source: ours.
 use Rattle.std.specs.Prelude.{ℕ, List, map, ◌==◌}
 use Rattle.std.specs.Simd.Lanes.{mask_l}
 

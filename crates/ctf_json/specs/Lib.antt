@@ -1,4 +1,4 @@
-pub mod Told
+pub mod TreeData
 pub mod Passed
 pub mod Keys
 pub mod Values

@@ -1,10 +1,10 @@
--- What is left behind a value whose numbers all have a value. Only private clauses cite it.
+-- The tokens after a value whose numbers are all in range. Only private clauses cite it.
 use Rattle.std.specs.Prelude.{ℕ, Bool, List, length, cond, Option, Some, None, option_and_then}
 use Rattle.json.specs.Token.{Token}
 use Rattle.json.specs.Json.{Json, null, boolean, number, string, items, members, value}
-use Rattle.ctf_json.specs.Told.{in_range, items_in_range, members_in_range}
+use Rattle.ctf_json.specs.TreeData.{in_range, items_in_range, members_in_range}
 
--- what is left behind what was read, where that is good
+-- the tokens after a parsed value, if it is good
 abbrev pub tokens_behind : {A : Type 0} → (A → Bool) → Option (A × List Token) → Option (List Token)
 tokens_behind good read = option_and_then (λ p. cond (good p.0) (Some p.1) None) read
 
@@ -17,7 +17,7 @@ passed_items depth ts = tokens_behind items_in_range (items (value depth) (lengt
 abbrev pub passed_members : ℕ → List Token → Option (List Token)
 passed_members depth ts = tokens_behind members_in_range (members (value depth) (length ts) ts)
 
--- what is kept of a value that begins with this token, where nothing is kept of what nests
+-- the stored part of a value that begins with this token, if nothing nested is stored
 abbrev pub begun : Token → Json
 begun Token.begin_object = null
 begun Token.end_object = null

@@ -5,7 +5,7 @@ use Rattle.json.specs.Word.{head}
 use Rattle.json.specs.Lex.{between, lex, fresh, after_value, after_comma, may_begin, may_close, punctuate}
 use Rattle.json.specs.Lex as spec
 use Rattle.ctf_json.specs.Passed.{begun}
-use Rattle.ctf_json.specs.Told.{in_range}
+use Rattle.ctf_json.specs.TreeData.{in_range}
 use Rattle.ctf_json.specs.declared.values.Field.{Field}
 use Rattle.ctf_json.specs.declared.values.Field.TheVariants as field
 use Rattle.ctf_json.specs.declared.plain_reader.Place.{Place}
@@ -23,7 +23,7 @@ NotBeforeComma AfterValue text = head text ≢ 44
 NotBeforeComma AfterComma text = ⊤
 NotBeforeComma Failed text = ⊤
 
--- wherever a value may begin, the text `old` gives t and then what `new` gives
+-- wherever a value may begin, text `old` gives token `t`, then the tokens of `new`
 abbrev pub Begins : List ℕ → Token → Place → List ℕ → Type 0
 Begins old t place new =
     (p : spec.Place) → may_begin p ≡ true
@@ -52,23 +52,23 @@ refused_at AfterValue = bad ∷ []
 refused_at AfterComma = bad ∷ []
 refused_at Failed = []
 
--- the token that a field is
-abbrev pub token_said : Field → Token
-token_said field.Null = null
-token_said (field.Bool b) = boolean b
-token_said (field.Number s) = number s.now
-token_said (field.String s) = string s.now
+-- the token of a field
+abbrev pub field_token : Field → Token
+field_token field.Null = null
+field_token (field.Bool b) = boolean b
+field_token (field.Number s) = number s.now
+field_token (field.String s) = string s.now
 
 abbrev pub HasValue : Field → Type 0
-HasValue f = in_range (begun (token_said f)) ≡ true
+HasValue f = in_range (begun (field_token f)) ≡ true
 
--- tokens begin with a field, whose number has a value
+-- the tokens begin with a field, whose number is in range
 abbrev pub IsField : List Token → Field → List Token → Type 0
-IsField old f new = (old ≡ token_said f ∷ new) × HasValue f
+IsField old f new = (old ≡ field_token f ∷ new) × HasValue f
 
--- so does a text, wherever a value may begin
+-- so does the text, wherever a value may begin
 abbrev pub BeginsField : List ℕ → Field → List ℕ → Type 0
 BeginsField old f new =
     ((p : spec.Place) → may_begin p ≡ true
-    → punctuate p (lex between old) ≡ token_said f ∷ punctuate after_value (lex between new))
+    → punctuate p (lex between old) ≡ field_token f ∷ punctuate after_value (lex between new))
     × HasValue f

@@ -1,4 +1,4 @@
--- What the parts of a line say, in the words of serde_json.
+-- The parts of a line as serde_json's data.
 use Rattle.std.specs.Prelude.{◌≡◌, ℕ, ◌&&◌, List, [], ◌∷◌, Bool, true, false, codes, is_some, map, nat_le, Option, Some, None, option_map, option_and_then, if◌then◌else◌}
 use Rattle.serde_json.specs.Data.{Data, null, boolean, number, string, array, object, unsigned, Items, no_items, item, Members, no_members, put}
 use Rattle.serde_json.specs.Find.{as_number, as_str, as_u64, get}
@@ -6,7 +6,7 @@ use Rattle.serde_json.specs.Read.{number_of}
 use Rattle.ctf_joined.specs.Joined.{texts}
 use Rattle.ctf_joined.specs.declared.joined.Joined.{Joined}
 use Rattle.ctf_model.specs.declared.numbers.TypeNum.{TypeNum}
-use Rattle.ctf_json.specs.Told.{told_number}
+use Rattle.ctf_json.specs.TreeData.{number_or_null}
 use Rattle.ctf_json.specs.declared.keys.TheConstants.{KEYS}
 use Rattle.ctf_json.specs.declared.line.Line.{Line}
 use Rattle.std.specs.declared.alloc.Global.{Global}
@@ -25,29 +25,29 @@ keys = map (λ key. key.now) KEYS.now
 
 -- ---- lists
 
--- items in front of others
+-- these items before others
 abbrev pub front : {A : Type 0} → (A → Data) → List A → Items → Items
 front says [] ds = ds
 front says (x ∷ xs) ds = item (says x) (front says xs ds)
 
-abbrev pub text_said : List ℕ → Data
-text_said text = string text
+abbrev pub text_data : List ℕ → Data
+text_data text = string text
 
-abbrev pub number_said : TypeNum → Data
-number_said t = number (unsigned t.0)
+abbrev pub number_data : TypeNum → Data
+number_data t = number (unsigned t.0)
 
-abbrev pub texts_said : List (List ℕ) → Items
-texts_said texts = front text_said texts no_items
+abbrev pub texts_data : List (List ℕ) → Items
+texts_data texts = front text_data texts no_items
 
-abbrev pub numbers_said : List TypeNum → Items
-numbers_said numbers = front number_said numbers no_items
+abbrev pub numbers_data : List TypeNum → Items
+numbers_data numbers = front number_data numbers no_items
 
--- whether all are so
+-- all items pass the test
 abbrev pub are : (Data → Bool) → Items → Bool
 are test no_items = true
 are test (item d ds) = test d && are test ds
 
--- the number of a type, of 16 bits, that a value is
+-- the 16-bit type number that a value is
 abbrev pub small : Data → Option TypeNum
 small d =
     option_and_then (λ n. if nat_le n 65535 then Some (record { 0 = n }) else None)
@@ -64,22 +64,22 @@ is_small d = is_some (small d)
 abbrev pub data_of : Field → Data
 data_of field.Null = null
 data_of (field.Bool b) = boolean b
-data_of (field.Number s) = told_number (number_of s.now)
+data_of (field.Number s) = number_or_null (number_of s.now)
 data_of (field.String s) = string s.now
 
--- of a value that was read
-abbrev pub read_said : Read → Data
-read_said (was.Field f) = data_of f
-read_said (was.Texts joined) = array (texts_said (texts joined))
-read_said (was.Numbers numbers) = array (numbers_said numbers.items)
+-- the data of a parsed value
+abbrev pub read_data : Read → Data
+read_data (was.Field f) = data_of f
+read_data (was.Texts joined) = array (texts_data (texts joined))
+read_data (was.Numbers numbers) = array (numbers_data numbers.items)
 
--- of one that is looked up
-abbrev pub value_said : Value → Data
-value_said (is.Field f) = data_of f
-value_said (is.Texts joined) = array (texts_said (texts joined.now))
-value_said (is.Numbers numbers) = array (numbers_said numbers.now)
+-- the data of a looked-up value
+abbrev pub value_data : Value → Data
+value_data (is.Field f) = data_of f
+value_data (is.Texts joined) = array (texts_data (texts joined.now))
+value_data (is.Numbers numbers) = array (numbers_data numbers.now)
 
--- a list is the one that is wanted
+-- a parsed list is of the wanted type
 abbrev pub fits : Wanted → Read → Bool
 fits w (was.Field f) = true
 fits Texts (was.Texts joined) = true
@@ -89,7 +89,7 @@ fits Texts (was.Numbers numbers) = false
 fits Numbers (was.Numbers numbers) = true
 fits Nothing (was.Numbers numbers) = false
 
--- a line's lists, without that which is wanted
+-- the line's list of names, removed if it is the wanted one
 abbrev pub names_without : Wanted → Option Joined → Option Joined
 names_without Texts names = None
 names_without Numbers names = names
@@ -106,19 +106,19 @@ abbrev pub put_some : List ℕ → Option Data → Members → Members
 put_some key None ms = ms
 put_some key (Some d) ms = put key d ms
 
--- the members at keys
-abbrev pub members_said : List (List ℕ) → List (Option Field) → Members
-members_said [] vs = no_members
-members_said (k ∷ ks) [] = no_members
-members_said (k ∷ ks) (v ∷ vs) = put_some k (option_map data_of v) (members_said ks vs)
+-- the fields at these keys
+abbrev pub members_data : List (List ℕ) → List (Option Field) → Members
+members_data [] vs = no_members
+members_data (k ∷ ks) [] = no_members
+members_data (k ∷ ks) (v ∷ vs) = put_some k (option_map data_of v) (members_data ks vs)
 
--- what a line says: an object of its fields and lists
-abbrev pub line_said : Line → Data
-line_said line =
-    object (put_some (codes "args") (option_map (λ v. array (numbers_said v.items)) line.args)
-    (put_some (codes "names") (option_map (λ joined. array (texts_said (texts joined))) line.names)
-    (members_said keys line.fields.all)))
+-- the data of a line: an object of its fields and lists
+abbrev pub line_data : Line → Data
+line_data line =
+    object (put_some (codes "args") (option_map (λ v. array (numbers_data v.items)) line.args)
+    (put_some (codes "names") (option_map (λ joined. array (texts_data (texts joined))) line.names)
+    (members_data keys line.fields.all)))
 
 -- a line without fields
 abbrev pub IsNew : Line → Type 0
-IsNew line = (key : List ℕ) → get key (line_said line) ≡ None
+IsNew line = (key : List ℕ) → get key (line_data line) ≡ None

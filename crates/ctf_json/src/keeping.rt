@@ -3,7 +3,7 @@ ghost use Rattle.std.specs.Prelude.{◌≡◌, ◌<◌, ℕ, List, Some, None, t
 ghost use Rattle.std.specs.Str.{bytes_eq};
 ghost use Rattle.serde_json.specs.Find.{get as found_under};
 ghost use Rattle.ctf_json.specs.Keys.{place_in, wanted_at};
-ghost use Rattle.ctf_json.specs.Values.{IsNew, args_without, fits, keys, line_said, names_without, read_said, data_of};
+ghost use Rattle.ctf_json.specs.Values.{IsNew, args_without, fits, keys, line_data, names_without, read_data, data_of};
 
 use crate::keys::{COUNT, wanted_list};
 use crate::line::{Fields, Line};
@@ -28,9 +28,9 @@ impl<'a> Line<'a> {
     pub(crate) fn keep(&mut self, key: &str, place: usize, value: Read<'a>)
         requires place { place_in key.now keys ≡ Some place }
         requires fits { fits (wanted_at key.now) value ≡ true }
-        ensures { (q : List ℕ) → found_under q (line_said self.new)
-            ≡ cond (bytes_eq key.now q) (Some (read_said value.entry))
-            (found_under q (line_said self.old)) }
+        ensures { (q : List ℕ) → found_under q (line_data self.new)
+            ≡ cond (bytes_eq key.now q) (Some (read_data value.entry))
+            (found_under q (line_data self.old)) }
     {
         match value {
             Read::Field(field) => self.keep_at(key, place, field),
@@ -43,9 +43,9 @@ impl<'a> Line<'a> {
     #[inline(always)]
     pub(crate) fn keep_at(&mut self, key: &str, place: usize, field: Field<'a>)
         requires { place_in key.now keys ≡ Some place }
-        ensures { (q : List ℕ) → found_under q (line_said self.new)
+        ensures { (q : List ℕ) → found_under q (line_data self.new)
             ≡ cond (bytes_eq key.now q) (Some (data_of field.entry))
-            (found_under q (line_said self.old)) }
+            (found_under q (line_data self.old)) }
     {
         self.keep_field(place, field, wanted_list(key));
     }

@@ -6,8 +6,8 @@ ghost use Rattle.json.specs.Reads.{token_of};
 ghost use Rattle.serde_json.specs.Find.{as_str};
 ghost use Rattle.ctf_json.specs.Passed.{begun, passed_items};
 ghost use Rattle.ctf_json.specs.Kept.{IsListed};
-ghost use Rattle.ctf_json.specs.Values.{fits, read_said, small};
-ghost use Rattle.ctf_json.specs.Told.{told};
+ghost use Rattle.ctf_json.specs.Values.{fits, read_data, small};
+ghost use Rattle.ctf_json.specs.TreeData.{tree_data};
 ghost use Rattle.ctf_json.specs.declared.reading.NotRead.TheVariants as why;
 ghost use Rattle.ctf_json.specs.declared.wanted.Wanted.TheVariants as wants;
 
@@ -30,7 +30,7 @@ pub(crate) fn list_at<'a>(
     wanted: Wanted,
 ) -> Result<Read<'a>, NotRead>
     ensures ok { IfOk result (λ v. IsListed wanted
-        (read_items (read_value depth) (length reader.old) reader.old) (read_said v) reader.new) }
+        (read_items (read_value depth) (length reader.old) reader.old) (read_data v) reader.new) }
     ensures fits { IfOk result (λ v. fits wanted v ≡ true) }
     ensures shorter { OnOk result (length reader.new < length reader.old) }
     ensures refused { result ≡ std.Err why.NotJson → passed_items depth reader.old ≡ None }
@@ -48,7 +48,7 @@ pub(crate) fn list_at<'a>(
 /// The items of an array if all are texts, else nothing.
 fn texts_at<'a>(alloc: Global, reader: &mut Reader<'a>, depth: usize) -> Result<Read<'a>, NotRead>
     ensures ok { IfOk result (λ v. IsListed wants.Texts
-        (read_items (read_value depth) (length reader.old) reader.old) (read_said v) reader.new) }
+        (read_items (read_value depth) (length reader.old) reader.old) (read_data v) reader.new) }
     ensures fits { IfOk result (λ v. fits wants.Texts v ≡ true) }
     ensures shorter { OnOk result (length reader.new < length reader.old) }
     ensures refused { result ≡ std.Err why.NotJson → passed_items depth reader.old ≡ None }
@@ -71,7 +71,7 @@ fn texts_at<'a>(alloc: Global, reader: &mut Reader<'a>, depth: usize) -> Result<
 /// The items of an array if all are 16-bit numbers, else nothing.
 fn numbers_at<'a>(alloc: Global, reader: &mut Reader<'a>, depth: usize) -> Result<Read<'a>, NotRead>
     ensures ok { IfOk result (λ v. IsListed wants.Numbers
-        (read_items (read_value depth) (length reader.old) reader.old) (read_said v) reader.new) }
+        (read_items (read_value depth) (length reader.old) reader.old) (read_data v) reader.new) }
     ensures fits { IfOk result (λ v. fits wants.Numbers v ≡ true) }
     ensures shorter { OnOk result (length reader.new < length reader.old) }
     ensures refused { result ≡ std.Err why.NotJson → passed_items depth reader.old ≡ None }
@@ -94,7 +94,7 @@ fn numbers_at<'a>(alloc: Global, reader: &mut Reader<'a>, depth: usize) -> Resul
 /// The 16-bit number of a type, if the value that begins with a token is one.
 #[inline(always)]
 fn small_number(token: Token<'_>) -> Option<TypeNum>
-    ensures { result ≡ small (told (begun (token_of token.entry))) }
+    ensures { result ≡ small (tree_data (begun (token_of token.entry))) }
 {
     let Token::Number(text) = token else {
         return None;
@@ -106,7 +106,8 @@ fn small_number(token: Token<'_>) -> Option<TypeNum>
 /// The text, if the value that begins with a token is one.
 #[inline(always)]
 fn text<'a>(token: Token<'a>) -> Option<&'a str>
-    ensures { option_map (λ text. text.now) result ≡ as_str (told (begun (token_of token.entry))) }
+    ensures { option_map (λ text. text.now) result
+        ≡ as_str (tree_data (begun (token_of token.entry))) }
 {
     match token {
         Token::String(text) => Some(text),

@@ -1,10 +1,10 @@
 //! Look-ups in a line, as serde_json has them for its values.
 ghost use Rattle.std.specs.Prelude.{◌≡◌, codes, option_map, option_and_then};
-ghost use Rattle.serde_json.specs.Find.{get as found_under, as_array as array_said, as_bool as truth_said, as_i64 as signed_said, as_number as number_said, as_str as text_said, as_u64 as unsigned_said};
+ghost use Rattle.serde_json.specs.Find.{get as found_under, as_array as array_said, as_bool as truth_said, as_i64 as signed_said, as_number as number_data, as_str as text_data, as_u64 as unsigned_said};
 ghost use Rattle.serde_json.specs.View.{number_view};
 ghost use Rattle.serde_json.specs.Data.{object};
 ghost use Rattle.ctf_joined.specs.Joined.{texts};
-ghost use Rattle.ctf_json.specs.Values.{keys, line_said, members_said, numbers_said, texts_said, value_said};
+ghost use Rattle.ctf_json.specs.Values.{keys, line_data, members_data, numbers_data, texts_data, value_data};
 
 use crate::keys::{place_of, wanted_list};
 use crate::line::Line;
@@ -18,7 +18,7 @@ use serde_json::Number;
 /// The value at a key.
 #[inline(always)]
 pub fn get<'v, 'a>(line: &'v Line<'a>, key: &str) -> Option<Value<'v, 'a>>
-    ensures { option_map value_said result ≡ found_under key.now (line_said line.now) }
+    ensures { option_map value_data result ≡ found_under key.now (line_data line.now) }
 {
     match wanted_list(key) {
         Wanted::Texts => match &line.names {
@@ -36,8 +36,8 @@ pub fn get<'v, 'a>(line: &'v Line<'a>, key: &str) -> Option<Value<'v, 'a>>
 /// The value at a key, if it is no list.
 #[inline(always)]
 fn plain_value<'v, 'a>(line: &'v Line<'a>, key: &str) -> Option<Value<'v, 'a>>
-    ensures { option_map value_said result
-        ≡ found_under key.now (object (members_said keys line.now.fields.all)) }
+    ensures { option_map value_data result
+        ≡ found_under key.now (object (members_data keys line.now.fields.all)) }
 {
     let place = place_of(key)?;
     match line.fields.all[place] {
@@ -47,7 +47,7 @@ fn plain_value<'v, 'a>(line: &'v Line<'a>, key: &str) -> Option<Value<'v, 'a>>
 }
 
 pub fn as_str<'a>(value: &Value<'_, 'a>) -> Option<&'a str>
-    ensures { option_map (λ s. s.now) result ≡ text_said (value_said value.now) }
+    ensures { option_map (λ s. s.now) result ≡ text_data (value_data value.now) }
 {
     match value {
         Value::Field(Field::String(text)) => Some(*text),
@@ -56,7 +56,7 @@ pub fn as_str<'a>(value: &Value<'_, 'a>) -> Option<&'a str>
 }
 
 pub fn as_bool(value: &Value<'_, '_>) -> Option<bool>
-    ensures { result ≡ truth_said (value_said value.now) }
+    ensures { result ≡ truth_said (value_data value.now) }
 {
     match value {
         Value::Field(Field::Bool(truth)) => Some(*truth),
@@ -65,7 +65,7 @@ pub fn as_bool(value: &Value<'_, '_>) -> Option<bool>
 }
 
 fn as_number(value: &Value<'_, '_>) -> Option<Number>
-    ensures { option_map number_view result ≡ number_said (value_said value.now) }
+    ensures { option_map number_view result ≡ number_data (value_data value.now) }
 {
     match value {
         Value::Field(Field::Number(text)) => number(text),
@@ -75,7 +75,7 @@ fn as_number(value: &Value<'_, '_>) -> Option<Number>
 
 #[inline(always)]
 pub fn as_u64(value: &Value<'_, '_>) -> Option<u64>
-    ensures { result ≡ option_and_then unsigned_said (number_said (value_said value.now)) }
+    ensures { result ≡ option_and_then unsigned_said (number_data (value_data value.now)) }
 {
     match value {
         Value::Field(Field::Number(text)) => natural(text),
@@ -84,15 +84,15 @@ pub fn as_u64(value: &Value<'_, '_>) -> Option<u64>
 }
 
 pub fn as_i64(value: &Value<'_, '_>) -> Option<i64>
-    ensures { result ≡ option_and_then signed_said (number_said (value_said value.now)) }
+    ensures { result ≡ option_and_then signed_said (number_data (value_data value.now)) }
 {
     as_number(value)?.as_i64()
 }
 
 /// The names of a line, if they are a list of texts. They are taken out of the line.
 pub fn take_names(line: &mut Line<'_>) -> Option<Joined>
-    ensures { option_map (λ names. texts_said (texts names)) result
-        ≡ option_and_then array_said (found_under (codes "names") (line_said line.old)) }
+    ensures { option_map (λ names. texts_data (texts names)) result
+        ≡ option_and_then array_said (found_under (codes "names") (line_data line.old)) }
 {
     line.names.take()
 }
@@ -100,8 +100,8 @@ pub fn take_names(line: &mut Line<'_>) -> Option<Joined>
 /// The types of a line's arguments, if they are a list of 16-bit numbers. They are taken out of the
 /// line.
 pub fn take_args(line: &mut Line<'_>) -> Option<Vec<TypeNum>>
-    ensures { option_map (λ args. numbers_said args.items) result
-        ≡ option_and_then array_said (found_under (codes "args") (line_said line.old)) }
+    ensures { option_map (λ args. numbers_data args.items) result
+        ≡ option_and_then array_said (found_under (codes "args") (line_data line.old)) }
 {
     line.args.take()
 }

@@ -7,7 +7,7 @@ ghost use Rattle.json.specs.Lex.{tokens};
 ghost use Rattle.json.specs.Reads.{token_of};
 ghost use Rattle.json.specs.Token as spec;
 ghost use Rattle.ctf_json.specs.Memory.{has_byte};
-ghost use Rattle.ctf_json.specs.PlainReader.{IsField, token_said};
+ghost use Rattle.ctf_json.specs.PlainReader.{IsField, field_token};
 
 use crate::plain_reader::PlainReader;
 use crate::runs::backslashes_16;
@@ -126,7 +126,7 @@ fn lent_key<'a>(reader: &mut json::Reader<'a>) -> Result<Option<&'a str>, Invali
 /// The token of a field.
 #[inline(always)]
 fn token<'a>(field: Field<'a>) -> Token<'a>
-    ensures { token_of result ≡ token_said field.entry }
+    ensures { token_of result ≡ field_token field.entry }
 {
     match field {
         Field::String(text) => Token::String(text),

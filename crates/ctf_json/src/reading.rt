@@ -7,8 +7,8 @@ ghost use Rattle.ctf_json.specs.Keys.{place_in, wanted_at};
 ghost use Rattle.ctf_json.specs.Kept.{AreKept, IsKept, IsKeptAt, IsReadAt};
 ghost use Rattle.ctf_json.specs.Memory.{IsLeft, list_among, takes_memory};
 ghost use Rattle.ctf_json.specs.Passed.{begun, passed_members, passed_value};
-ghost use Rattle.ctf_json.specs.Told.{told};
-ghost use Rattle.ctf_json.specs.Values.{IsNew, fits, keys, line_said, read_said, data_of};
+ghost use Rattle.ctf_json.specs.TreeData.{tree_data};
+ghost use Rattle.ctf_json.specs.Values.{IsNew, fits, keys, line_data, read_data, data_of};
 ghost use Rattle.ctf_json.specs.declared.reading.NotRead.TheVariants as why;
 
 use crate::keys::{place_of, wanted_list};
@@ -50,7 +50,7 @@ pub fn read_line<'a>(
     scratch: &'a mut Scratch,
     line: &mut Line<'a>,
 ) -> Result<(), NotRead>
-    ensures ok { IsNew line.old → OnOk result (IsReadAt text.now (line_said line.new)) }
+    ensures ok { IsNew line.old → OnOk result (IsReadAt text.now (line_data line.new)) }
     ensures refused { result ≡ Err why.NotJson → read_text text.now ≡ None }
     ensures memory { result ≡ Err why.Memory → takes_memory text.now ≡ true }
 {
@@ -68,7 +68,7 @@ pub fn read_line<'a>(
 #[inline]
 fn line_at<'a>(alloc: Global, reader: &mut Reader<'a>, line: &mut Line<'a>) -> Result<(), NotRead>
     ensures ok { OnOk result (AreKept (IsNew line.old) (read_value 127 reader.old)
-        (line_said line.new) reader.new) }
+        (line_data line.new) reader.new) }
     ensures refused { result ≡ Err why.NotJson → passed_value 127 reader.old ≡ None }
     ensures memory { result ≡ Err why.Memory → list_among reader.old ≡ true }
 {
@@ -93,7 +93,7 @@ fn members_at<'a>(
     line: &mut Line<'a>,
 ) -> Result<(), NotRead>
     ensures ok { OnOk result (AreKept (IsNew line.old) (parse_map object
-        (read_members (read_value depth) (length reader.old) reader.old)) (line_said line.new)
+        (read_members (read_value depth) (length reader.old) reader.old)) (line_data line.new)
         reader.new) }
     ensures refused { result ≡ Err why.NotJson → passed_members depth reader.old ≡ None }
     ensures memory { result ≡ Err why.Memory → list_among reader.old ≡ true }
@@ -130,8 +130,8 @@ fn keep_next<'a>(
     line: &mut Line<'a>,
 ) -> Result<(), NotRead>
     requires { place_in key.now keys ≡ Some place }
-    ensures ok { OnOk result (IsKeptAt key.now (read_value depth reader.old) (line_said line.old)
-        (line_said line.new) reader.new) }
+    ensures ok { OnOk result (IsKeptAt key.now (read_value depth reader.old) (line_data line.old)
+        (line_data line.new) reader.new) }
     ensures shorter { OnOk result (length reader.new < length reader.old) }
     ensures refused { result ≡ Err why.NotJson → passed_value depth reader.old ≡ None }
     ensures memory { result ≡ Err why.Memory → list_among reader.old ≡ true }
@@ -155,8 +155,8 @@ fn keep_any<'a>(
     line: &mut Line<'a>,
 ) -> Result<(), NotRead>
     requires { place_in key.now keys ≡ Some place }
-    ensures ok { OnOk result (IsKeptAt key.now (read_value depth reader.old) (line_said line.old)
-        (line_said line.new) reader.new) }
+    ensures ok { OnOk result (IsKeptAt key.now (read_value depth reader.old) (line_data line.old)
+        (line_data line.new) reader.new) }
     ensures shorter { OnOk result (length reader.new < length reader.old) }
     ensures refused { result ≡ Err why.NotJson → passed_value depth reader.old ≡ None }
     ensures memory { result ≡ Err why.Memory → list_among reader.old ≡ true }
@@ -176,7 +176,7 @@ fn next_value<'a>(
     key: &str,
 ) -> Result<Read<'a>, NotRead>
     ensures ok { IfOk result (λ v. IsKept (wanted_at key.now) (read_value depth reader.old)
-        (read_said v) reader.new) }
+        (read_data v) reader.new) }
     ensures fits { IfOk result (λ v. fits (wanted_at key.now) v ≡ true) }
     ensures shorter { OnOk result (length reader.new < length reader.old) }
     ensures refused { result ≡ Err why.NotJson → passed_value depth reader.old ≡ None }
@@ -197,7 +197,7 @@ fn next_value<'a>(
 /// What is stored of a value that begins with a token: nothing of an array or an object.
 #[inline]
 fn field_of<'a>(token: Token<'a>) -> Field<'a>
-    ensures { data_of result ≡ told (begun (token_of token.entry)) }
+    ensures { data_of result ≡ tree_data (begun (token_of token.entry)) }
 {
     match token {
         Token::String(text) => Field::String(text),

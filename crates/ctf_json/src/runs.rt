@@ -93,8 +93,8 @@ fn plain_end_slowly(text: &[u8], from: usize) -> usize
     i
 }
 
-/// The first of them among the last bytes of a text, which are fewer than 16; the text's length if
-/// there is none.
+/// The offset of the first byte that is not plain, if fewer than 16 bytes are left; the text's
+/// length if all are plain.
 #[inline(always)]
 fn plain_end_8(text: &[u8], from: usize) -> usize
     requires { from ≤ length text.now }

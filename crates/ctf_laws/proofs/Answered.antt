@@ -1,4 +1,4 @@
--- What good slots answer, what is judged, and what is written.
+-- Answers of good slots, checks, and updates.
 use Rattle.std.proofs.Common.{◌≡◌, ◌⊎◌, inl, inr, ℕ, List, Bool, true, false, Option, Some, None, Result, Ok, Err, refl, ap, sym, subst, ◌∙◌, codes}
 use Rattle.std.specs.Prelude.{MatchOption}
 use Rattle.std.specs.Option.{ForSome, option_map}
@@ -35,7 +35,7 @@ use Rattle.ctf_protocol.specs.sessions.Steps.{opens}
 use Rattle.ctf_laws.specs.Good.{IsFaultless}
 use Rattle.ctf_laws.specs.GoodLaws.{AnswersAreOfWhatIsDenoted, AreDenoted, BytesDenoteWhatWasAdded, ChecksAcceptWhatKeepsEveryRule, ChecksRefuseByTheFirstRule, IsDenoted, OpensAcceptWhatKeepsEveryRule, OpensRefuseByTheFirstRule, SlotsDenote, UpdatesDenoteTheDraft}
 
--- ---- what the lists of a slot denote
+-- ---- the dictionary that a slot's lists denote
 
 parent_denoted : (o : Option Kept) → ForSome o IsFaultless → AreDenoted o (option_map kept_dictionary o)
 parent_denoted None h = tt
@@ -71,7 +71,7 @@ answers_are_of_what_is_denoted slot s h = record {
   wholes = λ question. ap (λ (x : Space). whole_answered question x) (space_is slot s h);
 }
 
--- ---- what is judged
+-- ---- checks
 
 pub least_at : (s : Lists) (f : Fault) → first_fault s ≡ Some f → IsFirstFault s f
 least_at s f e = subst (λ (o : Option Fault). MatchOption o (KeepsEveryRule s) (IsFirstFault s)) e (least_fault s)
@@ -124,7 +124,7 @@ opens_accept_by false model state a h e =
 pub opens_accept : OpensAcceptWhatKeepsEveryRule
 opens_accept model state a e = opens_accept_by (has_room state) model state a refl e
 
--- ---- what is written
+-- ---- updates
 
 writes_denote : (say : ℕ → Answer) (slot : Slot) (d : Draft) (a : Answer) (r : Result (List ℕ) Fault) → IsSound d → written (content d) ≡ r → (slot_stepped say slot (with_count (settled_as slot.parent d r))).said ≡ Ok a → Denotes (slot_stepped say slot (with_count (settled_as slot.parent d r))).slot.kept.lists (content d)
 writes_denote say slot d a (Err f) sound wrote said = absurd cc

@@ -1,4 +1,4 @@
--- Whatever a line asks has numbers of its fields' widths.
+-- The numbers in a line's request fit their fields.
 use Rattle.std.proofs.Common.{◌≡◌, ◌<◌, ◌≤◌, ◌^◌, ℕ, ℤ, pos, negsuc, List, [], ◌∷◌, Bool, true, false, Option, Some, None, Result, Ok, Err, option_and_then, codes, refl, ap, sym, subst, is_none, is_some, length, arith, w32}
 use Rattle.std.specs.Prelude.{FitsSigned, ◌==◌, nat_le, nat_lt, not, if◌then◌else◌}
 use Rattle.std.specs.Option.{ForSome, option_map}
@@ -40,7 +40,7 @@ use Rattle.ctf_protocol.specs.declared.words.Word.TheVariants as word
 use Rattle.ctf_laws.specs.Good.{FitsAddition, FitsRequest}
 use Rattle.ctf_laws.specs.GoodLaws.{LinesFit}
 
--- ---- what holds of all that may be there
+-- ---- facts of optional values
 
 and_then : {A B : Type 0} (P : B → Type 0) (f : A → Option B) (o : Option A) → ((a : A) → o ≡ Some a → ForSome (f a) P) → ForSome (option_and_then f o) P
 and_then P f None h = λ b e. absurd cc

@@ -1,4 +1,4 @@
--- Drafts in slots stay sound, over the parents that they have, and written as they stand.
+-- Drafts in slots stay sound, keep their parents, and match their written lists.
 use Rattle.std.proofs.Common.{◌≡◌, ℕ, List, [], ◌∷◌, ◌++◌, Bool, true, false, Option, Some, None, Result, Ok, Err, eqb, refl, ap, sym, subst, ◌∙◌, length, is_some}
 use Rattle.std.specs.Prelude.{◌||◌, not}
 use Rattle.std.specs.Option.{ForSome, option_map}
@@ -28,9 +28,9 @@ use Rattle.ctf_protocol.specs.sessions.Opened.{open_of, slot_made, slot_with}
 use Rattle.ctf_protocol.specs.sessions.State.{Slot}
 use Rattle.ctf_laws.specs.Good.{IsDraftOf, IsFaultless, IsGoodSlot, Serves}
 
--- ---- what is added is pending
+-- ---- additions change only the pending part
 
--- what is refused or done leaves all but what is pending
+-- the result differs from the draft at most in the pending part
 abbrev pub Leaves : Draft → Result Added Fault → Type 0
 Leaves d r = (a : Added) → r ≡ Ok a → rollback a.draft ≡ rollback d
 
@@ -83,9 +83,9 @@ pub label_leaves : (d : Draft) (label : Label) → Leave d (add_label d label)
 unfolding add_label
 label_leaves d label = unless_leave (first_met (against_label d label.name)) _ d (done_leave d (with_label d label) refl)
 
--- ---- a slot with another draft
+-- ---- a slot with a changed draft
 
--- whose dictionary is as it was
+-- whose dictionary is unchanged
 pub redrafted : (slot : Slot) (d e : Draft) → IsGoodSlot slot → slot.draft ≡ Some d → IsSound e → rollback e ≡ rollback d → IsGoodSlot (slot_with slot.number (with_draft (open_of slot) e))
 redrafted slot d e g is sound same =
     let old = g.draft d is in
@@ -103,9 +103,9 @@ redrafted slot d e g is sound same =
       });
     }
 
--- ---- what an update makes
+-- ---- updates
 
--- nothing is behind all of it
+-- nothing pending after an update
 none_behind : (all : Contents) → followed_by all no_contents ≡ all
 none_behind all = ap (λ (terms : List Term). record { terms = terms; labels = all.labels ++ no_contents.labels }) (append-nil all.terms) ∙ ap (λ (labels : List Label). record { terms = all.terms; labels = labels }) (append-nil all.labels)
 
@@ -120,7 +120,7 @@ held_stays d = ap (λ (all : Contents). record {
   entries = [];
 }) (none_behind (all_of d))
 
--- the bytes of all that a draft holds are its dictionary
+-- the slot whose dictionary is the written draft
 abbrev pub settled_slot : ℕ → Option Kept → Draft → List ℕ → Slot
 settled_slot number parent d bytes = record {
   number = number;
@@ -185,7 +185,7 @@ there_as : (parent : Option Kept) → is_some (option_map modelled_by parent) �
 there_as None = refl
 there_as (Some p) = refl
 
--- what a slot is made of
+-- a slot made from a good result is good
 abbrev pub MakesGood : ℕ → Result Open Fault → Type 0
 MakesGood number r = (slot : Slot) → slot_made number r ≡ Ok slot → IsGoodSlot slot
 

@@ -1,4 +1,4 @@
--- What a change does to a library, in one of nine ways.
+-- The effect of a change on a library, in one of nine ways.
 use Rattle.std.proofs.Common.{◌≡◌, ◌+◌, ℕ, List, [], ◌∷◌, ◌++◌, Bool, true, false, Option, Some, None, Result, Ok, Err, refl, ap, ◌∙◌, length, is_some}
 use Rattle.std.specs.Prelude.{nat_lt, if◌then◌else◌}
 use Rattle.ctf_model.specs.drafts.Adders.{Added}
@@ -30,12 +30,12 @@ use Rattle.ctf_protocol.specs.declared.requests.DraftStep.{DraftStep}
 use Rattle.ctf_protocol.specs.declared.requests.DraftStep.TheVariants as steps
 use Rattle.ctf_protocol.specs.declared.requests.ListName.{ListName}
 
--- slots and the next number stay
+-- slots and the next number are unchanged
 pub record SameSlots (old new : State) : Type 0 where
   pub slots : new.slots ≡ old.slots
   pub next : new.next ≡ old.next
 
--- what a change may make of the slots
+-- the possible effects of a change on the slots
 pub data OfSlots (c : Change) (old : State) (new : State) : Type 0 where
   stay : SameSlots old new → OfSlots c old new
   one_more : (slot : Slot) → slot.number ≡ old.next → new.slots ≡ old.slots ++ slot ∷ [] → new.next ≡ old.next + 1 → OfSlots c old new
@@ -44,7 +44,7 @@ pub data OfSlots (c : Change) (old : State) (new : State) : Type 0 where
   a_step : (d : ℕ) (was now : Slot) → slot_at d old.slots ≡ Some was → now.number ≡ was.number → now.parent ≡ was.parent → new.slots ≡ slots_with d now old.slots → new.next ≡ old.next → OfSlots c old new
   none : c ≡ change.Reset → new.slots ≡ [] → OfSlots c old new
 
--- and of the publications
+-- and on the publications
 pub data OfPublished (c : Change) (old : State) (new : State) : Type 0 where
   all_stay : new.published ≡ old.published → OfPublished c old new
   another : (p : Publication) → new.published ≡ old.published ++ p ∷ [] → OfPublished c old new
@@ -107,7 +107,7 @@ withdrew name state = either (is_some (published_as name state.published)) _ sta
 
 -- ---- drafts
 
--- a slot is made under its number
+-- a slot that was made
 abbrev made : Slot → Result Slot Fault
 made slot = Ok slot
 
@@ -130,7 +130,7 @@ from : (c : Change) (parent : Option ℕ) (asked : Created) (state : State) → 
 from c None asked state = over c None asked state
 from c (Some p) asked state = at_slot c _ (slot_at p state.slots) state (λ slot at. over c (Some slot.kept) asked state)
 
--- a step leaves the number and the parent of a slot
+-- a step keeps the number and the parent of a slot
 pub record Stands (was now : Slot) : Type 0 where
   pub number : now.number ≡ was.number
   pub parent : now.parent ≡ was.parent

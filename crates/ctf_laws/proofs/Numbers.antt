@@ -1,4 +1,4 @@
--- No number of a slot is given twice, from what each change may do.
+-- No slot number is given twice, from the possible effects of each change.
 use Rattle.std.proofs.Common.{◌≡◌, ◌≢◌, ◌⊎◌, inl, inr, ◌+◌, ◌<◌, ◌≤◌, ℕ, List, [], ◌∷◌, ◌++◌, Bool, true, false, Some, eqb, refl, ap, sym, subst, ◌∙◌, is_some, arith}
 use Rattle.std.specs.List.{AllByRecursion}
 use Rattle.std.proofs.lemmas.Bool.{eqb-true}
@@ -17,7 +17,7 @@ use Rattle.ctf_protocol.specs.declared.requests.Request.TheVariants.{Asks, Chang
 use Rattle.ctf_laws.proofs.Effects.{OfSlots, a_parent, a_step, effect, none, one_less, one_more, stay}
 use Rattle.ctf_laws.specs.PlainLaws.{IsNoReset, NumbersAreGivenOnce}
 
--- every slot's number is below this one
+-- the number of every slot is below `next`
 abbrev Below : ℕ → List Slot → Type 0
 Below next slots = AllByRecursion (λ slot. slot.number < next) slots
 
@@ -27,7 +27,7 @@ IsNumbered state = Below state.next state.slots
 abbrev Has : ℕ → List Slot → Type 0
 Has n slots = is_some (slot_at n slots) ≡ true
 
--- ---- a slot that is there is below
+-- ---- the number of an existing slot is below
 
 has_case : (n next : ℕ) (x : Slot) (rest : List Slot) → x.number < next → (Has n rest → n < next) → (t : Bool) → eqb x.number n ≡ t → Has n (x ∷ rest) → n < next
 has_case n next x rest low later true t h = let is = eqb-true x.number n t in omega (arith, low, is)
@@ -37,7 +37,7 @@ has_below : (n next : ℕ) (slots : List Slot) → Below next slots → Has n sl
 has_below n next [] b h = absurd cc
 has_below n next (x ∷ rest) b h = has_case n next x rest b.0 (has_below n next rest b.1) (eqb x.number n) refl h
 
--- ---- what is there after a change was there before, or is new
+-- ---- a slot after a change was there before, or is new
 
 pushed_case : (n : ℕ) (x y : Slot) (rest : List Slot) → (Has n (rest ++ y ∷ []) → Has n rest ⊎ (y.number ≡ n)) → (t : Bool) → eqb x.number n ≡ t → Has n ((x ∷ rest) ++ y ∷ []) → Has n (x ∷ rest) ⊎ (y.number ≡ n)
 pushed_case n x y rest later true t h = inl (rw t refl)

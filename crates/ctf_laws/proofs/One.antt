@@ -1,4 +1,4 @@
--- No two different outcomes of a request are right.
+-- Only one outcome of a request is correct.
 use Rattle.std.proofs.Common.{◌≡◌, inl, inr, ℕ, List, [], Bool, true, false, Option, Some, None, Result, Ok, Err, ltb, ap, sym, subst, ◌∙◌, ◌∷◌, ◌++◌, length, is_some, codes, refl, arith}
 use Rattle.std.specs.Prelude.{nat_lt}
 use Rattle.std.specs.Option.{option_map}
@@ -31,9 +31,9 @@ use Rattle.ctf_protocol.specs.declared.requests.ListName.{ListName}
 use Rattle.ctf_protocol.specs.declared.requests.Request.{Request}
 use Rattle.ctf_protocol.specs.declared.requests.Request.TheVariants.{Asks, Changes}
 use Rattle.ctf_laws.specs.Endings.{Ending, Finds, Gives, Grants, GrantsWithin, Judges, Needs, Refuses, RefusesBy, RefusesWhere}
-use Rattle.ctf_laws.specs.Right.{Adds, Creates, CreatesOver, Discards, Imports, IsAnsweredOf, IsDrafted, IsImported, IsOpened, IsRight, IsTaken, OnDraft, Opens, PublishesIts, RightIsOne, Stages, Takes, Updates, WritesDraft, WritesNew, draft_with, said_of, slot_told, slot_written, types_told, with_slot_at, with_slot_of}
+use Rattle.ctf_laws.specs.Right.{Adds, Creates, CreatesOver, Discards, Imports, IsAnsweredOf, IsDrafted, IsImported, IsOpened, IsRight, IsTaken, OnDraft, Opens, PublishesIts, RightIsOne, Stages, Takes, Updates, WritesDraft, WritesNew, draft_with, answer_from, slot_answer, slot_written, types_answer, with_slot_at, with_slot_of}
 
--- an ending settles what is said and left
+-- an ending determines the answer and the library
 abbrev One : Ending → Type 0
 One R = (a b : Result Answer Fault) (m n : State) → R a m → R b n → (a ≡ b) × (m ≡ n)
 
@@ -71,7 +71,7 @@ gives_one : {A : Type 0} → (r : Result A Fault) (old : State) (R : A → Endin
 gives_one (Ok x) old R one a b m n h k = one x a b m n h k
 gives_one (Err f) old R one a b m n h k = (h.0 ∙ sym k.0, h.1 ∙ sym k.1)
 
--- ---- what is judged
+-- ---- checks
 
 codes_in_order : (s : Lists) (f g : Fault) → IsFirstFault s f → IsFirstFault s g → (t : Bool) → ltb f.code g.code ≡ t → (u : Bool) → ltb g.code f.code ≡ u → f.code ≡ g.code
 codes_in_order s f g h k true t u v = absurd (k.earlier f.code (ltb-true f.code g.code t) f.place h.broken)
@@ -103,18 +103,18 @@ judges_one s old G one (Ok a) (Ok b) m n h k =
 
 answered_one : (slot : Slot) (question : Question) (old : State) → One (IsAnsweredOf slot question old)
 answered_one slot question old a b m n h k = (
-  h.told ∙ ap (λ (s : Space). said_of question slot s) (k.denoted.only h.dictionary h.denoted.denoted) ∙ sym k.told,
+  h.told ∙ ap (λ (s : Space). answer_from question slot s) (k.denoted.only h.dictionary h.denoted.denoted) ∙ sym k.told,
   h.stays ∙ sym k.stays,
 )
 
 opened_one : (kept : Kept) (old : State) (x y : Answer) (m n : State) → IsOpened kept old x m → IsOpened kept old y n → (x ≡ y) × (m ≡ n)
 opened_one kept old x y m n h k = (
-  h.told ∙ ap (λ (d : Dictionary). slot_told old.next d) (k.denoted.only h.dictionary h.denoted.denoted) ∙ sym k.told,
+  h.told ∙ ap (λ (d : Dictionary). slot_answer old.next d) (k.denoted.only h.dictionary h.denoted.denoted) ∙ sym k.told,
   h.stands ∙ sym k.stands,
 )
 
 taken_one : (kept : Kept) (old : State) → One (IsTaken kept old)
-taken_one kept old a b m n h k = within_one old (slot_told old.next k.dictionary) _ a b m n (subst (λ (d : Dictionary). GrantsWithin old (slot_told old.next d) _ a m) (k.denoted.only h.dictionary h.denoted.denoted) h.granted) k.granted
+taken_one kept old a b m n h k = within_one old (slot_answer old.next k.dictionary) _ a b m n (subst (λ (d : Dictionary). GrantsWithin old (slot_answer old.next d) _ a m) (k.denoted.only h.dictionary h.denoted.denoted) h.granted) k.granted
 
 imported_one : (child parent : Slot) (d : ℕ) (old : State) → One (IsImported child parent d old)
 imported_one child parent d old a b m n h k =
@@ -144,13 +144,13 @@ creates_one None asked old = over_one None asked old
 creates_one (Some p) asked old = finds_one (slot_at p old.slots) NO_SLOT old (λ slot. CreatesOver (Some slot.kept) asked old) (λ slot. over_one (Some slot.kept) asked old)
 
 updates_one : (i : ℕ) (old : State) (slot : Slot) (d : Draft) → One (Updates i old slot d)
-updates_one i old slot d = gives_one (written (content d)) old (λ bytes. WritesDraft d bytes (types_told (content d)) (with_slot_at i (slot_written slot.number slot.parent d bytes) old) old) (λ bytes. writes_one d bytes (types_told (content d)) (with_slot_at i (slot_written slot.number slot.parent d bytes) old) old)
+updates_one i old slot d = gives_one (written (content d)) old (λ bytes. WritesDraft d bytes (types_answer (content d)) (with_slot_at i (slot_written slot.number slot.parent d bytes) old) old) (λ bytes. writes_one d bytes (types_answer (content d)) (with_slot_at i (slot_written slot.number slot.parent d bytes) old) old)
 
 adds_one : (i : ℕ) (addition : Addition) (old : State) (slot : Slot) (d : Draft) → One (Adds i addition old slot d)
 adds_one i addition old slot d = gives_one (draft_with addition d) old (λ r. IsDrafted i slot d r.draft (addition_answered addition r.answer) old) (λ r. drafted_one i slot d r.draft (addition_answered addition r.answer) old)
 
 discards_one : (i : ℕ) (old : State) (slot : Slot) (d : Draft) → One (Discards i old slot d)
-discards_one i old slot d = drafted_one i slot d (rollback d) (types_told (content (rollback d))) old
+discards_one i old slot d = drafted_one i slot d (rollback d) (types_answer (content (rollback d))) old
 
 stages_one : (list : ListName) (bytes : List ℕ) (old : State) → One (Stages list bytes old)
 stages_one list bytes old =

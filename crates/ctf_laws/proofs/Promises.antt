@@ -1,4 +1,4 @@
--- Own runs leave good libraries good: by induction on the calls that lines make.
+-- Own runs keep good libraries good, by induction on the calls in lines.
 use Rattle.std.proofs.Common.{◌≡◌, ℕ, List, [], ◌∷◌, Bool, true, false, Result, Ok, Err, eqb, refl}
 use Rattle.std.specs.List.{AllByRecursion}
 use Rattle.ctf_model.specs.declared.faults.Fault.{Fault}

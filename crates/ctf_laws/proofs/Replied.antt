@@ -1,4 +1,4 @@
--- What own runs reply is right: by induction on the lines.
+-- The replies of own runs are correct, by induction on the lines.
 use Rattle.std.proofs.Common.{◌≡◌, ℕ, zero, suc, List, [], ◌∷◌, length, take, Bool, true, false, Some, Result, Ok, Err, eqb, refl, ap, sym, subst, ◌∙◌, arith}
 use Rattle.std.proofs.lemmas.Bool.Decides.{nat_tests}
 use Rattle.std.specs.Prelude.{slice_get}
@@ -44,7 +44,7 @@ each_line start calls [] marks = refl
 each_line start calls (line ∷ lines) [] = ap suc (each_line start (calls_after calls answered (ask line)) lines [])
 each_line start calls (line ∷ lines) (mark ∷ marks) = ap suc (each_line start (calls_after calls mark (ask line)) lines marks)
 
--- the k-th reply after a history
+-- reply number `k` after a history
 written_at : (start : ℕ → State) (calls : List Call) (lines : List (List ℕ)) (marks : List Mark) (k : ℕ) (line reply : List ℕ) → slice_get lines k ≡ Some line → slice_get (out start calls lines marks) k ≡ Some reply → reply ≡ line_out start (calls_made calls (take k lines) marks) (mark_at k marks) (ask line)
 written_at start calls [] marks k line reply at there = absurd cc
 written_at start calls (x ∷ lines) [] zero line reply at there =

@@ -1,4 +1,4 @@
--- What each step says and leaves is right, by cases on the words of StepWords.
+-- Every step is correct, by cases on the steps of StepWords.
 use Rattle.std.proofs.Common.{◌≡◌, inl, inr, ℕ, List, [], ◌∷◌, length, Bool, true, false, Option, Some, None, Result, Ok, Err, eqb, refl, ap, sym, subst, ◌∙◌, codes, is_some}
 use Rattle.std.proofs.lemmas.Bool.{ltb-false, ltb-true}
 use Rattle.std.specs.Prelude.{nat_lt, not}
@@ -28,7 +28,7 @@ use Rattle.ctf_protocol.specs.sessions.DraftSteps.{created_slot, model_made, slo
 use Rattle.ctf_protocol.specs.sessions.Opened.{open_of, slot_made, slot_refused, slot_stepped, under}
 use Rattle.ctf_protocol.specs.sessions.Outcomes.{Outcome, finding, grants, making, needs, quota, refused_by, refused_where, within_quota}
 use Rattle.ctf_protocol.specs.sessions.Publications.{published_as}
-use Rattle.ctf_protocol.specs.sessions.SlotQuestions.{said_by_slot, slot_answered, slot_space}
+use Rattle.ctf_protocol.specs.sessions.SlotQuestions.{answer_of_slot, slot_answered, slot_space}
 use Rattle.ctf_protocol.specs.sessions.Slots.{has_room, slot_at, slots_with}
 use Rattle.ctf_protocol.specs.sessions.State.{Slot, State}
 use Rattle.ctf_protocol.specs.sessions.Steps.{adds_draft, change_step, longest_list, slot_becomes, stages, step, updates_within}
@@ -49,11 +49,11 @@ use Rattle.ctf_laws.proofs.Drafted.{enumerator_leaves, label_leaves, member_leav
 use Rattle.ctf_laws.proofs.Slots.{found_good}
 use Rattle.ctf_laws.specs.Endings.{Ending, Finds, Gives, GrantsWithin, Judges, Needs, Refuses, RefusesBy, RefusesWhere}
 use Rattle.ctf_laws.specs.Good.{FitsChange, FitsRequest, IsDraftOf, IsFaultless, IsGood, IsGoodSlot}
-use Rattle.ctf_laws.specs.Right.{Adds, Creates, CreatesOver, DenotesJust, Discards, HasJust, Imports, IsAnsweredOf, IsDrafted, IsImported, IsOpened, IsRight, Opens, PublishesIts, Stages, Takes, Updates, WritesDraft, said_of, slot_written, types_told, with_slot_at, with_slot_of}
+use Rattle.ctf_laws.specs.Right.{Adds, Creates, CreatesOver, DenotesJust, Discards, HasJust, Imports, IsAnsweredOf, IsDrafted, IsImported, IsOpened, IsRight, Opens, PublishesIts, Stages, Takes, Updates, WritesDraft, answer_from, slot_written, types_answer, with_slot_at, with_slot_of}
 
 -- ---- the ways to end
 
--- a step ends so
+-- the step has this ending
 abbrev pub Ends : Ending → Outcome → Type 0
 Ends R outcome = R outcome.reply.outcome outcome.state
 
@@ -104,7 +104,7 @@ has_just slot g = record {
 
 -- ---- questions
 
-told_as : (question : Question) (slot : Slot) → slot_answered question slot ≡ said_of question slot (slot_space slot)
+told_as : (question : Question) (slot : Slot) → slot_answered question slot ≡ answer_from question slot (slot_space slot)
 told_as (OfType t question) slot = refl
 told_as (OfSlot question) slot = refl
 told_as (OfHeld about.Info) slot = refl
@@ -117,7 +117,7 @@ drafted slot d g is =
     let wrote : Denotes (lists_of is.bytes) (content (rollback d)) = draft_denoted (rollback d) is.bytes (life_sound d is.sound).0 is.wrote in
     one_dictionary slot.kept.lists (said_by slot.kept.lists) (content (rollback d)) (denotes_said slot.kept.lists g.faultless) (subst (λ (l : Lists). Denotes l (content (rollback d))) (sym is.lists) wrote)
 
-tells : (question : Question) (o : Option Slot) (old : State) → ((slot : Slot) → o ≡ Some slot → IsGoodSlot slot) → Finds o NO_SLOT old (λ slot. IsAnsweredOf slot question old) (said_by_slot question o) old
+tells : (question : Question) (o : Option Slot) (old : State) → ((slot : Slot) → o ≡ Some slot → IsGoodSlot slot) → Finds o NO_SLOT old (λ slot. IsAnsweredOf slot question old) (answer_of_slot question o) old
 tells question None old good = (refl, refl)
 tells question (Some slot) old good = record {
   dictionary = slot_space slot;
@@ -207,7 +207,7 @@ same_case d was x rest later false t at =
     let there : slot_at d rest ≡ Some was = rw t at at in
     rw t (ap (λ (xs : List Slot). x ∷ xs) (later there))
 
--- a slot that is put where it stands
+-- replacing a slot by itself changes nothing
 same_slots : (d : ℕ) (was : Slot) (slots : List Slot) → slot_at d slots ≡ Some was → slots_with d was slots ≡ slots
 same_slots d was [] at = refl
 same_slots d was (x ∷ rest) at = same_case d was x rest (same_slots d was rest) (eqb x.number d) refl at
@@ -217,17 +217,17 @@ refused_stays d slot f state at = (refl, ap (λ (slots : List Slot). record stat
 
 wrote : (d : ℕ) (slot : Slot) (draft : Draft) (r : Result (List ℕ) Fault) (state : State) → IsSound draft → slot_at d state.slots ≡ Some slot → written (content draft) ≡ r
     → let o = slot_stepped (under (codes "types")) slot (with_count (settled_as slot.parent draft r)) in
-    Ends (Gives r state (λ bytes. WritesDraft draft bytes (types_told (content draft)) (with_slot_at d (slot_written slot.number slot.parent draft bytes) state) state)) (updates_within o.said (slot_becomes d o state) state)
+    Ends (Gives r state (λ bytes. WritesDraft draft bytes (types_answer (content draft)) (with_slot_at d (slot_written slot.number slot.parent draft bytes) state) state)) (updates_within o.said (slot_becomes d o state) state)
 wrote d slot draft (Err f) state sound at is = refused_stays d slot f state at
 wrote d slot draft (Ok bytes) state sound at is =
     let denoted : Denotes (lists_of bytes) (content draft) = draft_denoted draft bytes sound is in
     let just = just_denoted (lists_of bytes) (content draft) denoted in
     let dictionary : said_by (lists_of bytes) ≡ content draft = just.only (said_by (lists_of bytes)) (denotes_said (lists_of bytes) denoted.faultless) in
     let would = with_slot_at d (slot_written slot.number slot.parent draft bytes) state in
-    let o = within_quota (grants (types_told (said_by (lists_of bytes))) would) state in
+    let o = within_quota (grants (types_answer (said_by (lists_of bytes))) would) state in
     record {
       denoted = just;
-      granted = subst (λ (x : Dictionary). Ends (GrantsWithin state (types_told x) would) o) dictionary (within (types_told (said_by (lists_of bytes))) would state);
+      granted = subst (λ (x : Dictionary). Ends (GrantsWithin state (types_answer x) would) o) dictionary (within (types_answer (said_by (lists_of bytes))) would state);
     }
 
 updating : (d : ℕ) (slot : Slot) (draft : Option Draft) (state : State) → ((e : Draft) → draft ≡ Some e → IsSound e) → slot_at d state.slots ≡ Some slot
@@ -236,7 +236,7 @@ updating : (d : ℕ) (slot : Slot) (draft : Option Draft) (state : State) → ((
 updating d slot None state sound at = refused_stays d slot (placeless READ_ONLY) state at
 updating d slot (Some draft) state sound at = wrote d slot draft (written (content draft)) state (sound draft refl) at refl
 
--- the lists of the slot denote what the draft held, when another that was updated so stands there
+-- the lists of the slot still denote the draft's content at its last update
 still : (slot : Slot) (d now : Draft) → IsGoodSlot slot → IsDraftOf slot d → rollback now ≡ rollback d → DenotesJust slot.kept.lists (content (rollback now))
 still slot d now g is same = subst (λ (x : Draft). DenotesJust slot.kept.lists (content x)) (sym same) (subst (DenotesJust slot.kept.lists) (drafted slot d g is) (just_said slot.kept.lists g.faultless))
 
@@ -270,7 +270,7 @@ dropping : (d : ℕ) (slot : Slot) (draft : Option Draft) (state : State) → Is
 dropping d slot None state g is at = refused_stays d slot (placeless READ_ONLY) state at
 dropping d slot (Some draft) state g is at = record {
   denoted = still slot draft (rollback draft) g (is draft refl) refl;
-  granted = (ap (λ (x : Dictionary). Ok (types_told x)) (drafted slot draft g (is draft refl)), refl);
+  granted = (ap (λ (x : Dictionary). Ok (types_answer x)) (drafted slot draft g (is draft refl)), refl);
 }
 
 -- ---- every request

@@ -1,4 +1,4 @@
--- Libraries stay good in every run: by induction on the events.
+-- Libraries stay good in every run, by induction on the events.
 use Rattle.std.proofs.Common.{◌≡◌, ◌≢◌, ◌⊎◌, inl, inr, ℕ, zero, suc, List, [], ◌∷◌, Bool, true, false, Option, Some, None, eqb, option_and_then, refl, sym, subst, arith}
 use Rattle.std.specs.Option.{ForSome}
 use Rattle.std.proofs.lemmas.Bool.Decides.{nat_tests}
@@ -38,7 +38,7 @@ among old new s request reply g fits steps q false t =
     let other : q ≢ s = λ e. let hit : eqb s s ≡ false = subst (λ (x : ℕ). eqb s x ≡ false) e t in grind (arith, nat_tests, hit) in
     subst IsGood (sym (steps.others q other)) (g q)
 
--- one call among good libraries leaves good ones
+-- one call among good libraries keeps them good
 pub steps_among : (old new : ℕ → State) (s : ℕ) (request : Request) (reply : Reply) → Steps old s request reply new → AreGood old → FitsRequest request → AreGood new
 steps_among old new s request reply steps g fits = λ q. among old new s request reply g fits steps q (eqb s q) refl
 
@@ -50,11 +50,11 @@ load_at : (old new : ℕ → State) → IsGood (new 0) → ((other : ℕ) → ot
 load_at old new here others g zero = here
 load_at old new here others g (suc s) = subst IsGood (sym (others (suc s) (λ e. absurd cc))) (g (suc s))
 
--- what the operator publishes among good libraries leaves good ones, if it breaks no rule
+-- a faultless publication of the operator keeps them good
 pub loads_among : (old new : ℕ → State) (name : List ℕ) (kept : Kept) (reply : Reply) → Answered (old 0) (publishes_kept name kept (old 0)) reply (new 0) → ((other : ℕ) → other ≢ 0 → new other ≡ old other) → IsFaultless kept → AreGood old → AreGood new
 loads_among old new name kept reply own others h g = load_at old new (answered_good (old 0) (new 0) name kept reply own h (g 0)) others g
 
--- every session's library is as it was but for one
+-- all libraries but one are unchanged
 pub other_stays : (old new : ℕ → State) (event : Event) → Happens old event new → (s : ℕ) → eqb event.session s ≡ false → new s ≡ old s
 other_stays old new event happens s h =
     let other : s ≢ event.session = λ e. let hit : eqb event.session event.session ≡ false = subst (λ (x : ℕ). eqb event.session x ≡ false) e h in grind (arith, nat_tests, hit) in

@@ -83,7 +83,7 @@ pub withdrawn_good : (name : List ℕ) (all : List Publication) → AllFaultless
 withdrawn_good name [] g = g
 withdrawn_good name (x ∷ rest) g = withdrawn_case name x rest g.0 (withdrawn_good name rest g.1) (not (pointwise nat_eq x.name name)) refl
 
--- ---- slots that are new, and one that gets a parent
+-- ---- new slots, and one that gets a parent
 
 pub new_good : (number : ℕ) (kept : Kept) → IsFaultless kept → IsGoodSlot (record { number = number; kept = kept; parent = None; draft = None })
 new_good number kept h = record {

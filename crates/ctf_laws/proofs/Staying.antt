@@ -1,4 +1,4 @@
--- Publications and parents stay, from what each change may do.
+-- Publications and parents stay, from the possible effects of each change.
 use Rattle.std.proofs.Common.{◌≡◌, ◌≢◌, ℕ, List, [], ◌∷◌, ◌++◌, Bool, true, false, Option, Some, eqb, refl, ap, sym, subst, ◌∙◌, option_and_then}
 use Rattle.std.specs.Prelude.{nat_eq}
 use Rattle.std.specs.Cmp.Lexicographic.{pointwise, same_text}
@@ -34,7 +34,7 @@ behind : (name : List ℕ) (kept : Kept) (p : Publication) (all : List Publicati
 behind name kept p [] e = absurd cc
 behind name kept p (x ∷ rest) e = another_case name kept x p rest (behind name kept p rest) (pointwise nat_eq x.name name) refl e
 
--- one of another name is gone
+-- removing a publication with another name
 without_case : (name other : List ℕ) (kept : Kept) (x : Publication) (rest : List Publication) → (other ≡ name → ⊥) → (published_as name rest ≡ Some kept → published_as name (published_without other rest) ≡ Some kept) → (t : Bool) → pointwise nat_eq x.name other ≡ t → (u : Bool) → pointwise nat_eq x.name name ≡ u → published_as name (x ∷ rest) ≡ Some kept → published_as name (published_without other (x ∷ rest)) ≡ Some kept
 without_case name other kept x rest differ later true t true u e =
     absurd (differ (sym (same_text x.name other (sym t)) ∙ same_text x.name name (sym u)))
@@ -67,7 +67,7 @@ slot_case : (d : ℕ) (x y : Slot) (rest : List Slot) (p : Kept) → (option_and
 slot_case d x y rest p later true t e = let here : x.parent ≡ Some p = rw t at e in rw t here
 slot_case d x y rest p later false t e = let there : option_and_then (λ (s : Slot). s.parent) (slot_at d rest) ≡ Some p = rw t at e in rw t (later there)
 
--- the parent of the slot of a number among slots
+-- the parent of slot `d` in a list of slots
 abbrev parent_at : ℕ → List Slot → Option Kept
 parent_at d slots = option_and_then (λ slot. slot.parent) (slot_at d slots)
 
@@ -139,7 +139,7 @@ parent_stays state (Asks n question) found d p spares e = e
 
 -- ---- runs
 
--- what holds of a library and stays so by each request that is spared stays so in every run
+-- a fact of a library that every allowed request keeps holds after every run
 run_stays : (P : State → Type 0) (Q : Request → Type 0) → ((state : State) (request : Request) (found : Option Kept) → Q request → P state → P (step state request found).state) → (start new : ℕ → State) (events : List Event) (owner : ℕ) → Run start events new → AllByRecursion (λ event. event.session ≡ owner → Q event.request) events → P (start owner) → P (new owner)
 run_stays P Q kept start new [] owner run spared h = subst P (sym (run owner)) h
 run_stays P Q kept start new (event ∷ earlier) owner run spared h =

@@ -1,4 +1,4 @@
--- A request leaves a good library good.
+-- A request keeps a good library good.
 use Rattle.std.proofs.Common.{◌≡◌, ℕ, List, [], ◌∷◌, ◌++◌, Bool, true, false, Option, Some, None, Result, Ok, Err, eqb, refl, ap, sym, subst, ◌∙◌, length, is_some}
 use Rattle.std.specs.Prelude.{codes, nat_lt, not, if◌then◌else◌}
 use Rattle.std.specs.Option.{ForSome}
@@ -39,7 +39,7 @@ use Rattle.ctf_laws.proofs.Slots.{AllGood, child_good, found_good, new_good, par
 use Rattle.ctf_laws.specs.Good.{FitsAddition, FitsChange, FitsStep, IsFaultless, IsGood, IsGoodSlot}
 use Rattle.ctf_laws.specs.GoodLaws.{LoadsKeepGood, StepsKeepGood}
 
--- a step leaves a good library
+-- the step keeps the library good
 abbrev Leaves : Outcome → Type 0
 Leaves outcome = IsGood outcome.state
 
@@ -127,7 +127,7 @@ from : (parent : Option ℕ) (asked : Created) (state : State) → IsGood state 
 from None asked state g there = over None asked state g there (λ p e. absurd cc)
 from (Some p) asked state g there = at_slot _ p (slot_at p state.slots) state g refl (λ slot good at. over (Some slot.kept) asked state g there (λ q e. let same : slot.kept ≡ q = cc in subst IsFaultless same good.faultless))
 
--- the slot that a step leaves
+-- the step keeps the slot good
 abbrev LeavesSlot : SlotOutcome → Type 0
 LeavesSlot outcome = IsGoodSlot outcome.slot
 

@@ -1,4 +1,4 @@
--- What a library keeps, whatever its own session and all others ask. Source: ours.
+-- The invariant of a library, whatever any session requests. Source: ours.
 use Rattle.std.specs.Prelude.{◌≡◌, ℕ, ◌<◌, ◌^◌, ◌==◌, List, length, not, is_some, None, Ok, FitsSigned}
 use Rattle.std.specs.Int.{w32}
 use Rattle.std.specs.List.{AllByRecursion}
@@ -26,12 +26,12 @@ use Rattle.ctf_protocol.specs.declared.requests.Request.TheVariants.{Asks, Chang
 abbrev pub IsFaultless : Kept → Type 0
 IsFaultless kept = first_fault kept.lists ≡ None
 
--- a parent that serves a dictionary
+-- the parent fits the dictionary
 pub record Serves (own parent : Kept) : Type 0 where
   pub faultless : IsFaultless parent
   pub under : fault_over own parent ≡ None
 
--- a sound draft over the slot's parent: the slot's lists are what its last update wrote of it
+-- a sound draft over the slot's parent; its last update wrote the slot's lists
 pub record IsDraftOf (slot : Slot) (d : Draft) : Type 0 where
   pub sound : IsSound d
   pub above : d.parent ≡ option_map kept_dictionary slot.parent
@@ -50,13 +50,13 @@ pub record IsGood (state : State) : Type 0 where
   pub slots : AllByRecursion IsGoodSlot state.slots
   pub published : AllByRecursion (λ p. IsFaultless p.kept) state.published
 
--- the libraries of all sessions
+-- the libraries of all sessions are good
 abbrev pub AreGood : (ℕ → State) → Type 0
 AreGood libraries = (session : ℕ) → IsGood (libraries session)
 
 -- ---- requests
 
--- its numbers have the widths of their fields
+-- the numbers in an addition fit their fields
 abbrev pub FitsAddition : Addition → Type 0
 FitsAddition (add.Type name root kind) = FitsNew (asked_body kind)
 FitsAddition (add.Member t name tnum offset) = Unit {0}
@@ -68,7 +68,7 @@ FitsStep (Add addition) = FitsAddition addition
 FitsStep Update = Unit {0}
 FitsStep Discard = Unit {0}
 
--- a draft has a parent just where that has a name
+-- a draft has a parent exactly if the parent's name is given
 abbrev pub FitsChange : Change → Type 0
 FitsChange (change.Create asked) = is_some asked.parent ≡ not (length asked.parname == 0)
 FitsChange (change.Draft d step) = FitsStep step

@@ -45,56 +45,56 @@ StepsKeepGood =
     (state : State) (request : Request) (found : Option Kept) → IsGood state → FitsRequest request
     → ForSome found IsFaultless → IsGood (step state request found).state
 
--- what is published for the operator leaves a good library good, if it breaks no rule
+-- publishing a faultless dictionary for the operator keeps a library good
 abbrev pub LoadsKeepGood : Type 0
 LoadsKeepGood =
     (state : State) (name : List ℕ) (kept : Kept) → IsGood state → IsFaultless kept
     → IsGood (publishes_kept name kept state).state
 
--- what a take finds among good libraries breaks no rule
+-- a publication found in a good library breaks no rule
 abbrev pub FoundIsFaultless : Type 0
 FoundIsFaultless =
     (libraries : ℕ → State) (request : Request) → AreGood libraries
     → ForSome (found_in libraries request) IsFaultless
 
--- whatever is asked of whom, in any order, and wherever memory is refused
+-- in any run, whatever is requested in any order, and wherever memory runs out
 abbrev pub RunsKeepGood : Type 0
 RunsKeepGood =
     (start new : ℕ → State) (events : List Event) → AreGood start
     → AllByRecursion (λ event. FitsRequest event.request) events → Run start events new
     → AreGood new
 
--- after any lines, wherever memory was refused, each session's own run leaves it a good library
+-- after any lines, wherever memory runs out, each session's own run has a good library
 abbrev pub OwnRunsStayGood : Type 0
 OwnRunsStayGood =
     (start : ℕ → State) (lines : List (List ℕ)) (marks : List Mark) → AreGood start
     → AreGood (own_state start (calls_made [] lines marks))
 
--- whatever a line asks has numbers of its fields' widths
+-- the numbers in a line's request fit their fields
 abbrev pub LinesFit : Type 0
 LinesFit =
     (line : List ℕ) (asked : ℕ × Request) → ask line ≡ Ok asked → FitsRequest asked.1
 
--- ---- what a good slot answers
+-- ---- answers of a good slot
 
--- the lists of a parent denote this dictionary, if there is one
+-- the parent's lists denote this dictionary, if there is one
 abbrev pub AreDenoted : Option Kept → Option Dictionary → Type 0
 AreDenoted None None = Unit {0}
 AreDenoted (Some parent) (Some d) = Denotes parent.lists d
 AreDenoted None (Some d) = ⊥
 AreDenoted (Some parent) None = ⊥
 
--- a dictionary over its parent, as the lists of a slot denote them
+-- a dictionary over its parent, as denoted by the lists of a slot
 pub record IsDenoted (slot : Slot) (s : Space) : Type 0 where
   pub own : Denotes slot.kept.lists s.own
   pub parent : AreDenoted slot.parent s.parent
   pub model : s.model ≡ slot.kept.model
 
--- there is one
+-- every good slot denotes such a space
 abbrev pub SlotsDenote : Type 0
 SlotsDenote = (slot : Slot) → IsGoodSlot slot → IsDenoted slot (slot_space slot)
 
--- there is no other, and questions are answered of it
+-- it is the only one, and questions are answered from it
 pub record AnswersOf (slot : Slot) (s : Space) : Type 0 where
   pub types : (question : TypeQuestion) (t : TypeNum)
       → slot_answered (OfType t question) slot ≡ type_answered question s t.0
@@ -104,9 +104,9 @@ pub record AnswersOf (slot : Slot) (s : Space) : Type 0 where
 abbrev pub AnswersAreOfWhatIsDenoted : Type 0
 AnswersAreOfWhatIsDenoted = (slot : Slot) (s : Space) → IsDenoted slot s → AnswersOf slot s
 
--- ---- what is judged
+-- ---- checks
 
--- a check refuses by the first rule that the staged lists break, and by nothing else
+-- a check refuses exactly for the first rule that the staged lists break
 abbrev pub ChecksRefuseByTheFirstRule : Type 0
 ChecksRefuseByTheFirstRule =
     (state : State) (f : Fault) → (checks state).reply.outcome ≡ Err f → IsFirstFault state.stage f
@@ -115,7 +115,7 @@ abbrev pub ChecksAcceptWhatKeepsEveryRule : Type 0
 ChecksAcceptWhatKeepsEveryRule =
     (state : State) (a : Answer) → (checks state).reply.outcome ≡ Ok a → KeepsEveryRule state.stage
 
--- an open does too, where there is a slot for it
+-- so does an open, if there is a free slot
 abbrev pub OpensRefuseByTheFirstRule : Type 0
 OpensRefuseByTheFirstRule =
     (model : DataModel) (state : State) (f : Fault) → (opens model state).reply.outcome ≡ Err f
@@ -126,17 +126,17 @@ OpensAcceptWhatKeepsEveryRule =
     (model : DataModel) (state : State) (a : Answer) → (opens model state).reply.outcome ≡ Ok a
     → KeepsEveryRule state.stage
 
--- ---- what is written
+-- ---- updates
 
--- once a slot was updated, its lists denote all that its draft holds
+-- after an update, the slot's lists denote the whole content of its draft
 abbrev pub UpdatesDenoteTheDraft : Type 0
 UpdatesDenoteTheDraft =
     (slot : Slot) (d : Draft) (a : Answer) → IsGoodSlot slot → slot.draft ≡ Some d
     → (slot_step Update slot).said ≡ Ok a
     → Denotes (slot_step Update slot).slot.kept.lists (content d)
 
--- whatever adders make of a new draft: its bytes denote the types, members, labels and names that
--- were added and not discarded, in their order
+-- whatever changes are made to a new draft, its bytes denote the added types, members, labels and
+-- names in order, without the discarded ones
 abbrev pub BytesDenoteWhatWasAdded : Type 0
 BytesDenoteWhatWasAdded =
     (parent : Option Modelled) (parname parlabel : List ℕ) (model : DataModel) (d : Draft)

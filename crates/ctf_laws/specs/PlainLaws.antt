@@ -1,4 +1,4 @@
--- Plain laws of sessions. Each is the contract of a function of src/plain.rt.
+-- Simple laws of sessions. Each is the contract of a function of src/plain.rt.
 use Rattle.std.specs.Prelude.{◌≡◌, ◌≢◌, ℕ, List, ◌∷◌, ◌++◌, Option, Some, is_some, true, false, option_and_then}
 use Rattle.std.specs.List.{AllByRecursion}
 use Rattle.ctf_model.specs.spaces.Kept.{Kept}
@@ -14,7 +14,7 @@ use Rattle.ctf_protocol.specs.declared.requests.Request.TheVariants.{Changes}
 
 -- ---- the numbers of slots
 
--- it makes a slot of this number
+-- the request creates a slot with number `n`
 pub record Gives (n : ℕ) (state : State) (now : Given) : Type 0 where
   pub before : is_some (slot_at n state.slots) ≡ false
   pub after : is_some (slot_at n (step state now.request now.found).state.slots) ≡ true
@@ -22,7 +22,7 @@ pub record Gives (n : ℕ) (state : State) (now : Given) : Type 0 where
 abbrev pub IsNoReset : Given → Type 0
 IsNoReset now = now.request ≢ Changes change.Reset
 
--- a number is not given twice before a reset, however many slots were closed
+-- no slot number is given twice without a reset between, however many slots are closed
 abbrev pub NumbersAreGivenOnce : Type 0
 NumbersAreGivenOnce =
     (earlier between : List Given) (first second : Given) (n : ℕ)
@@ -31,12 +31,12 @@ NumbersAreGivenOnce =
 
 -- ---- publications
 
--- this session does not withdraw this name
+-- the event is no withdrawal of this name by its owner
 abbrev pub LeavesName : ℕ → List ℕ → Event → Type 0
 LeavesName owner name event =
     event.session ≡ owner → event.request ≢ Changes (change.Withdraw name)
 
--- what is published stays as it is until its owner withdraws it, whatever anyone does
+-- a publication stays unchanged until its owner withdraws it
 abbrev pub PublicationsStay : Type 0
 PublicationsStay =
     (start new : ℕ → State) (events : List Event) (owner : ℕ) (name : List ℕ) (kept : Kept)
@@ -46,11 +46,11 @@ PublicationsStay =
 
 -- ---- parents
 
--- the parent of the slot of a number, if both are there
+-- the parent of slot `d`, if both exist
 abbrev pub parent_of : ℕ → State → Option Kept
 parent_of d state = option_and_then (λ slot. slot.parent) (slot_at d state.slots)
 
--- it closes, resets and imports another parent nowhere over the slot of this number
+-- the request neither closes slot `d`, nor resets, nor imports another parent into it
 pub record Spares (d : ℕ) (request : Request) : Type 0 where
   pub closes_not : request ≢ Changes (change.Close d)
   pub resets_not : request ≢ Changes change.Reset
@@ -59,8 +59,8 @@ pub record Spares (d : ℕ) (request : Request) : Type 0 where
 abbrev pub LeavesParent : ℕ → ℕ → Event → Type 0
 LeavesParent owner d event = event.session ≡ owner → Spares d event.request
 
--- a slot's parent stays what it was at its import or its making, whatever becomes of the slot or
--- the publication that it came from
+-- a slot's parent stays as imported or given at creation, whatever happens to the slot or
+-- publication that it came from
 abbrev pub ParentsStay : Type 0
 ParentsStay =
     (start new : ℕ → State) (events : List Event) (owner d : ℕ) (parent : Kept)

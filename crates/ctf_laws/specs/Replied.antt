@@ -1,4 +1,4 @@
--- What the reply lines of a run say, each of the library that its line met. Source: ours.
+-- The reply lines of a run, each correct for the library at its time. Source: ours.
 use Rattle.std.specs.Prelude.{◌≡◌, ℕ, List, [], ◌∷◌, length, take, slice_get, unwrap_or, Option, Some, Result, Ok, Err}
 use Rattle.ctf_model.specs.spaces.Kept.{Kept}
 use Rattle.ctf_model.specs.declared.faults.Fault.{Fault}
@@ -12,15 +12,15 @@ use Rattle.ctf_protocol.specs.declared.requests.Request.{Request}
 use Rattle.ctf_laws.specs.Good.{AreGood}
 use Rattle.ctf_laws.specs.Right.{IsRight}
 
--- the line of what a session is rightly answered
+-- the line of a correct reply to a session
 pub record IsReply (s : ℕ) (old : State) (request : Request) (found : Option Kept) (line : List ℕ)
     (new : State) : Type 0 where
   pub said : Result Answer Fault
   pub written : line ≡ outcome_line s said
   pub right : IsRight old request found said new
 
--- what is written for a line after a history: that memory was refused, that the line asks nothing,
--- or the reply of its session's own library
+-- the correct output for a line after a history: out of memory, the refusal of a line without a
+-- request, or the reply of the session's own library
 abbrev pub IsWritten : (ℕ → State) → List Call → Mark → Result (ℕ × Request) (ℕ × Fault) → List ℕ
     → Type 0
 IsWritten start calls unread asked reply = reply ≡ reply_line (no_memory 0)
@@ -31,11 +31,11 @@ IsWritten start calls answered (Ok asked) reply =
     (found_in (own_state start calls) asked.1) reply
     (own_state start (record { session = asked.0; request = asked.1 } ∷ calls) asked.0)
 
--- the mark of a line; one with no mark was answered
+-- the mark of line `k`; a line without one was answered
 abbrev pub mark_at : ℕ → List Mark → Mark
 mark_at k marks = unwrap_or (slice_get marks k) answered
 
--- each line has a reply, and it is right of the library that the lines before it left its session
+-- each line has a reply that is correct for its session's library at the time
 pub record AreReplies (start : ℕ → State) (lines : List (List ℕ)) (marks : List Mark)
     (replies : List (List ℕ)) : Type 0 where
   pub each : length replies ≡ length lines
@@ -45,7 +45,7 @@ pub record AreReplies (start : ℕ → State) (lines : List (List ℕ)) (marks :
 
 -- ---- the law
 
--- what the own runs of sessions reply to lines is right where all libraries were good
+-- the replies of sessions' own runs are correct if all libraries were good at the start
 abbrev pub RunsReplyRightly : Type 0
 RunsReplyRightly =
     (start : ℕ → State) (lines : List (List ℕ)) (marks : List Mark) → AreGood start

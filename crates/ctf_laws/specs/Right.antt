@@ -1,4 +1,4 @@
--- What is right to say to a request and to leave, of the library that it met. Source: ours.
+-- The correct replies and effects of a request, given the library before it. Source: ours.
 use Rattle.std.specs.Prelude.{◌≡◌, ℕ, ◌+◌, List, [], ◌∷◌, ◌++◌, length, is_some, nat_lt, Option, None, Some, Result, Ok, codes, if◌then◌else◌}
 use Rattle.std.specs.Option.{ForSome, option_map}
 use Rattle.ctf_model.specs.drafts.Adders.{Added, add_enumerator, add_label, add_member, add_type}
@@ -39,73 +39,74 @@ use Rattle.ctf_protocol.specs.declared.requests.Request.TheVariants.{Asks, Chang
 use Rattle.ctf_laws.specs.Endings.{Ending, Finds, Gives, Grants, GrantsWithin, Judges, Needs, RefusesBy, RefusesWhere}
 use Rattle.ctf_laws.specs.GoodLaws.{IsDenoted}
 
--- ---- one dictionary
+-- ---- denoted dictionaries
 
--- these lists denote this dictionary, and no other
+-- the lists denote this dictionary and no other
 pub record DenotesJust (lists : Lists) (d : Dictionary) : Type 0 where
   pub denoted : Denotes lists d
   pub only : (other : Dictionary) → Denotes lists other → other ≡ d
 
--- the lists of a slot and those of its parent denote these, and no others
+-- the lists of a slot and its parent denote this space and no other
 pub record HasJust (slot : Slot) (s : Space) : Type 0 where
   pub denoted : IsDenoted slot s
   pub only : (other : Space) → IsDenoted slot other → other ≡ s
 
 -- ---- questions
 
--- what a question is answered of the dictionary that its slot has
-abbrev pub said_of : Question → Slot → Space → Result Answer Fault
-said_of (OfType t question) slot s = type_answered question s t.0
-said_of (OfSlot question) slot s = whole_answered question s
-said_of (OfHeld about.Info) slot s =
+-- the answer to a question, given the dictionary of the slot
+abbrev pub answer_from : Question → Slot → Space → Result Answer Fault
+answer_from (OfType t question) slot s = type_answered question s t.0
+answer_from (OfSlot question) slot s = whole_answered question s
+answer_from (OfHeld about.Info) slot s =
     Ok (info_fields s.own (is_some slot.draft) (is_some slot.parent) (pending_in slot.draft))
-said_of (OfHeld about.Model) slot s = Ok (model_fields s.model)
-said_of (OfHeld (about.Bytes from count)) slot s = Ok (bytes_fields from count slot.kept.lists.ctf)
+answer_from (OfHeld about.Model) slot s = Ok (model_fields s.model)
+answer_from (OfHeld (about.Bytes from count)) slot s =
+    Ok (bytes_fields from count slot.kept.lists.ctf)
 
--- the slot's lists denote one dictionary, and the question is answered of it; the lists of a draft
--- denote all that it held when it was last updated
+-- the slot's lists denote one dictionary, and the question is answered from it; a draft's lists
+-- denote its content at its last update
 pub record IsAnsweredOf (slot : Slot) (question : Question) (old : State)
     (said : Result Answer Fault) (new : State) : Type 0 where
   pub dictionary : Space
   pub denoted : HasJust slot dictionary
-  pub told : said ≡ said_of question slot dictionary
+  pub told : said ≡ answer_from question slot dictionary
   pub held : ForSome slot.draft (λ d. dictionary.own ≡ content (rollback d))
   pub stays : new ≡ old
 
 -- ---- the stage: part, check, open
 
--- a piece goes to the end of a list
+-- a part is appended to a staged list
 abbrev pub Stages : ListName → List ℕ → State → Ending
 Stages list bytes old said new =
     RefusesWhere (nat_lt longest_list (length bytes)) STAGE_FULL old
     (GrantsWithin old (says (codes "length") (number (length bytes)) ∷ [])
     (record old { stage = with_staged list bytes old.stage })) said new
 
--- a library with one more slot, under the next number
+-- a library with one more slot, with the next number
 abbrev pub with_slot_of : Slot → State → State
 with_slot_of slot state = record state {
   slots = state.slots ++ slot ∷ [];
   next = state.next + 1;
 }
 
--- a slot with a dictionary, without a parent or a draft
+-- a slot with a dictionary, without parent and draft
 abbrev pub slot_opened : ℕ → Kept → Slot
 slot_opened n kept = record { number = n; kept = kept; parent = None; draft = None }
 
--- what is told of it: its number, and how many types it has
-abbrev pub slot_told : ℕ → Dictionary → Answer
-slot_told n dictionary =
+-- the answer for a new slot: its number, and its number of types
+abbrev pub slot_answer : ℕ → Dictionary → Answer
+slot_answer n dictionary =
     says (codes "d") (number n) ∷ says (codes "types") (number (length dictionary.terms)) ∷ []
 
--- its lists denote one dictionary, and it stands in a slot behind all others; nothing is staged
+-- the lists denote one dictionary, which is in a new last slot; the stage is cleared
 pub record IsOpened (kept : Kept) (old : State) (answer : Answer) (new : State) : Type 0 where
   pub dictionary : Dictionary
   pub denoted : DenotesJust kept.lists dictionary
-  pub told : answer ≡ slot_told old.next dictionary
+  pub told : answer ≡ slot_answer old.next dictionary
   pub stands : new
       ≡ with_slot_of (slot_opened old.next kept) (record old { stage = empty_stage })
 
--- where there is room for a slot, what is staged is judged
+-- if there is a free slot, the staged lists are checked
 abbrev pub Opens : DataModel → State → Ending
 Opens model old said new =
     Needs (has_room old) SLOTS_FULL old
@@ -113,12 +114,12 @@ Opens model old said new =
 
 -- ---- take
 
--- what was published denotes one dictionary, and stands in a slot from then on
+-- the publication denotes one dictionary, which is in a new slot
 pub record IsTaken (kept : Kept) (old : State) (said : Result Answer Fault)
     (new : State) : Type 0 where
   pub dictionary : Dictionary
   pub denoted : DenotesJust kept.lists dictionary
-  pub granted : GrantsWithin old (slot_told old.next dictionary)
+  pub granted : GrantsWithin old (slot_answer old.next dictionary)
       (with_slot_of (slot_opened old.next kept) old) said new
 
 abbrev pub Takes : Option Kept → State → Ending
@@ -128,8 +129,8 @@ Takes found old said new =
 
 -- ---- import
 
--- the parent of a draft is fixed; else the rules of an import are tried in their order on the
--- dictionaries that the two slots have
+-- a draft's parent is fixed; otherwise the rules of an import are checked in order on the
+-- dictionaries of both slots
 pub record IsImported (child parent : Slot) (d : ℕ) (old : State) (said : Result Answer Fault)
     (new : State) : Type 0 where
   pub own : Dictionary
@@ -155,7 +156,7 @@ Imports d child parent old said new =
 
 -- ---- publish
 
--- the dictionary of a slot, as it stands, where that is all that its draft holds
+-- publishes the current dictionary of a slot, unless its draft has pending additions
 abbrev pub PublishesIts : Slot → List ℕ → State → Ending
 PublishesIts slot name old said new =
     RefusesWhere (nat_lt 0 (pending_in slot.draft)) NOT_UPDATED old
@@ -167,7 +168,7 @@ PublishesIts slot name old said new =
 
 -- ---- create and update
 
--- a slot whose bytes are these, written of all that its draft holds
+-- a slot with these bytes, written from the whole draft
 abbrev pub slot_written : ℕ → Option Kept → Draft → List ℕ → Slot
 slot_written n parent d bytes = record {
   number = n;
@@ -176,13 +177,13 @@ slot_written n parent d bytes = record {
   draft = Some (commit d);
 }
 
--- the bytes of the slot denote all that the draft holds
+-- the bytes denote the whole content of the draft
 pub record WritesDraft (d : Draft) (bytes : List ℕ) (answer : Answer) (would old : State)
     (said : Result Answer Fault) (new : State) : Type 0 where
   pub denoted : DenotesJust (lists_of bytes) (content d)
   pub granted : GrantsWithin old answer would said new
 
--- a new draft is written at once, with nothing in it
+-- a new draft is written at once, while it is empty
 abbrev pub WritesNew : Option Kept → State → Draft → Ending
 WritesNew parent old d said new =
     Gives (written (content d)) old (λ bytes.
@@ -197,36 +198,36 @@ CreatesOver parent asked old said new =
     (model_made parent asked))
     old (WritesNew parent old)) said new
 
--- over the dictionary of a slot as it stands, or over none
+-- makes a draft over the current dictionary of a slot, or without a parent
 abbrev pub Creates : Option ℕ → Created → State → Ending
 Creates None asked old said new = CreatesOver None asked old said new
 Creates (Some p) asked old said new =
     Finds (slot_at p old.slots) NO_SLOT old (λ slot. CreatesOver (Some slot.kept) asked old)
     said new
 
--- a slot of a number with a draft, or a refusal
+-- the draft in a slot, or a refusal
 abbrev pub OnDraft : Option Slot → State → (Slot → Draft → Ending) → Ending
 OnDraft slot old Then said new =
     Finds slot NO_SLOT old (λ slot.
     Finds slot.draft READ_ONLY old (Then slot)) said new
 
--- the slot of a number is this one
+-- the library with this slot in place of slot `d`
 abbrev pub with_slot_at : ℕ → Slot → State → State
 with_slot_at d slot state = record state { slots = slots_with d slot state.slots }
 
--- how many types a dictionary has is told
-abbrev pub types_told : Dictionary → Answer
-types_told dictionary = says (codes "types") (number (length dictionary.terms)) ∷ []
+-- answers the number of types in a dictionary
+abbrev pub types_answer : Dictionary → Answer
+types_answer dictionary = says (codes "types") (number (length dictionary.terms)) ∷ []
 
 abbrev pub Updates : ℕ → State → Slot → Draft → Ending
 Updates n old slot d said new =
     Gives (written (content d)) old (λ bytes.
-    WritesDraft d bytes (types_told (content d))
+    WritesDraft d bytes (types_answer (content d))
     (with_slot_at n (slot_written slot.number slot.parent d bytes) old) old) said new
 
 -- ---- add and discard
 
--- a draft to which this was added
+-- the draft after an addition
 abbrev pub draft_with : Addition → Draft → Result Added Fault
 draft_with (add.Type name root kind) d =
     add_type d (record { name = name; root = root; body = asked_body kind })
@@ -235,8 +236,8 @@ draft_with (add.Enumerator t name value) d =
     silent (add_enumerator d t.0 (record { name = name; value = value }))
 draft_with (add.Label name last) d = silent (add_label d (record { name = name; last = last }))
 
--- the draft of a slot is another; its bytes stay, and still denote what the draft held when it was
--- last updated
+-- the slot has a new draft; its bytes are unchanged, and denote the draft's content at its last
+-- update
 pub record IsDrafted (n : ℕ) (slot : Slot) (d now : Draft) (answer : Answer) (old : State)
     (said : Result Answer Fault) (new : State) : Type 0 where
   pub denoted : DenotesJust slot.kept.lists (content (rollback now))
@@ -249,12 +250,12 @@ Adds n addition old slot d said new =
 
 abbrev pub Discards : ℕ → State → Slot → Draft → Ending
 Discards n old slot d said new =
-    IsDrafted n slot d (rollback d) (types_told (content (rollback d))) old said new
+    IsDrafted n slot d (rollback d) (types_answer (content (rollback d))) old said new
 
 -- ---- every request
 
--- what is said to a request that meets this library, and finds this if it is a take, and the
--- library that it leaves
+-- the correct reply to a request and the library afterwards, given the library before and the
+-- publication found by a take
 abbrev pub IsRight : State → Request → Option Kept → Ending
 IsRight old (Asks d question) found said new =
     Finds (slot_at d old.slots) NO_SLOT old (λ slot. IsAnsweredOf slot question old) said new
@@ -286,9 +287,9 @@ IsRight old (Changes (change.Draft d draft.Update)) found said new =
 IsRight old (Changes (change.Draft d draft.Discard)) found said new =
     OnDraft (slot_at d old.slots) old (Discards d old) said new
 
--- ---- the law
+-- ---- uniqueness
 
--- it settles what is said and what is left
+-- there is only one correct reply and library
 abbrev pub RightIsOne : Type 0
 RightIsOne =
     (old : State) (request : Request) (found : Option Kept) (said other : Result Answer Fault)

@@ -1,4 +1,4 @@
--- What is answered of a number's type, if that is there, is what the number comes to, unless it is 0.
+-- The answer about an existing type is its figure, except for number 0.
 use Rattle.std.proofs.Common.{◌≡◌, ℕ, suc, ◌<◌, Bool, false, cond, eqb, Option, Some, None, Result, Ok, Err, refl, sym, ap, ◌∙◌, arith}
 use Rattle.std.specs.Option.{ForSome}
 use Rattle.ctf_model.specs.figures.FigureLaws.{parent_alone}

@@ -1,4 +1,4 @@
--- Sizes and alignments of numbers that name no own type.
+-- Sizes and alignments of numbers that are not own types.
 use Rattle.std.proofs.Common.{◌≡◌, ℕ, ◌<◌, length, None, Err, refl, sym, ◌∙◌}
 use Rattle.ctf_model.specs.rules.Chains.{own_index}
 use Rattle.ctf_model.specs.figures.Figures.{size, align, resolved_type, sizing, aligning, resolving}
@@ -12,11 +12,11 @@ use Rattle.ctf_layout.specs.declared.extents.Extent.{Extent}
 use Rattle.ctf_layout.specs.declared.extents.Refusal.{Refusal}
 use Rattle.ctf_layout.specs.declared.extents.Refusal.TheVariants.{NoType}
 
--- a size, an alignment and a type that is stood for which are all refused
+-- size, alignment and resolved type are all refused
 refused_extent : (s : Space) (n : ℕ) (refusal : Refusal) (e : Extent) → e ≡ refusal_extent refusal → size s n ≡ Err (placeless (code_of refusal)) → align s n ≡ Err (placeless (code_of refusal)) → resolved_type s n ≡ Err (placeless (code_of refusal)) → IsExtent s n e
 refused_extent s n refusal e is a b c = rw is (record { sized = sym a; aligned = sym b; resolves = sym c })
 
--- no type
+-- number 0
 pub extent_of_none : (s : Space) (n : ℕ) (e : Extent) → n ≡ 0 → e ≡ of_no_type → IsExtent s n e
 extent_of_none s n e zero is = rw (zero, is) (record {
   sized = sym (figure_of_none (sizing s.model) s);
@@ -24,7 +24,7 @@ extent_of_none s n e zero is = rw (zero, is) (record {
   resolves = sym (figure_of_none resolving s);
 })
 
--- a number at which no type stands
+-- a number without a type
 pub extent_of_missing : (s : Space) (n : ℕ) (e : Extent) → 0 < n → ((i : ℕ) → place s.own.child n ≡ Parents i → ⊥) → own_index s.own.child (length s.own.terms) n ≡ None → e ≡ refusal_extent NoType → IsExtent s n e
 extent_of_missing s n e some not_parents not_own is =
     refused_extent s n NoType e is

@@ -1,4 +1,4 @@
--- Following typedefs and qualifiers, one number after the other.
+-- Following typedefs and qualifiers, one number after another.
 use Rattle.std.proofs.Common.{◌≡◌, ℕ, zero, suc, ◌+◌, ◌-◌, ◌<◌, Bool, true, false, cond, eqb, Option, Some, None, Result, Ok, Err, refl, ap, ◌∙◌, arith}
 use Rattle.std.specs.Prelude.{slice_get, option_map}
 use Rattle.std.proofs.lemmas.Option.{same_Some}
@@ -20,11 +20,11 @@ use Rattle.ctf_layout.specs.Following.{at_parents, follow_own, onward, alias_tar
 abbrev stays : ℕ → Result ℕ Fault
 stays t = Ok t
 
--- what is left to follow, so many numbers on
+-- what is left to follow after `step` numbers
 abbrev pub left : Dictionary → ℕ → ℕ → Result ℕ Fault
 left d step n = comes_to resolving (λ t. Ok t) d (most_numbers - step) n
 
--- all of it
+-- the whole way
 pub left_all : (d : Dictionary) (n : ℕ) → follow_own d n ≡ left d 0 n
 left_all d n = ap (λ (k : ℕ). comes_to resolving (λ t. Ok t) d k n) whole
   where
@@ -61,7 +61,7 @@ found_case s k n some other = let positive = not_zero n some in at (place s.own.
 pub left_found : (s : Space) (step n : ℕ) → step < 514 → 0 < n → ((i : ℕ) → place s.own.child n ≡ Parents i → ⊥) → left s.own step n ≡ of_found resolving (left s.own (step + 1)) n (space_type s n)
 left_found s step n lt some other = at_next s.own step n lt ∙ found_case s (most_numbers - (step + 1)) n some other
 
--- what a type is followed to
+-- the number that a typedef or qualifier leads to; other types lead to themselves
 abbrev pub by_renamed : (ℕ → Result ℕ Fault) → ℕ → Option ℕ → Result ℕ Fault
 by_renamed f n None = Ok n
 by_renamed f n (Some t) = f t
@@ -82,7 +82,7 @@ renamed_says f n (term.enum said xs) = refl
 renamed_says f n (term.forward t) = refl
 renamed_says f n term.unknown = refl
 
--- a type that was found, by its shape
+-- the same for a looked-up type, by its shape
 pub found_shape : (f : ℕ → Result ℕ Fault) (n : ℕ) (o : Option Term) (x : Shape) → option_map (λ y. shape y.body) o ≡ Some x → of_found resolving f n (or_no_type o) ≡ by_renamed f n (alias_target x)
 found_shape f n None x e = absurd cc
 found_shape f n (Some y) x e = renamed_says f n y.body ∙ ap (λ (z : Shape). by_renamed f n (alias_target z)) (same_Some _ _ e)
@@ -94,7 +94,7 @@ left_out d step n is = ap (λ (k : ℕ). comes_to resolving (λ t. Ok t) d k n) 
     none : most_numbers - step ≡ 0
     none = omega (arith, most_is)
 
--- ---- on into the parent
+-- ---- continuing in the parent
 
 body_onward : (parents : ℕ → Result ℕ Fault) (d : Dictionary) (k n i : ℕ) → place d.child n ≡ Own i → ((t : ℕ) → comes_to resolving parents d k t ≡ onward parents d (comes_to resolving (λ t. Ok t) d k t)) → (body : Body)
     → resolved_body (comes_to resolving parents d k) n body ≡ onward parents d (resolved_body (comes_to resolving (λ t. Ok t) d k) n body)
@@ -132,11 +132,11 @@ unfolding comes_to
 onward_is parents d zero n = refl
 onward_is parents d (suc k) n = onward_case parents d k n (onward_is parents d k) (eqb n 0) refl
 
--- what a number stands for is what following it leads to, and a parent's number on from there
+-- resolving a number means following it among own types, and a parent's number in the parent
 pub resolved_is : (s : Space) (n : ℕ) → resolved_type s n ≡ onward (parents_figure resolving s.parent) s.own (follow_own s.own n)
 resolved_is s n = onward_is (parents_figure resolving s.parent) s.own most_numbers n
 
--- where no parent was imported a parent's number comes to nothing
+-- without an imported parent, a parent's number cannot be resolved
 pub resolved_alone : (s : Space) → s.parent ≡ None → (n : ℕ) → resolved_type s n ≡ onward (λ t. Err no_parent) s.own (follow_own s.own n)
 resolved_alone s none n = resolved_is s n ∙ ap (λ (p : Option Dictionary). onward (parents_figure resolving p) s.own (follow_own s.own n)) none
 
@@ -151,7 +151,7 @@ onward_stays parents d n other = go (place d.child n) refl
     go (Own i) e = refl
     go (Parents i) e = absurd (other i e)
 
--- ---- what a type refers to
+-- ---- references
 
 pub referred_shape : (o : Option Term) (x : Shape) → option_map (λ y. shape y.body) o ≡ Some x → referred_by (or_no_type o) ≡ referred_type x
 referred_shape None x e = absurd cc

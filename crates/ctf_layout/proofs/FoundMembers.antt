@@ -1,4 +1,4 @@
--- The members of a type that was found.
+-- The members of a looked-up type.
 use Rattle.std.proofs.Common.{◌≡◌, List, Option, Some, None, refl, ap}
 use Rattle.std.specs.Prelude.{option_map}
 use Rattle.std.proofs.lemmas.Option.{same_Some}

@@ -1,4 +1,4 @@
--- What the extent of a type hangs on.
+-- What the extent of a type is computed from.
 use Rattle.std.proofs.Common.{◌≡◌, ℕ, suc, ◌+◌, ◌≤◌, ◌<◌, List, [], ◌∷◌, ◌++◌, length, map, take, Option, Result, Ok, Err, get_or, refl, sym, ap, subst, ◌∙◌, arith}
 use Rattle.std.specs.Prelude.{min, slice_index}
 use Rattle.std.proofs.lemmas.List.{length-map, take_all, take_more}
@@ -45,7 +45,7 @@ greatest_more : (f : ℕ → Result ℕ Fault) (ts : List ℕ) (t : ℕ) → gre
 greatest_more f [] t = greater_unit (f t) ∙ sym (unit_greater (f t))
 greatest_more f (u ∷ ts) t = rw (greatest_more f ts t) (greater_assoc (f u) (greatest_of f ts) (f t))
 
--- one number more
+-- one more number
 pub greatest_step : (f : ℕ → Result ℕ Fault) (ts : List ℕ) (k : ℕ) → k < length ts → greatest_of f (take (k + 1) ts) ≡ greater (greatest_of f (take k ts)) (f (slice_index ts k))
 greatest_step f ts k lt =
     let more : take (k + 1) ts ≡ take k ts ++ (get_or ts k 0 ∷ []) = take_more ts k 0 lt in
@@ -87,13 +87,13 @@ basis_says model (term.restrict t) = (refl, refl, (λ f. refl), (λ f. refl), (�
 basis_says model (term.struct said ms) = (refl, omega (arith, length-map ms (λ (m : Member). m.tnum)), (λ f. refl), (λ f. struct_is f ms), (λ f n. refl))
 basis_says model (term.union said ms) = (refl, omega (arith, length-map ms (λ (m : Member). m.tnum)), (λ f. refl), (λ f. union_is f ms), (λ f n. refl))
 
--- what is known where a basis is read
+-- the facts of a basis, once it is read
 pub basis_read : (s : Space) (i : ℕ) (b c : Basis) → b ≡ basis s.model (shape (own_body s.own i)) → b ≡ c → BasisSays s.model (own_body s.own i) c
 basis_read s i b c e f = subst (BasisSays s.model (own_body s.own i)) (sym e ∙ f) (basis_says s.model (own_body s.own i))
 
--- ---- extents, by their bases
+-- ---- extents computed from their bases
 
--- the type is one whose chains by value end
+-- an own type whose chains by value have at most `k` steps
 pub record IsOwnAt (s : Space) (k i : ℕ) : Type 0 where
   pub short : k ≤ longest_chain
   pub inside : i < length s.own.terms
@@ -108,7 +108,7 @@ align_rule s k i at = own_figure (aligning s.model) (figures_ask.aligning_asks s
 resolve_rule : (s : Space) (k i : ℕ) → IsOwnAt s k i → resolved_type s (own_number s.own.child i) ≡ resolved_body (resolved_type s) (own_number s.own.child i) (own_body s.own i)
 resolve_rule s k i at = own_figure resolving figures_ask.resolving_asks s k i at.short at.inside at.within
 
--- a type that stands for itself
+-- a type that resolves to itself
 itself_resolves : (s : Space) (k i : ℕ) (itself : Target) → IsOwnAt s k i → ((f : ℕ → Result ℕ Fault) (n : ℕ) → resolved_body f n (own_body s.own i) ≡ Ok n) → target itself ≡ Ok (own_number s.own.child i) → target itself ≡ resolved_type s (own_number s.own.child i)
 itself_resolves s k i itself at stays is = is ∙ sym (resolve_rule s k i at ∙ stays (resolved_type s) (own_number s.own.child i))
 

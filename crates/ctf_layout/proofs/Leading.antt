@@ -1,4 +1,4 @@
--- Where types lead, and that none leads to itself.
+-- The targets of types; no type leads to itself.
 use Rattle.std.proofs.Common.{◌≡◌, ℕ, zero, suc, ◌-◌, ◌≤◌, ◌<◌, List, [], ◌∷◌, length, Some, get_or, refl, sym, subst, ◌∙◌, arith}
 use Rattle.std.specs.List.{AllByRecursion, filter_map}
 use Rattle.ctf_model.specs.rules.Chains.{IsWithin, by_value, own_index}
@@ -18,11 +18,11 @@ leads_on d i k j lt is zero w =
 leads_on d i k j lt is (suc n) w =
     (n, omega arith, one_own (IsWithin (value_edges d) n) (own_index d.child (length d.terms)) (by_value (own_body d i)) k j lt is (subst (AllByRecursion (IsWithin (value_edges d) n)) (targets_are d i) w))
 
--- a type leads to each own type that it names by value
+-- a type leads to each own type that it refers to by value
 pub leads_by_value : (d : Dictionary) (i k j : ℕ) → k < length (by_value (own_body d i)) → own_index d.child (length d.terms) (get_or (by_value (own_body d i)) k 0) ≡ Some j → LeadsOn (value_edges d) i j
 leads_by_value d i k j lt is = record { on = leads_on d i k j lt is }
 
--- from what a type leads to, chains are shorter
+-- chains from a target are shorter
 pub leads_within : (es : List (List ℕ)) (i j budget : ℕ) → LeadsOn es i j → IsWithin es budget i → (1 ≤ budget) × IsWithin es (budget - 1) j
 leads_within es i j budget a w =
     let f = a.on budget w in
@@ -46,17 +46,17 @@ descends es i (suc n) k a lt w =
     let less : f.0 < k = f.1 in
     descends es i n f.0 a (omega arith) f.2
 
--- no type whose chains end leads to itself
+-- no type with finite chains leads to itself
 pub not_itself : (es : List (List ℕ)) (i k : ℕ) → IsWithin es k i → LeadsOn es i i → ⊥
 not_itself es i k w a = descends es i (suc k) k a (omega arith) w
 
--- the type that a type leads to, as code finds it
+-- the target of a type, as the code computes it
 pub step_found : (d : Dictionary) (i k t j : ℕ) → k < length (by_value (own_body d i)) → t ≡ get_or (by_value (own_body d i)) k 0 → Some j ≡ own_index d.child (length d.terms) t → LeadsOn (value_edges d) i j × (j < length d.terms) × (t ≡ own_number d.child j)
 step_found d i k t j lt t_is is =
     let own : own_index d.child (length d.terms) t ≡ Some j = sym is in
     let where_it_is = own_inside d.child (length d.terms) t j own in
     (leads_by_value d i k j lt (rw t_is at own), where_it_is.1, where_it_is.2)
 
--- where it names just one
+-- the same for a type with a single target
 pub one_found : (d : Dictionary) (i t j : ℕ) → by_value (own_body d i) ≡ t ∷ [] → Some j ≡ own_index d.child (length d.terms) t → LeadsOn (value_edges d) i j × (j < length d.terms) × (t ≡ own_number d.child j)
 one_found d i t j one = step_found d i 0 t j (rw one (omega arith)) (rw one refl)

@@ -8,7 +8,7 @@ cons_case : (s : Space) (step : ℕ) (name : List ℕ) (names : List (List ℕ))
 unfolding path_from
 cons_case s step name names at = refl
 
--- by the name with the step's number, and then by those behind it
+-- a step by its name, then the names after it
 pub path_next : (s : Space) (step : ℕ) (names : List (List ℕ)) (name : List ℕ) (at : Position) → step < length names → name ≡ get_or names step []
     → path_from s step (drop step names) at ≡ and_on (step_to s step name at) (path_from s (step + 1) (drop (step + 1) names))
 path_next s step names name at lt is =
@@ -20,6 +20,6 @@ nil_case : (s : Space) (step : ℕ) (at : Position) → path_from s step [] at �
 unfolding path_from
 nil_case s step at = refl
 
--- behind the last name
+-- after the last name
 pub path_end : (s : Space) (step : ℕ) (names : List (List ℕ)) (at : Position) → length names ≤ step → path_from s step (drop step names) at ≡ Ok at
 path_end s step names at le = ap (λ (xs : List (List ℕ)). path_from s step xs at) (drop_all step names le) ∙ nil_case s step at

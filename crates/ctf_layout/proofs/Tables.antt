@@ -1,4 +1,4 @@
--- Tables that are kept, and looking up in them.
+-- Stored tables and look-ups in them.
 use Rattle.std.proofs.Common.{◌≡◌, ℕ, zero, suc, ◌≤◌, ◌<◌, Bool, true, false, cond, ltb, get_or, List, length, Option, Some, None, refl, sym, ap, subst, ◌∙◌, ◌⊎◌, inl, inr, arith}
 use Rattle.std.specs.Prelude.{IsSome, replicate, slice_get, unwrap_or}
 use Rattle.std.specs.Option.{ForSome, is_some, option_map}
@@ -14,7 +14,7 @@ use Rattle.ctf_model.specs.declared.numbers.Place.TheVariants.{Own, Parents}
 use Rattle.ctf_model.proofs.OwnTypes.{own_place, own_positive, parents_place, place_of_own}
 use Rattle.ctf_layout.specs.Extents.{IsExtent, IsParentsExtent, refusal_extent}
 use Rattle.ctf_layout.specs.Fitting.{Fits}
-use Rattle.ctf_layout.specs.Kept.{AreExtents, extent_at, extent_kept, extent_said, or_no_type, table_kept}
+use Rattle.ctf_layout.specs.Kept.{AreExtents, extent_at, extent_kept, extent_of_entry, or_no_type, table_kept}
 use Rattle.ctf_layout.specs.Over.{OverParent}
 use Rattle.ctf_layout.specs.Table.{Knows, Table, entry}
 use Rattle.ctf_layout.specs.declared.entry.KeptExtent.{KeptExtent}
@@ -24,32 +24,32 @@ use Rattle.ctf_layout.specs.declared.layout.Layout.{Layout}
 use Rattle.ctf_layout.proofs.Elsewhere.{extent_of_missing}
 use Rattle.ctf_layout.proofs.Entries.{known_is_said}
 
--- ---- a table, kept
+-- ---- a stored table
 
--- what an entry says stands at its place in the table
+-- the table has the extent of each entry at its index
 entry_said : (entries : List KeptExtent) (i : ℕ) (x : KeptExtent) → slice_get entries i ≡ Some x → entry (table_kept entries) i ≡ extent_kept x
 entry_said entries i x got = get_or_from_slice_get (table_kept entries) i (extent_kept x) None (slice_get-map extent_kept entries i ∙ ap (option_map extent_kept) got)
 
--- so it does where it was looked up
+-- the same for an entry that was looked up
 pub entry_at : (entries : List KeptExtent) (i : ℕ) (x : KeptExtent) → i < length entries → x ≡ get_or entries i x → entry (table_kept entries) i ≡ extent_kept x
 entry_at entries i x lt is = get_or-map extent_kept entries i x None lt ∙ ap extent_kept (sym is)
 
--- a table of open entries knows nothing
+-- a table of open entries has no extents
 pub all_open : (x : KeptExtent) (n j : ℕ) → extent_kept x ≡ None → entry (table_kept (replicate n x)) j ≡ None
 all_open x zero j none = refl
 all_open x (suc n) zero none = none
 all_open x (suc n) (suc j) none = all_open x n j none
 
--- what a full table says of a type
-said : (s : Space) (table : Table) (n i : ℕ) (x : KeptExtent) → Knows s table → own_number s.own.child i ≡ n → entry table i ≡ extent_kept x → IsSome (extent_kept x) → IsExtent s n (extent_said x)
+-- the extent that a full table has for a type
+said : (s : Space) (table : Table) (n i : ℕ) (x : KeptExtent) → Knows s table → own_number s.own.child i ≡ n → entry table i ≡ extent_kept x → IsSome (extent_kept x) → IsExtent s n (extent_of_entry x)
 said s table n i x knows at is some =
-    let known : extent_kept x ≡ Some (extent_said x) = known_is_said x.sized (extent_said x) some in
-    let P : ℕ → Type 0 = λ m. IsExtent s m (extent_said x) in
-    subst P at (knows.right i (extent_said x) (is ∙ known))
+    let known : extent_kept x ≡ Some (extent_of_entry x) = known_is_said x.sized (extent_of_entry x) some in
+    let P : ℕ → Type 0 = λ m. IsExtent s m (extent_of_entry x) in
+    subst P at (knows.right i (extent_of_entry x) (is ∙ known))
 
--- ---- looking up
+-- ---- look-ups
 
--- so many types aren't there
+-- an index beyond the count is no own type
 not_own : (child : Bool) (count n i : ℕ) → place child n ≡ Own i → count ≤ i → own_index child count n ≡ None
 not_own child count n i at past = rw at (go (ltb i count) refl)
   where
@@ -57,7 +57,7 @@ not_own child count n i at past = rw at (go (ltb i count) refl)
     go true e = let lt : i < count = ltb-true i count e in absurd (omega arith)
     go false e = refl
 
--- the extent of an own type, or of a number behind the last of them
+-- the extent of an own type, or of a number after the last one
 pub own_extent : (s : Space) (entries : List KeptExtent) → AreExtents s entries → (n i : ℕ) → place s.own.child n ≡ Own i → (e : Extent) → e ≡ extent_at entries i → IsExtent s n e
 own_extent s entries are n i at e is = rw is (go (slice_get_cases entries i).1)
   where
@@ -72,7 +72,7 @@ own_extent s entries are n i at e is = rw is (go (slice_get_cases entries i).1)
 
 -- ---- over a parent
 
--- a parent's type, by the parent's own table
+-- a parent's type, in the parent's own table
 pub in_parents_table : (s : Space) (entries : List KeptExtent) → OverParent s (Some entries) → (n i : ℕ) → place s.own.child n ≡ Parents i → (e : Extent) → e ≡ extent_at entries i → IsParentsExtent s n e
 in_parents_table s entries over n i at e is = go s.parent refl
   where
@@ -87,7 +87,7 @@ in_parents_table s entries over n i at e is = go s.parent refl
         own_place_plain : (n i : ℕ) → place s.own.child n ≡ Parents i → place false n ≡ Own i
         own_place_plain n i at = let number = parents_place s.own.child n i at in rw number (place_of_own false i)
 
--- and by none where there is no parent
+-- a parent's type, if there is no parent
 pub in_no_table : (s : Space) → OverParent s None → (n : ℕ) (e : Extent) → e ≡ refusal_extent NoParent → IsParentsExtent s n e
 in_no_table s over n e is = rw is (go s.parent refl)
   where
@@ -95,7 +95,7 @@ in_no_table s over n e is = rw is (go s.parent refl)
     go None none = rw none (record { sized = refl; aligned = refl; resolves = refl })
     go (Some p) some = let both = over.both in let clash : false ≡ true = rw some at both in absurd cc
 
--- the parent's own layout is there for a child
+-- the parent's own layout serves a child
 pub over_shared : (s : Space) (l : Layout) → ForSome s.parent (λ p. Fits (parent_alone s p) l) → ForSome s.parent (λ p. p.child ≡ false) → is_some s.parent ≡ true → OverParent s (Some l.own.value.entries.items)
 over_shared s l fits plain some = record { both = sym some; plain = plain; right = λ p is es same. let h = fits p is in let one : l.own.value.entries.items ≡ es = same_Some _ _ same in rw (sym one) h.own }
 

@@ -1,4 +1,4 @@
--- The table on the way.
+-- The table while it is filled.
 use Rattle.std.proofs.Common.{◌≡◌, ℕ, zero, suc, ◌+◌, ◌<◌, ◌⊎◌, inl, inr, ◌≢◌, true, false, List, [], ◌∷◌, length, Option, Some, None, get_or, set, slice_set, refl, sym, subst, ◌∙◌, arith}
 use Rattle.std.specs.Prelude.{IsSome}
 use Rattle.std.proofs.lemmas.Grind.{get_or-set_at}
@@ -37,9 +37,9 @@ work_set (x ∷ types) [] i e a b is = absurd (omega arith)
 work_set (x ∷ types) (o ∷ table) zero e a b is = let P : Option Extent → Type 0 = λ u. 0 + work_left types table + (1 + members_read x.body) ≡ debt x.body u + work_left types table in subst P (sym is) (omega arith)
 work_set (x ∷ types) (o ∷ table) (suc i) e a b is = omega (arith, work_set types table i e (omega arith) (omega arith) is)
 
--- ---- where a visit stands
+-- ---- the state of a visit
 
--- a type that is in the table
+-- a type that is already in the table
 pub visited_before : (s : Space) (i : ℕ) (table : Table) (from : ℕ) → Knows s table → IsSome (entry table i) → IsFilled s i table table from from
 visited_before s i table from knows is = record {
   knows = knows;
@@ -57,7 +57,7 @@ begun s i table from to knows le = record {
   steps = omega arith;
 }
 
--- some steps more
+-- some more steps
 pub more_steps : (s : Space) (i : ℕ) (before now : Table) (from to more : ℕ) → IsUnderway s i before now from to → more ≡ to + 1 → IsUnderway s i before now (from + 1) more
 more_steps s i before now from to more a le = record { knows = a.knows; keeps = a.keeps; fills = a.fills; steps = let h = a.steps in omega arith }
 
@@ -69,7 +69,7 @@ fills_more es i j before mid after a step b m none some None is = at (b.from m i
     at (inr h) = leads_leads es i j m step h
 fills_more es i j before mid after a step b m none some (Some e) is = a.below m none (rw is refl)
 
--- a type that it leads to was visited
+-- one of its targets was visited
 pub visited_one : (s : Space) (i j : ℕ) (before mid after : Table) (from mid_steps to : ℕ) → IsUnderway s i before mid from mid_steps → LeadsOn (value_edges s.own) i j → IsFilled s j mid after mid_steps to → IsUnderway s i before after from to
 visited_one s i j before mid after from mid_steps to a step b = record {
   knows = b.knows;
@@ -114,7 +114,7 @@ visited s k i before now from all to e w inside lt none cost right a =
       steps = let h = a.steps in let paid : work_left s.own.terms (set now i (Some e)) + (1 + members_read (own_body s.own i)) ≡ work_left s.own.terms now = work_set s.own.terms now i e inside lt here in omega arith;
     }
 
--- what is kept of a number is what is kept of the own type that it names
+-- the entry for a number is that of the own type that it names
 pub kept_at_number : (s : Space) (t j : ℕ) (before after : Table) (from to : ℕ) (x : KeptExtent) → t ≡ own_number s.own.child j → IsFilled s j before after from to → entry after j ≡ extent_kept x → IsKept s t x
 kept_at_number s t j before after from to x is h said = go (entry after j) refl h.known
   where
@@ -122,15 +122,15 @@ kept_at_number s t j before after from to x is h said = go (entry after j) refl 
     go None at some = let f : false ≡ true = some in absurd cc
     go (Some e) at some = record { extent = e; kept = sym said ∙ at; right = rw is (h.knows.right j e at) }
 
--- so is an extent that was kept
+-- a newly stored extent is correct
 pub kept_new : (s : Space) (t : ℕ) (e : Extent) (x : KeptExtent) → extent_kept x ≡ Some e → IsExtent s t e → IsKept s t x
 kept_new s t e x kept right = record { extent = e; kept = kept; right = right }
 
--- what is kept of a type that is as another is
+-- the entry of a type with the extent of another
 pub kept_as_one : (n : ℕ) (row : Option Row) (x : KeptExtent) (e : Extent) → row ≡ None → extent_kept x ≡ Some e → IsByKept n row e x
 kept_as_one n row x e is h = rw is (record { extent = e; kept = h; by = record { size = refl; align = refl; target = refl } })
 
--- and of one that is a row of it
+-- the entry of a type that is a row of another
 pub kept_of_row : (number : TypeNum) (row : Row) (element x : KeptExtent) (e f : Extent) (size : Amount) → extent_kept element ≡ Some e → amount size ≡ row_size (Some row) (amount e.size) → extent_kept x ≡ Some (itself size e.align number) → extent_kept element ≡ Some f → IsByKept number.0 (Some row) f x
 kept_of_row number row element x e f size here is kept there =
     let same : e ≡ f = same_Some e f (sym here ∙ there) in

@@ -1,5 +1,4 @@
--- What the size and the alignment of a type hang on, and which type it stands for. The words are
--- ours.
+-- What a type's size, alignment and resolved type are computed from. Source: ours.
 use Rattle.std.specs.Prelude.{◌≡◌, ℕ, min, nat_lt, List, [], ◌∷◌, length, Option, Some, None, Result, Ok, unwrap_or, if◌then◌else◌}
 use Rattle.ctf_model.specs.figures.Figures.{enum_size, greater, times}
 use Rattle.ctf_model.specs.format.Shown.{ArrayParts, Shape, array_in, list_length}
@@ -26,17 +25,17 @@ both n = Itself (Known n) (Known n)
 abbrev pub of_nothing : Basis
 of_nothing = Itself (Refused Incomplete) (Refused Incomplete)
 
--- a function has no size, and the alignment of a pointer
+-- a function has size 0 and the alignment of a pointer
 abbrev pub of_function : DataModel → Basis
 of_function model = Itself (Known 0) (Known (pointer_size model))
 
--- its elements, and how many
+-- the elements' type, and their count
 abbrev pub of_array : ℕ → Option ArrayParts → Basis
 of_array size None = of_nothing
 of_array size (Some parts) =
     One (record { 0 = parts.contents }) (Some (record { size = size; count = parts.count }))
 
--- the type that it stands for
+-- the type that a typedef or qualifier stands for
 abbrev pub of_other : Option ℕ → Basis
 of_other None = of_nothing
 of_other (Some t) = One (record { 0 = t }) None
@@ -60,30 +59,30 @@ of_kind model KUnknown size x = of_nothing
 abbrev pub basis : DataModel → Shape → Basis
 basis model x = of_kind model x.kind (unwrap_or x.size 0) x
 
--- ---- from one type, and from members
+-- ---- computing an extent from one type, or from members
 
--- the size of a row of elements of a size, or that size itself
+-- the size of a row of elements, or without a row the element's own size
 abbrev pub row_size : Option Row → Result ℕ Fault → Result ℕ Fault
 row_size None element = element
 row_size (Some row) element = if nat_lt 0 row.size then Ok row.size else times row.count element
 
--- the type that a type with a number stands for, of which this is one: a row for itself
+-- the resolved type of type `n`: that of `one`, or `n` itself if it is a row
 abbrev pub row_target : Option Row → Result ℕ Fault → ℕ → Result ℕ Fault
 row_target None one n = one
 row_target (Some row) one n = Ok n
 
--- an extent that is that of one type, as it is or for a row of elements
+-- `e` is the extent of type `one`, or of a row of such elements
 pub record IsByOne (n : ℕ) (row : Option Row) (one e : Extent) : Type 0 where
   pub size : amount e.size ≡ row_size row (amount one.size)
   pub align : e.align ≡ one.align
   pub target : target e.target ≡ row_target row (target one.target) n
 
--- the greatest that numbers come to, or the first fault
+-- the greatest of some figures, or the first fault
 abbrev pub greatest_of : (ℕ → Result ℕ Fault) → List ℕ → Result ℕ Fault
 greatest_of f [] = Ok 0
 greatest_of f (t ∷ ts) = greater (f t) (greatest_of f ts)
 
--- how many members of a type are read: of a struct the first alone
+-- the number of members that are read: all of a union, only the first of a struct
 abbrev pub members_read : Body → ℕ
 members_read (term.struct said members) = min 1 (length members)
 members_read (term.union said members) = length members

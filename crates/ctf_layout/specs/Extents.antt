@@ -1,4 +1,4 @@
--- Sizes, alignments and the types that are stood for, as code has them.
+-- Sizes, alignments and resolved types as the code represents them.
 use Rattle.std.specs.Prelude.{◌≡◌, ℕ, Result, Ok, Err}
 use Rattle.ctf_model.specs.figures.Figures.{size, align, resolved_type, sizing, aligning, resolving, parents_figure}
 use Rattle.ctf_model.specs.opened.Questions.{align_answered, resolved_answered, size_answered}
@@ -31,7 +31,7 @@ abbrev pub target : Target → Result ℕ Fault
 target (stands_for.Known t) = Ok t.0
 target (stands_for.Refused refusal) = Err (placeless (code_of refusal))
 
--- neither a size nor an alignment, nor a type that is stood for
+-- no size, no alignment and no resolved type
 abbrev pub refusal_extent : Refusal → Extent
 refusal_extent refusal = record {
   size = Refused refusal;
@@ -39,7 +39,7 @@ refusal_extent refusal = record {
   target = stands_for.Refused refusal;
 }
 
--- of a type that stands for itself
+-- the extent of a type that resolves to itself
 abbrev pub itself : Amount → Amount → TypeNum → Extent
 itself size align number = record {
   size = size;
@@ -47,7 +47,7 @@ itself size align number = record {
   target = stands_for.Known number;
 }
 
--- of the number 0, which is no type and stands for itself
+-- the extent of number 0, which is no type and resolves to itself
 abbrev pub of_no_type : Extent
 of_no_type = record {
   size = Refused Incomplete;
@@ -55,19 +55,19 @@ of_no_type = record {
   target = stands_for.Known (record { 0 = 0 });
 }
 
--- the size and the alignment of what a number names, and the type that it stands for
+-- size, alignment and resolved type of number `n`
 pub record IsExtent (s : Space) (n : ℕ) (e : Extent) : Type 0 where
   pub sized : amount e.size ≡ size s n
   pub aligned : amount e.align ≡ align s n
   pub resolves : target e.target ≡ resolved_type s n
 
--- the same of a parent's number
+-- the same for a parent's number
 pub record IsParentsExtent (s : Space) (n : ℕ) (e : Extent) : Type 0 where
   pub sized : amount e.size ≡ parents_figure (sizing s.model) s.parent n
   pub aligned : amount e.align ≡ parents_figure (aligning s.model) s.parent n
   pub resolves : target e.target ≡ parents_figure resolving s.parent n
 
--- what is answered of them, each by itself
+-- the same as answers
 pub record IsAnswered (s : Space) (n : ℕ) (e : Extent) : Type 0 where
   pub sized : amount e.size ≡ size_answered s n
   pub aligned : amount e.align ≡ align_answered s n

@@ -1,4 +1,4 @@
--- Which layouts fit a space. Source: ours.
+-- When a layout fits a space. Source: ours.
 use Rattle.std.specs.Prelude.{◌≡◌, ℕ}
 use Rattle.std.specs.Option.{option_map}
 use Rattle.ctf_model.specs.spaces.Space.{Space}
@@ -6,11 +6,11 @@ use Rattle.ctf_layout.specs.Kept.{AreExtents}
 use Rattle.ctf_layout.specs.Over.{OverParent}
 use Rattle.ctf_layout.specs.declared.layout.Layout.{Layout}
 
--- how many steps it cost
+-- the number of steps that it took
 abbrev pub steps_of : Layout → ℕ
 steps_of l = l.steps
 
--- it has the sizes and alignments of the own types, and those of the parent's if there is one
+-- the layout has the extents of the own types, and of the parent's types if there is a parent
 pub record Fits (s : Space) (l : Layout) : Type 0 where
   pub child : l.child ≡ s.own.child
   pub own : AreExtents s l.own.value.entries.items

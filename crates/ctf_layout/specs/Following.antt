@@ -1,4 +1,4 @@
--- One step of following typedefs and qualifiers. The words are ours.
+-- One step along typedefs and qualifiers. Source: ours.
 use Rattle.std.specs.Prelude.{ℕ, Option, None, Result, Ok, Err}
 use Rattle.ctf_model.specs.format.Dictionary.{Dictionary}
 use Rattle.ctf_model.specs.figures.Figures.{comes_to, most_numbers, resolving}
@@ -17,15 +17,15 @@ renamed_by KConst t = t
 renamed_by KRestrict t = t
 renamed_by _ t = None
 
--- the type that a typedef or a qualifier stands for
+-- the type that a typedef or qualifier stands for
 abbrev pub alias_target : Shape → Option ℕ
 alias_target x = renamed_by x.kind x.reference
 
--- as far as the own types of a dictionary lead: a parent's number is left as it stands
+-- follows own types only; a parent's number is left as it is
 abbrev pub follow_own : Dictionary → ℕ → Result ℕ Fault
 follow_own d n = comes_to resolving (λ t. Ok t) d most_numbers n
 
--- what a parent's number comes to in place of it
+-- a parent's number resolved in the parent
 abbrev pub at_parents : (ℕ → Result ℕ Fault) → ℕ → Place → Result ℕ Fault
 at_parents parents n (Parents i) = parents n
 at_parents parents n _ = Ok n

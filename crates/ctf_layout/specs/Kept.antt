@@ -1,4 +1,4 @@
--- Sizes, alignments and the types that are stood for, as they are kept. The words are ours.
+-- Sizes, alignments and resolved types as they are stored. Source: ours.
 use Rattle.std.specs.Prelude.{◌≡◌, ℕ, List, length, map, Option, Some, None, slice_get}
 use Rattle.ctf_model.specs.spaces.Space.{Space}
 use Rattle.ctf_layout.specs.Bases.{IsByOne}
@@ -16,7 +16,7 @@ use Rattle.ctf_layout.specs.declared.entry.KeptExtent.{KeptExtent}
 use Rattle.ctf_layout.specs.declared.entry.Standing.{Standing}
 use Rattle.ctf_layout.specs.declared.entry.Standing.TheVariants as stands
 
--- a number or why there is none
+-- a number, or the reason against it
 abbrev pub amount_kept : Standing → ℕ → Amount
 amount_kept stands.Open n = Refused NoType
 amount_kept stands.Known n = Known n
@@ -25,7 +25,7 @@ amount_kept stands.TooBig n = Refused TooBig
 amount_kept stands.NoType n = Refused NoType
 amount_kept stands.NoParent n = Refused NoParent
 
--- the same of a type that is stood for
+-- the same for a resolved type
 abbrev pub target_kept : Standing → TypeNum → Target
 target_kept stands.Open t = stands_for.Refused NoType
 target_kept stands.Known t = stands_for.Known t
@@ -34,7 +34,7 @@ target_kept stands.TooBig t = stands_for.Refused TooBig
 target_kept stands.NoType t = stands_for.Refused NoType
 target_kept stands.NoParent t = stands_for.Refused NoParent
 
--- none while the size is open, and then all is
+-- none while the size is open, else everything
 abbrev pub unless_open : Standing → Extent → Option Extent
 unless_open stands.Open x = None
 unless_open stands.Known x = Some x
@@ -43,43 +43,43 @@ unless_open stands.TooBig x = Some x
 unless_open stands.NoType x = Some x
 unless_open stands.NoParent x = Some x
 
--- what an entry says: of an open one that there is no type
-abbrev pub extent_said : KeptExtent → Extent
-extent_said e = record {
+-- the extent in an entry; an open entry gives `NoType`
+abbrev pub extent_of_entry : KeptExtent → Extent
+extent_of_entry e = record {
   size = amount_kept e.sized e.size;
   align = amount_kept e.aligned e.align;
   target = target_kept e.resolved e.target;
 }
 
--- an extent, where it is known
+-- the extent, if it is known
 abbrev pub extent_kept : KeptExtent → Option Extent
-extent_kept e = unless_open e.sized (extent_said e)
+extent_kept e = unless_open e.sized (extent_of_entry e)
 
--- an entry in which the size, the alignment and the type stand that a number comes to
+-- an entry with the correct size, alignment and resolved type of number `n`
 pub record IsKept (s : Space) (n : ℕ) (x : KeptExtent) : Type 0 where
   pub extent : Extent
   pub kept : extent_kept x ≡ Some extent
   pub right : IsExtent s n extent
 
--- an entry of an extent that is that of one type, as it is or for a row of elements
+-- an entry with the extent of type `one`, or of a row of such elements
 pub record IsByKept (n : ℕ) (row : Option Row) (one : Extent) (x : KeptExtent) : Type 0 where
   pub extent : Extent
   pub kept : extent_kept x ≡ Some extent
   pub by : IsByOne n row one extent
 
--- the table that entries are
+-- the entries as a table
 abbrev pub table_kept : List KeptExtent → Table
 table_kept entries = map extent_kept entries
 
 abbrev pub or_no_type : Option KeptExtent → Extent
 or_no_type None = refusal_extent NoType
-or_no_type (Some e) = extent_said e
+or_no_type (Some e) = extent_of_entry e
 
--- the extent of the own type with a number from 0
+-- the extent of the own type with index `i`
 abbrev pub extent_at : List KeptExtent → ℕ → Extent
 extent_at entries i = or_no_type (slice_get entries i)
 
--- the extents of the own types
+-- the entries are the extents of all own types
 pub record AreExtents (s : Space) (entries : List KeptExtent) : Type 0 where
   pub count : length entries ≡ length s.own.terms
   pub whole : IsWhole s (table_kept entries)

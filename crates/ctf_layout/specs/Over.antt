@@ -1,4 +1,4 @@
--- The extents of a parent's types, beside a child. The words are ours.
+-- The extents of a parent's types, stored with a child's. Source: ours.
 use Rattle.std.specs.Prelude.{◌≡◌, false, List, Option}
 use Rattle.std.specs.Option.{ForSome, is_some}
 use Rattle.ctf_model.specs.figures.FigureLaws.{parent_alone}
@@ -6,7 +6,7 @@ use Rattle.ctf_model.specs.spaces.Space.{Space}
 use Rattle.ctf_layout.specs.Kept.{AreExtents}
 use Rattle.ctf_layout.specs.declared.entry.KeptExtent.{KeptExtent}
 
--- they are there where there is a parent, which is no child, and are right
+-- they exist exactly if there is a parent; that parent is no child, and they are correct
 pub record OverParent (s : Space) (entries : Option (List KeptExtent)) : Type 0 where
   pub both : is_some entries ≡ is_some s.parent
   pub plain : ForSome s.parent (λ p. p.child ≡ false)

@@ -1,4 +1,4 @@
--- How far a path has come. The words are ours.
+-- How far a path has come. Source: ours.
 use Rattle.std.specs.Prelude.{ℕ}
 use Rattle.ctf_model.specs.figures.Paths.{Position}
 use Rattle.ctf_model.specs.declared.numbers.TypeNum.{TypeNum}

@@ -1,4 +1,4 @@
--- What the sizes and alignments of some dictionaries cost, counted by hand. Source: ours.
+-- The work for some dictionaries, counted by hand. Source: ours.
 use Rattle.std.specs.Prelude.{◌≡◌, ℕ, true, false, [], ◌∷◌, List, Some, None}
 use Rattle.ctf_model.specs.format.Dictionary.{Dictionary}
 use Rattle.ctf_model.specs.format.Term.{Term, Body, Member}
@@ -6,7 +6,7 @@ use Rattle.ctf_model.specs.format.Term as term
 use Rattle.ctf_model.specs.declared.data_model.DataModel.TheVariants.{Lp64}
 use Rattle.ctf_layout.specs.Work.{space_size, space_work}
 
--- a visible type without a name; and a member without one, in front
+-- a visible, nameless type; and a nameless member at offset 0
 abbrev pub nameless : Body → Term
 nameless b = record { name = []; root = true; body = b }
 
@@ -34,7 +34,7 @@ pair = holding (nameless (term.integer (record { size = 4; encoding = 1; offset 
 abbrev pub over_pair : Dictionary
 over_pair = holding (nameless (term.typedef 3) ∷ nameless (term.pointer 32769) ∷ [])
 
--- two unions, each of two members of the type in front of it, behind an integer
+-- an integer, and two unions, each with two members of the previous type
 abbrev pub doubled_unions : Dictionary
 doubled_unions = holding
     (nameless (term.integer (record { size = 4; encoding = 1; offset = 0; bits = 32 }))
@@ -48,5 +48,5 @@ pub record WorkIsCounted : Type 0 where
   pub of_unions : space_work (record { own = doubled_unions; parent = None; model = Lp64 }) ≡ 7
   -- the parent's four steps, and two types
   pub over_parents : space_work (record { own = over_pair; parent = Some pair; model = Lp64 }) ≡ 6
-  -- at most as many as there are types and members
+  -- at most the number of types and members
   pub at_most : space_size (record { own = over_pair; parent = Some pair; model = Lp64 }) ≡ 7

@@ -83,7 +83,7 @@ fn other(reference: Option<TypeNum>) -> Basis
 }
 
 /// The size in a type's record, or 0.
-fn said_size(term: &Typed<'_>) -> u64
+fn stated_size(term: &Typed<'_>) -> u64
     ensures { option_map (λ x. unwrap_or (size_of x.body) 0) (term_in term.now) ≡ Some result }
 {
     term.size().unwrap_or(0)
@@ -95,17 +95,17 @@ pub fn basis_of(term: &Typed<'_>, model: DataModel) -> Basis
     ensures { option_map (λ x. basis_word model (shape x.body)) (term_in term.now) ≡ Some result }
 {
     match term.kind() {
-        Kind::KInteger | Kind::KFloat => both(said_size(term)),
+        Kind::KInteger | Kind::KFloat => both(stated_size(term)),
         Kind::KPointer => both(pointer_size(model)),
-        Kind::KArray => array(said_size(term), &term.variant()),
+        Kind::KArray => array(stated_size(term), &term.variant()),
         Kind::KFunction => function(model),
         Kind::KStruct => {
             let read = term.value_count().min(1);
-            Basis::Members(said_size(term), read)
+            Basis::Members(stated_size(term), read)
         }
-        Kind::KUnion => Basis::Members(said_size(term), term.value_count()),
+        Kind::KUnion => Basis::Members(stated_size(term), term.value_count()),
         Kind::KEnum => {
-            let size = said_size(term);
+            let size = stated_size(term);
             both(if size > 0 { size } else { 4 })
         }
         Kind::KTypedef | Kind::KVolatile | Kind::KConst | Kind::KRestrict => {

@@ -1,6 +1,6 @@
 //! Entries of the table of sizes and alignments, 24 bytes each.
 ghost use Rattle.std.specs.Prelude.{◌≡◌, None, Some};
-ghost use Rattle.ctf_layout.specs.Kept.{amount_kept, extent_kept, extent_said as said_by, target_kept, unless_open};
+ghost use Rattle.ctf_layout.specs.Kept.{amount_kept, extent_kept, extent_of_entry as said_by, target_kept, unless_open};
 ghost use Rattle.ctf_layout.specs.declared.extents.Extent.{Extent as WholeExtent};
 
 use crate::extents::{Amount, Extent, Refusal, Target};
@@ -141,12 +141,12 @@ impl KeptExtent {
     pub fn extent(self) -> Option<Extent>
         ensures { result ≡ extent_kept self }
     {
-        self.sized.extent_unless_open(self.extent_said())
+        self.sized.extent_unless_open(self.extent_of_entry())
     }
 
     /// The extent; for an open entry, that of a missing type.
     #[inline(always)]
-    pub fn extent_said(self) -> Extent
+    pub fn extent_of_entry(self) -> Extent
         ensures { result ≡ said_by self }
     {
         Extent {
@@ -167,7 +167,7 @@ impl KeptExtent {
                 align: Amount::Known(self.align),
                 target: Target::Known(self.target),
             },
-            _ => self.extent_said(),
+            _ => self.extent_of_entry(),
         }
     }
 

@@ -12,9 +12,8 @@ use ctf_chains::Ticks;
 use std::alloc::{AllocError, Global};
 use std::sync::ledger::Ledger;
 
-/// The extents of the own types of a dictionary, in the order of their numbers:
-/// plain numbers, which
-/// borrow nothing.
+/// The extents of the own types of a dictionary, in the order of their numbers. They borrow nothing
+/// from it.
 #[derive(Drop)]
 pub struct Extents {
     pub(crate) entries: Vec<KeptExtent>,
@@ -43,7 +42,7 @@ impl Extents {
         ensures { result ≡ extent_at self.now.entries.items i }
     {
         match self.entries.get(i) {
-            Some(entry) => entry.extent_said(),
+            Some(entry) => entry.extent_of_entry(),
             None => refused(Refusal::NoType),
         }
     }

@@ -1,4 +1,4 @@
--- What a map holds under names, as definitions see it.
+-- A map by names as definitions see it.
 use Rattle.std.proofs.Common.{◌≡◌, ℕ, ◌+◌, ◌<◌, ◌≤◌, List, [], ◌∷◌, ◌++◌, map, None, Some, Bool, true, false, ltb, refl, sym, ◌∙◌, ap, Vec, arith}
 use Rattle.std.specs.Prelude.{◌&&◌, filter, is_some, nat_eq, nat_lt, not, option_map}
 use Rattle.std.specs.BTreeMap.{insert_entry, is_at}
@@ -35,7 +35,7 @@ has name p = pointwise nat_eq p.name name
 at_is : (name : List ℕ) (k : Vec ℕ Global) → at name k ≡ pointwise nat_eq k.items name
 at_is name k = sym (texts_ties name k.items) ∙ nat_list_eq_equiv.symm name k.items
 
--- ---- the first key that has a name is the last
+-- ---- only one key has a name
 
 apart : (name : List ℕ) (k : Vec ℕ Global) {P : Type 0} (es : List (Vec ℕ Global × P)) → name ≡ k.items → AllByRecursion (λ y. by_bytes k y ≡ Less) (keys_of es) → list_all (λ e. not (pointwise nat_eq e.0.items name)) es ≡ true
 apart name k [] is h = refl
@@ -49,7 +49,7 @@ no_other name e es s is =
     let same = exact_bytes name e.0.items ((Equal-is (slice_cmp nat_cmp name e.0.items)).0 is) in
     apart name e.0 es same (sorted_head by_bytes e.0 (keys_of es) s)
 
--- ---- what is found
+-- ---- look-ups
 
 none_case : (name : List ℕ) (p : Publication) (ps : List Publication) → not (has name p) ≡ true → published_as name ps ≡ None → (b : Bool) → has name p ≡ b → published_as name (p ∷ ps) ≡ None
 none_case name p ps differs later true b = absurd (let is : not true ≡ true = ap not (sym b) ∙ differs in cc)
@@ -65,12 +65,12 @@ missing_case : (name : List ℕ) (p : Publication) (ps : List Publication) → (
 missing_case name p ps later true b h = absurd (let there : true ≡ false = rw b at h in cc)
 missing_case name p ps later false b h = rw b (ap (λ (qs : List Publication). p ∷ qs) (later (rw b at h)))
 
--- where a name is not found, nothing goes
+-- if the name is not published, removing it changes nothing
 pub missing : (name : List ℕ) (ps : List Publication) → is_some (published_as name ps) ≡ false → published_without name ps ≡ ps
 missing name [] h = refl
 missing name (p ∷ ps) h = missing_case name p ps (λ h. missing name ps h) (has name p) refl h
 
--- in P there is what a key holds
+-- an entry as a publication
 abbrev shown : {P : Type 0} → (P → Kept) → Vec ℕ Global × P → Publication
 shown kept e = record { name = e.0.items; kept = kept e.1 }
 
@@ -95,7 +95,7 @@ other_case name kept turn e x xs later true b t is differs = rw (t, differs) ref
 other_case name kept turn e x xs later false true t is differs = rw (t, is) refl
 other_case name kept turn e x xs later false false t is differs = rw (t, is) later
 
--- one of another name
+-- an entry with another name
 other_placed : (name : List ℕ) {P : Type 0} (kept : P → Kept) (turn : P → ℕ) (e : Vec ℕ Global × P) (xs : List (Vec ℕ Global × P)) → pointwise nat_eq e.0.items name ≡ false → published_as name (seen kept (insert_turn (turn_of turn) e xs)) ≡ published_as name (seen kept xs)
 other_placed name kept turn e [] differs = rw differs refl
 other_placed name kept turn e (x ∷ xs) differs = other_case name kept turn e x xs (other_placed name kept turn e xs differs) (ltb (turn e.1) (turn x.1)) (pointwise nat_eq x.0.items name) refl refl differs
@@ -105,7 +105,7 @@ here_case name kept turn e x xs later true b t is it none = rw (t, it) refl
 here_case name kept turn e x xs later false true t is it none = absurd (let there : Some (kept x.1) ≡ None = rw is at none in cc)
 here_case name kept turn e x xs later false false t is it none = rw (t, is) (later (rw is at none))
 
--- one of this name, which no other has
+-- the only entry with this name
 here_placed : (name : List ℕ) {P : Type 0} (kept : P → Kept) (turn : P → ℕ) (e : Vec ℕ Global × P) (xs : List (Vec ℕ Global × P)) → pointwise nat_eq e.0.items name ≡ true → published_as name (seen kept xs) ≡ None → published_as name (seen kept (insert_turn (turn_of turn) e xs)) ≡ Some (kept e.1)
 here_placed name kept turn e [] it none = rw it refl
 here_placed name kept turn e (x ∷ xs) it none = here_case name kept turn e x xs (λ h. here_placed name kept turn e xs it h) (ltb (turn e.1) (turn x.1)) (pointwise nat_eq x.0.items name) refl refl it none
@@ -116,13 +116,13 @@ found_case name kept turn e es s later true is =
 found_case name kept turn e es s later false is =
     rw is (other_placed name kept turn e (in_turn (turn_of turn) es) (sym (at_is name e.0) ∙ is) ∙ later)
 
--- a look-up finds what is published under the name
+-- a look-up finds the publication with this name
 pub found : (name : List ℕ) {P : Type 0} (kept : P → Kept) (turn : P → ℕ) (es : List (Vec ℕ Global × P)) → IsStrictlySortedBy by_bytes (keys_of es) → published_as name (seen kept (in_turn (turn_of turn) es)) ≡ option_map kept (lookup (at name) es)
 unfolding in_turn
 found name kept turn [] s = refl
 found name kept turn (e ∷ es) s = found_case name kept turn e es s (found name kept turn es (sorted_tail by_bytes e.0 (keys_of es) s)) (at name e.0) refl
 
--- ---- what is left
+-- ---- removals
 
 without_seen_case : (name : List ℕ) {P : Type 0} (kept : P → Kept) (x : Vec ℕ Global × P) (xs : List (Vec ℕ Global × P)) → published_without name (seen kept xs) ≡ seen kept (filter (λ e. not (pointwise nat_eq e.0.items name)) xs) → (b : Bool) → pointwise nat_eq x.0.items name ≡ b → published_without name (seen kept (x ∷ xs)) ≡ seen kept (filter (λ e. not (pointwise nat_eq e.0.items name)) (x ∷ xs))
 without_seen_case name kept x xs later true is = rw is later
@@ -132,7 +132,7 @@ without_seen : (name : List ℕ) {P : Type 0} (kept : P → Kept) (xs : List (Ve
 without_seen name kept [] = refl
 without_seen name kept (x ∷ xs) = without_seen_case name kept x xs (without_seen name kept xs) (pointwise nat_eq x.0.items name) refl
 
--- all stay
+-- all entries stay
 stay : {X : Type 0} (keeps : X → Bool) (xs : List X) → list_all keeps xs ≡ true → filter keeps xs ≡ xs
 stay keeps [] h = refl
 stay keeps (x ∷ xs) h =
@@ -156,11 +156,11 @@ unfolding in_turn
 left name turn [] s = refl
 left name turn (e ∷ es) s = left_case name turn e es s (left name turn es (sorted_tail by_bytes e.0 (keys_of es) s)) (at name e.0) refl
 
--- where an entry is removed, its name is published no more
+-- after its entry is removed, the name is not published
 pub removed : (name : List ℕ) {P : Type 0} (kept : P → Kept) (turn : P → ℕ) (es : List (Vec ℕ Global × P)) → IsStrictlySortedBy by_bytes (keys_of es) → seen kept (in_turn (turn_of turn) (remove_entry (at name) es)) ≡ published_without name (seen kept (in_turn (turn_of turn) es))
 removed name kept turn es s = ap (seen kept) (left name turn es s) ∙ sym (without_seen name kept (in_turn (turn_of turn) es))
 
--- ---- one more
+-- ---- one more entry
 
 more_case : {P : Type 0} (turn : P → ℕ) (k : Vec ℕ Global) (p : P) (e : Vec ℕ Global × P) (es : List (Vec ℕ Global × P)) → (lookup (is_at (by_bytes k)) es ≡ None → in_turn (turn_of turn) (insert_entry by_bytes es k p) ≡ in_turn (turn_of turn) es ++ (k, p) ∷ []) → (o : Ordering) → by_bytes k e.0 ≡ o → lookup (is_at (by_bytes k)) (e ∷ es) ≡ None → turn e.1 < turn p → list_all (λ f. nat_lt (turn f.1) (turn p)) (in_turn (turn_of turn) (e ∷ es)) ≡ true → in_turn (turn_of turn) (insert_entry by_bytes (e ∷ es) k p) ≡ in_turn (turn_of turn) (e ∷ es) ++ (k, p) ∷ []
 unfolding in_turn
@@ -169,7 +169,7 @@ more_case turn k p e es later Equal is none lt all = absurd (let there : Some e.
 more_case turn k p e es later Greater is none lt all =
     rw is (ap (insert_turn (turn_of turn) e) (later (rw is at none)) ∙ placed_under (turn_of turn) e (k, p) (in_turn (turn_of turn) es) lt)
 
--- a new name comes last, where its turn is the latest
+-- a new name with the latest turn comes last
 more : {P : Type 0} (turn : P → ℕ) (k : Vec ℕ Global) (p : P) (es : List (Vec ℕ Global × P)) → lookup (is_at (by_bytes k)) es ≡ None → list_all (λ e. nat_lt (turn e.1) (turn p)) es ≡ true → in_turn (turn_of turn) (insert_entry by_bytes es k p) ≡ in_turn (turn_of turn) es ++ (k, p) ∷ []
 unfolding in_turn
 more turn k p [] none h = refl
@@ -198,7 +198,7 @@ all_inserted : {P : Type 0} (test : P → Bool) (k : Vec ℕ Global) (p : P) (es
 all_inserted test k p [] it h = both_true it refl
 all_inserted test k p (e ∷ es) it h = all_inserted_case test k p e es (all_inserted test k p es it (parts_true (test e.1) (list_all (λ e. test e.1) es) h).1) (by_bytes k e.0) refl it h
 
--- the turn after the last is after this one too
+-- the next turn is later than all
 pub turned : {P : Type 0} (turn : P → ℕ) (k : Vec ℕ Global) (p : P) (es : List (Vec ℕ Global × P)) → list_all (λ e. nat_lt (turn e.1) (turn p)) es ≡ true → list_all (λ e. nat_lt (turn e.1) (turn p + 1)) (insert_entry by_bytes es k p) ≡ true
 turned turn k p es h = all_inserted (λ q. nat_lt (turn q) (turn p + 1)) k p es (lt-ltb (turn p) (turn p + 1) (omega arith)) (later_turns turn (turn p) (turn p + 1) es (omega arith) h)
 

@@ -1,4 +1,4 @@
--- What is kept of the sums of a library.
+-- The stored sums of a library.
 use Rattle.std.proofs.Common.{◌≡◌, ◌+◌, ℕ, List, map, length, Bool, true, Result, Ok, Err, ap, sym, subst, ◌∙◌, arith}
 use Rattle.std.specs.Prelude.{IfOk, OnErr, OnOk, nat_lt, not}
 use Rattle.ctf_library.specs.Charged.{IsCounted, bytes_published}
@@ -15,7 +15,7 @@ use Rattle.ctf_protocol.specs.sessions.State.{Publication, State}
 use Rattle.ctf_protocol.specs.sessions.Outcomes.{quota}
 use Rattle.ctf_protocol.specs.declared.requests.ListName.{ListName}
 
--- the charge by what is kept
+-- the charge, from the stored sums
 pub counted_charge : (held : List own.Slot) (out : List Publication) (stage : Lists) (next a : ℕ) (s : State) → record { slots = map slot_of held; next = next; stage = stage; published = out } ≡ s → IsCounted held out stage a → charge s ≡ lists_bytes stage + (a + bytes_published out)
 counted_charge held out stage next a s is n =
     let here : State = record { slots = map slot_of held; next = next; stage = stage; published = out } in
@@ -23,7 +23,7 @@ counted_charge held out stage next a s is n =
     let same = ap charge is in
     omega (arith, charge_is here, slots, same)
 
--- ---- a piece that is staged
+-- ---- a staged part
 
 pub staged_counted : (r : Result ℕ Fault) (list : ListName) (piece : List ℕ) (held : List own.Slot) (out : List Publication) (old new : Lists) (a k : ℕ) (room : Bool) → IfOk r (λ n. IsStaged list piece old new n) → OnOk r (room ≡ true) → OnErr r (new ≡ old) → room ≡ not (nat_lt quota (k + length piece)) → k ≡ lists_bytes old + (a + bytes_published out) → IsCounted held out old a → IsCounted held out new a
 staged_counted (Ok n) list piece held out old new a k room staged fits same is charged counted =

@@ -1,4 +1,4 @@
--- What a create comes to.
+-- The result of a create.
 use Rattle.std.proofs.Common.{◌≡◌, ◌+◌, ℕ, Option, Some, None, Result, Ok, Err, true, is_some, refl, ap, sym, ◌∙◌, ◌⊎◌, inl, inr}
 use Rattle.std.specs.Prelude.{option_map, option_and_then}
 use Rattle.ctf_library.specs.Quotas.{IsUncreated}
@@ -52,7 +52,7 @@ pub from_nowhere : (o : Option ℕ) (asked : Created) (state : State) → option
 from_nowhere None asked state none there = absurd cc
 from_nowhere (Some p) asked state none there = rw none refl
 
--- ---- what may fail in two ways
+-- ---- errors of either sort
 
 pub either : {A B C : Type 0} → (B → C) → A ⊎ B → A ⊎ C
 either f (inl a) = inl a

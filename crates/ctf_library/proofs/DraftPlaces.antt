@@ -1,4 +1,4 @@
--- The step of the draft in the slot at a place.
+-- The step of the draft in the slot at an index.
 use Rattle.std.proofs.Common.{◌≡◌, ℕ, ◌+◌, ◌-◌, sum_by, subst, List, [], ◌∷◌, map, set, Bool, true, false, Option, Some, None, Result, Ok, Err, codes, eqb, refl, ap, sym, ◌∙◌, ◌⊎◌, inl, inr, arith}
 use Rattle.ctf_answers.specs.Replies.{change_answer}
 use Rattle.ctf_answers.specs.declared.counts.Counts.{Counts}
@@ -21,7 +21,7 @@ use Rattle.ctf_model.specs.declared.faults.Fault.{Fault}
 use Rattle.ctf_protocol.specs.declared.requests.DraftStep.{DraftStep}
 use Rattle.ctf_protocol.specs.declared.requests.DraftStep.TheVariants.{Discard}
 
--- a slot in its own place changes nothing
+-- replacing a slot by itself changes nothing
 kept_at : (n : ℕ) (s x : Slot) (xs : List Slot) → (slot_at n xs ≡ Some s → slots_with n s xs ≡ xs) → (t : Bool) → eqb x.number n ≡ t → slot_at n (x ∷ xs) ≡ Some s → slots_with n s (x ∷ xs) ≡ x ∷ xs
 kept_at n s x xs later true t e =
     let here : Some x ≡ Some s = rw t at e in

@@ -1,4 +1,4 @@
--- The step of a draft, judged beside what all else comes to, is that of the library.
+-- The step of a draft, checked with the charge of everything else, is that of the library.
 use Rattle.std.proofs.Common.{◌≡◌, ◌+◌, ◌-◌, ◌⊎◌, ℕ, List, sum_by, Option, Some, None, Result, Ok, Err, Bool, true, false, refl, inl, inr, ap, sym, subst, ◌∙◌, arith}
 use Rattle.std.specs.Prelude.{nat_lt}
 use Rattle.ctf_answers.specs.Replies.{change_answer, unaddressed_reply}
@@ -24,7 +24,7 @@ use Rattle.ctf_protocol.specs.sessions.Steps.{becomes_by, slot_becomes, steps_dr
 use Rattle.ctf_protocol.specs.declared.requests.DraftStep.{DraftStep}
 use Rattle.ctf_protocol.specs.declared.requests.DraftStep.TheVariants.{Add, Update, Discard}
 
--- what is refused leaves the library as it was
+-- a refusal leaves the library as it was
 refused_there : (d code : ℕ) (slot : Slot) (s : State) → slot_at d s.slots ≡ Some slot → refuses code s ≡ slot_becomes d (slot_refused (placeless code) slot) s
 refused_there d code slot s at = ap (λ (xs : List Slot). outcome_of (Err (placeless code)) (record s { slots = xs })) (sym (slot_kept d slot s.slots at))
 

@@ -1,4 +1,4 @@
--- Steps of the draft in a slot are those of the open dictionary that stands there.
+-- Steps of the draft in a slot are those of the open dictionary there.
 pub use Rattle.ctf_protocol.specs.sessions.Opened.{under}
 use Rattle.std.proofs.Common.{◌≡◌, ◌+◌, ℕ, ℤ, List, true, false, Some, Result, Ok, Err, codes, refl, ap, sym, subst, ◌∙◌, ◌⊎◌, inl, inr, arith}
 use Rattle.std.specs.Prelude.{nat_lt, not}
@@ -24,7 +24,7 @@ use Rattle.ctf_protocol.specs.sessions.Outcomes.{quota}
 use Rattle.ctf_protocol.specs.declared.additions.Addition.TheVariants as add
 use Rattle.ctf_protocol.specs.declared.requests.DraftStep.TheVariants.{Add, Update, Discard}
 
--- ---- a step that was made, and one that was not
+-- ---- a successful step, and a refused one
 
 pub done_step : (say : ℕ → Answer) (s : Slot) (r : Result Stepped Fault) (new : Open) (n : ℕ) (counts : Result Counts Fault) → r ≡ Ok (record { served = new; answer = n }) → change_answer counts ≡ Ok (say n) → IsStepped (slot_stepped say s r) counts s (slot_with s.number new)
 done_step say s r new n counts is said =

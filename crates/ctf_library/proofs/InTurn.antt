@@ -1,4 +1,4 @@
--- What stands in the order of turns.
+-- Lists in the order of turns.
 use Rattle.std.proofs.Common.{◌≡◌, ℕ, ◌+◌, ◌<◌, ◌≤◌, List, [], ◌∷◌, ◌++◌, Bool, true, false, leb, ltb, sum_by, refl, sym, ap, arith}
 use Rattle.std.specs.Prelude.{◌&&◌, filter, nat_le, nat_lt}
 use Rattle.std.specs.Cmp.Derive.{both_true}
@@ -11,9 +11,9 @@ pub parts_true : (a b : Bool) → (a && b) ≡ true → (a ≡ true) × (b ≡ t
 parts_true true b h = (refl, h)
 parts_true false b h = absurd cc
 
--- ---- turns rise
+-- ---- ascending turns
 
--- from one turn on
+-- the turns ascend from `low` on
 abbrev rise_from : {X : Type 0} → (X → ℕ) → ℕ → List X → Bool
 rise_from turn low [] = true
 rise_from turn low (x ∷ xs) = nat_le low (turn x) && rise_from turn (turn x) xs
@@ -45,7 +45,7 @@ unfolding in_turn
 rise_in_turn turn [] = refl
 rise_in_turn turn (e ∷ es) = rise_placed turn 0 e (in_turn turn es) (omega arith) (rise_in_turn turn es)
 
--- ---- some of them
+-- ---- some of the items
 
 placed_first : {X : Type 0} (turn : X → ℕ) (low : ℕ) (e : X) (xs : List X) → turn e < low → rise_from turn low xs ≡ true → insert_turn turn e xs ≡ e ∷ xs
 placed_first turn low e [] lt h = refl
@@ -76,7 +76,7 @@ kept_case turn keeps low e x xs later true false t b k h =
 kept_case turn keeps low e x xs later false true t b k h = rw (t, b) (rw t (ap (λ ys. x ∷ ys) later))
 kept_case turn keeps low e x xs later false false t b k h = rw (t, b) later
 
--- one that stays comes to the same place among those that do
+-- an item that is kept has the same position among the kept ones
 pub kept_placed : {X : Type 0} (turn : X → ℕ) (keeps : X → Bool) (low : ℕ) (e : X) (xs : List X) → keeps e ≡ true → rise_from turn low xs ≡ true → filter keeps (insert_turn turn e xs) ≡ insert_turn turn e (filter keeps xs)
 kept_placed turn keeps low e [] k h = rw k refl
 kept_placed turn keeps low e (x ∷ xs) k h =
@@ -91,12 +91,12 @@ gone_case turn keeps e x xs later true b t k g = rw (t, g) refl
 gone_case turn keeps e x xs later false true t k g = rw (t, k) (ap (λ ys. x ∷ ys) later)
 gone_case turn keeps e x xs later false false t k g = rw (t, k) later
 
--- one that does not
+-- an item that is not kept
 pub gone_placed : {X : Type 0} (turn : X → ℕ) (keeps : X → Bool) (e : X) (xs : List X) → keeps e ≡ false → filter keeps (insert_turn turn e xs) ≡ filter keeps xs
 gone_placed turn keeps e [] g = rw g refl
 gone_placed turn keeps e (x ∷ xs) g = gone_case turn keeps e x xs (gone_placed turn keeps e xs g) (ltb (turn e) (turn x)) (keeps x) refl refl g
 
--- ---- all of them
+-- ---- all items
 
 all_case : {X : Type 0} (turn : X → ℕ) (test : X → Bool) (e x : X) (xs : List X) → list_all test (insert_turn turn e xs) ≡ true → (t : Bool) → ltb (turn e) (turn x) ≡ t → test e ≡ true → list_all test (x ∷ xs) ≡ true → list_all test (insert_turn turn e (x ∷ xs)) ≡ true
 all_case turn test e x xs later true t is h = rw t (both_true is h)
@@ -121,7 +121,7 @@ placed_sum : {X : Type 0} (turn weight : X → ℕ) (e : X) (xs : List X) → su
 placed_sum turn weight e [] = sum_by-cons weight e []
 placed_sum turn weight e (x ∷ xs) = sum_case turn weight e x xs (placed_sum turn weight e xs) (ltb (turn e) (turn x)) refl
 
--- their order changes no sum
+-- sorting by turn changes no sum
 pub in_turn_sum : {X : Type 0} (turn weight : X → ℕ) (es : List X) → sum_by weight (in_turn turn es) ≡ sum_by weight es
 unfolding in_turn
 in_turn_sum turn weight [] = refl
@@ -130,7 +130,7 @@ in_turn_sum turn weight (e ∷ es) =
     let here = placed_sum turn weight e (in_turn turn es) in
     omega (arith, later, here, sum_by-cons weight e es)
 
--- ---- one more, after all others
+-- ---- one more item, after all others
 
 pub placed_last : {X : Type 0} (turn : X → ℕ) (last : X) (xs : List X) → list_all (λ x. nat_lt (turn x) (turn last)) xs ≡ true → insert_turn turn last xs ≡ xs ++ last ∷ []
 placed_last turn last [] h = refl

@@ -1,4 +1,4 @@
--- A text that was appended to nothing, as an answer.
+-- A text appended to an empty buffer, as an answer.
 use Rattle.std.proofs.Common.{◌≡◌, ℕ, List, [], Result, Ok, Err, refl}
 use Rattle.ctf_protocol.specs.answers.Answers.{Answer}
 use Rattle.ctf_protocol.specs.answers.Questions.{as_fields, name_fields, value_fields}

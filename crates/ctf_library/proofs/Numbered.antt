@@ -1,4 +1,4 @@
--- Where the slot of a number stands.
+-- The index of the slot with a number.
 use Rattle.std.proofs.Common.{◌≡◌, ℕ, ◌+◌, ◌<◌, List, [], ◌∷◌, map, set, get_or, length, Bool, true, false, Option, None, Some, eqb, refl, ◌∙◌, ap, sym, subst, arith, add-one, suc}
 use Rattle.std.specs.Prelude.{option_map}
 use Rattle.std.specs.List.{remove}
@@ -10,7 +10,7 @@ use Rattle.ctf_protocol.specs.sessions.State.{Slot}
 use Rattle.ctf_protocol.specs.sessions.Slots.{slots_with}
 use Rattle.ctf_protocol.specs.sessions.Slots.{slot_at, slots_without, slots_with_parent}
 
--- the slot of a number stands at a place
+-- the slot with number `n` is at index `i`
 pub record IsPlace (n : ℕ) (slots : List own.Slot) (i : ℕ) : Type 0 where
   pub inside : i < length slots
   pub found : (d : own.Slot) → slot_at n (map slot_of slots) ≡ Some (slot_of (get_or slots i d))
@@ -47,7 +47,7 @@ pub is_place : (n : ℕ) (slots : List own.Slot) (i : ℕ) → place_of n (map s
 is_place n [] i h = absurd cc
 is_place n (x ∷ xs) i h = place_case n x xs i h (λ k e. is_place n xs k e) (eqb x.number n) refl
 
--- no slot has the number
+-- no slot has number `n`
 pub record IsNowhere (n : ℕ) (slots : List Slot) : Type 0 where
   pub found : slot_at n slots ≡ None
   pub without : slots_without n slots ≡ slots

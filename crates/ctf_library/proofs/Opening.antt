@@ -1,4 +1,4 @@
--- What an open does where there is room.
+-- The effect of an open if there is a free slot.
 use Rattle.std.proofs.Common.{◌≡◌, true, None, Some, Err, refl}
 use Rattle.ctf_model.specs.rules.Faults.{first_fault}
 use Rattle.ctf_model.specs.declared.faults.Fault.{Fault}

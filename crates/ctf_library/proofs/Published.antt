@@ -1,4 +1,4 @@
--- What keeps publications right.
+-- Invariants of publications.
 use Rattle.std.proofs.Common.{◌≡◌, ℕ, ◌+◌, ◌-◌, ◌≤◌, List, [], ◌∷◌, ◌++◌, map, sum_by, Option, None, Some, refl, sym, ◌∙◌, ap, subst, Vec, arith}
 use Rattle.std.specs.Prelude.{Bool, false, is_some, nat_lt, not, option_map, true, if◌then◌else◌}
 use Rattle.std.specs.List.{list_all}
@@ -31,7 +31,7 @@ turn_in p = p.turn
 abbrev weight : own.Publication → ℕ
 weight p = kept_bytes p.loaded
 
--- ---- nothing
+-- ---- no publications
 
 nothing : published_in [] ≡ []
 unfolding in_turn
@@ -40,7 +40,7 @@ nothing = refl
 pub none_published : (es : List Named) → es ≡ [] → published_in es ≡ []
 none_published es none = ap published_in none ∙ nothing
 
--- what stands in its turn is something
+-- the list in order of turns is not empty
 placed_by : {X Y : Type 0} (shown : X → Y) (x other : X) (front others : List X) → (first : Bool) → map shown (if first then x ∷ other ∷ others else other ∷ front) ≡ [] → ⊥
 placed_by shown x other front others true none = let clash : shown x ∷ map shown (other ∷ others) ≡ [] = none in cc
 placed_by shown x other front others false none = let clash : shown other ∷ map shown front ≡ [] = none in cc
@@ -59,7 +59,7 @@ pub none_kept : (m : Kept_map) → IsOrdered by_bytes m → m.entries ≡ [] →
 none_kept m ordered none =
     record { ordered = ordered; later = rw none refl; sum = sym (ap (sum_by publication_bytes) (none_published m.entries none)) }
 
--- ---- what is found
+-- ---- look-ups
 
 pub found_in : (name : List ℕ) (m : Kept_map) (turns bytes : ℕ) → IsKept m turns bytes → published_as name (published_in m.entries) ≡ option_map loaded_of (lookup (at name) m.entries)
 found_in name m turns bytes kept = found name loaded_of turn_in m.entries kept.ordered
@@ -72,7 +72,7 @@ free : (name : List ℕ) (k : Vec ℕ Global) (m : Kept_map) (turns bytes : ℕ)
 free name k m turns bytes kept none is =
     subst (λ (n : List ℕ). lookup (at n) m.entries ≡ None) (sym is) (not_there (lookup (at name) m.entries) (sym (found_in name m turns bytes kept) ∙ none))
 
--- a key that has the name is in the map just where the name is taken
+-- a key with the name is in the map exactly if the name is taken
 taken_alike : (name : List ℕ) (k : Vec ℕ Global) (m : Kept_map) (turns bytes : ℕ) → IsKept m turns bytes → k.items ≡ name → is_some (published_as name (published_in m.entries)) ≡ is_some (lookup (is_at (by_bytes k)) m.entries)
 taken_alike name k m turns bytes kept is =
     ap is_some (found_in name m turns bytes kept) ∙ some_alike (lookup (at name) m.entries) ∙ ap (λ (n : List ℕ). is_some (lookup (at n) m.entries)) (sym is)
@@ -110,7 +110,7 @@ kept_sum : (es : List Named) → sum_by publication_bytes (published_in es) ≡ 
 kept_sum es =
     shown_sum (in_turn (λ (e : Named). turn_in e.1) es) ∙ in_turn_sum (λ (e : Named). turn_in e.1) (λ (e : Named). weight e.1) es ∙ sym (values_sum es)
 
--- ---- one more
+-- ---- one more publication
 
 pub added_seen : (name : List ℕ) (k : Vec ℕ Global) (p : own.Publication) (m n : Kept_map) (turns bytes : ℕ) → IsKept m turns bytes → published_as name (published_in m.entries) ≡ None → k.items ≡ name → p.turn ≡ turns → n.entries ≡ insert_entry by_bytes m.entries k p → published_in n.entries ≡ published_in m.entries ++ (record { name = name; kept = p.loaded }) ∷ []
 added_seen name k p m n turns bytes kept none is turn made =
@@ -127,12 +127,12 @@ added_kept name k p m n turns bytes more kept none is turn made ordered count =
     let was = kept.sum in
     record { ordered = ordered; later = late; sum = omega (arith, pushed, grown, was, count) }
 
--- ---- one less
+-- ---- one publication less
 
 pub removed_seen : (name : List ℕ) (m n : Kept_map) (turns bytes : ℕ) → IsKept m turns bytes → n.entries ≡ remove_entry (at name) m.entries → published_in n.entries ≡ published_without name (published_in m.entries)
 removed_seen name m n turns bytes kept made = ap published_in made ∙ removed name loaded_of turn_in m.entries kept.ordered
 
--- what has gone counted once
+-- a removed publication was counted once
 left_sum : (name : List ℕ) (p : own.Publication) (m n : Kept_map) (turns bytes less : ℕ) → IsKept m turns bytes → n.entries ≡ remove_entry (at name) m.entries → Some p ≡ lookup (at name) m.entries → less ≡ kept_bytes p.loaded → sum_by publication_bytes (published_in n.entries) + less ≡ bytes
 left_sum name p m n turns bytes less kept made there count =
     let gone = sum_by-remove_entry weight (at name) m.entries in

@@ -1,4 +1,4 @@
--- What has room in the quota of a library, and what has none.
+-- Quota checks of a library.
 use Rattle.std.proofs.Common.{◌≡◌, ◌≤◌, ◌<◌, ◌+◌, ◌++◌, ◌⊎◌, inl, inr, ℕ, List, [], ◌∷◌, length, Bool, true, false, Option, Some, None, Result, Ok, Err, refl, ap, subst, sym, ◌∙◌, arith}
 use Rattle.std.specs.Prelude.{codes, is_some, nat_lt, option_and_then, option_map}
 use Rattle.ctf_library.proofs.Creating.{creates_done}
@@ -99,7 +99,7 @@ create_over slot s lt =
     let more = slot_charge slot (s.next + 1) s in
     over _ s (omega (arith, more, lt))
 
--- ---- whole words
+-- ---- whole requests
 
 pub takes_over : (found : Option Kept) (kept : Kept) (s : State) → has_room s ≡ true → found ≡ Some kept → quota < charge s + kept_bytes kept → takes found s ≡ refuses QUOTA_FULL s
 takes_over found kept s room is lt = rw (room, is) (take_over kept s lt)
@@ -107,7 +107,7 @@ takes_over found kept s room is lt = rw (room, is) (take_over kept s lt)
 pub takes_done : (found : Option Kept) (kept : Kept) (s : State) → has_room s ≡ true → found ≡ Some kept → charge s + kept_bytes kept ≤ quota → takes found s ≡ adds_slot kept s
 takes_done found kept s room is le = rw (room, is) (take_done kept s le)
 
--- of a slot that is there, with nothing pending
+-- publishing an existing slot with nothing pending
 publish_at : (d : ℕ) (name : List ℕ) (slot : Slot) (s : State) → slot_at d s.slots ≡ Some slot → nat_lt 0 (pending_in slot.draft) ≡ false → publishes d name s ≡ publishes_within name slot.kept s
 publish_at d name slot s at none = rw (at, none) refl
 
@@ -121,7 +121,7 @@ pub publishes_done : (d : ℕ) (name : List ℕ) (slot : Slot) (s : State) → s
 publishes_done d name slot s at none le =
     publish_at d name slot s at none ∙ publish_in_room name slot.kept s (is_some (published_as name s.published)) refl le
 
--- of two slots that are there, the first without a draft
+-- importing into an existing slot without a draft
 import_at : (d p : ℕ) (child parent : Slot) (s : State) → slot_at d s.slots ≡ Some child → slot_at p s.slots ≡ Some parent → is_some child.draft ≡ false → imports d p s ≡ imports_unless (fault_over child.kept parent.kept) d parent.kept s
 import_at d p child parent s at from plain = rw (at, from, plain) refl
 
@@ -139,7 +139,7 @@ pub uncreated : (r : Result Slot Fault) (s : State) (f : Fault) → IsUncreated 
 uncreated (Ok slot) s f h = create_over slot s h.1 ∙ ap (λ (g : Fault). outcome_of (Err g) s) (sym h.0)
 uncreated (Err g) s f h = ap (λ (e : Fault). outcome_of (Err e) s) (sym h)
 
--- an import that was refused
+-- a refused import
 pub imports_refused : (d p : ℕ) (child parent : Slot) (s : State) (f : Fault) (room : Bool) → slot_at d s.slots ≡ Some child → slot_at p s.slots ≡ Some parent → is_some child.draft ≡ false → (room ≡ false → quota + parent_bytes child.parent < charge s + kept_bytes parent.kept) → (f ≡ out_of_memory) ⊎ IsUnserved room (fault_over child.kept parent.kept) f → Makes s (imports d p s) (Err f) s
 imports_refused d p child parent s f room at from plain over (inl want) = inr (ap (λ (g : Fault). unaddressed_reply (Err g)) want, refl)
 imports_refused d p child parent s f room at from plain over (inr (inl fault)) = rw (imports_faulty d p child parent s f at from plain fault) (inl (refl, refl))
@@ -160,7 +160,7 @@ pub part_makes : (list : ListName) (piece : List ℕ) (s : State) (stage : Lists
 part_makes list piece s stage n result done le room told =
     rw (part_done list piece s le room) (inl (ap reply_of (told ∙ ap (λ (k : ℕ). Ok (says (codes "length") (answers.number k) ∷ [])) done.long), ap (with_stage s) done.lists))
 
--- and one that was not
+-- a part that was refused
 pub part_refused : (list : ListName) (piece : List ℕ) (s : State) (stage : Lists) (f : Fault) (room : Bool) (result : Result Counts Fault) → (f ≡ out_of_memory) ⊎ IsFull room (length (list_in list s.stage ++ piece)) f → (room ≡ false → quota < charge s + length piece) → stage ≡ s.stage → result ≡ Err f → Makes s (parts list piece s) result (with_stage s stage)
 part_refused list piece s stage f room result (inl want) over same is =
     inr (ap (λ (r : Result Counts Fault). unaddressed_reply r) (is ∙ ap Err want), ap (with_stage s) same)

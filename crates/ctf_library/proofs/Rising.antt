@@ -1,4 +1,4 @@
--- Slots stand in the order of their numbers.
+-- Slots are ordered by their numbers.
 use Rattle.std.proofs.Common.{◌≡◌, ◌≢◌, ℕ, zero, suc, ◌+◌, ◌<◌, ◌≤◌, List, [], ◌∷◌, ◌++◌, map, set, get_or, length, Bool, true, false, None, Some, eqb, leb, ltb, refl, ◌∙◌, ap, arith, add-one}
 use Rattle.std.specs.Prelude.{◌&&◌, option_map}
 use Rattle.std.specs.Cmp.Derive.{both_true}
@@ -14,7 +14,7 @@ parts_true : (a b : Bool) → (a && b) ≡ true → (a ≡ true) × (b ≡ true)
 parts_true true b h = (refl, h)
 parts_true false b h = absurd cc
 
--- what rising says of a first slot
+-- consequences for the first slot
 record First (low : ℕ) (x : own.Slot) (xs : List own.Slot) (high : ℕ) : Type 0 where
   pub above : low ≤ x.number
   pub below : x.number < high
@@ -37,7 +37,7 @@ lower low least (x ∷ xs) high le h =
     let above = f.above in
     rises least x xs high (omega (arith, above)) f.below f.later
 
--- each is at least as high as where they begin
+-- every number is at least the first bound
 at_least : (low : ℕ) (xs : List own.Slot) (high j : ℕ) (d : own.Slot) → rise_between low xs high ≡ true → j < length xs → low ≤ (get_or xs j d).number
 at_least low [] high j d h lt = absurd (omega arith)
 at_least low (x ∷ xs) high zero d h lt = (first low x xs high h).above
@@ -57,7 +57,7 @@ non_decreasing low (x ∷ xs) high h zero (suc j) d le lt =
 non_decreasing low (x ∷ xs) high h (suc i) zero d le lt = absurd (omega arith)
 non_decreasing low (x ∷ xs) high h (suc i) (suc j) d le lt = non_decreasing (x.number + 1) xs high (first low x xs high h).later i j d (omega arith) (omega arith)
 
--- ---- what keeps them rising
+-- ---- changes that keep the order
 
 pub rise_pushed : (low : ℕ) (xs : List own.Slot) (x : own.Slot) (high : ℕ) → low ≤ high → x.number ≡ high → rise_between low xs high ≡ true → rise_between low (xs ++ x ∷ []) (high + 1) ≡ true
 rise_pushed low [] x high le same h = rises low x [] (high + 1) (omega (arith, same)) (omega (arith, same)) refl
@@ -83,25 +83,25 @@ rise_set low (x ∷ xs) high (suc i) d new same h =
     let f = first low x xs high h in
     rises low x (set xs i new) high f.above f.below (rise_set (x.number + 1) xs high i d new same f.later)
 
--- ---- the place of a number
+-- ---- the index of a number
 
 other_number : (n m : ℕ) → n ≢ m → (t : Bool) → eqb n m ≡ t → t ≡ false
 other_number n m ne true e = absurd (ne (eqb-true n m e))
 other_number n m ne false e = refl
 
--- no slot has it
+-- no slot has the number
 pub nowhere : (n : ℕ) (xs : List own.Slot) → ((j : ℕ) (d : own.Slot) → j < length xs → (get_or xs j d).number ≢ n) → place_of n (map slot_of xs) ≡ None
 nowhere n [] h = refl
 nowhere n (x ∷ xs) h =
     rw (other_number x.number n (h 0 x (omega arith)) (eqb x.number n) refl) (ap (option_map (λ (i : ℕ). i + 1)) (nowhere n xs (λ j d lt. h (suc j) d (omega arith))))
 
--- one has it, and none before
+-- a slot has it, and none before
 pub placed : (n : ℕ) (xs : List own.Slot) (i : ℕ) → ((j : ℕ) (d : own.Slot) → j < i → j < length xs → (get_or xs j d).number ≢ n) → i < length xs → ((d : own.Slot) → (get_or xs i d).number ≡ n) → place_of n (map slot_of xs) ≡ Some i
 placed n [] i before lt here = absurd (omega arith)
 placed n (x ∷ xs) zero before lt here = rw (eq-eqb x.number n (here x)) refl
 placed n (x ∷ xs) (suc i) before lt here =
     rw (other_number x.number n (before 0 x (omega arith) (omega arith)) (eqb x.number n) refl) (ap (option_map (λ (k : ℕ). k + 1)) (placed n xs i (λ j d l m. before (suc j) d (omega arith) (omega arith)) (omega arith) here) ∙ ap Some (add-one i))
 
--- of the same slots, lent
+-- the same for lent slots
 pub in_order : (xs ys : List own.Slot) (high : ℕ) → ys ≡ xs → rise_between 0 xs high ≡ true → IsNonDecreasingBy (λ (s : own.Slot). s.number) ys
 in_order xs ys high same h = rw same (non_decreasing 0 xs high h)

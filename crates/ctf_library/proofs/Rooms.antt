@@ -1,10 +1,10 @@
--- What has room in the quota, and what has not.
+-- Quota checks.
 use Rattle.std.proofs.Common.{◌≡◌, ◌≤◌, ◌<◌, ℕ, Bool, true, false, refl}
 use Rattle.std.specs.Prelude.{nat_lt, not}
 use Rattle.std.proofs.lemmas.Bool.{ltb-false, ltb-true}
 use Rattle.ctf_protocol.specs.sessions.Outcomes.{quota}
 
--- so much more has room
+-- there is room for `n`
 pub room_le : (n : ℕ) → not (nat_lt quota n) ≡ true → n ≤ quota
 room_le n e = at (nat_lt quota n) refl e
   where
@@ -12,7 +12,7 @@ room_le n e = at (nat_lt quota n) refl e
     at true t h = absurd cc
     at false t h = ltb-false quota n t
 
--- or has none
+-- there is no room for `n`
 pub room_lt : (n : ℕ) → not (nat_lt quota n) ≡ false → quota < n
 room_lt n e = at (nat_lt quota n) refl e
   where

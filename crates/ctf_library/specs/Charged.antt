@@ -1,4 +1,4 @@
--- What slots and publications come to. The words are ours.
+-- The charges of slots and publications. Source: ours.
 use Rattle.std.specs.Prelude.{◌≡◌, ◌+◌, ◌<◌, ◌^◌, ℕ, List, map, sum_by}
 use Rattle.ctf_model.specs.format.Lists.{Lists}
 use Rattle.ctf_library.specs.SlotView.{slot_of}
@@ -13,7 +13,7 @@ bytes_in slots = sum_by slot_bytes (map slot_of slots)
 abbrev pub bytes_published : List Publication → ℕ
 bytes_published published = sum_by publication_bytes published
 
--- what is kept of the slots' sum is right, and all of it is less than 2^128
+-- the stored sum of the slots' bytes is correct, and the whole charge is below 2^128
 pub record IsCounted (held : List Slot) (out : List Publication) (stage : Lists) (in_slots : ℕ)
     : Type 0 where
   pub slots : in_slots ≡ bytes_in held

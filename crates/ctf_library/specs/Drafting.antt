@@ -1,4 +1,4 @@
--- Drafts in slots. The words are ours.
+-- Drafts in slots. Source: ours.
 use Rattle.std.specs.Prelude.{◌≡◌, ◌⊎◌, ◌+◌, ◌-◌, sum_by, ℕ, List, Option, None, Some, Result, Err}
 use Rattle.ctf_answers.specs.Replies.{change_answer}
 use Rattle.ctf_answers.specs.declared.counts.Counts.{Counts}
@@ -13,18 +13,18 @@ use Rattle.ctf_model.specs.declared.faults.Fault.{Fault}
 use Rattle.ctf_model.specs.declared.faults.TheConstants.Fault.{NO_SLOT}
 use Rattle.ctf_protocol.specs.declared.requests.DraftStep.{DraftStep}
 
--- the step of a slot was made, or memory for it was refused and the slot is as it was
+-- the slot made the step, or it ran out of memory and is unchanged
 abbrev pub IsStepped : SlotOutcome → Result Counts Fault → Slot → Slot → Type 0
 IsStepped outcome result old new =
     ((change_answer result ≡ outcome.said) × (new ≡ outcome.slot))
     ⊎ ((result ≡ Err out_of_memory) × (new ≡ old))
 
--- beside the other slots, and all that is no slot
+-- the step of one slot, with the charge of the other slots and of everything else
 abbrev pub step_in : ℕ → DraftStep → Slot → List Slot → SlotOutcome
 step_in others step slot slots =
     step_beside (others + (sum_by slot_bytes slots - slot_bytes slot)) step slot
 
--- the same of the slot of a number among others, if it is there
+-- the same for slot `number`, if it exists
 abbrev pub HaveSteppedAt : ℕ → Option Slot → DraftStep → ℕ → Result Counts Fault → List Slot
     → List Slot → Type 0
 HaveSteppedAt others None step number result old new =
@@ -34,7 +34,7 @@ HaveSteppedAt others (Some slot) step number result old new =
     × (new ≡ slots_with number (step_in others step slot old).slot old))
     ⊎ ((result ≡ Err out_of_memory) × (new ≡ old))
 
--- beside all that is no slot
+-- the step of slot `number`, with `others` as the charge of everything but slots
 abbrev pub HaveStepped : ℕ → DraftStep → ℕ → Result Counts Fault → List Slot → List Slot → Type 0
 HaveStepped others step number result old new =
     HaveSteppedAt others (slot_at number old) step number result old new

@@ -1,4 +1,4 @@
--- What a session published, as it is kept. The words are ours.
+-- A session's publications as they are stored. Source: ours.
 use Rattle.std.specs.Prelude.{◌≡◌, ℕ, List, map, sum_by, nat_lt, true, Vec}
 use Rattle.std.specs.BTreeMap.{BTreeMap, IsOrdered}
 use Rattle.std.specs.Cmp.Lexicographic.{slice_cmp}
@@ -10,18 +10,18 @@ use Rattle.ctf_library.specs.declared.publication.Publication as own
 use Rattle.ctf_protocol.specs.sessions.Charges.{publication_bytes}
 use Rattle.ctf_protocol.specs.sessions.State.{Publication}
 
--- a name, and what is kept under it
+-- a name and its stored publication
 abbrev pub Named : Type 0
 Named = Vec ℕ Global × own.Publication
 
 abbrev pub publication_of : Named → Publication
 publication_of named = record { name = named.0.items; kept = named.1.loaded }
 
--- all of them, in the order in which they were published
+-- all publications, in the order of their publishing
 abbrev pub published_in : List Named → List Publication
 published_in entries = map publication_of (in_turn (λ named. named.1.turn) entries)
 
--- names are in order, the next turn is later than all, and the sum of the bytes is right
+-- the names are in order, the next turn is greater than all, and the sum of bytes is correct
 pub record IsKept (by_name : BTreeMap (Vec ℕ Global) own.Publication) (turns bytes : ℕ)
     : Type 0 where
   pub ordered : IsOrdered (λ x y. slice_cmp nat_cmp x.items y.items) by_name

@@ -1,4 +1,4 @@
--- What a session published, if it ever did. The words are ours.
+-- A session's publications, if it ever had any. Source: ours.
 use Rattle.std.specs.Prelude.{Box, List, None, Option, Some, []}
 use Rattle.std.specs.declared.alloc.Global.{Global}
 use Rattle.ctf_protocol.specs.sessions.State.{Publication}

@@ -1,8 +1,8 @@
--- Slots stand in the order of their numbers. Source: ours.
+-- Slots are ordered by their numbers. Source: ours.
 use Rattle.std.specs.Prelude.{ℕ, ◌+◌, ◌&&◌, nat_le, nat_lt, Bool, true, List, [], ◌∷◌}
 use Rattle.ctf_library.specs.declared.slots.Slot.{Slot}
 
--- their numbers rise, from one number on, and stay below another
+-- the numbers ascend, from `low` to below `high`
 abbrev pub rise_between : ℕ → List Slot → ℕ → Bool
 rise_between low [] high = true
 rise_between low (slot ∷ slots) high =

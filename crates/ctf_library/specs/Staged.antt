@@ -1,4 +1,4 @@
--- What is staged, if anything is. The words are ours.
+-- The staged lists, if any. Source: ours.
 use Rattle.std.specs.Prelude.{Box, None, Option, Some}
 use Rattle.std.specs.declared.alloc.Global.{Global}
 use Rattle.ctf_model.specs.format.Lists.{Lists, no_lists}

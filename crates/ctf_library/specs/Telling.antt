@@ -1,4 +1,4 @@
--- What is told of a type, and which questions take memory. The words are ours.
+-- Answers about a type, and which questions take memory. Source: ours.
 use Rattle.std.specs.Prelude.{◌≡◌, ℕ, Bool, true, false, Result}
 use Rattle.ctf_library.specs.declared.answering.TypeAnswer.{TypeAnswer}
 use Rattle.ctf_library.specs.declared.answering.TypeAnswer.TheVariants.{Lent, Name, Value}
@@ -12,19 +12,19 @@ use Rattle.ctf_protocol.specs.declared.questions.PlainQuestion.TheVariants as pl
 use Rattle.ctf_protocol.specs.declared.questions.TypeQuestion.{TypeQuestion}
 use Rattle.ctf_protocol.specs.declared.questions.TypeQuestion.TheVariants as about
 
--- a question is answered so of what a number names, or asks for this text
-abbrev pub IsTold : TypeQuestion → Space → ℕ → Result Term Fault → TypeAnswer → Type 0
-IsTold question s t x (Lent answer) = answer ≡ answer_of question s t x
-IsTold question s t x Name = question ≡ about.Plain plain.Name
-IsTold question s t x (Value memory offset) = question ≡ about.Show memory.now offset
+-- the answer to a question, or a request for the text that answers it
+abbrev pub IsTypeAnswer : TypeQuestion → Space → ℕ → Result Term Fault → TypeAnswer → Type 0
+IsTypeAnswer question s t x (Lent answer) = answer ≡ answer_of question s t x
+IsTypeAnswer question s t x Name = question ≡ about.Plain plain.Name
+IsTypeAnswer question s t x (Value memory offset) = question ≡ about.Show memory.now offset
 
--- its answer is a text that is made for it
+-- the answer is a text that is made for it
 abbrev pub makes_text_on : TypeQuestion → Bool
 makes_text_on (about.Plain plain.Name) = true
 makes_text_on (about.Show memory offset) = true
 makes_text_on _ = false
 
--- the same of any question
+-- the same for any question
 abbrev pub makes_text : Question → Bool
 makes_text (OfType t question) = makes_text_on question
 makes_text (OfSlot question) = false

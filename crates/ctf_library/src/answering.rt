@@ -8,7 +8,7 @@ ghost use Rattle.ctf_protocol.specs.sessions.SlotQuestions.{slot_answered};
 ghost use Rattle.ctf_protocol.specs.sessions.Quiet.{is_quiet, is_quiet_on, MayAnswer};
 ghost use Rattle.ctf_model.specs.names.TypeNames.{spelled_name};
 ghost use Rattle.ctf_model.specs.values.Values.{value_text};
-ghost use Rattle.ctf_library.specs.Telling.{IsTold, makes_text, makes_text_on};
+ghost use Rattle.ctf_library.specs.Telling.{IsTypeAnswer, makes_text, makes_text_on};
 ghost use Rattle.std.specs.Result.{result_map_both};
 ghost use Rattle.ctf_open.specs.Fitting.{Serve};
 ghost use Rattle.ctf_layout.specs.Reached.{position_of};
@@ -289,7 +289,7 @@ fn tell<'a, 'q>(asked: &AskedType<'a, '_>, question: &'q TypeQuestion) -> TypeAn
     requires kind { option_map (λ x. kind_of x.body) (term_in asked.now.found)
         ≡ Some asked.now.kind }
     requires tables { Serve asked.now.space asked.now.tables.now }
-    ensures { IsTold question.now (space_of asked.now.space) asked.now.t.0
+    ensures { IsTypeAnswer question.now (space_of asked.now.space) asked.now.t.0
         (or_no_type (term_in asked.now.found)) result }
 {
     match question {

@@ -14,7 +14,7 @@ ghost use Rattle.ctf_protocol.specs.declared.requests.DraftStep.TheVariants.{Upd
 use crate::charges::QUOTA;
 use crate::slots::Slot;
 use ctf_answers::Counts;
-use ctf_open::{Loaded, MODEL_UNSAID, OpenDictionary, Room};
+use ctf_open::{DEFAULT_MODEL, Loaded, OpenDictionary, Room};
 use ctf_protocol::{Creation, DataModel, DraftStep, Fault};
 use std::alloc::Global;
 
@@ -24,7 +24,7 @@ fn model_over(parent: Option<&Loaded>) -> DataModel
 {
     match parent {
         Some(parent) => parent.model(),
-        None => MODEL_UNSAID,
+        None => DEFAULT_MODEL,
     }
 }
 

@@ -1,4 +1,5 @@
-//! The library of one session: its slots and staged lists, and what its requests are answered.
+//! The library of one session: its slots, staged lists and publications, and the answers to its
+//! requests.
 //!
 //! ```rust
 //! use ctf_library::{Library, Pool};
@@ -6,7 +7,7 @@
 //! use ctf_protocol::{Change, ListName, Question};
 //! use std::alloc::Global;
 //!
-//! /// A library with a slot, 1, of the dictionary that a CTF section is.
+//! /// A library with the dictionary of this CTF section in slot 1.
 //! fn opened(alloc: Global, ctf: Vec<u8>) -> Result<Library, Fault> {
 //!     let mut library = Library::new(alloc);
 //!     let mut pool = Pool::new(alloc);
@@ -45,6 +46,6 @@ mod slots;
 mod stage;
 mod staging;
 
-pub use ctf_open::{Loaded, MODEL_UNSAID};
+pub use ctf_open::{DEFAULT_MODEL, Loaded};
 pub use library::Library;
 pub use pool::Pool;

@@ -33,7 +33,7 @@ pub struct Pool {
 
 impl Model for Pool {
     ghost use Rattle.std.specs.Prelude.{◌≤◌, List, length, sum_by};
-    ghost use Rattle.ctf_library.specs.Pooling.{most_bytes, most_held};
+    ghost use Rattle.ctf_library.specs.Pooling.{most_bytes, most_cached};
     ghost use Rattle.ctf_model.specs.spaces.Kept.{Kept};
     ghost use Rattle.ctf_model.specs.opened.Sizes.{kept_bytes};
 
@@ -41,12 +41,12 @@ impl Model for Pool {
 
     ghost view = { λ p. p.held.items };
 
-    ghost invariant = { λ p. (length p.held.items ≤ most_held)
+    ghost invariant = { λ p. (length p.held.items ≤ most_cached)
         × (sum_by kept_bytes p.held.items ≤ most_bytes) };
 }
 
 /// The bytes of dictionaries, if they are no more than a pool may have.
-fn bytes_held(held: &[Loaded]) -> u128
+fn cached_bytes(held: &[Loaded]) -> u128
     requires { sum_by kept_bytes held.now ≤ most_bytes }
     ensures { result ≡ sum_by kept_bytes held.now }
 {
@@ -115,7 +115,7 @@ impl Pool {
         requires { bytes < 2 ^ 66 }
         ensures { result ≡ have_room bytes self.now }
     {
-        self.held.len() < MOST_HELD && bytes_held(&self.held) + bytes <= MOST_BYTES
+        self.held.len() < MOST_HELD && cached_bytes(&self.held) + bytes <= MOST_BYTES
     }
 
     /// Drops the oldest until there is room.

@@ -199,7 +199,7 @@ impl Staged {
         stage_piece(alloc, &mut self.parts, list, piece, fits)
     }
 
-    /// Their first fault, if it is known and there is one.
+    /// The first fault of the staged lists, if a check already found one.
     pub fn known_fault(&self) -> Option<Fault>
         ensures { IfSome result (λ fault. fault_of self.now ≡ Some fault) }
     {

@@ -1,4 +1,4 @@
--- What is asked of a part of a line that has what is kept of the line under each key.
+-- The request of a line, from the stored parts under each key.
 use Rattle.std.proofs.Common.{◌≡◌, ℕ, List, [], ◌∷◌, Bool, true, false, ◌&&◌, cond, is_none, is_some, nat_le, Option, Some, None, option_map, option_and_then, codes, refl, sym, ap, ◌∙◌}
 use Rattle.std.specs.Prelude.{if◌then◌else◌, unwrap_or}
 use Rattle.serde_json.specs.Data as json
@@ -7,13 +7,13 @@ use Rattle.serde_json.specs.Find.{get, as_array, as_bool, as_i64, as_number, as_
 use Rattle.std.proofs.lemmas.Bool.{false≢true}
 use Rattle.ctf_json.specs.Keys.{wanted_at}
 use Rattle.ctf_json.specs.Kept.{kept_data, list_data}
-use Rattle.ctf_json.specs.Told.{is_one_of}
+use Rattle.ctf_json.specs.TreeData.{is_one_of}
 use Rattle.ctf_json.specs.Values.{are, is_small, is_text, keys}
 use Rattle.ctf_json.specs.declared.wanted.Wanted.{Wanted}
 use Rattle.ctf_json.specs.declared.wanted.Wanted.TheVariants.{Texts, Numbers, Nothing}
 use Rattle.ctf_lines.specs.Numbered.{number_or, value_asked_or}
 use Rattle.ctf_model.specs.declared.numbers.TypeNum.{TypeNum}
-use Rattle.ctf_model.specs.spaces.Kept.{model_unsaid}
+use Rattle.ctf_model.specs.spaces.Kept.{default_model}
 use Rattle.ctf_protocol.specs.declared.addables.Addable.{Addable}
 use Rattle.ctf_protocol.specs.declared.addables.Addable.TheVariants as adds
 use Rattle.ctf_protocol.specs.declared.additions.Addition.TheVariants as add
@@ -59,7 +59,7 @@ scalar_of size encoding offset bits =
 abbrev array_of : Option TypeNum → Option TypeNum → Option ℕ → Option NewArray
 array_of contents index count = option_and_then (λ contents. option_and_then (λ index. option_map (λ count. record { contents = contents; index = index; count = count }) count) index) contents
 
--- ---- what is kept of a value
+-- ---- stored parts of a value
 
 abbrev none_of : {A : Type 0} → Option (List A)
 none_of = None
@@ -103,7 +103,7 @@ no_type (json.string s) e = refl
 no_type (json.array ds) e = refl
 no_type (json.object ms) e = refl
 
--- what a list says is what is kept of it says
+-- a reader of lists gives the same for the stored part
 kept-list : {A : Type 0} (f : Items → Option A) (ds : Items) (b : Bool) → (b ≡ false → f ds ≡ None) → option_and_then f (as_array (cond b (json.array ds) json.null)) ≡ f ds
 kept-list f ds true h = refl
 kept-list f ds false h = sym (h refl)
@@ -124,7 +124,7 @@ types-kept (json.string s) = refl
 types-kept (json.array ds) = kept-list says.types_listed ds (are is_small ds) (each-none says.type_listed is_small no_type ds)
 types-kept (json.object ms) = refl
 
--- what says the same of what is kept of a value says the same of what is kept of a field
+-- a reader that gives the same for the stored part of a value gives the same for a field
 under : {A : Type 0} (f : Data → Option A) (w : Wanted) → ((d : Data) → f (kept_data w d) ≡ f d) → (o : Option Data) → option_and_then f (option_map (kept_data w) o) ≡ option_and_then f o
 under f w h None = refl
 under f w h (Some d) = h d
@@ -348,7 +348,7 @@ module _ (a b : Data) (same : (key : List ℕ) → is_one_of key keys ≡ true �
   asked_with : (w : Word) → asks.asked_with a w ≡ asks.asked_with b w
   asked_with word.Part = part
   asked_with word.Check = refl
-  asked_with word.Open = ap (option_map (λ model. Changes (change.Open (unwrap_or model model_unsaid)))) model
+  asked_with word.Open = ap (option_map (λ model. Changes (change.Open (unwrap_or model default_model)))) model
   asked_with word.Clear = refl
   asked_with word.Reset = refl
   asked_with word.Close = ap (option_map (λ d. Changes (change.Close d))) slot
@@ -374,7 +374,7 @@ module _ (a b : Data) (same : (key : List ℕ) → is_one_of key keys ≡ true �
   asked_with (word.Held question) = about_held (Some question) (Some question) refl
   asked_with word.Bytes = about_held _ _ bytes
 
-  -- of the same word
+  -- the same word
   pub word-same : asks.word_asked a ≡ asks.word_asked b
   word-same = ap (option_and_then (λ w. word_named w words)) (text (codes "op") refl)
 
@@ -387,10 +387,10 @@ module _ (a b : Data) (same : (key : List ℕ) → is_one_of key keys ≡ true �
   asked_by None = refl
   asked_by (Some s) = ap (asks.or_bad_request s) request
 
-  -- its number, or that which is given
+  -- its own number, or the given one
   session_or : (given : Option ℕ) → number_or given a ≡ number_or given b
   session_or given = λ i. if unsaid (codes "s") refl i then given else number 1 4294967295 (codes "s") refl i
 
-  -- the same is asked
+  -- the same request
   pub asked_or-same : (given : Option ℕ) → value_asked_or given (Some a) ≡ value_asked_or given (Some b)
   asked_or-same given = ap (asks.asked_by a) (session_or given) ∙ asked_by (number_or given b)

@@ -1,4 +1,4 @@
--- The line of what a change is answered, part by part.
+-- The line of the answer to a change, part by part.
 use Rattle.std.proofs.Common.{◌≡◌, ℕ, ◌<◌, ◌≤◌, ◌^◌, List, [], ◌∷◌, ◌++◌, Option, None, Some, length, append_assoc, append-nil, codes, decimal, refl, sym, ap, ◌∙◌, arith}
 use Rattle.ctf_protocol.specs.answers.Answers.{says, number}
 use Rattle.ctf_protocol.specs.lines.ReplyLines.{answer_line, field_text}
@@ -31,7 +31,7 @@ parts_text s None (Some a) = one_text s a.key.now a.number
 parts_text s (Some a) None = one_text s a.key.now a.number
 parts_text s (Some a) (Some b) = two_text s a.key.now a.number b.key.now b.number
 
--- it is the line of the answer, for a number that is known to be the session's
+-- the line of the answer, if the number is the session's
 pub counts_text : (n s : ℕ) (c : Counts) → n ≡ s → counts_row n c.first c.second ≡ answer_line s (counts_view c)
 counts_text n s c h = ap (λ (k : ℕ). counts_row k c.first c.second) h ∙ parts_text s c.first c.second
 

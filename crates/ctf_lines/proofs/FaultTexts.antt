@@ -15,7 +15,7 @@ fault_text s f =
     ap (λ (t : List ℕ). codes "{\"fault\":{\"code\":" ++ (decimal f.code ++ (codes ",\"name\":\"" ++ t))) (sym (append_assoc name (codes "\"") behind))
     ∙ ap (λ (t : List ℕ). codes "{\"fault\":{" ++ t) (three_before (key_text (codes "code") ++ decimal f.code) (key_text (codes "name") ++ quote name) (key_text (codes "place") ++ decimal f.place) end)
 
--- the same of what is known to be its parts
+-- the same for known parts
 pub row_text : (s code : ℕ) (name : List ℕ) (session : ℕ) (f : Fault) → s ≡ session → code ≡ f.code → name ≡ name_of_fault f.code → fault_row s code name f.place ≡ fault_line session f
 row_text s code name session f h i k =
     ap (λ (n : ℕ). fault_row n code name f.place) h
@@ -26,7 +26,7 @@ row_text s code name session f h i k =
 pub row_short : (row : List ℕ) (session : ℕ) (f : Fault) → row ≡ fault_line session f → session < 2 ^ 32 → f.code < 2 ^ 16 → f.place < 2 ^ 64 → length row ≤ 96
 row_short row session f same h i k = let all = ap length same in let short = fault_short session f h i k in omega (arith, all, short)
 
--- the pieces of one, one behind the other
+-- the pieces of a row in sequence
 pub pieces : (front code mid name then place last end : List ℕ) → (front ++ (code ++ mid)) ++ (name ++ ((then ++ (place ++ last)) ++ end)) ≡ front ++ (code ++ (mid ++ (name ++ (then ++ (place ++ (last ++ end))))))
 pieces front code mid name then place last end =
     append_assoc front (code ++ mid) (name ++ ((then ++ (place ++ last)) ++ end))

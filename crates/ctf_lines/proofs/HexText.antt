@@ -1,4 +1,4 @@
--- How long the digits of bytes are.
+-- The length of the hex digits of bytes.
 use Rattle.std.proofs.Common.{◌≡◌, ℕ, ◌+◌, List, [], ◌∷◌, length, refl, arith}
 use Rattle.ctf_protocol.specs.lines.Text.{hex_of}
 

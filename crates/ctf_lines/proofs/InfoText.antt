@@ -1,4 +1,4 @@
--- The fields of a dictionary as a whole, put on piece by piece.
+-- The fields about a whole dictionary, appended piece by piece.
 use Rattle.std.proofs.Common.{◌≡◌, ℕ, List, [], ◌∷◌, ◌++◌, codes, append_assoc}
 use Rattle.ctf_model.specs.dumps.Texts.{with_commas}
 

@@ -1,4 +1,4 @@
--- Rows of lists, and how long they are.
+-- Rows of lists and their lengths.
 use Rattle.std.proofs.Common.{◌≡◌, ℕ, ◌+◌, ◌<◌, ◌≤◌, ◌^◌, List, [], ◌∷◌, ◌++◌, length, length-append, append_assoc, codes, decimal, sym, ap, ◌∙◌, arith}
 use Rattle.std.specs.Prelude.{Vec}
 use Rattle.std.specs.List.{concat}
@@ -29,7 +29,7 @@ member_short name offset number fits small =
     let all = length-append name (codes "\",\"offset\":" ++ (decimal offset ++ (codes ",\"type\":" ++ (decimal number ++ codes "}")))) in
     omega (arith, first, second, end, behind, all)
 
--- a member whose name stands as a text
+-- a member whose name needs no escapes
 row_text : (text : List ℕ) (offset number : ℕ) → member_row text offset number ≡ concat (codes "{" ∷ with_commas ((key_text (codes "name") ++ quote text) ∷ (key_text (codes "offset") ++ decimal offset) ∷ (key_text (codes "type") ++ decimal number) ∷ []) ∷ codes "}" ∷ [])
 row_text text offset number =
     let behind = codes ",\"offset\":" ++ (decimal offset ++ (codes ",\"type\":" ++ (decimal number ++ codes "}"))) in
@@ -39,7 +39,7 @@ row_text text offset number =
 pub member_text : (m : Member) → text_of m.name ≡ m.name → member_row m.name m.offset m.tnum ≡ item_text (member_item m)
 member_text m same = ap (λ (t : List ℕ). member_row t m.offset m.tnum) (sym same) ∙ row_text (text_of m.name) m.offset m.tnum
 
--- the pieces of a member, one behind the other
+-- the pieces of a member in sequence
 pub pieces : (front name back digits more last : List ℕ) → (front ++ (name ++ back)) ++ ((digits ++ more) ++ last) ≡ front ++ (name ++ (back ++ (digits ++ (more ++ last))))
 pieces front name back digits more last =
     append_assoc front (name ++ back) ((digits ++ more) ++ last)

@@ -1,4 +1,4 @@
--- The line that says out of memory, piece by piece.
+-- The line that reports out of memory, piece by piece.
 use Rattle.std.proofs.Common.{◌≡◌, ℕ, ◌+◌, ◌-◌, ◌≤◌, List, ◌++◌, drop, codes, decimal, refl, sym, ap, ◌∙◌, arith}
 use Rattle.std.specs.Fmt.{digits}
 use Rattle.std.proofs.lemmas.List.{drop-drop}
@@ -10,7 +10,7 @@ pub memory_text : (s : ℕ) → (codes "{\"fault\":{\"code\":0,\"name\":\"Memory
 unfolding name_of_fault digits
 memory_text s = refl
 
--- what is the same from a place on is the same from a later one on
+-- texts that agree from one offset on agree from a later one on
 pub same_later : (m n : ℕ) (xs ys : List ℕ) → m ≤ n → drop m xs ≡ drop m ys → drop n xs ≡ drop n ys
 same_later m n xs ys h e =
     let k : n ≡ m + (n - m) = omega arith in

@@ -15,7 +15,7 @@ or_right : (b c : Bool) → c ≡ true → (b || c) ≡ true
 or_right true c e = refl
 or_right false c e = e
 
--- for the word of what is kept of a line, which is that of the whole line
+-- the word of a line's stored parts is that of the whole line
 pub for_word : (b : Bool) (kept whole : Data) (found : Option Data) → found ≡ Some whole → word_asked kept ≡ word_asked whole
     → (result : Result (ℕ × Request) (ℕ × Fault)) → IfErr result (λ refusal. refusal.1.code ≡ MEMORY → word_keeps_text (word_asked kept) ≡ true)
     → IfErr result (λ refusal. refusal.1.code ≡ MEMORY → (b || value_keeps_text found) ≡ true)

@@ -1,4 +1,4 @@
--- From a line to what it asks, where a number is given to one that names none.
+-- The request of a line, if a number is given for one without.
 use Rattle.std.proofs.Common.{◌≡◌, ℕ, ◌≤◌, ◌<◌, List, length, Bool, true, false, Option, Some, None, Err, refl, ◌∙◌, ap, sym}
 use Rattle.std.specs.Str.{IsUtf8, is_utf8}
 use Rattle.std.specs.Prelude.{codes, is_none, nat_lt, if◌then◌else◌}
@@ -13,7 +13,7 @@ use Rattle.ctf_lines.specs.Numbered.{ask_or, value_asked_or}
 use Rattle.ctf_protocol.specs.lines.Ask.{ask, asked_by, json, value_asked}
 use Rattle.ctf_protocol.specs.lines.LineFields.{◌▹◌, in_range}
 
--- ---- where no number is given, a line asks what it asks
+-- ---- without a given number, a line has the request of `ask`
 
 own_number : (o : Option Data) → (if is_none o then None else (((o ▹ as_number) ▹ as_u64) ▹ in_range 1 4294967295)) ≡ (((o ▹ as_number) ▹ as_u64) ▹ in_range 1 4294967295)
 own_number None = refl
@@ -31,7 +31,7 @@ ask_or-none line = by_length (nat_lt 1048576 (length line))
     by_length true = refl
     by_length false = value_asked_or-none (json line)
 
--- ---- as `ask` has it
+-- ---- as in `ask`
 
 pub ask_or-long : (given : Option ℕ) (line : List ℕ) → 1048576 < length line → ask_or given line ≡ Err (0, placeless LONG_LINE)
 unfolding ask_or

@@ -1,4 +1,4 @@
--- Objects of two and three parts, put on part by part.
+-- Objects of two and three parts, appended part by part.
 use Rattle.std.proofs.Common.{◌≡◌, ℕ, List, [], ◌∷◌, ◌++◌, append_assoc, sym, ap, ◌∙◌}
 use Rattle.ctf_model.specs.dumps.Texts.{with_commas}
 

@@ -1,4 +1,4 @@
--- A line that is written in one pass.
+-- A line written in one pass.
 use Rattle.std.proofs.Common.{◌≡◌, ℕ, ◌≤◌, ◌++◌, List, length, refl, sym, ap, ◌∙◌, arith}
 use Rattle.std.specs.Prelude.{Vec, Ok}
 use Rattle.std.specs.declared.alloc.Global.{Global}
@@ -7,7 +7,7 @@ use Rattle.ctf_protocol.specs.lines.ReplyLines.{answer_line, fitting_line}
 use Rattle.ctf_lines.proofs.Short.{fitting_fits}
 use Rattle.ctf_lines.specs.Appending.{Appended, Writes}
 
--- it is what is to be written
+-- it is the line to be written
 pub passed : {E : Type 0} (old new : Vec ℕ Global) (s : ℕ) (answer : List Field) → Appended old new (answer_line s answer) → length (answer_line s answer) ≤ 131072 → Writes {E = E} old (fitting_line s (answer_line s answer)) (Ok tt) new
 passed {E = E} old new s answer added short =
     let line = answer_line s answer in
@@ -19,7 +19,7 @@ passed {E = E} old new s answer added short =
       room = λ _. (refl, added.capacity);
     }
 
--- any text that stands there is written
+-- any appended text is written
 pub put : {E : Type 0} (old new : Vec ℕ Global) (text : List ℕ) → Appended old new text → Writes {E = E} old text (Ok tt) new
 put old new text added = record {
   ok = added.items;

@@ -10,7 +10,7 @@ use Rattle.ctf_lines.proofs.Walks.{walked}
 one : (b : ℕ) → is_plain b ≡ true → text_of_byte b ≡ b ∷ []
 one b plain = rw plain refl
 
--- one plain byte more
+-- one more plain byte
 pub plain-next : (bytes : List ℕ) (k : ℕ) → k < length bytes → is_plain (get_or bytes k 0) ≡ true → text_of (take k bytes) ≡ take k bytes → text_of (take (k + 1) bytes) ≡ take (k + 1) bytes
 plain-next bytes k h plain same =
     sym (walked text_of_byte bytes k h)
@@ -49,7 +49,7 @@ spells b bytes false e same later =
     let lens = ap length same in
     absurd (omega (arith, all, here, more, lens))
 
--- a text that stands as it is spells itself
+-- a text that needs no escapes spells itself
 pub plain_spelled : (bytes : List ℕ) → text_of bytes ≡ bytes → bytes_spelled_by bytes ≡ Some bytes
 unfolding bytes_spelled_by
 plain_spelled [] same = refl

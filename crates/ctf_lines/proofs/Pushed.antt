@@ -1,4 +1,4 @@
--- A name that is put behind others, if it is short enough.
+-- A name appended to others, if it is short enough.
 use Rattle.std.proofs.Common.{◌≡◌, ◌≤◌, ◌++◌, ℕ, zero, suc, List, [], ◌∷◌, All, Bool, true, false, Option, Some, None, nat_le, length, refl, sym, ap, ◌∙◌, subst, arith}
 use Rattle.std.proofs.lemmas.List.Elements.{All-append}
 use Rattle.std.specs.Prelude.{⊤, option_and_then, if◌then◌else◌}
@@ -22,7 +22,7 @@ abbrev name_or : Option (List ℕ) → List ℕ
 name_or None = []
 name_or (Some name) = name
 
--- the name that was put behind others
+-- the name that was appended
 abbrev pub Pushed : List (List ℕ) → List (List ℕ) → Option (List ℕ) → Type 0
 Pushed old new o = (name : List ℕ) × (Some name ≡ option_and_then not_too_many o) × (new ≡ old ++ name ∷ []) × (length name ≤ 1048576)
 
@@ -56,7 +56,7 @@ short_spelled text short plain =
     let within : nat_le (length text) 1048576 ≡ true = grind (arith, short) in
     sym (ap (option_and_then not_too_many) (plain_spelled text plain) ∙ ap (λ b. if b then Some text else None) within)
 
--- a name that was spelled is short
+-- a decoded name is short
 pub spelled_short : (name : List ℕ) (o : Option (List ℕ)) → Some name ≡ option_and_then not_too_many o → length name ≤ 1048576
 spelled_short name None is = absurd (subst IsNone (sym is) tt)
 spelled_short name (Some bytes) is = by_length (nat_le (length bytes) 1048576) refl is

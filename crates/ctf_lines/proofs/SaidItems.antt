@@ -1,4 +1,4 @@
--- What the items of a list say, one more at a time.
+-- The values of a list's items, one more at a time.
 use Rattle.std.proofs.Common.{◌≡◌, ℕ, ◌+◌, ◌<◌, ◌≤◌, List, [], ◌∷◌, ◌++◌, Option, Some, None, length, drop, get_or, append_assoc, append-nil, refl, sym, ap, ◌∙◌}
 use Rattle.std.specs.Prelude.{option_and_then}
 use Rattle.std.specs.Option.{option_map}
@@ -7,11 +7,11 @@ use Rattle.serde_json.specs.Data.{Data, Items, no_items}
 use Rattle.ctf_json.specs.Values.{front}
 use Rattle.ctf_protocol.specs.lines.LineFields.{each_read}
 
--- items in front of those that others say
+-- some items before the others
 abbrev pub behind : {A : Type 0} → List A → Option (List A) → Option (List A)
 behind first more = option_map (λ others. first ++ others) more
 
--- one in front of others, if all can be read
+-- one item before the others, if all can be read
 abbrev and_others : {A : Type 0} → Option A → Option (List A) → Option (List A)
 and_others one more = option_and_then (λ first. option_map (λ others. first ∷ others) more) one
 

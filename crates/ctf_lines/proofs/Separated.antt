@@ -14,12 +14,12 @@ separated-push (x ∷ xs) y =
     let some : nat_lt 0 (length (x ∷ xs)) ≡ true = lt-ltb 0 (length (x ∷ xs)) (omega arith) in
     rw some (ap (λ (t : List ℕ). x ++ t) (flat_map-append (λ (t : List ℕ). 44 ∷ t) xs (y ∷ []) ∙ ap (λ (t : List ℕ). after_commas xs ++ t) (append-nil (44 ∷ y))) ∙ sym (append_assoc x (after_commas xs) (44 ∷ y)))
 
--- some texts, and what is left of more
+-- some texts, and the rest of more
 split : (xs ys : List (List ℕ)) → (rest : List ℕ) × (with_commas xs ++ rest ≡ with_commas (xs ++ ys))
 split [] ys = (with_commas ys, refl)
 split (x ∷ xs) ys = (after_commas ys, append_assoc x (after_commas xs) (after_commas ys) ∙ ap (λ (t : List ℕ). x ++ t) (sym (flat_map-append (λ (t : List ℕ). 44 ∷ t) xs ys)))
 
--- the first ones
+-- the first `k` texts
 abbrev pub first : List (List ℕ) → ℕ → List ℕ
 first texts k = with_commas (take k texts)
 
@@ -30,7 +30,7 @@ first-next texts k below =
     ∙ separated-push (take k texts) (get_or texts k [])
     ∙ ap (λ (n : ℕ). first texts k ++ (comma_before n ++ get_or texts k [])) len
 
--- what they leave out
+-- the rest
 pub first-rest : (texts : List (List ℕ)) (k : ℕ) → (rest : List ℕ) × (first texts k ++ rest ≡ with_commas texts)
 first-rest texts k =
     let parts = split (take k texts) (drop k texts) in

@@ -1,4 +1,4 @@
--- How long the parts of a line are, and which lines are short.
+-- Lengths of the parts of a line, and which lines are short.
 use Rattle.std.proofs.Common.{◌≡◌, ℕ, ◌+◌, ◌<◌, ◌≤◌, ◌^◌, Bool, true, false, eqb, leb, List, [], ◌∷◌, ◌++◌, map, Option, Some, None, length, length-append, codes, decimal, refl, ap, arith, lit<, lit≤}
 use Rattle.std.specs.Prelude.{◌&&◌, if◌then◌else◌}
 use Rattle.std.specs.List.{list_all, concat}
@@ -28,7 +28,7 @@ both : (a b : Bool) → (a && b) ≡ true → (a ≡ true) × (b ≡ true)
 both true b h = (refl, h)
 both false b h = absurd cc
 
--- a name of a table whose names are short
+-- a name in a table of short names
 beside_short : (code : ℕ) (rows : List (ℕ × List ℕ)) → list_all (λ row. leb (length row.1) 13) rows ≡ true → length (name_beside code rows) ≤ 13
 beside_short code [] h = lit≤ tt
 beside_short code (row ∷ rows) h =
@@ -81,18 +81,18 @@ length-word key w =
     let back = length-concat (codes "\"" ∷ w ∷ codes "\"" ∷ []) in
     omega (arith, all, front, back)
 
--- a field of a change's answer
+-- a field in the answer to a change
 length-count : (a : Count) → length (field_text (says a.key.now (answers.number a.number))) ≤ 29
 length-count a = let one = length-number a.key.now a.number a.fits in let short = a.short in omega (arith, one, short)
 
--- and all of them
+-- all such fields
 counts_total : (a b : Option Count) → total (map field_text (count_view a ++ count_view b)) + length (map field_text (count_view a ++ count_view b)) ≤ 60
 counts_total None None = lit≤ tt
 counts_total None (Some b) = let one = length-count b in omega (arith, one)
 counts_total (Some a) None = let one = length-count a in omega (arith, one)
 counts_total (Some a) (Some b) = let one = length-count a in let other = length-count b in omega (arith, one, other)
 
--- a refusal's line
+-- the line of a refusal
 pub fault_short : (s : ℕ) (f : Fault) → s < 2 ^ 32 → f.code < 2 ^ 16 → f.place < 2 ^ 64 → length (fault_line s f) ≤ 96
 fault_short s f h i k =
     let name = fault_name_short f.code in
@@ -107,12 +107,12 @@ fault_short s f h i k =
     let all = length-concat (codes "{\"" ∷ codes "fault" ∷ codes "\":{" ∷ with_commas (map field_text (fault_fields f)) ∷ codes "},\"s\":" ∷ decimal s ∷ codes "}\n" ∷ []) in
     omega (arith, a, e, g, name, code, word, in_quotes, place, fields, all)
 
--- a line that fits stands as it is
+-- a line within the limit is unchanged
 pub fitting_fits : (s : ℕ) (line : List ℕ) → length line ≤ 4194305 → fitting_line s line ≡ line
 unfolding fitting_line
 fitting_fits s line h = rw (le-leb (length line) 4194305 h) refl
 
--- and any other is refused
+-- any other is refused
 pub fitting_long : (s : ℕ) (line : List ℕ) → 4194305 < length line → fitting_line s line ≡ fault_line s (record { code = LONG_REPLY; place = 0 })
 unfolding fitting_line
 fitting_long s line h = rw (lt-leb (length line) 4194305 h) refl
@@ -120,7 +120,7 @@ fitting_long s line h = rw (lt-leb (length line) 4194305 h) refl
 pub fitting_short : (s : ℕ) (line : List ℕ) → length line ≤ 96 → length (fitting_line s line) ≤ 96
 fitting_short s line h = let same = ap length (fitting_fits s line (omega (arith, h))) in omega (arith, same, h)
 
--- a change's line
+-- the line of the answer to a change
 pub counts_line_short : (s : ℕ) (c : Counts) → s < 2 ^ 32 → length (answer_line s (counts_view c)) ≤ 96
 counts_line_short s c h =
     let line = length-object (codes "ok") s (counts_view c) h in

@@ -1,30 +1,29 @@
--- How the parts of a line are measured and appended. Source: ours.
+-- Measuring and appending the parts of a line. Source: ours.
 use Rattle.std.specs.Prelude.{◌≡◌, ℕ, ◌+◌, ◌≤◌, ◌++◌, min, List, length, Vec, vec_len, vec_capacity, Result, OnOk, OnErr, IsOk}
 use Rattle.std.specs.declared.alloc.Global.{Global}
 
--- a length and that of a text, as far as the line of a reply may go:
--- one that is longer counts as one byte too many
+-- the sum of a length and a text's length, capped at one byte more than the longest reply line
 abbrev pub and_text : ℕ → List ℕ → ℕ
 and_text len text = min (len + length text) 4194306
 
--- there is room for a text
+-- the buffer has room for the text
 abbrev pub HasRoom : Vec ℕ Global → List ℕ → Type 0
 HasRoom out text = vec_len out + length text ≤ vec_capacity out
 
--- a text was appended, and no memory was taken
+-- the text was appended without taking memory
 pub record Appended (old new : Vec ℕ Global) (text : List ℕ) : Type 0 where
   pub items : new.items ≡ old.items ++ text
   pub len : vec_len new ≡ vec_len old + length text
   pub capacity : vec_capacity new ≡ vec_capacity old
 
--- nothing was appended
+-- the buffer is unchanged
 pub record IsAsBefore (old new : Vec ℕ Global) : Type 0 where
   pub items : new.items ≡ old.items
   pub len : vec_len new ≡ vec_len old
   pub capacity : vec_capacity new ≡ vec_capacity old
 
--- a text was appended, or memory was refused and all is as before;
--- where there is room, no memory is taken
+-- the text was appended, or memory ran out and the content is unchanged; if there is room, no
+-- memory is taken
 pub record Writes {E : Type 0} (old : Vec ℕ Global) (text : List ℕ) (result : Result (Unit {0}) E)
     (new : Vec ℕ Global) : Type 0 where
   pub ok : OnOk result (new.items ≡ old.items ++ text)

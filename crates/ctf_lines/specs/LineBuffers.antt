@@ -1,9 +1,10 @@
--- What is put on a buffer: room behind a list, of which no more than that is used.
+-- What is appended to a buffer: the spare room of a list, which never grows.
 use Rattle.std.proofs.Common.{◌≡◌, ℕ, ◌+◌, ◌++◌, false, List, [], length, length-append, append_assoc, append-nil, refl, sym, ap, ◌∙◌, arith}
 use Rattle.std.specs.Prelude.{vec_capacity, vec_len}
 use Rattle.ctf_lines.specs.declared.line_buffers.LineBuffer.{LineBuffer}
 
--- a text was put on, where the buffer isn't full then; it never was, and the list was not moved
+-- the text was appended unless the buffer is full afterwards; a full buffer stays full, and the
+-- list was not moved
 pub record TakesIn (old : LineBuffer) (text : List ℕ) (new : LineBuffer) : Type 0 where
   pub capacity : vec_capacity new.out ≡ vec_capacity old.out
   pub end : new.end ≡ old.end

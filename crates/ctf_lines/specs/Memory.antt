@@ -1,4 +1,4 @@
--- For which lines memory may be taken, to read them. Source: ours.
+-- Lines whose reading may take memory. Source: ours.
 use Rattle.std.specs.Prelude.{ℕ, List, Bool, true, false, ◌||◌, Option, None, Some}
 use Rattle.ctf_json.specs.Memory.{takes_memory as spells_or_lists}
 use Rattle.ctf_protocol.specs.declared.words.Word.{Word}
@@ -7,7 +7,7 @@ use Rattle.ctf_protocol.specs.lines.Ask.{word_asked}
 use Rattle.serde_json.specs.Data.{Data}
 use Rattle.serde_json.specs.Read.{read}
 
--- a request with this word keeps a text of its line
+-- the request with this word stores a text from its line
 abbrev pub keeps_text : Word → Bool
 keeps_text word.Part = true
 keeps_text word.Check = false
@@ -41,11 +41,11 @@ abbrev pub word_keeps_text : Option Word → Bool
 word_keeps_text None = false
 word_keeps_text (Some w) = keeps_text w
 
--- the same of the value that a line is
+-- the same for the value of a line
 abbrev pub value_keeps_text : Option Data → Bool
 value_keeps_text None = false
 value_keeps_text (Some value) = word_keeps_text (word_asked value)
 
--- memory may be taken to read a line: it has a backslash or a list, or asks what keeps a text
+-- reading a line may take memory if it has a backslash or a list, or its request stores a text
 abbrev pub takes_memory : List ℕ → Bool
 takes_memory line = spells_or_lists line || value_keeps_text (read line)

@@ -1,4 +1,5 @@
--- What a line of a session asks, where one that names no number has the session's. Source: ours.
+-- The request in a line of a session; a line without a session number gets the session's. Source:
+-- ours.
 use Rattle.std.specs.Prelude.{ℕ, List, [], ◌∷◌, length, Bool, false, ◌==◌, ◌||◌, is_none, Option, None, Some, Result, Err, nat_lt, codes, if◌then◌else◌}
 use Rattle.serde_json.specs.Data.{Data}
 use Rattle.serde_json.specs.Find.{get}
@@ -12,24 +13,24 @@ use Rattle.ctf_protocol.specs.declared.requests.Request.{Request}
 
 -- ---- objects
 
--- a space, a tab, or what ends a line
+-- a space, a tab, or a line's end
 abbrev pub is_blank : ℕ → Bool
 is_blank c = (((c == 32) || (c == 9)) || (c == 10)) || (c == 13)
 
--- a text begins with a brace, behind blanks: if it is JSON, it is an object
+-- the text begins with a brace, after blanks; if it is JSON, it is an object
 abbrev pub begins_object : List ℕ → Bool
 begins_object [] = false
 begins_object (c ∷ cs) = if is_blank c then begins_object cs else (c == 123)
 
 -- ---- numbers
 
--- the number of a line: its own, or that which is given where it names none
+-- the session number in the line, or the given one
 abbrev pub number_or : Option ℕ → Data → Option ℕ
 number_or given line =
     if is_none (get (codes "s") line) then given
     else number_in 1 4294967295 (codes "s") line
 
--- ---- lines, as `ask` has them
+-- ---- lines, as in `ask`
 
 abbrev pub value_asked_or : Option ℕ → Option Data → Result (ℕ × Request) (ℕ × Fault)
 value_asked_or given None = Err (0, placeless NOT_JSON)
@@ -40,10 +41,10 @@ ask_or given line =
     if nat_lt longest_line (length line) then Err (0, placeless LONG_LINE)
     else value_asked_or given (json line)
 
--- the number that is given to a line of a session: none where that is no object
+-- the number given to a line of a session; none if the line is no object
 abbrev pub given_to : ℕ → List ℕ → Option ℕ
 given_to session line = if begins_object line then Some session else None
 
--- what a line of a session asks, under its own number or the session's; or the refusal
+-- the request in a line of a session, with the line's own number or the session's; or the refusal
 abbrev pub ask_as : ℕ → List ℕ → Result (ℕ × Request) (ℕ × Fault)
 ask_as session line = ask_or (given_to session line) line

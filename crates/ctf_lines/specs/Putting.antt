@@ -1,4 +1,4 @@
--- Texts that are put on, one behind the other.
+-- Texts that are appended one after another.
 use Rattle.std.proofs.Common.{◌≡◌, ℕ, ◌≤◌, ◌++◌, List, [], length-append, append_assoc, append-nil, refl, sym, ap, ◌∙◌, arith}
 use Rattle.std.specs.Prelude.{Vec}
 use Rattle.std.specs.declared.alloc.Global.{Global}

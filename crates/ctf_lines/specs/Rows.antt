@@ -1,8 +1,8 @@
--- The rows of lists, and the lines of refusals and of what changes are answered.
+-- The rows of lists, and the lines of refusals and of answers to changes.
 use Rattle.std.specs.Prelude.{ℕ, ◌++◌, List, Option, None, Some, codes, decimal}
 use Rattle.ctf_answers.specs.declared.count.Count.{Count}
 
--- a member whose name stands as it is
+-- a member whose name needs no escapes
 abbrev pub member_row : List ℕ → ℕ → ℕ → List ℕ
 member_row name offset number =
     codes "{\"name\":\"" ++ (name ++ (codes "\",\"offset\":" ++ (decimal offset
@@ -15,11 +15,11 @@ fault_row s code name place =
     ++ (name ++ (codes "\",\"place\":" ++ (decimal place
     ++ (codes "},\"s\":" ++ (decimal s ++ codes "}\n")))))))
 
--- a number under its key
+-- a number with its key
 abbrev pub count_row : List ℕ → ℕ → List ℕ
 count_row key n = codes "\"" ++ (key ++ (codes "\":" ++ decimal n))
 
--- the line of a session that a change is done, and those of one and of two numbers
+-- the line for a completed change, and those with one and with two numbers
 abbrev pub done_row : ℕ → List ℕ
 done_row s = codes "{\"ok\":{},\"s\":" ++ (decimal s ++ codes "}\n")
 

@@ -1,6 +1,6 @@
 //! Reads additions to a draft.
 ghost use Rattle.std.specs.Prelude.{◌≡◌, ◌≢◌, IfOk, Some, codes, option_and_then, option_map};
-ghost use Rattle.ctf_json.specs.Values.{line_said as view, number_said, numbers_said};
+ghost use Rattle.ctf_json.specs.Values.{line_data as view, number_data, numbers_data};
 ghost use Rattle.ctf_protocol.specs.lines.LineFields.{text_in, type_under as type_asked_under};
 ghost use Rattle.ctf_protocol.specs.lines.AskAdditions.{addition_asked, addition_with as addition_asked_with, declared_named, kind_with, new_array_asked, new_enumerator_asked, new_function_asked, new_label_asked, new_member_asked, new_type_asked, offset_asked, root_asked, scalar_asked, size_or as size_or_asked, type_listed as type_listed_by, types_listed as types_listed_by, value_asked_for};
 ghost use Rattle.ctf_protocol.specs.declared.addables.Addable.TheVariants as adds;
@@ -63,12 +63,12 @@ fn array(line: &Line<'_>) -> Option<NewArray>
 /// A 16-bit number is that of a type.
 #[inline(always)]
 fn is_listed(number: TypeNum)
-    ensures { Some number ≡ type_listed_by (number_said number) }
+    ensures { Some number ≡ type_listed_by (number_data number) }
 {}
 
 /// 16-bit numbers are those of types. This compiles to nothing.
 fn are_listed(numbers: &[TypeNum])
-    ensures { types_listed_by (numbers_said numbers.now) ≡ Some numbers.now }
+    ensures { types_listed_by (numbers_data numbers.now) ≡ Some numbers.now }
 {
     for number in numbers {
         is_listed(*number);
@@ -77,7 +77,7 @@ fn are_listed(numbers: &[TypeNum])
 
 /// The types with these numbers.
 fn types_listed(numbers: Vec<TypeNum>) -> TypeNums
-    ensures { types_listed_by (numbers_said numbers.items) ≡ Some result }
+    ensures { types_listed_by (numbers_data numbers.items) ≡ Some result }
 {
     are_listed(numbers.as_slice());
     TypeNums::new(numbers)

@@ -1,6 +1,6 @@
 //! Reads requests on drafts.
 ghost use Rattle.std.specs.Prelude.{◌≡◌, IfOk};
-ghost use Rattle.ctf_json.specs.Values.{line_said as view};
+ghost use Rattle.ctf_json.specs.Values.{line_data as view};
 ghost use Rattle.ctf_protocol.specs.lines.Ask.{add_asked, create_asked, discard_asked, parent_asked, update_asked};
 ghost use Rattle.ctf_protocol.specs.lines.LineFields.{name_or_empty as name_or_empty_asked};
 

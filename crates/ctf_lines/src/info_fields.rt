@@ -1,6 +1,6 @@
 //! The fields of the answer of `info`, written with their constant keys.
 ghost use Rattle.std.specs.Prelude.{◌∷◌, codes, map};
-ghost use Rattle.ctf_answers.specs.Told.{info_view};
+ghost use Rattle.ctf_answers.specs.TypeFields.{info_view};
 ghost use Rattle.ctf_model.specs.dumps.Texts.{with_commas};
 ghost use Rattle.ctf_protocol.specs.answers.Answers.{says, truth};
 ghost use Rattle.ctf_protocol.specs.lines.ReplyLines.{field_text};

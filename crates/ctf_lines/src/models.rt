@@ -1,6 +1,6 @@
 //! Reads the data model of a request.
 ghost use Rattle.std.specs.Prelude.{◌≡◌};
-ghost use Rattle.ctf_json.specs.Values.{line_said as view};
+ghost use Rattle.ctf_json.specs.Values.{line_data as view};
 ghost use Rattle.ctf_protocol.specs.lines.Ask.{model_asked as model_said};
 
 use ctf_json::{Line, as_str, get};

@@ -3,7 +3,7 @@ ghost use Rattle.std.specs.Prelude.{◌≡◌, ◌≢◌, ◌≤◌, ◌<◌, If
 ghost use Rattle.serde_json.specs.Find.{as_number, as_u64, get};
 ghost use Rattle.serde_json.specs.Read.{read as read_json};
 ghost use Rattle.ctf_joined.specs.Joined.{texts};
-ghost use Rattle.ctf_json.specs.Values.{line_said as view, value_said as value_view};
+ghost use Rattle.ctf_json.specs.Values.{line_data as view, value_data as value_view};
 ghost use Rattle.std.specs.Option.{ForSome};
 ghost use Rattle.ctf_lines.specs.Memory.{keeps_text, takes_memory, word_keeps_text};
 ghost use Rattle.ctf_lines.specs.Numbered.{ask_as, ask_or, begins_object as starts_object, given_to as number_given, is_blank as blank, number_or, value_asked_or};

@@ -9,7 +9,7 @@ use crate::appending::{append_bytes, append_number, between, with_number};
 use ctf_answers::{Count, Counts};
 use std::mem::replace;
 
-/// A list with a number under its key appended.
+/// Appends a number with its key.
 #[inline(always)]
 fn with_count(out: Vec<u8>, key: &[u8], number: u64) -> Vec<u8>
     requires { HasRoom out (count_row key.now number) }
@@ -19,7 +19,7 @@ fn with_count(out: Vec<u8>, key: &[u8], number: u64) -> Vec<u8>
     with_number(out, number)
 }
 
-/// A list with the line of an answer without fields appended.
+/// Appends the line of an answer that has no fields.
 #[inline(always)]
 fn with_done(out: Vec<u8>, session: u64) -> Vec<u8>
     requires { HasRoom out (done_row session) }
@@ -28,7 +28,7 @@ fn with_done(out: Vec<u8>, session: u64) -> Vec<u8>
     append_number(out, b"{\"ok\":{},\"s\":", session, b"}\n")
 }
 
-/// A list with the line of a number appended.
+/// Appends the line of an answer with one number.
 #[inline(always)]
 fn with_one(out: Vec<u8>, session: u64, a: Count) -> Vec<u8>
     requires { HasRoom out (one_row session a.key.now a.number) }
@@ -39,7 +39,7 @@ fn with_one(out: Vec<u8>, session: u64, a: Count) -> Vec<u8>
     append_number(out, b"},\"s\":", session, b"}\n")
 }
 
-/// A list with the line of two numbers appended.
+/// Appends the line of an answer with two numbers.
 #[inline(always)]
 fn with_two(out: Vec<u8>, session: u64, a: Count, b: Count) -> Vec<u8>
     requires { HasRoom out (two_row session a.key.now a.number b.key.now b.number) }
@@ -52,7 +52,7 @@ fn with_two(out: Vec<u8>, session: u64, a: Count, b: Count) -> Vec<u8>
     append_number(out, b"},\"s\":", session, b"}\n")
 }
 
-/// A list with the line of numbers appended.
+/// Appends the line of an answer with up to two numbers.
 #[inline(always)]
 fn with_counts(out: Vec<u8>, session: u64, counts: Counts) -> Vec<u8>
     requires { HasRoom out (counts_row session counts.first counts.second) }

@@ -1,7 +1,7 @@
 //! Bytes that texts of a line spell: by hexadecimal digits, or as a name with its escapes.
 ghost use Rattle.std.specs.Prelude.{◌≡◌, ◌<◌, ◌≤◌, ◌++◌, [], ◌∷◌, All, IfOk, IfSome, IsTrue, None, Some, cond, length, option_map, option_and_then};
 ghost use Rattle.ctf_joined.specs.Joined.{texts};
-ghost use Rattle.ctf_json.specs.Values.{texts_said, value_said as view};
+ghost use Rattle.ctf_json.specs.Values.{texts_data, value_data as view};
 ghost use Rattle.ctf_protocol.specs.lines.LineFields.{bytes_spelled, not_too_many, not_too_many_names, name_spelled, names_spelled};
 ghost use Rattle.ctf_protocol.specs.lines.Text.{digit_value as digit_value_of, byte_value as byte_value_of, bytes_spelled_by};
 ghost use Rattle.ctf_lines.specs.Fronts.{IsFront, escape as escape_of};
@@ -191,7 +191,7 @@ fn spells_itself(text: &[u8]) -> bool
 /// Whether all texts are the names that they spell.
 fn spell_themselves(names: &Joined) -> bool
     ensures spelled { IsTrue result
-        → names_spelled (texts_said (texts names.now)) ≡ Some (texts names.now) }
+        → names_spelled (texts_data (texts names.now)) ≡ Some (texts names.now) }
     ensures short { IsTrue result → All (λ name. length name ≤ 1048576) (texts names.now) }
 {
     for place in 0..names.len() {
@@ -205,7 +205,7 @@ fn spell_themselves(names: &Joined) -> bool
 /// The names that texts spell, if each spells one and they are no more than a request may have.
 pub fn names(alloc: Global, spelled: Joined) -> Result<Option<Names>, AllocError>
     ensures { IfOk result (λ names. names
-        ≡ option_and_then not_too_many_names (names_spelled (texts_said (texts spelled)))) }
+        ≡ option_and_then not_too_many_names (names_spelled (texts_data (texts spelled)))) }
 {
     if spell_themselves(&spelled) {
         return Ok(short_list(spelled));
@@ -215,7 +215,7 @@ pub fn names(alloc: Global, spelled: Joined) -> Result<Option<Names>, AllocError
 
 fn escaped_names(alloc: Global, spelled: &Joined) -> Result<Option<Names>, AllocError>
     ensures { IfOk result (λ names. names
-        ≡ option_and_then not_too_many_names (names_spelled (texts_said (texts spelled.now)))) }
+        ≡ option_and_then not_too_many_names (names_spelled (texts_data (texts spelled.now)))) }
 {
     let mut names = Joined::new(alloc);
     let mut bytes = Vec::new(alloc);

@@ -2,7 +2,7 @@
 ghost use Rattle.std.specs.Prelude.{◌≡◌, ◌≤◌, length, MatchBool};
 ghost use Rattle.ctf_protocol.specs.lines.ReplyLines.{answer_line, fault_fields, fault_line, fitting_answer, object_line, reply_line};
 ghost use Rattle.ctf_answers.specs.Counts.{counts_view};
-ghost use Rattle.ctf_answers.specs.Replies.{reply_of, said_to};
+ghost use Rattle.ctf_answers.specs.Replies.{reply_of, change_reply};
 ghost use Rattle.ctf_lines.specs.Appending.{Appended, IsAsBefore, Writes, and_text};
 
 use crate::line_buffers::LineBuffer;
@@ -149,8 +149,8 @@ pub fn write_change(
     session: u32,
     outcome: Result<Counts, Fault>,
 ) -> Result<(), AllocError>
-    ensures written { Writes out.old (reply_line (said_to session outcome)) result out.new }
-    ensures short { length (reply_line (said_to session outcome)) ≤ 96 }
+    ensures written { Writes out.old (reply_line (change_reply session outcome)) result out.new }
+    ensures short { length (reply_line (change_reply session outcome)) ≤ 96 }
 {
     match outcome {
         Ok(counts) => write_counts(out, session, counts),

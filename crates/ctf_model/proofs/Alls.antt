@@ -1,4 +1,4 @@
--- What holds of each item of a list, and tests that no item passes.
+-- Facts that hold of every item of a list, and tests that no item passes.
 use Rattle.std.proofs.Common.{◌≡◌, ℕ, zero, suc, Bool, true, false, List, [], ◌∷◌, ◌++◌, set, Some, refl, subst}
 use Rattle.std.specs.Prelude.{◌||◌, slice_get}
 use Rattle.std.specs.List.{AllByRecursion, list_any}
@@ -7,7 +7,7 @@ pub or_parts : (a b : Bool) → (a || b) ≡ false → (a ≡ false) × (b ≡ f
 or_parts true b h = absurd cc
 or_parts false b h = (refl, h)
 
--- ---- what holds of each
+-- ---- facts of every item
 
 pub all_split : {A : Type 0} (P : A → Type 0) (xs ys : List A) → AllByRecursion P (xs ++ ys) → AllByRecursion P xs × AllByRecursion P ys
 all_split P [] ys h = (tt, h)
@@ -27,7 +27,7 @@ all_got P [] i x h e = absurd cc
 all_got P (y ∷ ys) zero x h e = let same : y ≡ x = cc in subst P same h.0
 all_got P (y ∷ ys) (suc i) x h e = all_got P ys i x h.1 e
 
--- ---- tests that none passes
+-- ---- tests that no item passes
 
 pub none_weaker : {A : Type 0} (p q : A → Bool) → ((n : A) → p n ≡ false → q n ≡ false) → (xs : List A) → list_any p xs ≡ false → list_any q xs ≡ false
 none_weaker p q f [] h = refl
@@ -37,7 +37,7 @@ pub none_joined : {A : Type 0} (p : A → Bool) (xs ys : List A) → list_any p 
 none_joined p [] ys h g = g
 none_joined p (x ∷ xs) ys h g = let both = or_parts (p x) (list_any p xs) h in rw both.0 (none_joined p xs ys both.1 g)
 
--- what holds of each that does not pass
+-- if every item that fails the test has the fact, and none passes, all have it
 pub none_all : {A : Type 0} (p : A → Bool) (P : A → Type 0) → ((n : A) → p n ≡ false → P n) → (xs : List A) → list_any p xs ≡ false → AllByRecursion P xs
 none_all p P f [] h = tt
 none_all p P f (x ∷ xs) h = let both = or_parts (p x) (list_any p xs) h in (f x both.0, none_all p P f xs both.1)

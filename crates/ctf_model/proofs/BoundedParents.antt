@@ -1,4 +1,4 @@
--- A dictionary that breaks no rule and is no child names its own types alone.
+-- A dictionary that breaks no rule and is no child refers only to its own types.
 use Rattle.std.proofs.Common.{◌≡◌, ◌⊎◌, inl, ℕ, ◌+◌, ◌-◌, ◌≤◌, ◌<◌, false, List, [], ◌∷◌, length, None, refl, subst, arith, inr, zero, suc}
 use Rattle.std.specs.Prelude.{Any}
 use Rattle.std.specs.List.{AllByRecursion}
@@ -26,7 +26,7 @@ use Rattle.ctf_model.proofs.SpelledSection.{all_from_each, few_records, no_stray
 
 -- ---- numbers
 
--- a number that is not missing is low
+-- a type number that exists is below 0x8000
 there_low : (count n : ℕ) → count ≤ 32766 → (IsMissing false count n → ⊥) → n < 0x8000
 there_low count zero few there = omega arith
 there_low count (suc m) few there =
@@ -42,7 +42,7 @@ none_of : (P : ℕ → Type 0) (ns : List ℕ) → (Any P ns → ⊥) → AllByR
 none_of P [] h = tt
 none_of P (n ∷ ns) h = (λ p. h (any_here P n ns p), none_of P ns (λ a. h (any_there P n ns a)))
 
--- the types that values lead to are among those that a type names
+-- the types of steps by value are among those that the type refers to
 pub values_named : (P : ℕ → Type 0) (body : Body) → AllByRecursion P (references body) → AllByRecursion P (by_value body)
 values_named P (term.struct size ms) a = a
 values_named P (term.union size ms) a = a
@@ -61,14 +61,14 @@ values_named P term.unknown a = tt
 
 -- ---- records
 
--- no record names a type that is not there
+-- no record refers to a missing type
 no_misnaming : (s : Lists) (n : ℕ) → 14 < n → Keeps s n → (parts : List (List ℕ)) (rest : List ℕ) → IsCut (section s.ctf STypes) parts rest → AllByRecursion (λ part. Misnames (tables s) (is_child (fields s.ctf)) (length parts) part → ⊥) parts
 no_misnaming s n lt keeps parts rest cut =
     all_from_each (λ part. Misnames (tables s) (is_child (fields s.ctf)) (length parts) part → ⊥) parts
     (λ front part back e bad. keeps 14 lt (length front + 1)
     (record { front = front; part = part; back = back; rest = rest; cut = subst (λ (ps : List (List ℕ)). IsCut (section s.ctf STypes) ps rest) e cut }, refl, subst (λ (ps : List (List ℕ)). Misnames (tables s) (is_child (fields s.ctf)) (length ps) part) e bad))
 
--- all that a type names has a low number
+-- all numbers that a type refers to are below 0x8000
 abbrev pub IsLow : Term → Type 0
 IsLow x = AllByRecursion (λ t. t < 0x8000) (references x.body)
 

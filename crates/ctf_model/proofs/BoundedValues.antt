@@ -23,7 +23,7 @@ keeps_all s e = at (first_fault s) e (least_fault s)
     at None e h = h
     at (Some f) e h = absurd cc
 
--- where no type begins a chain of too many such steps, each chain is within the bound
+-- if no chain of such steps is too long, every chain is within the bound
 pub bounded : (steps : Body → List ℕ) (s : Lists) → KeepsEveryRule s → ((p : ℕ) → IsDeepBy steps s p → ⊥) → (i : ℕ) → IsWithin (edges steps (said_by s).child (said_by s).terms) longest_chain i
 unfolding said_by
 bounded steps s keeps none i = at (within (edges steps (said_by s).child (said_by s).terms) longest_chain i) refl

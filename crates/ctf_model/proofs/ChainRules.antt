@@ -19,12 +19,12 @@ use Rattle.ctf_model.proofs.Unique.{one_list}
 
 -- ---- one type
 
--- each passes the test, so the fact holds of each
+-- every item passes the test, so the fact holds of each
 all_from : (test : ℕ → Bool) (P : ℕ → Type 0) → ((j : ℕ) → test j ≡ true → P j) → (xs : List ℕ) → list_all test xs ≡ true → AllByRecursion P xs
 all_from test P h [] e = tt
 all_from test P h (x ∷ xs) e = let both = and_parts (test x) (list_all test xs) e in (h x both.0, all_from test P h xs both.1)
 
--- the fact holds of each, so each passes the test
+-- the fact holds of every item, so each passes the test
 from_all : (test : ℕ → Bool) (P : ℕ → Type 0) → ((j : ℕ) → P j → test j ≡ true) → (xs : List ℕ) → AllByRecursion P xs → list_all test xs ≡ true
 from_all test P h [] a = refl
 from_all test P h (x ∷ xs) a = let first = h x a.0 in rw first (from_all test P h xs a.1)
@@ -39,13 +39,13 @@ unfolding within IsWithin
 true_within es zero i h = rw h refl
 true_within es (suc k) i h = from_all (within es k) (IsWithin es k) (true_within es k) (targets es i) h
 
--- where the fact fails, so does the test
+-- if the fact fails, so does the test
 deep_false : (es : List (List ℕ)) (k i : ℕ) → ¬ IsWithin es k i → within es k i ≡ false
 deep_false es k i deep = false_from_ne_true (within es k i) (λ e. deep (within_true es k i e))
 
 -- ---- the types in order
 
--- a chain of too many steps begins at the type of the place, one of n from type i on
+-- type number `place`, among `n` types from index `i` on, begins a chain that is too long
 abbrev pub DeepFrom : List (List ℕ) → ℕ → ℕ → ℕ → Type 0
 DeepFrom es i n place = (j : ℕ) × (i ≤ j) × (j < i + n) × (¬ IsWithin es longest_chain j) × (place ≡ j + 1)
 
@@ -68,7 +68,7 @@ deep_agrees es i (suc n) = at (within es longest_chain i) refl (first_deep es (i
 
 -- ---- the rules
 
--- where the rules before it are kept, a rule of chains agrees with its fact
+-- if the earlier rules are kept, a rule of chains agrees with its fact
 whole_agrees : (steps : Body → List ℕ) (s : Lists) (n : ℕ) → 14 < n → Keeps s n → Agrees (first_deep (edges_by steps s) 0 (length (types s.ctf))) (IsDeepBy steps s)
 unfolding edges_by
 whole_agrees steps s n lt keeps = agrees_as _ (DeepFrom es 0 (length (types s.ctf))) (IsDeepBy steps s) to from (deep_agrees es 0 (length (types s.ctf)))

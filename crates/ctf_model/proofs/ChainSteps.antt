@@ -15,7 +15,7 @@ use Rattle.ctf_model.proofs.Anywhere.{any_none, any_here, any_there, any_split}
 
 -- ---- steps
 
--- among the own types that some numbers name is this one
+-- own type `j` is among those that the numbers name
 names_own : (child : Bool) (count j : ℕ) (ns : List ℕ) (P : ℕ → Type 0) → j < count → Any (λ n. place child n ≡ Own j) ns → AllByRecursion P (filter_map (own_index child count) ns) → P j
 names_own child count j [] P inside a all = absurd (any_none _ a)
 names_own child count j (n ∷ ns) P inside a all = at (any_split _ n ns a) (names_own child count j ns P inside) (own_index child count n) refl all
@@ -26,7 +26,7 @@ names_own child count j (n ∷ ns) P inside a all = at (any_split _ n ns a) (nam
     at (inr b) later None is all = later b all
     at (inr b) later (Some i) is all = later b all.1
 
--- what an own type is named by
+-- the number of an own type determines its place and index
 own_named : (child : Bool) (count n j : ℕ) → own_index child count n ≡ Some j → (place child n ≡ Own j) × (j < count)
 own_named child count n j e = at (place child n) refl e
   where
@@ -35,11 +35,11 @@ own_named child count n j e = at (place child n) refl e
     at (Own i) is e = let both = cond_some (ltb i count) i j e in (is ∙ ap Own both.1, subst (λ (k : ℕ). k < count) both.1 (ltb-true i count both.0))
     at (Parents i) is e = absurd cc
 
--- an own type that fails a test, and a number that names it
+-- an own type that fails the test, and a number that names it
 abbrev Failing : Bool → ℕ → (ℕ → Bool) → List ℕ → Type 0
 Failing child count test ns = (j : ℕ) × Any (λ n. place child n ≡ Own j) ns × (j < count) × (test j ≡ false)
 
--- where one of the own types that some numbers name fails a test, there is such a one
+-- if one of the named own types fails the test, there is such a type and number
 one_fails : (child : Bool) (count : ℕ) (test : ℕ → Bool) (ns : List ℕ) → list_all test (filter_map (own_index child count) ns) ≡ false → Failing child count test ns
 one_fails child count test [] e = absurd cc
 one_fails child count test (n ∷ ns) e = at (own_index child count n) refl e (one_fails child count test ns)
@@ -55,23 +55,23 @@ one_fails child count test (n ∷ ns) e = at (own_index child count n) refl e (o
     at None is e rest = later (rest e)
     at (Some j) is e rest = first j is (test j) refl e rest
 
--- the own types that a type leads to are those that it names
+-- the own types that a type leads to are those that its numbers name
 pub targets_of : (steps : Body → List ℕ) (child : Bool) (types : List Term) (i : ℕ) (x : Term) → slice_get types i ≡ Some x → targets (edges steps child types) i ≡ filter_map (own_index child (length types)) (steps x.body)
 unfolding edges
 targets_of steps child types i x e =
     get_or-map (λ (y : Term). filter_map (own_index child (length types)) (steps y.body)) types i x [] (slice_get_within types i x e)
     ∙ ap (λ (y : Term). filter_map (own_index child (length types)) (steps y.body)) (get_or_from_slice_get types i x x e)
 
--- past the last type there are none
+-- beyond the last type there are none
 targets_past : (steps : Body → List ℕ) (child : Bool) (types : List Term) (i : ℕ) → length types ≤ i → targets (edges steps child types) i ≡ []
 unfolding edges
 targets_past steps child types i le = get_or-eq_default (map (λ (y : Term). filter_map (own_index child (length types)) (steps y.body)) types) [] {n = i} (omega (arith, length-map types (λ (y : Term). filter_map (own_index child (length types)) (steps y.body))))
 
--- a step leads to one of the own types that are led to
+-- a step leads to one of the type's targets
 steps_to : (steps : Body → List ℕ) (child : Bool) (types : List Term) (i j : ℕ) (P : ℕ → Type 0) → Leads steps child types i j → AllByRecursion P (targets (edges steps child types) i) → P j
 steps_to steps child types i j P l all = names_own child (length types) j (steps l.from.body) P l.inside l.names (subst (AllByRecursion P) (targets_of steps child types i l.from l.stands) all)
 
--- from a type that leads on, a step leads to one that fails
+-- if not all targets pass the test, a step leads to one that fails
 fails_next : (steps : Body → List ℕ) (child : Bool) (types : List Term) (i : ℕ) (test : ℕ → Bool) → list_all test (targets (edges steps child types) i) ≡ false → (j : ℕ) × Leads steps child types i j × (test j ≡ false)
 fails_next steps child types i test e = ⊎_elim (λ h. at h.0 h.2) (λ h. past h.0) (slice_get_cases types i).1
   where
@@ -85,24 +85,24 @@ fails_next steps child types i test e = ⊎_elim (λ h. at h.0 h.2) (λ h. past 
 
 -- ---- chains
 
--- where there is one, not all pass
+-- a non-empty list does not pass the test that is always false
 some_fail : (js : List ℕ) → eqb (length js) 0 ≡ false → list_all (λ j. false) js ≡ false
 some_fail [] e = absurd cc
 some_fail (j ∷ js) e = refl
 
--- where the test of k steps fails, a chain of one step more begins
+-- if the test for `k` steps fails, a chain of `k + 1` steps begins
 pub chain_begins : (steps : Body → List ℕ) (child : Bool) (types : List Term) (k i : ℕ) → within (edges steps child types) k i ≡ false → BeginsChain steps child types (suc k) i
 unfolding within BeginsChain
 chain_begins steps child types zero i e = let f = fails_next steps child types i (λ j. false) (some_fail (targets (edges steps child types) i) e) in (f.0, f.1, tt)
 chain_begins steps child types (suc k) i e = let f = fails_next steps child types i (within (edges steps child types) k) e in (f.0, f.1, chain_begins steps child types k f.0 f.2)
 
--- a chain of more than k steps is not within k
+-- a type with a chain of more than `k` steps is not within `k`
 pub chain_past : (steps : Body → List ℕ) (child : Bool) (types : List Term) (k i : ℕ) → BeginsChain steps child types (suc k) i → IsWithin (edges steps child types) k i → ⊥
 unfolding IsWithin BeginsChain
 chain_past steps child types zero i c w = steps_to steps child types i c.0 (λ j. ⊥) c.1 (rw w tt)
 chain_past steps child types (suc k) i c w = chain_past steps child types k c.0 c.2 (steps_to steps child types i c.0 (IsWithin (edges steps child types) k) c.1 w)
 
--- a chain begins at a type that is there
+-- a chain begins at an existing type
 pub chain_inside : (steps : Body → List ℕ) (child : Bool) (types : List Term) (k i : ℕ) → BeginsChain steps child types (suc k) i → i < length types
 unfolding BeginsChain
 chain_inside steps child types k i c = slice_get_within types i c.1.from c.1.stands

@@ -18,13 +18,13 @@ use Rattle.ctf_model.proofs.Prefix.{record_len-append, head_len-append, kind-app
 use Rattle.ctf_model.proofs.Unique.{one_front, one_rest}
 use Rattle.ctf_model.proofs.Walk.{fitting_range, front_len_range, walk_ended, walk_none, took, nonempty}
 
--- ---- the record that begins bytes
+-- ---- the record at the start of the bytes
 
--- what has room is there
+-- a length that fits is given
 fits : (room n : ℕ) → n ≤ room → fitting room n ≡ Some n
 fits room n h = let test : leb n room ≡ true = le-leb n room h in rw test refl
 
--- where a whole record begins the bytes, its length is computed
+-- the length of a whole record at the start is computed
 pub front_len-whole : (a x : List ℕ) → IsWhole a → front_len (a ++ x) ≡ Some (length a)
 unfolding IsWhole front_len
 front_len-whole a x p =
@@ -41,7 +41,7 @@ front_len-whole a x p =
         let len : head_len (a ++ x) + variant_len k (size (a ++ x)) (vlen (a ++ x)) ≡ length a = record_len-append a x k p.has_head enough ∙ sym p.ends in
         rw (same, len) (fits (length (a ++ x)) (length a) (omega (arith, length-append a x)))
 
--- where a length is computed, so many bytes are a whole record
+-- if that length is computed, the bytes are a whole record
 whole-front_len : (a x : List ℕ) → front_len (a ++ x) ≡ Some (length a) → IsWhole a
 unfolding IsWhole front_len
 whole-front_len a x e =
@@ -60,7 +60,7 @@ whole-front_len a x e =
         let ends : length a ≡ head_len a + variant_len k (size a) (vlen a) = sym len ∙ record_len-append a x k low enough in
         subst (IsWholeAt a) kinds (record { has_head = low; ends = ends })
 
--- the bytes of a computed length are a whole record
+-- as many bytes as computed are a whole record
 pub front_whole : (b : List ℕ) (n : ℕ) → front_len b ≡ Some n → IsWhole (take n b)
 front_whole b n e =
     let range = front_len_range b n e in
@@ -68,13 +68,13 @@ front_whole b n e =
     let parts = take-append-drop n b in
     whole-front_len (take n b) (drop n b) (rw (parts, len) e)
 
--- no whole record begins the bytes exactly where no length is computed
+-- if no length is computed, no whole record is at the start
 pub stops_none : (b : List ℕ) → front_len b ≡ None → Stops b
 stops_none b e front rest p same =
     let some = front_len-whole front rest p in
     let none : front_len (front ++ rest) ≡ None = ap front_len (sym same) ∙ e in absurd cc
 
--- the same, the other way round
+-- and conversely
 pub none_from_stops : (b : List ℕ) → Stops b → front_len b ≡ None
 none_from_stops b stops = at (front_len b) refl
   where
@@ -84,7 +84,7 @@ none_from_stops b stops = at (front_len b) refl
 
 -- ---- every list of bytes has a cut
 
--- bytes of at most so many have a cut
+-- byte lists up to a bound have a cut
 cut_below : (bound : ℕ) (b : List ℕ) → length b ≤ bound → (parts : List (List ℕ)) × (rest : List ℕ) × IsCut b parts rest
 cut_below zero b le = ([], b, record { joined = refl; whole = tt; stops = stops_none b (at (front_len b) refl) })
   where
@@ -106,9 +106,9 @@ cut_below (suc bound) b le = at (front_len b) refl (λ n e. let range = front_le
           },
         )
 
--- ---- reading gives the records of a cut
+-- ---- reading gives the records of the cut
 
--- where no whole record begins the bytes, reading gives their fault
+-- reading bytes without a whole record at the start gives their fault
 walk_rest : (b : List ℕ) (index at : ℕ) → Stops b → walk (length b) index at b ≡ rest_fault index b
 walk_rest b index at stops = go (eqb (length b) 0) refl
   where
@@ -116,7 +116,7 @@ walk_rest b index at stops = go (eqb (length b) 0) refl
     go true e = rw e (walk_ended (length b) index at b (eqb-true (length b) 0 e))
     go false e = rw e (walk_none index at b (nonempty b e) (none_from_stops b stops))
 
--- reading a cut gives its records and the fault of its rest
+-- reading a cut gives its records, then the fault of its rest
 walk_cut : (parts : List (List ℕ)) (b rest : List ℕ) (index at : ℕ) → b ≡ concat parts ++ rest → AllByRecursion IsWhole parts → Stops rest → walk (length b) index at b ≡ pieces index at parts rest
 walk_cut [] b rest index at joined whole stops = ap (λ (r : List ℕ). walk (length r) index at r) joined ∙ walk_rest rest index at stops
 walk_cut (part ∷ parts) b rest index at joined whole stops =
@@ -128,13 +128,13 @@ walk_cut (part ∷ parts) b rest index at joined whole stops =
     took b part behind index at (length part) front taken left
     ∙ ap (λ (later : List (Result Piece Fault)). Ok (record { index = index; at = at; bytes = part }) ∷ later) (walk_cut parts behind rest (index + 1) (at + length part) refl whole.1 stops)
 
--- so does reading a section from its beginning
+-- the same for a section from its start
 pub records_cut : (b : List ℕ) (parts : List (List ℕ)) (rest : List ℕ) → IsCut b parts rest → records b ≡ pieces 1 0 parts rest
 records_cut b parts rest cut = walk_cut parts b rest 1 0 cut.joined cut.whole cut.stops
 
 -- ---- the code of the rest's fault
 
--- where the test of the code passes, the kind is not known
+-- if the test for an unknown kind passes, the kind is unknown
 unknown_true : (b : List ℕ) → (leb 8 (length b) && is_none (kind b)) ≡ true → HasUnknownKind b
 unknown_true b e = let both = and_parts (leb 8 (length b)) (is_none (kind b)) e in (leb-true 8 (length b) both.0, at (kind b) both.1)
   where
@@ -142,15 +142,15 @@ unknown_true b e = let both = and_parts (leb 8 (length b)) (is_none (kind b)) e 
     at None e = refl
     at (Some k) e = absurd cc
 
--- a kind that is not known has its code
+-- an unknown kind has its own code
 pub code_unknown : (b : List ℕ) → HasUnknownKind b → stop_code b ≡ BAD_KIND
 code_unknown b h = let long : leb 8 (length b) ≡ true = le-leb 8 (length b) h.0 in rw (long, h.1) refl
 
--- the test that picks the code decides the fact
+-- the test that selects the code decides the fact
 pub unknown_decided : (b : List ℕ) → Decides (leb 8 (length b) && is_none (kind b)) (HasUnknownKind b)
 unknown_decided b = (unknown_true b, λ h. let long : leb 8 (length b) ≡ true = le-leb 8 (length b) h.0 in rw (long, h.1) refl)
 
--- all else is cut off
+-- everything else is truncated
 pub code_cut_off : (b : List ℕ) → ¬ HasUnknownKind b → stop_code b ≡ TRUNCATED
 code_cut_off b no_kind = at (leb 8 (length b) && is_none (kind b)) refl
   where
@@ -158,13 +158,13 @@ code_cut_off b no_kind = at (leb 8 (length b) && is_none (kind b)) refl
     at true e = absurd (no_kind (unknown_true b e))
     at false e = refl
 
--- all bytes are read as a cut
+-- reading any bytes gives a cut
 pub read : (b : List ℕ) → (parts : List (List ℕ)) × (rest : List ℕ) × Reads b parts rest
 read b =
     let found = cut_below (length b) b (omega arith) in
     (found.0, found.1, record { cut = found.2; all = records_cut b found.0 found.1 found.2; unknown = code_unknown found.1; cut_off = code_cut_off found.1 })
 
--- ---- a cut is the only one
+-- ---- uniqueness of the cut
 
 -- two cuts of the same bytes are the same
 pub one_cut : (xs ys : List (List ℕ)) (b c x y : List ℕ) → b ≡ c → IsCut b xs x → IsCut c ys y → (xs ≡ ys) × (x ≡ y)

@@ -21,12 +21,12 @@ use Rattle.ctf_model.proofs.Judge.{least_fault}
 use Rattle.ctf_model.proofs.HeaderRules.{kept_order, kept_end, section_len}
 use Rattle.ctf_model.proofs.SpelledSection.{section_spelled}
 use Rattle.ctf_model.proofs.Spelled.{IsNamed, AreNamed}
-use Rattle.ctf_model.proofs.Told.{entries_said, one_entries}
+use Rattle.ctf_model.proofs.SymbolInfo.{entries_said, one_entries}
 use Rattle.ctf_model.proofs.Unique.{one_list}
 
 -- ---- labels
 
--- the labels that are read are those that the bytes are, where their names are good
+-- the labels that are read are those in the bytes, if their names are valid
 labels_read : (t : Tables) (ctf : List ℕ) (n at len : ℕ) → at + len ≤ length ctf → 8 * n ≤ len → len < 8 * n + 8 → AreNamed t (label_sites ctf at n)
     → AreLabels t (take len (drop at ctf)) (labels_in t n (take len (drop at ctf)))
 unfolding label_sites labels_in
@@ -42,7 +42,7 @@ labels_read t ctf (suc n) at len inside low high named =
 
 -- ---- a dictionary
 
--- the labels that are said are those of the bytes
+-- the labels of the encoded dictionary are those in the bytes
 labels_said : (s : Lists) → KeepsEveryRule s → AreLabels (tables s) (section s.ctf SLabels) (labels_in (tables s) (length (section s.ctf SLabels) / 8) (section s.ctf SLabels))
 labels_said s keeps =
     let h = fields s.ctf in
@@ -59,11 +59,11 @@ labels_said s keeps =
     let found = labels_read (tables s) s.ctf n (36 + h.lbloff) (h.objtoff - h.lbloff) (omega arith) (omega arith) (omega arith) (good s 20 (omega arith) (λ rule lt. keeps rule)).labels in
     rw (len, size) found
 
--- without a first fault every rule is kept
+-- without a first fault, every rule is kept
 keeps_from : (s : Lists) → first_fault s ≡ None → KeepsEveryRule s
 keeps_from s e = subst (λ (f : Option Fault). MatchOption f (KeepsEveryRule s) (IsFirstFault s)) e (least_fault s)
 
--- where there is no fault, what is said is denoted
+-- without a fault, the encoded dictionary is denoted
 pub denotes_said : (s : Lists) → first_fault s ≡ None → Denotes s (said_by s)
 unfolding said_by
 denotes_said s e =
@@ -82,11 +82,11 @@ denotes_said s e =
 
 -- ---- only one dictionary
 
--- labels with the same name and last type are the same
+-- labels with equal name and last type are equal
 one_label : (x y : Label) → x.name ≡ y.name → x.last ≡ y.last → x ≡ y
 one_label x y p q = ap (λ (n : List ℕ). record { name = n; last = x.last }) p ∙ ap (λ (m : ℕ). record { name = y.name; last = m }) q
 
--- bytes are one list of labels
+-- bytes hold only one list of labels
 one_labels : (t : Tables) (b : List ℕ) (xs ys : List Label) → AreLabels t b xs → AreLabels t b ys → xs ≡ ys
 one_labels t b [] [] p q = refl
 one_labels t b [] (y ∷ ys) p q = let low = q.0 in absurd (omega arith)
@@ -95,7 +95,7 @@ one_labels t b (x ∷ xs) (y ∷ ys) p q =
     let head = one_label x y (same_Some x.name y.name (sym p.1 ∙ q.1)) (sym p.2 ∙ q.2) in
     ap (λ (z : Label). z ∷ xs) head ∙ ap (λ (zs : List Label). y ∷ zs) (one_labels t (drop 8 b) xs ys p.3 q.3)
 
--- lists denote one dictionary
+-- lists denote only one dictionary
 pub one_dictionary : (s : Lists) (d e : Dictionary) → Denotes s d → Denotes s e → d ≡ e
 one_dictionary s d e p q =
     let child : d.child ≡ e.child = p.child ∙ sym q.child in
@@ -115,7 +115,7 @@ one_dictionary s d e p q =
 
 -- ---- what is computed
 
--- lists denote a dictionary exactly where they have no fault
+-- exactly lists without a fault denote a dictionary
 pub faultless_denoted : (s : Lists) → (first_fault s ≡ None) ↔ ((d : Dictionary) × Denotes s d)
 faultless_denoted s = (λ e. (said_by s, denotes_said s e), λ h. h.1.faultless)
 

@@ -1,4 +1,4 @@
--- Which types the numbers of a draft name.
+-- The types that the numbers of a draft name.
 use Rattle.std.proofs.Common.{◌≡◌, ℕ, zero, suc, ◌-◌, ◌<◌, ◌≤◌, Bool, true, false, cond, eqb, ltb, leb, List, [], ◌∷◌, length, Option, Some, None, Result, Ok, Err, refl, arith}
 use Rattle.std.specs.Prelude.{◌&&◌, not, is_none, slice_get}
 use Rattle.std.specs.Result.{is_err}
@@ -18,9 +18,9 @@ use Rattle.ctf_model.specs.declared.faults.Fault.{Fault}
 use Rattle.ctf_model.specs.declared.numbers.Place.{Place}
 use Rattle.ctf_model.specs.declared.numbers.Place.TheVariants.{Nowhere, Own, Parents}
 
--- ---- types that are there
+-- ---- existing types
 
--- what is found in a list stands before its end
+-- an index found in a list is below its length
 found_below : (xs : List Term) (i : ℕ) → is_err (or_no_type (slice_get xs i)) ≡ false → i < length xs
 found_below xs i h = at (slice_get xs i) refl h
   where
@@ -28,20 +28,20 @@ found_below xs i h = at (slice_get xs i) refl h
     at None e h = absurd cc
     at (Some x) e h = slice_get_within xs i x e
 
--- what stands before the end is found
+-- an index below the length is found
 below_found : (xs : List Term) (i : ℕ) → i < length xs → is_err (or_no_type (slice_get xs i)) ≡ false
 below_found [] i lt = absurd (omega arith)
 below_found (x ∷ xs) zero lt = refl
 below_found (x ∷ xs) (suc i) lt = below_found xs i (omega arith)
 
--- a type that is there stays there in a dictionary with more types
+-- a type stays found if types are added
 still_found : (parent : Option Dictionary) (a b : Dictionary) (p : Place) → length a.terms ≤ length b.terms → is_err (type_in a parent p) ≡ false → is_err (type_in b parent p) ≡ false
 still_found parent a b Nowhere le h = absurd cc
 still_found parent a b (Own i) le h = let lt = found_below a.terms i h in below_found b.terms i (omega arith)
 still_found None a b (Parents i) le h = absurd cc
 still_found (Some q) a b (Parents i) le h = h
 
--- so does one that may be named
+-- the same for a number that may be 0
 pub still_there : (parent : Option Dictionary) (a b : Dictionary) (n : ℕ) (p : Place) → length a.terms ≤ length b.terms → (not (eqb n 0) && is_err (type_in a parent p)) ≡ false → (not (eqb n 0) && is_err (type_in b parent p)) ≡ false
 still_there parent a b n p le h = at (eqb n 0) h
   where
@@ -49,9 +49,9 @@ still_there parent a b n p le h = at (eqb n 0) h
     at true h = refl
     at false h = still_found parent a b p le h
 
--- ---- which rules that keeps
+-- ---- consequences for the rules
 
--- it isn't missing
+-- an existing type is not missing
 there_at : (parent : Option Dictionary) (d : Dictionary) (n : ℕ) (p : Place) → eqb n 0 ≡ false → is_err (type_in d parent p) ≡ false → is_missing_at (length d.terms) n p ≡ false
 there_at parent d n Nowhere z h = absurd cc
 there_at parent d n (Own i) z h = let lt = found_below d.terms i h in at (leb (length d.terms) i) refl
@@ -68,7 +68,7 @@ there_not_missing d n h = at (eqb n 0) refl h
     at true z h = rw (z, z) refl
     at false z h = there_at d.parent (content d) n (place (content d).child n) z h
 
--- it isn't the mark of the long form
+-- its number is not the mark of the long form
 own_low : (child : Bool) (count n : ℕ) → count ≤ 32766 → (z : Bool) → eqb n 0 ≡ z → is_missing_at count n (cond z Nowhere (cond child (place_in_child n) (Own (n - 1)))) ≡ false → n < 0xffff
 own_low child count n low true z h = let none : n ≡ 0 = eqb-true n 0 z in omega arith
 own_low false count n low false z h = let lt = leb-false count (n - 1) h in omega arith
@@ -82,7 +82,7 @@ own_low true count n low false z h = at (ltb n 0x8000) refl (eqb n 0x8000) refl 
 pub there_low : (d : Draft) (n : ℕ) → count_of d ≤ 32766 → is_absent d n ≡ false → n < 0xffff
 there_low d n low h = own_low (content d).child (length (content d).terms) n low (eqb n 0) refl (there_not_missing d n h)
 
--- it isn't behind the parent's types
+-- its number does not exceed the parent's types
 in_parent : (d : Dictionary) (parent : Dictionary) (p : Place) → is_err (type_in d (Some parent) p) ≡ false → parents_number p ≤ length parent.terms
 in_parent d parent Nowhere h = absurd cc
 in_parent d parent (Own i) h = omega arith
@@ -97,11 +97,11 @@ there_in_parent d parent n h = at (eqb n 0) refl h
 
 -- ---- pending types
 
--- a pending type that is there: what it is, and where
+-- an existing pending type, with its index
 pub record IsOpen (d : Draft) (n : ℕ) (x : Term) (i : ℕ) : Type 0 where
   pub found : space_type (space_of d) n ≡ Ok x
   pub pending : pending_place d n ≡ Some i
-  -- its place among all types
+  -- its index among all types
   pub at : ℕ
   pub stands : slice_get (all_of d).terms at ≡ Some x
 

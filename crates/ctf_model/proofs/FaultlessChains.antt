@@ -1,4 +1,5 @@
--- In a dictionary that breaks no rule, chains of steps are short, and in one that is no child they stay in it.
+-- In a dictionary that breaks no rule, chains of steps are short; in one that is no child, they
+-- stay inside.
 use Rattle.std.proofs.Common.{◌≡◌, ℕ, ◌<◌, false, List, None}
 use Rattle.std.specs.List.{AllByRecursion}
 use Rattle.ctf_model.specs.rules.ChainLaws.{FaultlessChainsAreShort, HasShortChains, IsShortParent, ShortWhereFaultless}
@@ -15,7 +16,7 @@ use Rattle.ctf_model.proofs.Anywhere.{all_map}
 use Rattle.ctf_model.proofs.BoundedParents.{IsLow, all_low, values_named}
 use Rattle.ctf_model.proofs.BoundedValues.{bounded, keeps_all}
 
--- the types that declarators go on with are among those that a type names
+-- the types of declarator steps are among those that the type refers to
 declarators_named : (P : ℕ → Type 0) (body : Body) → AllByRecursion P (references body) → AllByRecursion P (declarator body)
 declarators_named P (term.pointer t) a = a
 declarators_named P (term.typedef t) a = a

@@ -1,4 +1,4 @@
--- What a type comes to hangs on the types that it leads to by value alone.
+-- The figure of a type depends only on the types that it leads to by value.
 use Rattle.std.proofs.Common.{◌≡◌, ℕ, cond, ltb, List, [], ◌∷◌, map, Result, Ok, refl, ap}
 use Rattle.std.specs.List.{AllByRecursion}
 use Rattle.ctf_model.specs.rules.Chains.{by_value}

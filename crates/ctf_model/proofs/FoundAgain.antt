@@ -1,4 +1,4 @@
--- A name stands at its offset.
+-- A name is found at its offset.
 use Rattle.std.proofs.Common.{◌≡◌, ℕ, suc, ◌+◌, ◌%◌, ◌/◌, ◌^◌, ◌<◌, Bool, true, false, eqb, List, [], ◌∷◌, ◌++◌, length, drop, Some, refl, sym, ap, subst, ◌∙◌, arith}
 use Rattle.std.specs.Prelude.{◌||◌}
 use Rattle.std.specs.List.{before_first, flat_map, list_any, position_or_len, AllByRecursion}
@@ -11,15 +11,15 @@ use Rattle.ctf_model.specs.drafts.Fitting.{IsName}
 use Rattle.ctf_model.specs.writing.WrittenNames.{closed_name, string_bytes, name_reference, is_empty}
 use Rattle.ctf_model.specs.writing.WritingLaws.{IsKept, IsFound, table_of}
 
--- what stands before the first: nothing where the head passes
+-- before the first match there is nothing if the head matches
 pub first_here : {A : Type 0} (p : A → Bool) (x : A) (xs : List A) → p x ≡ true → before_first p (x ∷ xs) ≡ []
 first_here p x xs e = rw e refl
 
--- and else the head, and what stands before the first of the others
+-- otherwise there is the head and what comes before the first match in the rest
 pub first_later : {A : Type 0} (p : A → Bool) (x : A) (xs : List A) → p x ≡ false → before_first p (x ∷ xs) ≡ x ∷ before_first p xs
 first_later p x xs e = let more : 1 + position_or_len p xs ≡ suc (position_or_len p xs) = omega arith in rw (e, more) refl
 
--- ---- the text at a name
+-- ---- the text at an offset
 
 has_zero : (n rest : List ℕ) → IsName n → list_any is_zero (closed_name n ++ rest) ≡ true
 has_zero [] rest h = refl
@@ -31,13 +31,13 @@ before_zero (b ∷ n) rest h =
     let some : eqb b 0 ≡ false = ne_eqb b 0 (omega (arith, h.0)) in
     first_later is_zero b (closed_name n ++ rest) some ∙ ap (λ (r : List ℕ). b ∷ r) (before_zero n rest h.1)
 
--- a name that ends in a zero byte is the text there
+-- the text of a name with its zero byte is the name
 closed_text : (n rest : List ℕ) → IsName n → text (closed_name n ++ rest) ≡ Some n
 closed_text n rest h = rw (has_zero n rest h, before_zero n rest h) refl
 
--- ---- where a name stands
+-- ---- the offset of a name
 
--- the strings are those before the name, the name, and others
+-- the strings are those before the name, the name, and the rest
 at_name : (names : List (List ℕ)) (t : List ℕ) → list_any (bytes_eq t) names ≡ true → (rest : List ℕ) × (flat_map closed_name names ≡ flat_map closed_name (before_first (bytes_eq t) names) ++ (closed_name t ++ rest))
 at_name [] t h = absurd cc
 at_name (n ∷ names) t h = at (bytes_eq t n) refl h (at_name names t)
@@ -52,7 +52,7 @@ at_name (n ∷ names) t h = at (bytes_eq t n) refl h (at_name names t)
         let later = more h in
         (later.0, rw (first_later (bytes_eq t) n names e) (ap (λ (r : List ℕ). closed_name n ++ r) later.1 ∙ sym (append_assoc (closed_name n) (flat_map closed_name (before_first (bytes_eq t) names)) (closed_name t ++ later.0))))
 
--- the name of a reference that is not 0 and names the string section
+-- the name of a reference above 0 into the string section
 low_name : (names : List (List ℕ)) (r : ℕ) → 0 < r → r < 2 ^ 31 → name (table_of names) r ≡ text (drop r (string_bytes names))
 low_name names r some low =
     let rest : r % 2 ^ 31 ≡ r = omega arith in

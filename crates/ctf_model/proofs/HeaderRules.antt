@@ -29,11 +29,11 @@ compressed_agrees s = test_agrees _ _ (Decides-eqb (slice_index s.ctf 3 % 2) 1)
 pub short_header_agrees : (s : Lists) → Agrees (short_header s.ctf) (IsBroken s 5)
 short_header_agrees s = test_agrees _ _ (Decides-ltb (length s.ctf) 36)
 
--- four tests, from the left or from the right
+-- four tests, grouped from the left or from the right
 from_right : (a b c d : Bool) → (((a || b) || c) || d) ≡ (a || (b || (c || d)))
 from_right a b c d = or_assoc (a || b) c d ∙ or_assoc a b (c || d)
 
--- one of four facts holds where one of their tests passes
+-- if their tests decide four facts, the disjunction is decided
 four_decided : {A B C D : Type 0} (a b c d : Bool) → Decides a A → Decides b B → Decides c C → Decides d D → Decides (((a || b) || c) || d) (A ⊎ (B ⊎ (C ⊎ D)))
 four_decided a b c d p q r t = Decides-at _ _ (from_right a b c d) (Decides-or a _ p (Decides-or b _ q (Decides-or c d r t)))
 
@@ -54,16 +54,16 @@ bad_align_agrees s = test_agrees _ _ (align_decided (fields s.ctf))
 pub past_end_agrees : (s : Lists) → Agrees (past_end s.ctf) (IsBroken s 8)
 past_end_agrees s = test_agrees _ _ (Decides-ltb (length s.ctf) (36 + (fields s.ctf).stroff + (fields s.ctf).strlen))
 
--- ---- what the kept rules say
+-- ---- consequences of the kept rules
 
--- each section begins where the one in front of it does, or later
+-- each section begins at or after the start of the previous one
 pub record InOrder (h : Fields) : Type 0 where
   pub objects : h.lbloff ≤ h.objtoff
   pub functions : h.objtoff ≤ h.funcoff
   pub types : h.funcoff ≤ h.typeoff
   pub strings : h.typeoff ≤ h.stroff
 
--- what is not lesser is at least as great
+-- a number that is not less is greater or equal
 from_not : (m n : ℕ) → ¬ (m < n) → n ≤ m
 from_not m n h = ⊎_elim (λ lt. absurd (h lt)) (λ le. le) (cases_lt m n)
 
@@ -84,21 +84,21 @@ kept_order s n lt keeps = in_order (fields s.ctf) (λ o. keeps 6 lt 0 (refl, o))
 pub kept_end : (s : Lists) (n : ℕ) → 8 < n → Keeps s n → 36 + (fields s.ctf).stroff + (fields s.ctf).strlen ≤ length s.ctf
 kept_end s n lt keeps = from_not (length s.ctf) (36 + (fields s.ctf).stroff + (fields s.ctf).strlen) (λ o. keeps 8 lt 0 (refl, o))
 
--- a section that ends inside has its length
+-- a section inside the bytes has its full length
 pub section_len : (ctf : List ℕ) (a b : ℕ) → a ≤ b → b ≤ length ctf → length (take (b - a) (drop a ctf)) ≡ b - a
 section_len ctf a b le inside = omega (arith, length-take (b - a) (drop a ctf), length-drop a ctf)
 
 -- ---- the string section
 
--- where the strings begin
+-- the start of the strings
 abbrev start : List ℕ → ℕ
 start ctf = 36 + (fields ctf).stroff
 
--- strings inside have the length that the header says
+-- strings inside the bytes have the length that the header states
 strings_len : (ctf : List ℕ) → start ctf + (fields ctf).strlen ≤ length ctf → length (section ctf SStrings) ≡ (fields ctf).strlen
 strings_len ctf h = omega (arith, section_len ctf (start ctf) (start ctf + (fields ctf).strlen) (omega arith) h)
 
--- their first byte stands where the header says
+-- their first byte is at the start that the header states
 strings_first : (ctf : List ℕ) → 0 < (fields ctf).strlen → slice_index (section ctf SStrings) 0 ≡ slice_index ctf (start ctf)
 strings_first ctf h =
     let n = start ctf + (fields ctf).strlen - start ctf in
@@ -106,11 +106,11 @@ strings_first ctf h =
     let lt : 0 < start ctf + (fields ctf).strlen - start ctf = omega arith in
     get_or-take n (drop (start ctf) ctf) 0 0 lt ∙ get_or-drop (start ctf) ctf 0 0 ∙ ap (λ (i : ℕ). slice_index ctf i) zero_is
 
--- there are strings, and they do not begin with a zero byte
+-- the string section is not empty and does not begin with a zero byte
 abbrev AreBad : List ℕ → Type 0
 AreBad ctf = (0 < length (section ctf SStrings)) × (slice_index (section ctf SStrings) 0 ≢ 0)
 
--- the test of the strings decides that
+-- the test for such strings decides this
 strings_decided : (ctf : List ℕ) → start ctf + (fields ctf).strlen ≤ length ctf → Decides (ltb 0 (fields ctf).strlen && not (eqb (slice_index ctf (start ctf)) 0)) (AreBad ctf)
 strings_decided ctf h =
     let len = strings_len ctf h in

@@ -1,10 +1,10 @@
--- What is read item after item.
+-- Lists read item by item.
 use Rattle.std.proofs.Common.{◌≡◌, ℕ, zero, suc, ◌+◌, ◌*◌, ◌<◌, List, [], ◌∷◌, length, take, drop, Option, Some, None, refl, ap, subst, ◌∙◌, arith}
 use Rattle.std.specs.Prelude.{slice_get}
 use Rattle.std.proofs.lemmas.List.{drop-drop}
 use Rattle.ctf_model.specs.format.Spelling.{items, ◌>>=◌}
 
--- the first of suc n items, and the others
+-- the first of `n + 1` items, and the others
 pub record IsFirst {A : Type 0} (item : List ℕ → Option A) (len n : ℕ) (b : List ℕ) (xs : List A) : Type 0 where
   pub first : A
   pub others : List A
@@ -17,31 +17,31 @@ first_case item len n b xs None p e f h = absurd cc
 first_case item len n b xs (Some x) None e f h = absurd cc
 first_case item len n b xs (Some x) (Some ys) e f h = record { first = x; others = ys; reads = e; rest = f; all = cc }
 
--- more than no items are a first one and others behind it
+-- a list of `n + 1` items has a first item
 pub items_first : {A : Type 0} (item : List ℕ → Option A) (len n : ℕ) (b : List ℕ) (xs : List A) → items item len (suc n) b ≡ Some xs → IsFirst item len n b xs
 items_first item len n b xs h = first_case item len n b xs (item b) (items item len n (drop len b)) refl refl h
 
--- a first one and others behind it are more items
+-- a first item and `n` others make a list of `n + 1`
 pub items_more : {A : Type 0} (item : List ℕ → Option A) (len n : ℕ) (b : List ℕ) (x : A) (xs : List A) → item b ≡ Some x → items item len n (drop len b) ≡ Some xs → items item len (suc n) b ≡ Some (x ∷ xs)
 items_more item len n b x xs e f = rw (e, f) refl
 
--- there are as many as were read
+-- the list has as many items as were read
 pub items_length : {A : Type 0} (item : List ℕ → Option A) (len n : ℕ) (b : List ℕ) (xs : List A) → items item len n b ≡ Some xs → length xs ≡ n
 items_length item len zero b xs h = let none : xs ≡ [] = cc in rw none refl
 items_length item len (suc n) b xs h =
     let f = items_first item len n b xs h in
     rw f.all (ap suc (items_length item len n (drop len b) f.others f.rest))
 
--- an item further on is as far behind the others
+-- the offset of an item, counted from the second item on
 further : (len i : ℕ) (b : List ℕ) → drop (len * i) (drop len b) ≡ drop (len * suc i) b
 further len i b = drop-drop (len * i) len b ∙ ap (λ (at : ℕ). drop at b) (omega arith)
 
--- the items of a front and of what is behind it
+-- the items of the front and of the back of a list
 pub record IsSplit {A : Type 0} (item : List ℕ → Option A) (len i m : ℕ) (b : List ℕ) (xs : List A) : Type 0 where
   pub front : items item len i b ≡ Some (take i xs)
   pub back : items item len m (drop (len * i) b) ≡ Some (drop i xs)
 
--- items that are good are so in each part
+-- a list that can be read can be split
 pub items_split : {A : Type 0} (item : List ℕ → Option A) (len i m : ℕ) (b : List ℕ) (xs : List A) → items item len (i + m) b ≡ Some xs → IsSplit item len i m b xs
 items_split item len zero m b xs h =
     let none : len * 0 ≡ 0 = omega arith in
@@ -58,7 +58,7 @@ items_split item len (suc i) m b xs h =
     suc_add : (i m : ℕ) → suc i + m ≡ suc (i + m)
     suc_add i m = omega arith
 
--- an item is read at its place
+-- an item is read at its offset
 pub items_at : {A : Type 0} (item : List ℕ → Option A) (len n i : ℕ) (b : List ℕ) (xs : List A) → items item len n b ≡ Some xs → i < n → item (drop (len * i) b) ≡ slice_get xs i
 items_at item len zero i b xs h lt = absurd (omega arith)
 items_at item len (suc n) zero b xs h lt =

@@ -1,4 +1,4 @@
--- Every name of a dictionary stands in its strings.
+-- Every name of a dictionary is in its strings.
 use Rattle.std.proofs.Common.{◌≡◌, ℕ, Bool, true, false, cond, List, [], ◌∷◌, refl, sym, ap, ◌∙◌}
 use Rattle.std.specs.Prelude.{◌||◌, not}
 use Rattle.std.specs.List.{AllByRecursion, list_any, filter, flat_map}
@@ -11,7 +11,7 @@ use Rattle.ctf_model.specs.writing.WrittenNames.{distinct, is_empty}
 
 -- ---- lists
 
--- what holds of each part of each
+-- a fact of a concatenation holds of each part
 pub all_flat : {A B : Type 0} (P : B → Type 0) (f : A → List B) (xs : List A) → AllByRecursion P (flat_map f xs) → AllByRecursion (λ x. AllByRecursion P (f x)) xs
 all_flat P f [] h = tt
 all_flat P f (x ∷ xs) h = let both = all_split P (f x) (flat_map f xs) h in (both.0, all_flat P f xs both.1)
@@ -24,7 +24,7 @@ all_filtered P p (x ∷ xs) h = at (p x) (all_filtered P p xs h.1)
     at true more = (h.0, more)
     at false more = more
 
--- ---- each once
+-- ---- distinct names
 
 pub all_distinct : (P : List ℕ → Type 0) (xs : List (List ℕ)) → AllByRecursion P xs → AllByRecursion P (distinct xs)
 unfolding distinct
@@ -34,11 +34,11 @@ all_distinct P (x ∷ xs) h = (h.0, all_filtered P (λ other. not (bytes_eq x ot
 pub all_kept : (P : List ℕ → Type 0) (xs : List (List ℕ)) → AllByRecursion P xs → AllByRecursion P (distinct (filter (λ name. not (is_empty name)) xs))
 all_kept P xs h = all_distinct P (filter (λ name. not (is_empty name)) xs) (all_filtered P (λ name. not (is_empty name)) xs h)
 
--- one of these is t
+-- `t` is one of these names
 abbrev Has : List ℕ → List (List ℕ) → Type 0
 Has t xs = list_any (bytes_eq t) xs ≡ true
 
--- what passes is not left out
+-- a name that passes the filter stays
 has_filtered : (t : List ℕ) (p : List ℕ → Bool) (xs : List (List ℕ)) → p t ≡ true → Has t xs → Has t (filter p xs)
 has_filtered t p [] pass h = absurd cc
 has_filtered t p (x ∷ xs) pass h = at (bytes_eq t x) refl h (has_filtered t p xs pass)
@@ -58,7 +58,7 @@ has_filtered t p (x ∷ xs) pass h = at (bytes_eq t x) refl h (has_filtered t p 
         rw (passes, e) refl
     at false e h more = skip (p x) (more h)
 
--- a name that is unlike another stays where the other is left out
+-- filtering out one name keeps all different names
 unlike : (t x : List ℕ) → bytes_eq t x ≡ false → not (bytes_eq x t) ≡ true
 unlike t x e = at (bytes_eq x t) refl
   where
@@ -77,7 +77,7 @@ has_distinct t (x ∷ xs) h = at (bytes_eq t x) refl h (has_distinct t xs)
     at true e h more = rw e refl
     at false e h more = rw e (has_filtered t (λ other. not (bytes_eq x other)) (distinct xs) (unlike t x e) (more h))
 
--- each of some is one of them
+-- if membership carries over, every name of `xs` is in `ys`
 each_there : (xs ys : List (List ℕ)) → ((t : List ℕ) → Has t xs → Has t ys) → AllByRecursion (λ t. Has t ys) xs
 each_there [] ys f = tt
 each_there (x ∷ xs) ys f = (f x here, each_there xs ys (λ t h. f t (later t h)))
@@ -92,6 +92,6 @@ each_there (x ∷ xs) ys f = (f x here, each_there xs ys (λ t h. f t (later t h
         go true = refl
         go false = h
 
--- each of some names is kept in the strings made of them
+-- each of these names is kept in the strings made of them
 pub kept_of : (xs : List (List ℕ)) → AllByRecursion (IsKept (distinct (filter (λ name. not (is_empty name)) xs))) xs
 kept_of xs = all_map (λ t. Has t xs) (IsKept (distinct (filter (λ name. not (is_empty name)) xs))) (λ t h e. has_distinct t _ (has_filtered t (λ name. not (is_empty name)) xs (ap not e) h)) xs (each_there xs xs (λ t h. h))

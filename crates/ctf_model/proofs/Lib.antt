@@ -19,7 +19,7 @@ pub mod Spelled
 pub mod SpelledRead
 pub mod SpelledSection
 pub mod SymbolRules
-pub mod Told
+pub mod SymbolInfo
 pub mod Unique
 pub mod Walk
 pub mod OwnTypes

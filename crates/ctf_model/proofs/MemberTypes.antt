@@ -1,4 +1,4 @@
--- The types of members are the numbers that stand in their bytes.
+-- The types of members are the numbers in their bytes.
 use Rattle.std.proofs.Common.{◌≡◌, ℕ, zero, suc, Bool, true, false, cond, ltb, List, [], ◌∷◌, map, drop, Option, Some, None, refl, sym, ap, ◌∙◌}
 use Rattle.std.specs.Option.{option_map}
 use Rattle.ctf_model.proofs.Items.{items_first}
@@ -7,12 +7,12 @@ use Rattle.ctf_model.specs.format.Name.{Tables, name}
 use Rattle.ctf_model.specs.format.Spelling.{items, narrow_member, wide_member, member_of}
 use Rattle.ctf_model.specs.format.Term.{Member}
 
--- what is made of a name keeps its type
+-- a member made from a name keeps its type
 type_of : (make : List ℕ → Member) (n : ℕ) (o : Option (List ℕ)) (m : Member) → ((text : List ℕ) → (make text).tnum ≡ n) → option_map make o ≡ Some m → m.tnum ≡ n
 type_of make n None m h e = absurd cc
 type_of make n (Some text) m h e = let same : make text ≡ m = cc in ap (λ (x : Member). x.tnum) (sym same) ∙ h text
 
--- it stands 4 bytes behind the beginning of a member, in both forms
+-- the type is 4 bytes after the start of a member, in both forms
 member_type : (size : ℕ) (t : Tables) (b : List ℕ) (m : Member) → member_of size t b ≡ Some m → m.tnum ≡ u16_at b 4
 member_type size t b m e = at (ltb size 8192) e
   where
@@ -20,7 +20,7 @@ member_type size t b m e = at (ltb size 8192) e
     at true e = type_of _ (u16_at b 4) (name t (u32_at b 0)) m (λ text. refl) e
     at false e = type_of _ (u16_at b 4) (name t (u32_at b 0)) m (λ text. refl) e
 
--- however the numbers of n members are read, one after the other, they are the members' types
+-- any function that reads `n` members one by one gives the members' types
 pub members_types : (types : ℕ → List ℕ → List ℕ) (size len : ℕ) (t : Tables) → ((b : List ℕ) → types zero b ≡ []) → ((n : ℕ) (b : List ℕ) → types (suc n) b ≡ u16_at b 4 ∷ types n (drop len b))
     → (n : ℕ) (b : List ℕ) (ms : List Member) → items (member_of size t) len n b ≡ Some ms → map (λ m. m.tnum) ms ≡ types n b
 members_types types size len t none more zero b ms e = let same : [] ≡ ms = cc in rw (← same) (sym (none b))

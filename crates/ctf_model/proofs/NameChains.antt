@@ -1,4 +1,4 @@
--- What declares a type does not hang on how many layers there may be, once these are enough.
+-- The declaration of a type does not depend on the bound on layers, once that is large enough.
 use Rattle.std.proofs.Common.{◌≡◌, ℕ, zero, suc, ◌≤◌, ◌<◌, cond, eqb, Result, Ok, Err, refl, sym, ap, ◌∙◌, arith}
 use Rattle.std.specs.Prelude.{codes}
 use Rattle.std.specs.List.{AllByRecursion}
@@ -15,7 +15,7 @@ use Rattle.ctf_model.specs.declared.layers.Qualifier.TheVariants.{Volatile, Cons
 use Rattle.ctf_model.proofs.Settled.{all_map}
 use Rattle.ctf_model.proofs.ShortChains.{PassesOn, descend}
 
--- ---- what a declaration hangs on
+-- ---- dependence of a declaration
 
 pub names_ask : NamesAskByDeclarator
 names_ask f g name (term.pointer t) a = ap (around Pointer) a.0
@@ -33,7 +33,7 @@ names_ask f g name (term.enum said es) a = refl
 names_ask f g name (term.forward t) a = refl
 names_ask f g name term.unknown a = refl
 
--- the same of a number, where it names a type
+-- the same for a number, if it names a type
 rule_same : (s : Space) (f g : ℕ → Result Declaration Fault) (n : ℕ) → ((z : Term) → space_type s n ≡ Ok z → AllByRecursion (λ t. f t ≡ g t) (declarator z.body)) → declaration_rule s f n ≡ declaration_rule s g n
 rule_same s f g n h = ap (λ (x : Result Declaration Fault). cond (eqb n 0) (bare_name (codes "void")) x) (at (space_type s n) refl)
   where
@@ -43,7 +43,7 @@ rule_same s f g n h = ap (λ (x : Result Declaration Fault). cond (eqb n 0) (bar
 
 -- ---- enough layers
 
--- with more layers a number's declaration is as with x
+-- with more than `x` layers the declaration of a number stays the same
 abbrev SameFrom : Space → ℕ → ℕ → Type 0
 SameFrom s x n = (y : ℕ) → x ≤ y → declaration_within s x n ≡ declaration_within s y n
 

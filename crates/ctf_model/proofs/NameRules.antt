@@ -1,4 +1,4 @@
--- The rule of names agrees with its fact: the sites are listed by rising places.
+-- The rule of names agrees with its fact: the sites are listed by ascending places.
 use Rattle.std.proofs.Common.{◌≡◌, ℕ, zero, suc, ◌+◌, ◌-◌, ◌*◌, ◌/◌, ◌≤◌, Bool, true, false, cond, eqb, List, [], ◌∷◌, ◌++◌, length, drop, Option, Some, None, Result, Err, refl, sym, subst, arith, ◌⊎◌, inl, inr}
 use Rattle.std.specs.Prelude.{is_none, Any, MatchOption}
 use Rattle.std.specs.List.{AllByRecursion}
@@ -22,23 +22,23 @@ use Rattle.ctf_model.proofs.HeaderRules.{InOrder, kept_order}
 use Rattle.ctf_model.proofs.NameSites.{name_stands, name_site}
 use Rattle.ctf_model.proofs.RecordRules.{types_cut}
 
--- ---- sites by rising places
+-- ---- sites by ascending places
 
--- places from a lowest one on, none lesser than one before it
+-- the places ascend from `low` on
 abbrev pub IsRising : ℕ → List Site → Type 0
 IsRising low [] = Unit {0}
 IsRising low (site ∷ more) = (low ≤ site.place) × IsRising site.place more
 
--- rising places rise from any lower one
+-- ascending places also ascend from any lower start
 lower : (low high : ℕ) (xs : List Site) → low ≤ high → IsRising high xs → IsRising low xs
 lower low high [] le r = tt
 lower low high (site ∷ more) le r = let from = r.0 in (omega arith, r.1)
 
--- a site at the place names nothing
+-- the site at place `p` names nothing
 abbrev pub IsNameless : Tables → List Site → ℕ → Type 0
 IsNameless t xs p = Any (λ site. (site.place ≡ p) × (name t site.reference ≡ None)) xs
 
--- no nameless site stands below the lowest place
+-- a nameless site is not below the lowest place
 none_below : (t : Tables) (xs : List Site) (low p : ℕ) → IsRising low xs → IsNameless t xs p → low ≤ p
 none_below t [] low p r a = absurd (any_none _ a)
 none_below t (site ∷ more) low p r a = at (any_split _ site more a) (λ later. none_below t more site.place p r.1 later)
@@ -47,17 +47,17 @@ none_below t (site ∷ more) low p r a = at (any_split _ site more a) (λ later.
     at (inl here) next = let from = r.0 in let same = here.0 in omega arith
     at (inr later) next = let from = r.0 in let behind = next later in omega arith
 
--- where the test for none passes, there is none
+-- if `is_none` holds, there is no value
 is_none_true : {A : Type 0} (o : Option A) → is_none o ≡ true → o ≡ None
 is_none_true None e = refl
 is_none_true (Some x) e = absurd cc
 
--- where it does not pass, there is one
+-- if it does not hold, there is a value
 not_here : {A : Type 0} (o : Option A) → is_none o ≡ false → o ≡ None → ⊥
 not_here None e n = absurd cc
 not_here (Some x) e n = absurd cc
 
--- the first nameless site stands at the least place of all nameless ones
+-- the first nameless site is at the least place of all nameless ones
 nameless_agrees : (t : Tables) (xs : List Site) (low : ℕ) → IsRising low xs → Agrees (first_nameless t xs) (IsNameless t xs)
 unfolding first_nameless
 nameless_agrees t [] low r = λ p a. any_none _ a
@@ -77,19 +77,19 @@ nameless_agrees t (site ∷ more) low r = at (is_none (name t site.reference)) r
 
 -- ---- the sites of a dictionary
 
--- the sites of labels rise, and then those behind them
+-- the sites of labels ascend, then those after them
 labels_rising : (ctf : List ℕ) (at n low high : ℕ) (more : List Site) → low ≤ at → at + 8 * n ≤ high → IsRising high more → IsRising low (label_sites ctf at n ++ more)
 unfolding label_sites
 labels_rising ctf at zero low high more le end r = lower low high more (omega arith) r
 labels_rising ctf at (suc n) low high more le end r = (le, labels_rising ctf (at + 8) n at high more (omega arith) (omega arith) r)
 
--- the sites of items rise, and then those behind them
+-- the sites of items ascend, then those after them
 items_rising : (place len n : ℕ) (b : List ℕ) (low high : ℕ) (more : List Site) → low ≤ place → place + len * n ≤ high → IsRising high more → IsRising low (item_sites place len n b ++ more)
 unfolding item_sites
 items_rising place len zero b low high more le end r = lower low high more (omega arith) r
 items_rising place len (suc n) b low high more le end r = let total = mul-suc len n in (le, items_rising (place + len) len n (drop len b) place high more (omega arith) (omega arith) r)
 
--- the sites in the list of a whole record rise, and then those behind it
+-- the sites in the list of a whole record ascend, then those after it
 list_rising : (place : ℕ) (b : List ℕ) (more : List Site) → IsWhole b → IsRising (place + length b) more → IsRising place (list_sites place b (kind b) ++ more)
 unfolding IsWhole
 list_rising place b more whole r = at (kind b) whole
@@ -117,7 +117,7 @@ list_rising place b more whole r = at (kind b) whole
     at (Some KConst) w = past
     at (Some KRestrict) w = past
 
--- the sites of records rise
+-- the sites of records ascend
 records_rising : (start low : ℕ) (parts : List (List ℕ)) (rest : List ℕ) (index at : ℕ) → AllByRecursion IsWhole parts → low ≤ start + at → IsRising low (record_sites start (pieces index at parts rest))
 unfolding record_sites
 records_rising start low [] rest index at whole le = end (eqb (length rest) 0)
@@ -128,7 +128,7 @@ records_rising start low [] rest index at whole le = end (eqb (length rest) 0)
 records_rising start low (part ∷ parts) rest index at whole le =
     (le, list_rising (start + at) part (record_sites start (pieces (index + 1) (at + length part) parts rest)) whole.0 (records_rising start (start + at + length part) parts rest (index + 1) (at + length part) whole.1 (omega arith)))
 
--- where the sections are in order, all sites rise
+-- if the sections are in order, all sites ascend
 sites_rising : (s : Lists) → InOrder (fields s.ctf) → IsRising 0 (sites s.ctf)
 unfolding sites
 sites_rising s ok =

@@ -1,4 +1,4 @@
--- The sites that the rule of names walks are the places where names stand.
+-- The sites that the rule of names visits are the places of names.
 use Rattle.std.proofs.Common.{◌≡◌, ℕ, zero, suc, ◌+◌, ◌-◌, ◌*◌, ◌/◌, ◌<◌, ◌≤◌, eqb, ltb, Bool, true, false, cond, List, [], ◌∷◌, ◌++◌, length, take, drop, Option, Some, None, Result, Err, refl, sym, ap, subst, ◌∙◌, arith, ◌⊎◌, inl, inr}
 use Rattle.std.specs.Prelude.{Any, MatchOption}
 use Rattle.std.specs.List.{concat, AllByRecursion}
@@ -24,29 +24,29 @@ use Rattle.ctf_model.proofs.Cut.{read}
 use Rattle.ctf_model.proofs.Prefix.{u32-append, has_head}
 use Rattle.ctf_model.proofs.RecordRules.{types_cut}
 
--- ---- bytes that stand in a dictionary
+-- ---- bytes of a dictionary
 
--- words inside the bytes are those from a place on
+-- every word in `b` equals the word at that offset from `place`
 abbrev StandAt : List ℕ → ℕ → List ℕ → Type 0
 StandAt ctf place b = (j : ℕ) → j + 4 ≤ length b → u32_at b j ≡ u32_at ctf (place + j)
 
--- so are those in front
+-- so does every word in the front
 front_stands : (ctf : List ℕ) (place : ℕ) (a x : List ℕ) → StandAt ctf place (a ++ x) → StandAt ctf place a
 front_stands ctf place a x h j le = sym (u32-append a x j le) ∙ h j (omega (arith, length-append a x))
 
--- and those behind
+-- and in the back
 back_stands : (ctf : List ℕ) (place : ℕ) (a x : List ℕ) → StandAt ctf place (a ++ x) → StandAt ctf (place + length a) x
 back_stands ctf place a x h j le =
     let far : place + (length a + j) ≡ place + length a + j = omega arith in
     ap (λ (r : List ℕ). number (take 4 r)) (sym (drop-append-add a x j)) ∙ h (length a + j) (omega (arith, length-append a x)) ∙ ap (u32_at ctf) far
 
--- and those from some byte on
+-- and after some bytes
 drop_stands : (ctf : List ℕ) (place n : ℕ) (b : List ℕ) → n ≤ length b → StandAt ctf place b → StandAt ctf (place + n) (drop n b)
 drop_stands ctf place n b inside h j le =
     let far : place + (n + j) ≡ place + n + j = omega arith in
     ap (λ (r : List ℕ). number (take 4 r)) (drop-drop j n b) ∙ h (n + j) (omega (arith, length-drop n b)) ∙ ap (u32_at ctf) far
 
--- a section's bytes stand where it begins
+-- the bytes of a section, from its start
 section_stands : (ctf : List ℕ) (start n : ℕ) → StandAt ctf start (take n (drop start ctf))
 section_stands ctf start n j le =
     let len = length-take n (drop start ctf) in
@@ -56,13 +56,13 @@ section_stands ctf start n j le =
 
 -- ---- sites
 
--- a site at the place has such a reference
+-- the site at place `p` has a reference with the property
 abbrev SiteAt : (ℕ → Type 0) → List Site → ℕ → Type 0
 SiteAt N xs p = Any (λ (site : Site). (site.place ≡ p) × N site.reference) xs
 
 -- ---- labels
 
--- a label's place, with such a reference
+-- place `p` is a label with such a reference
 abbrev LabelAt : (ℕ → Type 0) → List ℕ → ℕ → ℕ → ℕ → Type 0
 LabelAt N ctf at n p = (i : ℕ) × (i < n) × (p ≡ at + 8 * i) × N (u32_at ctf p)
 
@@ -83,7 +83,7 @@ label_site N ctf at (suc n) p (suc i) lt is x = any_there _ _ _ (label_site N ct
 
 -- ---- items
 
--- an item's place, with such a reference
+-- place `p` is an item with such a reference
 abbrev ItemAt : (ℕ → Type 0) → List ℕ → ℕ → ℕ → ℕ → ℕ → Type 0
 ItemAt N ctf place len n p = (k : ℕ) × (k < n) × (p ≡ place + len * k) × N (u32_at ctf p)
 
@@ -126,7 +126,7 @@ wide_enough size = at (ltb size 8192)
     at true = omega arith
     at false = omega arith
 
--- a name's place in a record that stands at a place, with such a reference
+-- place `p` is a name in a record that begins at `place`, with such a reference
 abbrev HasNameAt : (ℕ → Type 0) → List ℕ → ℕ → (ℕ → Type 0) → ℕ → Type 0
 HasNameAt N ctf place In p = (at : ℕ) × In at × (p ≡ place + at) × N (u32_at ctf p)
 
@@ -184,7 +184,7 @@ list_site N ctf place b p whole h x = at (kind b) whole x
     at (Some KConst) w x = absurd x.1
     at (Some KRestrict) w x = absurd x.1
 
--- a name's place in one of the records, which begin at a place
+-- place `p` is a name in one of the records, which begin at `place`
 pub record AmongRecords (N : ℕ → Type 0) (ctf : List ℕ) (place : ℕ) (parts : List (List ℕ)) (p : ℕ) : Type 0 where
   pub front : List (List ℕ)
   pub part : List ℕ
@@ -275,7 +275,7 @@ record_site N ctf start (first ∷ front) part back rest index at p whole h x =
 abbrev NamesNothing : Lists → ℕ → Type 0
 NamesNothing s reference = name (tables s) reference ≡ None
 
--- the bytes of the type section stand where it begins
+-- the bytes of the type section, from its start
 types_stand : (ctf : List ℕ) (parts : List (List ℕ)) (rest : List ℕ) → IsCut (section ctf STypes) parts rest → StandAt ctf (36 + (fields ctf).typeoff + 0) (concat parts ++ rest)
 types_stand ctf parts rest cut =
     let start : 36 + (fields ctf).typeoff ≡ 36 + (fields ctf).typeoff + 0 = omega arith in
@@ -288,11 +288,11 @@ in_labels ctf = label_sites ctf (36 + (fields ctf).lbloff) (((fields ctf).objtof
 abbrev pub in_types : List ℕ → List Site
 in_types ctf = record_sites (36 + (fields ctf).typeoff) (types ctf)
 
--- the sites behind the first
+-- the sites after the first
 abbrev behind_first : List ℕ → List Site
 behind_first ctf = record { place = 8; reference = (fields ctf).parname } ∷ (in_labels ctf ++ in_types ctf)
 
--- a site of the records that names nothing is a name's place
+-- a site of the records that names nothing is a bad name
 types_stands : (s : Lists) (p : ℕ) → SiteAt (NamesNothing s) (in_types s.ctf) p → BadName s p
 types_stands s p a =
     let r = read (section s.ctf STypes) in
@@ -302,7 +302,7 @@ types_stands s p a =
     let is = l.named.2 in
     (inr (inr (record { front = l.front; part = l.part; back = l.back; rest = r.1; cut = cut }, l.named.0, l.named.1, omega arith)), l.named.3)
 
--- a site that names nothing is a place where a name stands
+-- a site that names nothing is a bad name
 pub name_stands : (s : Lists) (p : ℕ) → SiteAt (NamesNothing s) (sites s.ctf) p → BadName s p
 unfolding sites
 name_stands s p a = header (any_split _ _ (behind_first s.ctf) a)
@@ -323,7 +323,7 @@ name_stands s p a = header (any_split _ _ (behind_first s.ctf) a)
     header (inl x) = (inl (inl (sym x.0)), subst (λ (q : ℕ). NamesNothing s (u32_at s.ctf q)) x.0 x.1)
     header (inr a) = second (any_split _ _ (in_labels s.ctf ++ in_types s.ctf) a)
 
--- a place where a name stands is a site
+-- a bad name is a site that names nothing
 pub name_site : (s : Lists) (p : ℕ) → BadName s p → SiteAt (NamesNothing s) (sites s.ctf) p
 unfolding sites
 name_site s p bad = at bad.0

@@ -1,4 +1,4 @@
--- Where a record spells a type, all its names are good.
+-- If a record spells a type, all its names are valid.
 use Rattle.std.proofs.Common.{◌≡◌, ℕ, zero, suc, ◌+◌, Bool, true, false, cond, ltb, List, [], ◌∷◌, ◌++◌, drop, Option, Some, None, refl, sym, ◌∙◌}
 use Rattle.std.specs.Option.{option_map}
 use Rattle.ctf_model.specs.format.Bytes.{u32_at}
@@ -13,21 +13,21 @@ use Rattle.ctf_model.specs.format.Term as term
 use Rattle.ctf_model.proofs.Items.{items_first}
 use Rattle.ctf_model.proofs.Spelled.{IsNamed, AreNamed}
 
--- of two good lists of sites
+-- the concatenation of two lists of valid sites
 pub joined_named : (t : Tables) (xs ys : List Site) → AreNamed t xs → AreNamed t ys → AreNamed t (xs ++ ys)
 joined_named t [] ys p q = q
 joined_named t (x ∷ xs) ys p q = (p.0, joined_named t xs ys p.1 q)
 
--- what something was made of was there
+-- a mapped value was present before
 from_some : {A B : Type 0} (f : A → B) (o : Option A) (y : B) → option_map f o ≡ Some y → (x : A) × (o ≡ Some x)
 from_some f None y h = absurd cc
 from_some f (Some x) y h = (x, refl)
 
--- what is there is not none
+-- a present value is not none
 pub is_there : {A : Type 0} (o : Option A) (x : A) → o ≡ Some x → o ≡ None → ⊥
 is_there o x e f = let clash : Some x ≡ None = sym e ∙ f in absurd cc
 
--- an item that is read has a good name
+-- an item that can be read has a valid name
 abbrev GivesName : {A : Type 0} → Tables → (List ℕ → Option A) → Type 0
 GivesName {A} t item = (b : List ℕ) (x : A) → item b ≡ Some x → IsNamed t (u32_at b 0)
 
@@ -51,7 +51,7 @@ items_named t item place len (suc n) b xs gives h =
     let f = items_first item len n b xs h in
     (gives b f.first f.reads, items_named t item (place + len) len n (drop len b) f.others gives f.rest)
 
--- the names in the list of a body that is read are good
+-- the names in the list of a body that can be read are valid
 list_named : (t : Tables) (b : List ℕ) (place : ℕ) (k : Kind) (x : Body) → body_of t b k ≡ Some x → AreNamed t (list_sites place b (Some k))
 list_named t b place KUnknown x h = tt
 list_named t b place KInteger x h = tt
@@ -68,7 +68,7 @@ list_named t b place KVolatile x h = tt
 list_named t b place KConst x h = tt
 list_named t b place KRestrict x h = tt
 
--- all names of a record that says a type are good
+-- all names of a record that spells a type are valid
 pub record AllNamed (t : Tables) (b : List ℕ) (place : ℕ) : Type 0 where
   pub own : IsNamed t (u32_at b 0)
   pub listed : AreNamed t (list_sites place b (kind b))

@@ -1,4 +1,4 @@
--- Where a member stands by itself: the next place that its alignment allows.
+-- The computed offset of a member: the next one that its alignment allows.
 use Rattle.std.proofs.Common.{◌≡◌, ℕ, ◌+◌, ◌-◌, ◌*◌, ◌/◌, ◌%◌, ◌<◌, ◌≤◌, max, Bool, true, false, eqb, refl, ap, ◌∙◌, arith}
 use Rattle.std.specs.Int.{next_multiple_of}
 use Rattle.std.proofs.Math.Nat.{mod-eq_of_lt, mod-lt, mul-mod_left, mul_left_comm, mod_self}
@@ -7,7 +7,7 @@ use Rattle.std.proofs.lemmas.Nat.{div-add-mod'}
 use Rattle.ctf_model.specs.drafts.DraftLaws.{IsNextPlace}
 use Rattle.ctf_model.specs.drafts.Placement.{aligned_from, bytes_holding}
 
--- the next multiple of a is one, is not below c, and is less than a behind it
+-- the next multiple of `a` is a multiple of `a`, not below `c`, and less than `c + a`
 next_is : (c a : ℕ) → 0 < a → (k : ℕ) × (next_multiple_of c a ≡ k * a) × (c ≤ next_multiple_of c a) × (next_multiple_of c a < c + a)
 next_is c a some = at (eqb (c % a) 0) refl
   where

@@ -26,7 +26,7 @@ in_child n i is true between low mid = let lt : n < 0x8000 = ltb-true n 0x8000 l
 in_child n i is false true low mid = let same : n ≡ 0x8000 = eqb-true n 0x8000 mid in absurd (omega arith)
 in_child n i is false false low mid = ap Own (omega arith)
 
--- where an own type stands
+-- the place of own type `i`'s number
 pub place_of_own : (child : Bool) (i : ℕ) → place child (own_number child i) ≡ Own i
 place_of_own true i = let some : eqb (i + 0x8001) 0 ≡ false = not_zero (i + 0x8001) (omega arith) in rw some (in_child (i + 0x8001) i refl (ltb (i + 0x8001) 0x8000) (eqb (i + 0x8001) 0x8000) refl refl)
 place_of_own false i = let some : eqb (i + 1) 0 ≡ false = not_zero (i + 1) (omega arith) in rw some (ap Own (omega arith))
@@ -40,7 +40,7 @@ from_child n i false false low mid e =
     let is : n - 0x8001 ≡ i = cc in
     omega (arith, other)
 
--- and which number it has
+-- the number of an own type
 pub own_place : (child : Bool) (n i : ℕ) → place child n ≡ Own i → n ≡ own_number child i
 own_place child n i e = at child (eqb n 0) refl e
   where
@@ -49,7 +49,7 @@ own_place child n i e = at child (eqb n 0) refl e
     at true false z e = from_child n i (ltb n 0x8000) (eqb n 0x8000) refl refl e
     at false false z e = let other = eqb-false n 0 z in let is : n - 1 ≡ i = cc in omega (arith, other)
 
--- it isn't 0
+-- the number of an own type is not 0
 pub own_positive : (child : Bool) (n i : ℕ) → place child n ≡ Own i → 0 < n
 own_positive true n i e = let is : n ≡ i + 0x8001 = own_place true n i e in omega arith
 own_positive false n i e = let is : n ≡ i + 1 = own_place false n i e in omega arith
@@ -70,7 +70,7 @@ parents_place child n i e = at child (eqb n 0) refl e
 
 -- ---- own types that numbers name
 
--- a number of an own type that is there
+-- the index of an existing own type
 pub own_of : (child : Bool) (count n i : ℕ) → place child n ≡ Own i → i < count → own_index child count n ≡ Some i
 own_of child count n i e lt = let test = lt-ltb i count lt in rw (e, test) refl
 
@@ -83,13 +83,13 @@ index_at count j (Own i) e = at (ltb i count) refl e
     at true t e = let same : i ≡ j = cc in (ap Own same, subst (λ (k : ℕ). k < count) same (ltb-true i count t))
     at false t e = absurd cc
 
--- such a type is there, and its number is told by its place
+-- an own index is in range, and determines the number
 pub own_inside : (child : Bool) (count n j : ℕ) → own_index child count n ≡ Some j → (place child n ≡ Own j) × (j < count) × (n ≡ own_number child j)
 own_inside child count n j e = let h = index_at count j (place child n) e in (h.0, h.1, own_place child n j h.0)
 
 -- ---- the own types of a list of numbers
 
--- what holds of each own type holds of each number that names one
+-- a fact of each named own type holds for each number that names one
 pub each_own : (P : ℕ → Type 0) (own : ℕ → Option ℕ) (ts : List ℕ) → AllByRecursion P (filter_map own ts) → (Q : ℕ → Type 0) → ((t : ℕ) → MatchOption (own t) (Unit {0}) P → Q t) → AllByRecursion Q ts
 each_own P own [] a Q h = tt
 each_own P own (t ∷ ts) a Q h = at (own t) refl a (λ b. each_own P own ts b Q h)
@@ -98,7 +98,7 @@ each_own P own (t ∷ ts) a Q h = at (own t) refl a (λ b. each_own P own ts b Q
     at None is b rest = (h t (rw is tt), rest b)
     at (Some j) is b rest = (h t (rw is b.0), rest b.1)
 
--- a number in the list that names an own type
+-- the same for the number at index `k`
 pub one_own : (P : ℕ → Type 0) (own : ℕ → Option ℕ) (ts : List ℕ) (k j : ℕ) → k < length ts → own (get_or ts k 0) ≡ Some j → AllByRecursion P (filter_map own ts) → P j
 one_own P own [] k j lt is a = absurd (omega arith)
 one_own P own (t ∷ ts) zero j lt is a = at (own t) is a
@@ -112,7 +112,7 @@ one_own P own (t ∷ ts) (suc k) j lt is a = one_own P own ts k j (omega arith) 
     at None b = b
     at (Some i) b = b.1
 
--- where an own type leads
+-- the types that an own type leads to
 pub targets_are : (d : Dictionary) (i : ℕ) → targets (value_edges d) i ≡ filter_map (own_index d.child (length d.terms)) (by_value (own_body d i))
 unfolding edges
 targets_are d i = listn.get_or-map (λ (x : Term). filter_map (own_index d.child (length d.terms)) (by_value x.body)) d.terms i nothing

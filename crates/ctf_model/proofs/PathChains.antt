@@ -1,4 +1,4 @@
--- What a number comes to is its rule, over a parent too, and so is each step of a path.
+-- The figure of a number follows its rule, also over a parent, and so does each step of a path.
 use Rattle.std.proofs.Common.{◌≡◌, ℕ, zero, suc, ◌+◌, ◌-◌, ◌<◌, Bool, true, false, cond, eqb, List, Option, Some, None, Result, Ok, Err, refl, sym, ap, ◌∙◌, arith}
 use Rattle.std.specs.Prelude.{slice_get}
 use Rattle.std.specs.List.{AllByRecursion}
@@ -54,7 +54,7 @@ found_own figure asks s short n i there = found_within figure asks s short 513 m
 
 -- ---- a parent's types
 
--- a low number comes to the same in the parent alone
+-- the figure of a low number is the same in the parent alone
 same_low : (figure : Figure) (s : Space) (parent : Dictionary) → s.parent ≡ Some parent → s.own.child ≡ true → (t : ℕ) → t < 0x8000 → figure_in figure (parent_alone s parent) t ≡ figure_in figure s t
 same_low figure s parent is child zero low = figure_of_none figure (parent_alone s parent) ∙ sym (figure_of_none figure s)
 same_low figure s parent is child (suc t) low = sym (parents_own figure s parent is (suc t) (suc t - 1) (rw child (low_in_child (suc t) (omega arith) low)))
@@ -101,7 +101,7 @@ figures_rule figure asks s short n = at (place s.own.child n) refl
 
 -- ---- paths
 
--- from a type that resolving finds
+-- a step from a type found by resolving
 body_step : (s : Space) (step : ℕ) (name : List ℕ) (offset n : ℕ) (body : Body) → members_found (space_type s n) ≡ members_in (shown body)
     → position_within s step name offset (resolved_body (resolved_type s) n body) ≡ step_from (step_to s step name) step name offset body (stands_for body)
 body_step s step name offset n (term.typedef t) e = refl
@@ -119,7 +119,7 @@ body_step s step name offset n (term.enum said es) e = ap (position_among step n
 body_step s step name offset n (term.forward t) e = ap (position_among step name offset) e
 body_step s step name offset n term.unknown e = ap (position_among step name offset) e
 
--- from what resolving's rule finds of a number
+-- a step from what resolving's rule gives for a number
 resolved_step : (s : Space) (step : ℕ) (name : List ℕ) (offset n : ℕ)
     → position_within s step name offset (figure_rule resolving s (resolved_type s) n) ≡ cond (eqb n 0) (position_among step name offset None) (step_found (step_to s step name) step name offset (space_type s n))
 resolved_step s step name offset n = at (eqb n 0)

@@ -24,7 +24,7 @@ use Rattle.ctf_model.proofs.WrittenItems.{IsItem, items_read, items_len, argumen
 
 -- ---- kinds
 
--- what is known of a body that fits, whatever its kind
+-- properties of a body that fits, whatever its kind
 record HasParts (x : Body) : Type 0 where
   kind : slice_get kinds (number_of_kind (kind_of x)) ≡ Some (kind_of x)
   code : number_of_kind (kind_of x) ≤ 13
@@ -52,7 +52,7 @@ parts (term.volatile t) h low = let under = low.0 in record { kind = refl; code 
 parts (term.const t) h low = let under = low.0 in record { kind = refl; code = omega arith; len = omega arith; field = omega arith }
 parts (term.restrict t) h low = let under = low.0 in record { kind = refl; code = omega arith; len = omega arith; field = omega arith }
 
--- ---- what stands behind the head
+-- ---- what follows the head
 
 scalar_read : (b : List ℕ) (s : Scalar) → size b ≡ s.size → behind_head b ≡ scalar_bytes s → FitsScalar s → scalar b ≡ s
 scalar_read b s same behind fits =
@@ -88,7 +88,7 @@ each_enumerator : (names : List (List ℕ)) (es : List Enumerator) → AllByRecu
 each_enumerator names [] h f = tt
 each_enumerator names (e ∷ es) h f = (enumerator_read names e h.0 f.0, each_enumerator names es h.1 f.1)
 
--- the bytes behind the head are those of the body, as many as its kind calls for
+-- the bytes after the head are those of the body, as many as its kind requires
 record IsBody (names : List (List ℕ)) (b : List ℕ) (x : Body) : Type 0 where
   says : body_of (table_of names) b (kind_of x) ≡ Some x
   len : length (variant_bytes names x) ≡ variant_len (kind_of x) (field_of x) (list_len x)
@@ -99,11 +99,11 @@ tag_read term.struct_tag = refl
 tag_read term.union_tag = refl
 tag_read term.enum_tag = refl
 
--- a type that is named by the field alone
+-- a type stated in the field alone
 named : (names : List (List ℕ)) (b v : List ℕ) (r i t : ℕ) → HasHead b v r i t → t < 65535 → field b ≡ t
 named names b v r i t head low = head.short low
 
--- arguments, and what pads them, are twice as many bytes as there are numbers
+-- arguments with their padding take the required number of bytes
 arguments_len : (args : List ℕ) → AllByRecursion (λ t. t < 0xffff) args → length (argument_bytes args) ≡ 2 * (length args + length args % 2)
 arguments_len args h = at (ltb 0 (length args % 2)) refl
   where
@@ -148,7 +148,7 @@ body_read names b r i (term.volatile t) head k len fits low found = record { say
 body_read names b r i (term.const t) head k len fits low found = record { says = ap (λ (t : ℕ). Some (term.const t)) (head.short low.0); len = refl; short = rw k refl }
 body_read names b r i (term.restrict t) head k len fits low found = record { says = ap (λ (t : ℕ). Some (term.restrict t)) (head.short low.0); len = refl; short = rw k refl }
 
--- where the short form is the only one, the field isn't the mark of the long one
+-- for kinds that have only the short form, the field is not the mark of the long form
 short_low : (x : Body) → AllByRecursion (λ n. n < 0xffff) (references x) → is_short_kind (kind_of x) ≡ true → field_of x < 65535
 short_low term.unknown low short = absurd cc
 short_low (term.integer s) low short = absurd cc
@@ -185,7 +185,7 @@ root_low : (root : Bool) → root_bit root ≤ 1
 root_low true = omega arith
 root_low false = omega arith
 
--- bytes with the head and the variant of a type are a whole record that says it
+-- bytes with the head and variant of a type are a whole record that spells it
 recorded_at : (names : List (List ℕ)) (b : List ℕ) (x : Term) → Fits x → NamesShort x → AllByRecursion (IsFound names) (names_of x) → HasHead b (variant_bytes names x.body) (name_reference names x.name) (info_of x) (field_of x.body) → IsRecorded names b x
 unfolding IsWhole term_of
 recorded_at names b x fits short found head =

@@ -71,9 +71,9 @@ forward_true (Some KVolatile) e = absurd cc
 forward_true (Some KConst) e = absurd cc
 forward_true (Some KRestrict) e = absurd cc
 
--- ---- the mark of the long form where it has no place
+-- ---- the mark of the long form in kinds without it
 
--- a record has it or not
+-- whether a record has it is decidable
 stray_decided : (b : List ℕ) → HasStrayMark b ⊎ (¬ HasStrayMark b)
 stray_decided b = at (kind b) refl
   where
@@ -86,7 +86,7 @@ stray_decided b = at (kind b) refl
     at None e = inr (λ h. let known = h.known in absurd cc)
     at (Some k) e = short k e (is_short_kind k) refl (eqb (field b) 0xffff) refl
 
--- where a forward has it, the test of its tag passes
+-- a forward with the mark passes the test of its tag
 stray_forward : (b : List ℕ) → kind b ≡ Some KForward → field b ≡ 0xffff → has_long_tag b ≡ true
 stray_forward b e mark = rw (e, mark) refl
 
@@ -95,11 +95,11 @@ forward_stray b e =
     let both = and_parts (is_forward (kind b)) (is_long b) e in
     record { of = KForward; known = forward_true (kind b) both.0; short = refl; mark = eqb-true (field b) 0xffff both.1 }
 
--- the type in the field comes first of those that a type names
+-- the type in the field is the first that the type refers to
 abbrev FirstOf : List ℕ → Term → Type 0
 FirstOf b x = (more : List ℕ) × (references x.body ≡ field b ∷ more)
 
--- what a record of a kind says, with its name
+-- the type that a record spells, given its name and its body
 abbrev said_with : List ℕ → Option (List ℕ) → Option Body → Option Term
 said_with b text body = text >>= (λ n. body >>= (λ said. Some (record { name = n; root = is_root b; body = said })))
 
@@ -112,7 +112,7 @@ first_of_function b x None None e = absurd cc
 first_of_function b x (Some n) None e = absurd cc
 first_of_function b x text (Some ns) e = first_named b x text (term.function (field b) ns) e ns refl
 
--- a kind with the short form alone is a forward, or names the type in its field first
+-- a kind with only the short form is a forward, or refers first to the type in its field
 first_reference : (t : Tables) (b : List ℕ) (x : Term) (k : Kind) → is_short_kind k ≡ true → said_with b (name t (u32_at b 0)) (body_of t b k) ≡ Some x → (k ≡ KForward) ⊎ FirstOf b x
 first_reference t b x KUnknown short e = absurd cc
 first_reference t b x KInteger short e = absurd cc
@@ -129,12 +129,12 @@ first_reference t b x KVolatile short e = inr (first_named b x (name t (u32_at b
 first_reference t b x KConst short e = inr (first_named b x (name t (u32_at b 0)) (term.const (field b)) e [] refl)
 first_reference t b x KRestrict short e = inr (first_named b x (name t (u32_at b 0)) (term.restrict (field b)) e [] refl)
 
--- no dictionary has so many types that the mark names one
+-- the mark names a missing type in any dictionary
 mark_missing : (child : Bool) (count : ℕ) → count ≤ 32766 → is_missing child count 0xffff ≡ true
 mark_missing false count few = le-leb count 65534 (omega arith)
 mark_missing true count few = le-leb count 32766 few
 
--- so the mark passes the test
+-- so a record with the mark passes the test
 stray_misnames : (t : Tables) (child : Bool) (count : ℕ) (b : List ℕ) (x : Term) → count ≤ 32766 → term_of t b ≡ Some x → HasStrayMark b → (has_long_tag b || list_any (is_missing child count) (references x.body)) ≡ true
 unfolding term_of
 stray_misnames t child count b x few e h = at (first_reference t b x h.of h.short (let known = h.known in rw known at e))
@@ -148,7 +148,7 @@ stray_misnames t child count b x few e h = at (first_reference t b x h.of h.shor
 
 -- ---- one record
 
--- the test of a record that says a type decides its fact
+-- the test of a record that spells a type decides its fact
 misnaming_decides : (t : Tables) (child : Bool) (count : ℕ) (b : List ℕ) (x : Term) → count ≤ 32766 → Says t b x → Decides (is_misnaming t child count b) (Misnames t child count b)
 unfolding is_misnaming
 misnaming_decides t child count b x few said = let says = said.says in rw says (λ e. to (or_cases (has_long_tag b) (list_any (is_missing child count) (references x.body)) e), from)
@@ -170,7 +170,7 @@ misnaming_decides t child count b x few said = let says = said.says in rw says (
 
 -- ---- the records in order
 
--- the record of a number is one of these, and its fact holds
+-- record number `p` is one of these, and the fact holds of it
 pub record IsAmong (Fact : List ℕ → Type 0) (parts : List (List ℕ)) (index p : ℕ) : Type 0 where
   pub front : List (List ℕ)
   pub part : List ℕ
@@ -179,7 +179,7 @@ pub record IsAmong (Fact : List ℕ → Type 0) (parts : List (List ℕ)) (index
   pub number : p ≡ index + length front
   pub fact : Fact part
 
--- there is none of none
+-- there is none in an empty list
 none_among : (Fact : List ℕ → Type 0) (index p : ℕ) → IsAmong Fact [] index p → ⊥
 none_among Fact index p a = at a.front a.all
   where
@@ -198,7 +198,7 @@ split_among Fact part parts index p a = at a.front a.all a.number
 later_among : (Fact : List ℕ → Type 0) (part : List ℕ) (parts : List (List ℕ)) (index p : ℕ) → IsAmong Fact parts (index + 1) p → IsAmong Fact (part ∷ parts) index p
 later_among Fact part parts index p a = let is = a.number in record { front = part ∷ a.front; part = a.part; back = a.back; all = ap (λ (ps : List (List ℕ)). part ∷ ps) a.all; number = omega arith; fact = a.fact }
 
--- the first record that misnames stands at the least place of all that do
+-- the first record that fails is at the least place of all that do
 misnaming_agrees : (t : Tables) (child : Bool) (count : ℕ) (parts : List (List ℕ)) (rest : List ℕ) (index at : ℕ) → AllByRecursion (λ part. Decides (is_misnaming t child count part) (Misnames t child count part)) parts → Agrees (first_misnaming t child count (pieces index at parts rest)) (IsAmong (Misnames t child count) parts index)
 unfolding first_misnaming
 misnaming_agrees t child count [] rest index at d = go (eqb (length rest) 0)
@@ -223,7 +223,7 @@ misnaming_agrees t child count (part ∷ parts) rest index at d = go (is_misnami
     go false d None h = λ p a. h p (later_only p (λ fact. let e = d.1 fact in absurd cc) a)
     go false d (Some p) h = (later_among Fact part parts index p h.0, λ q lt a. h.1 q lt (later_only q (λ fact. let e = d.1 fact in absurd cc) a))
 
--- where the rules before it are kept, the rule agrees with its fact
+-- if the earlier rules are kept, the rule agrees with its fact
 pub bad_reference_agrees : (s : Lists) → Keeps s 14 → Agrees (bad_reference s) (IsBroken s 14)
 unfolding bad_reference
 bad_reference_agrees s keeps = by_cut (kept_records s 14 (omega arith) keeps)

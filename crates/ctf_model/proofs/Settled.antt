@@ -1,4 +1,4 @@
--- What a number comes to does not hang on how many numbers may follow on each other, once these are enough.
+-- The figure of a number does not depend on the bound, once that is large enough.
 use Rattle.std.proofs.Common.{◌≡◌, ℕ, zero, suc, ◌+◌, ◌≤◌, ◌<◌, Bool, true, false, cond, eqb, List, [], ◌∷◌, length, Option, Some, None, Result, Err, refl, sym, ap, subst, ◌∙◌, arith}
 use Rattle.std.specs.Prelude.{slice_get, slice_index_or, MatchOption}
 use Rattle.std.specs.List.{AllByRecursion, filter_map}
@@ -18,12 +18,12 @@ use Rattle.ctf_model.proofs.OwnTypes.{each_own, targets_are, own_of, not_zero, p
 
 -- ---- where chains end
 
--- fewer than k own types follow on each other from here on, this one counted
+-- fewer than `k` own types follow one another from `j` on, `j` included
 abbrev pub Ends : List (List ℕ) → ℕ → ℕ → Type 0
 Ends es zero j = ⊥
 Ends es (suc k) j = IsWithin es k j
 
--- the same of a number: it may name no own type
+-- the same for a number, which may name no own type
 abbrev pub EndsAt : Dictionary → ℕ → ℕ → Type 0
 EndsAt d k n = MatchOption (own_index d.child (length d.terms) n) (Unit {0}) (Ends (value_edges d) k)
 
@@ -31,7 +31,7 @@ pub all_map : (P Q : ℕ → Type 0) → ((t : ℕ) → P t → Q t) → (ts : L
 all_map P Q h [] a = tt
 all_map P Q h (t ∷ ts) a = (h t a.0, all_map P Q h ts a.1)
 
--- from what an own type leads to, one fewer follow
+-- from the types that an own type leads to, one fewer follow
 pub asked_end : (d : Dictionary) (k i : ℕ) → IsWithin (value_edges d) k i → AllByRecursion (EndsAt d k) (by_value (own_body d i))
 unfolding IsWithin
 asked_end d zero i w =
@@ -43,7 +43,7 @@ asked_end d (suc k) i w =
 
 -- ---- enough numbers
 
--- a type of a dictionary, and where its number stands
+-- an existing own type with its number and index
 pub record Stands (d : Dictionary) (n i : ℕ) (z : Term) : Type 0 where
   pub there : place d.child n ≡ Own i
   pub got : slice_get d.terms i ≡ Some z
@@ -111,7 +111,7 @@ pub most_is : most_numbers ≡ suc 513
 unfolding most_numbers
 most_is = refl
 
--- the figure of an own type is what its rule says of the figures of others
+-- the figure of an own type follows its rule
 pub own_figure : (figure : Figure) → AsksByValue figure → (s : Space) (k i : ℕ) → k ≤ longest_chain → i < length s.own.terms → IsWithin (value_edges s.own) k i → figure_in figure s (own_number s.own.child i) ≡ figure.of_type (figure_in figure s) (own_number s.own.child i) (own_body s.own i)
 own_figure figure asks s k i le lt w = own_rule figure asks (parents_figure figure s.parent) s.own k 513 most_numbers i most_is (omega arith) lt w
 
@@ -124,11 +124,11 @@ none_step : (figure : Figure) (parents : ℕ → Result ℕ Fault) (d : Dictiona
 unfolding comes_to
 none_step figure parents d x = refl
 
--- no type
+-- number 0
 pub figure_of_none : (figure : Figure) (s : Space) → figure_in figure s 0 ≡ figure.of_none
 figure_of_none figure s = ap (λ (y : ℕ). comes_to figure (parents_figure figure s.parent) s.own y 0) most_is ∙ none_step figure (parents_figure figure s.parent) s.own 513
 
--- a number at which no type stands
+-- a number without a type
 record IsMissing (d : Dictionary) (n : ℕ) : Type 0 where
   pub some : 0 < n
   pub not_parents : (i : ℕ) → place d.child n ≡ Parents i → ⊥
@@ -154,7 +154,7 @@ figure_of_missing figure s n some not_parents not_own =
 
 -- ---- a parent's types
 
--- a parent's number comes to what the parent's numbers come to
+-- the figure of a parent's number is computed in the parent
 pub of_parents : (figure : Figure) (parents : ℕ → Result ℕ Fault) (d : Dictionary) (x n i : ℕ) → place d.child n ≡ Parents i → comes_to figure parents d (suc x) n ≡ parents n
 unfolding comes_to
 of_parents figure parents d x n i e = at (eqb n 0) refl
@@ -166,6 +166,6 @@ of_parents figure parents d x n i e = at (eqb n 0) refl
 pub figure_of_parents : (figure : Figure) (s : Space) (n i : ℕ) → place s.own.child n ≡ Parents i → figure_in figure s n ≡ parents_figure figure s.parent n
 figure_of_parents figure s n i e = ap (λ (y : ℕ). comes_to figure (parents_figure figure s.parent) s.own y n) most_is ∙ of_parents figure (parents_figure figure s.parent) s.own 513 n i e
 
--- a parent's type comes to the same in the parent alone
+-- a parent's type has the same figure in the parent alone
 pub parents_own : ParentsFiguresAreTheirOwn
 parents_own figure s parent is n i e = figure_of_parents figure s n i e ∙ ap (λ (p : Option Dictionary). parents_figure figure p n) is

@@ -19,9 +19,9 @@ use Rattle.ctf_model.proofs.ChainSteps.{targets_of}
 use Rattle.ctf_model.proofs.OwnTypes.{each_own, not_zero, own_inside, own_positive}
 use Rattle.ctf_model.proofs.Settled.{Ends, Stands, all_map, stands_inside}
 
--- ---- where the type of a number stands
+-- ---- the type of a number
 
--- among the parent's types
+-- a type of the parent
 pub record StandsAbove (s : Space) (n : ℕ) (z : Term) : Type 0 where
   pub parent : Dictionary
   pub is : s.parent ≡ Some parent
@@ -36,7 +36,7 @@ low_in_child n some low = let positive = not_zero n some in let test = lt-ltb n 
 pub low_in_parent : (n : ℕ) → 0 < n → place false n ≡ Own (n - 1)
 low_in_parent n some = let positive = not_zero n some in rw positive refl
 
--- a parent's type, by its number in a child
+-- a parent's type, looked up by its number in a child
 pub found_low : (own parent : Dictionary) → parent.child ≡ false → (n : ℕ) (z : Term) → n < 0x8000 → type_in own (Some parent) (place true n) ≡ Ok z → Stands parent n (n - 1) z
 found_low own parent plain zero z low e = absurd cc
 found_low own parent plain (suc m) z low e =
@@ -48,7 +48,7 @@ found_low own parent plain (suc m) z low e =
     at None is e = absurd cc
     at (Some y) is e = let same : y ≡ z = cc in record { there = rw plain (low_in_parent (suc m) (omega arith)); got = is ∙ ap (λ (x : Term). Some x) same }
 
--- only a child has a parent's numbers, and these are low
+-- only a child has numbers of a parent, and these are below 0x8000
 pub parents_number : (child : Bool) (n i : ℕ) → place child n ≡ Parents i → (child ≡ true) × (n < 0x8000)
 parents_number child n i e = at child (eqb n 0) (ltb n 0x8000) (eqb n 0x8000) refl e
   where
@@ -83,7 +83,7 @@ stands_where s plain n z e = at (place s.own.child n) refl e
 
 -- ---- where chains end
 
--- fewer than k own types follow on each other from the type of a number on, this one counted
+-- fewer than `k` own types follow one another from type `n` on, `n` included
 abbrev pub EndsBy : (Body → List ℕ) → Dictionary → ℕ → ℕ → Type 0
 EndsBy steps d k n = MatchOption (own_index d.child (length d.terms) n) (Unit {0}) (Ends (edges steps d.child d.terms) k)
 
@@ -96,7 +96,7 @@ led_to steps d zero i z got w =
 led_to steps d (suc k) i z got w =
     each_own (IsWithin (edges steps d.child d.terms) k) (own_index d.child (length d.terms)) (steps z.body) (subst (AllByRecursion (IsWithin (edges steps d.child d.terms) k)) (targets_of steps d.child d.terms i z got) w) (EndsBy steps d (suc k)) (λ t h. h)
 
--- from where a type leads one fewer follow
+-- from the types that it leads to, one fewer follow
 pub record Fewer (P : ℕ → ℕ → Type 0) (k : ℕ) (ts : List ℕ) : Type 0 where
   pub left : ℕ
   pub less : k ≡ suc left
@@ -109,7 +109,7 @@ one_fewer steps d (suc k) n i z stands ends =
     let w : IsWithin (edges steps d.child d.terms) k i = rw inside at ends in
     record { left = k; less = refl; next = led_to steps d k i z stands.got w }
 
--- the same of a parent's low numbers
+-- the same for a parent's low numbers
 record EndsLow (steps : Body → List ℕ) (d : Dictionary) (k n : ℕ) : Type 0 where
   pub low : n < 0x8000
   pub short : EndsBy steps d k n
@@ -124,7 +124,7 @@ one_fewer_low steps parent short k n i z stands ends =
     let low = all_got (λ (x : Term). AllByRecursion (λ t. t < 0x8000) (steps x.body)) parent.terms i z short.low stands.got in
     record { left = f.left; less = f.less; next = both_low steps parent f.left (steps z.body) low f.next }
 
--- where no chain is longer than k steps, no number is followed by more types
+-- if no chain has more than `k` steps, the count holds for every number
 ends_within : (steps : Body → List ℕ) (d : Dictionary) (k : ℕ) → ((i : ℕ) → i < length d.terms → IsWithin (edges steps d.child d.terms) k i) → (n : ℕ) → EndsBy steps d (suc k) n
 ends_within steps d k each n = at (own_index d.child (length d.terms) n) refl
   where
@@ -138,10 +138,9 @@ ends_short steps d short n = ends_within steps d longest_chain short.each n
 plain_parent : (steps : Body → List ℕ) (s : Space) → HasShortChainsIn steps s → (parent : Dictionary) → s.parent ≡ Some parent → parent.child ≡ false
 plain_parent steps s short parent is = (short.parent parent is).plain
 
--- ---- descent: what passes from the types that a type leads to on to the type holds of all numbers
+-- ---- descent: a property that passes from a type's targets to the type holds of all numbers
 
--- with the number of types that may follow: it holds of a number where it holds, with one fewer,
--- of those that its type leads to
+-- the property holds of a number if it holds, for one type fewer, of all that the type leads to
 abbrev pub PassesOn : (Body → List ℕ) → Space → (ℕ → ℕ → Type 0) → Type 0
 PassesOn steps s P = (x n : ℕ) → ((z : Term) → space_type s n ≡ Ok z → AllByRecursion (P x) (steps z.body)) → P (suc x) n
 
@@ -173,13 +172,13 @@ descend_own steps s short P on (suc x) k n ends lt =
     all_map (EndsLow steps above.parent f.left) (P x) (λ t h. descend_low steps s above.parent above.is above.child closed P on x f.left t h (omega (arith, less))) (steps z.body) f.next)
     (stands_where s (plain_parent steps s short) n z e))
 
--- 513 own types, as many of the parent's, and a number behind them
+-- the descent takes at most 513 own types, as many of the parent's, and a last number
 pub descend : (steps : Body → List ℕ) (s : Space) → HasShortChainsIn steps s → (P : ℕ → ℕ → Type 0) → PassesOn steps s P → (x n : ℕ) → 1026 < x → P x n
 descend steps s short P on x n lt = descend_own steps s short P on x 513 n (ends_short steps s.own short.own n) (omega arith)
 
--- ---- how many types a chain visits
+-- ---- the number of types in a chain
 
--- what holds of all that a type leads to holds of the number that a chain goes on with
+-- a fact of all targets holds of the next number of the chain
 one_of : (P : ℕ → Type 0) (ts : List ℕ) (n : ℕ) → AllByRecursion P ts → Any (λ t. t ≡ n) ts → P n
 one_of P [] n all a = absurd (any_none _ a)
 one_of P (t ∷ ts) n all a = ⊎_elim (λ same. subst P same all.0) (λ later. one_of P ts n all.1 later) (any_split (λ m. m ≡ n) t ts a)
@@ -190,7 +189,7 @@ own_count s ns = count_by (λ n. is_own (place s.own.child n)) ns
 abbrev parents_count : Space → List ℕ → ℕ
 parents_count s ns = count_by (λ n. is_parents (place s.own.child n)) ns
 
--- one number more
+-- counting one more number
 count_one : (test : ℕ → Bool) (n : ℕ) (ns : List ℕ) (b : Bool) → test n ≡ b → count_by test (n ∷ ns) ≡ cond b 1 0 + count_by test ns
 count_one test n ns b e = sum_by-cons (λ m. cond (test m) 1 0) n ns ∙ ap (λ (c : Bool). cond c 1 0 + count_by test ns) e
 

@@ -1,4 +1,4 @@
--- Whatever is done to a draft keeps it sound.
+-- Every change keeps a draft sound.
 use Rattle.std.proofs.Common.{◌≡◌, ℕ, ◌*◌, ◌^◌, ◌<◌, ◌≤◌, Bool, true, false, cond, eqb, leb, List, [], ◌∷◌, ◌++◌, length, map, set, Option, Some, None, Result, Ok, Err, refl, sym, ap, subst, ◌∙◌, arith}
 use Rattle.std.specs.Prelude.{not, is_none, is_some, unwrap_or, FitsSigned}
 use Rattle.std.specs.Int.{w32}
@@ -29,12 +29,12 @@ use Rattle.ctf_model.specs.spaces.TypePlaces.{place}
 use Rattle.ctf_model.specs.declared.data_model.DataModel.{DataModel}
 use Rattle.ctf_model.specs.declared.faults.Fault.{Fault}
 
--- ---- what was judged
+-- ---- passed checks
 
 abbrev NotMet : Row → Type 0
 NotMet row = row.met ≡ false
 
--- where something is answered, no row was met
+-- if there is a result, no row's condition held
 passed : {A : Type 0} (rows : List Row) (done : Result A Fault) (r : A) → unless (first_met rows) done ≡ Ok r → AllByRecursion NotMet rows × (done ≡ Ok r)
 passed [] done r h = (tt, h)
 passed {A} (row ∷ rows) done r h = at row.met refl h (passed rows done r)
@@ -45,7 +45,7 @@ passed {A} (row ∷ rows) done r h = at row.met refl h (passed rows done r)
     at true e h more = absurd cc
     at false e h more = let later = more h in ((e, later.0), later.1)
 
--- where something follows on a number, there is one
+-- if a continuation succeeded, there was a number
 then_ok : {A : Type 0} (r : Result ℕ Fault) (next : ℕ → Result A Fault) (y : A) → (r then next) ≡ Ok y → (n : ℕ) × (next n ≡ Ok y)
 then_ok (Err f) next y h = absurd cc
 then_ok (Ok n) next y h = (n, h)
@@ -74,9 +74,10 @@ new_sound parent parname parlabel model d child h =
     let all : HoldsTogether (empty_draft (above parent) parname parlabel model) = record { parent = judged.0.1.0; child = above_there parent ∙ child; parname = is_name parname names.0; parlabel = is_name parlabel names.1; labels = tt; count = omega arith; terms = tt; named = tt } in
     subst IsSound (ok_is (empty_draft (above parent) parname parlabel model) d judged.1) (record { all = all; updated = all })
 
--- ---- other types than before
+-- ---- replaced types
 
--- pending types may be others, as many at least, where these fit and name what is there
+-- replacing pending types, by at least as many, keeps a draft sound if the new ones fit and refer
+-- to existing types
 renewed : (d : Draft) (ts : List Term) → IsSound d → length d.pending.terms ≤ length ts → length (d.updated.terms ++ ts) ≤ most_types → AllByRecursion Fits ts → AllByRecursion (NamesThere d) ts → IsSound (with_pending d ts)
 renewed d ts ok more few fits named =
     let old = length-append d.updated.terms d.pending.terms in
@@ -101,7 +102,7 @@ renewed d ts ok more few fits named =
       updated = ok.updated;
     }
 
--- one pending type may be another
+-- replacing the body of one pending type
 replaced_sound : (d : Draft) (n : ℕ) (x : Term) (i : ℕ) (body : Body) → IsSound d → IsOpen d n x i → FitsBody body → list_any (is_absent d) (references body) ≡ false → IsSound (replace_body d n body)
 replaced_sound d n x i body ok known fits named =
     let len = length-set d.pending.terms i (with_body body x) in
@@ -150,7 +151,7 @@ type_sound d x a ok fits h =
 
 -- ---- members
 
--- a member fits where its struct has grown
+-- a member still fits if its struct has grown
 grown_member : (size bigger : ℕ) → size ≤ bigger → (m : Member) → FitsMember size m → FitsMember bigger m
 grown_member size bigger le m h = let inside = h.inside in record { name = h.name; offset = h.offset; inside = omega arith }
 
@@ -159,7 +160,7 @@ more_members old size ms m h le low few own =
     let len = length-append ms (m ∷ []) in
     record { fits = low; count = omega arith; each = all_joined (FitsMember size) ms (m ∷ []) (all_map (FitsMember old) (FitsMember size) (grown_member old size le) ms h.each) (own, tt) }
 
--- a struct or union with one member more fits
+-- a struct or union with one more member fits
 fits_with : (x : Body) (m : Member) (size : ℕ) → is_none (members_in (shown x)) ≡ false → FitsBody x → unwrap_or (size_of x) 0 ≤ size → size < 2 ^ 64 → length (unwrap_or (members_in (shown x)) []) < most_items → FitsMember size m → FitsBody (with_member m size x)
 fits_with (term.struct old ms) m size k h le low few own = more_members old size ms m h le low few own
 fits_with (term.union old ms) m size k h le low few own = more_members old size ms m h le low few own
@@ -181,7 +182,7 @@ more_numbers p ms m h own =
     let alone : list_any p (m.tnum ∷ []) ≡ false = rw own refl in
     subst (λ (ns : List ℕ). list_any p ns ≡ false) (sym (map-append (λ (m : Member). m.tnum) ms (m ∷ []))) (none_joined p (map (λ m. m.tnum) ms) (m.tnum ∷ []) h alone)
 
--- and names what is there
+-- and refers only to existing types
 names_with : (p : ℕ → Bool) (x : Body) (m : Member) (size : ℕ) → list_any p (references x) ≡ false → p m.tnum ≡ false → list_any p (references (with_member m size x)) ≡ false
 names_with p (term.struct old ms) m size h own = more_numbers p ms m h own
 names_with p (term.union old ms) m size h own = more_numbers p ms m h own
@@ -201,7 +202,7 @@ names_with p (term.restrict _) m size h own = h
 grown_holds : (size offset bits : ℕ) → (size ≤ grown_size size offset bits) × (offset ≤ 8 * grown_size size offset bits)
 grown_holds size offset bits = (omega arith, omega arith)
 
--- the body of an open type fits, and names what is there
+-- the body of a pending type fits, and refers to existing types
 open_body : (d : Draft) (n : ℕ) (x : Term) (i : ℕ) → IsOpen d n x i → body_at d n ≡ x.body
 open_body d n x i known = ap found_body known.found
 
@@ -232,7 +233,7 @@ member_sound d n name tnum offset a ok h =
 
 -- ---- enumerators
 
--- an enum with one enumerator more fits
+-- an enum with one more enumerator fits
 fits_enum : (x : Body) (e : Enumerator) → is_none (enumerators_in (shown x)) ≡ false → FitsBody x → length (unwrap_or (enumerators_in (shown x)) []) < most_items → FitsEnumerator e → FitsBody (with_enumerator e x)
 fits_enum (term.enum size es) e k h few own =
     let len = length-append es (e ∷ []) in
@@ -251,7 +252,7 @@ fits_enum (term.volatile _) e k h few own = absurd cc
 fits_enum (term.const _) e k h few own = absurd cc
 fits_enum (term.restrict _) e k h few own = absurd cc
 
--- and names what it named
+-- and refers to the same types
 names_enum : (x : Body) (e : Enumerator) → references (with_enumerator e x) ≡ references x
 names_enum (term.enum _ _) e = refl
 names_enum (term.struct _ _) e = refl
@@ -329,7 +330,7 @@ settled_sound d ok =
 pub life_sound : (d : Draft) → IsSound d → IsSound (rollback d) × IsSound (commit d)
 life_sound d ok = let all = settled_sound d ok in (record { all = ok.updated; updated = ok.updated }, record { all = all; updated = all })
 
--- ---- one thing after the other
+-- ---- sequences of changes
 
 kept_type : (d : Draft) (r : Result Added Fault) → IsSound d → ((a : Added) → r ≡ Ok a → IsSound a.draft) → IsSound (or_as_before d (draft_of r))
 kept_type d (Err f) ok h = ok

@@ -1,4 +1,4 @@
--- A whole record whose names are good says a type.
+-- A whole record with valid names spells a type.
 use Rattle.std.proofs.Common.{◌≡◌, ℕ, zero, suc, ◌+◌, ◌*◌, ◌^◌, Bool, true, false, cond, ltb, List, [], ◌∷◌, ◌++◌, drop, Option, Some, None, refl, ap}
 use Rattle.std.specs.Prelude.{MatchOption}
 use Rattle.std.specs.List.{AllByRecursion}
@@ -18,27 +18,27 @@ use Rattle.ctf_model.specs.format.Term as term
 abbrev pub IsNamed : Tables → ℕ → Type 0
 IsNamed t reference = name t reference ≡ None → ⊥
 
--- the references of all sites name something
+-- all references of these sites name something
 abbrev pub AreNamed : Tables → List Site → Type 0
 AreNamed t xs = AllByRecursion (λ (site : Site). IsNamed t site.reference) xs
 
--- of named sites the first ones are named
+-- the first ones of named sites are named
 pub split_front : (t : Tables) (xs ys : List Site) → AreNamed t (xs ++ ys) → AreNamed t xs
 split_front t [] ys h = tt
 split_front t (x ∷ xs) ys h = (h.0, split_front t xs ys h.1)
 
--- of named sites the last ones are named
+-- the last ones of named sites are named
 pub split_back : (t : Tables) (xs ys : List Site) → AreNamed t (xs ++ ys) → AreNamed t ys
 split_back t [] ys h = h
 split_back t (x ∷ xs) ys h = split_back t xs ys h.1
 
 -- ---- items
 
--- a reader of items that needs a good name alone
+-- a reader of items that needs only a valid name
 abbrev NeedsName : {A : Type 0} → Tables → (List ℕ → Option A) → Type 0
 NeedsName {A} t item = (b : List ℕ) → IsNamed t (u32_at b 0) → (x : A) × (item b ≡ Some x)
 
--- what is made of a text is there where the text is
+-- a value made from a text exists if the text does
 from_name : {A : Type 0} (make : List ℕ → A) (o : Option (List ℕ)) → (o ≡ None → ⊥) → (x : A) × (option_map make o ≡ Some x)
 from_name make None h = absurd (h refl)
 from_name make (Some text) h = (make text, refl)
@@ -53,7 +53,7 @@ member_needs_name size t b h = at (ltb size 8192)
 enumerator_needs_name : (t : Tables) → NeedsName t (enumerator_of t)
 enumerator_needs_name t b h = from_name (λ text. record { name = text; value = cast_signed w32 (u32_at b 4) }) (name t (u32_at b 0)) h
 
--- items whose names are good are there
+-- items with valid names can be read
 named_items : {A : Type 0} (t : Tables) (item : List ℕ → Option A) (place len n : ℕ) (b : List ℕ) → NeedsName t item → AreNamed t (item_sites place len n b) → (xs : List A) × (items item len n b ≡ Some xs)
 unfolding item_sites
 named_items t item place len zero b needs named = ([], refl)
@@ -69,7 +69,7 @@ all_arguments (suc n) b = let others = all_arguments n (drop 2 b) in (u16_at b 0
 
 -- ---- records
 
--- the record's body is there, where the names in its list are good
+-- the body of a record can be read if the names in its list are valid
 said : (t : Tables) (b : List ℕ) (place : ℕ) (k : Kind) → AreNamed t (list_sites place b (Some k)) → (x : Body) × (body_of t b k ≡ Some x)
 said t b place KUnknown named = (term.unknown, refl)
 said t b place KInteger named = (term.integer (scalar b), refl)
@@ -86,12 +86,12 @@ said t b place KVolatile named = (term.volatile (field b), refl)
 said t b place KConst named = (term.const (field b), refl)
 said t b place KRestrict named = (term.restrict (field b), refl)
 
--- a whole record says this type
+-- a whole record spells this type
 pub record Says (t : Tables) (b : List ℕ) (x : Term) : Type 0 where
   pub whole : IsWhole b
   pub says : term_of t b ≡ Some x
 
--- a whole record with good names says a type
+-- a whole record with valid names spells a type
 pub spelled : (t : Tables) (b : List ℕ) (place : ℕ) → IsWhole b → IsNamed t (u32_at b 0) → AreNamed t (list_sites place b (kind b)) → (x : Term) × Says t b x
 unfolding IsWhole term_of
 spelled t b place whole named listed = at (kind b) refl whole listed (name t (u32_at b 0)) refl

@@ -1,4 +1,4 @@
--- A record spells a type exactly where reading its fields gives it.
+-- A record spells a type exactly if reading its fields gives that type.
 use Rattle.std.proofs.Common.{◌≡◌, ◌<◌, ◌≤◌, ℕ, zero, suc, ◌+◌, ◌*◌, ◌^◌, Bool, true, false, ltb, eqb, ℤ, List, [], ◌∷◌, drop, length, Option, Some, None, refl, sym, ap, subst, ◌∙◌, arith}
 use Rattle.std.specs.Option.{option_map, option_and_then}
 use Rattle.std.specs.Int.{cast_signed, w32}
@@ -16,7 +16,7 @@ use Rattle.std.proofs.lemmas.Bool.{ltb-true, ltb-false, eqb-true, eqb-false}
 
 -- ---- lists of items
 
--- a reader of items gives just what stands there
+-- a reader of items gives exactly the item in the bytes
 record IsReader {A : Type 0} (Is : List ℕ → A → Type 0) (item : List ℕ → Option A) : Type 0 where
   read : (b : List ℕ) (x : A) → Is b x → item b ≡ Some x
   stands : (b : List ℕ) (x : A) → item b ≡ Some x → Is b x
@@ -25,7 +25,7 @@ items_read : {A : Type 0} (Is : List ℕ → A → Type 0) (item : List ℕ → 
 items_read Is item len r [] b h = refl
 items_read Is item len r (x ∷ xs) b h = rw (r.read b x h.0, items_read Is item len r xs (drop len b) h.1) refl
 
--- so does an item more, in front of those
+-- the same for a list with one more item in front
 next_stands : {A : Type 0} (Is : List ℕ → A → Type 0) (item : List ℕ → Option A) (len : ℕ) → IsReader Is item → (n : ℕ) (b : List ℕ)
     → ((ys : List A) → items item len n (drop len b) ≡ Some ys → (length ys ≡ n) × Stand Is len (drop len b) ys)
     → (first : Option A) → item b ≡ first → (others : Option (List A)) → items item len n (drop len b) ≡ others
@@ -47,7 +47,7 @@ items_stand Is item len r (suc n) b xs e = next_stands Is item len r n b (items_
 
 -- ---- items
 
--- what is made of a text
+-- a value made from a text
 map_some : {A : Type 0} (make : List ℕ → A) (o : Option (List ℕ)) (x : A) → option_map make o ≡ Some x → (text : List ℕ) × (o ≡ Some text) × (make text ≡ x)
 map_some make None x e = absurd cc
 map_some make (Some text) x e = (text, refl, same_Some (make text) x e)
@@ -105,7 +105,7 @@ argument_read = record {
   stands = λ b x e. sym (same_Some (u16_at b 0) x e);
 }
 
--- ---- what stands behind other heads
+-- ---- what follows other heads
 
 scalar_same : (a b c d : ℕ) (s : Scalar) → s.size ≡ a → s.encoding ≡ b → s.offset ≡ c → s.bits ≡ d → record { size = a; encoding = b; offset = c; bits = d } ≡ s
 scalar_same a b c d s p q r u = rw (sym p, sym q, sym r, sym u) refl
@@ -145,7 +145,7 @@ tag_stands field = at (eqb field 7) refl (eqb field 8) refl
 
 -- ---- bodies
 
--- what a record of a kind says
+-- the content of a record of a kind
 record IsSaid (t : Tables) (b : List ℕ) (x : Body) : Type 0 where
   of : Kind
   known : kind b ≡ Some of
@@ -154,14 +154,14 @@ record IsSaid (t : Tables) (b : List ℕ) (x : Body) : Type 0 where
 listed_read : {A : Type 0} (Is : List ℕ → A → Type 0) (item : List ℕ → Option A) (len : ℕ) → IsReader Is item → (b : List ℕ) (xs : List A) → AreListed Is len b xs → items item len (vlen b) (behind_head b) ≡ Some xs
 listed_read Is item len r b xs h = rw (← h.0) (items_read Is item len r xs (behind_head b) h.1)
 
--- a list that is there, in a body that is made of it
+-- a body made from a list that can be read
 with_list : {A : Type 0} (make : List A → Body) (o : Option (List A)) (xs : List A) → o ≡ Some xs → option_map make o ≡ Some (make xs)
 with_list make o xs e = rw e refl
 
 members_listed : (t : Tables) (b : List ℕ) (make : ℕ → List Member → Body) (said : ℕ) (ms : List Member) → said ≡ size b → AreMembers t b ms → option_map (make (size b)) (members t b) ≡ Some (make said ms)
 members_listed t b make said ms e h = with_list (make (size b)) (members t b) ms (listed_read (IsMember (size b) t) (member_of (size b) t) (member_len (size b)) (member_read (size b) t) b ms h) ∙ ap (λ (n : ℕ). Some (make n ms)) (sym e)
 
--- a body that stands in a record is read
+-- the body in a record is read
 body_is_read : (t : Tables) (b : List ℕ) (x : Body) → IsBody t b x → IsSaid t b x
 body_is_read t b term.unknown h = record { of = KUnknown; known = h; said = refl }
 body_is_read t b (term.integer s) h = record { of = KInteger; known = h.0; said = ap (λ (x : Scalar). Some (term.integer x)) (scalar_read b s h.1) }
@@ -178,7 +178,7 @@ body_is_read t b (term.volatile n) h = record { of = KVolatile; known = h.0; sai
 body_is_read t b (term.const n) h = record { of = KConst; known = h.0; said = ap (λ (x : ℕ). Some (term.const x)) (sym h.1) }
 body_is_read t b (term.restrict n) h = record { of = KRestrict; known = h.0; said = ap (λ (x : ℕ). Some (term.restrict x)) (sym h.1) }
 
--- what is made of a list
+-- a body made from a list
 list_there : {A : Type 0} (make : List A → Body) (o : Option (List A)) (x : Body) → option_map make o ≡ Some x → (xs : List A) × (o ≡ Some xs) × (make xs ≡ x)
 list_there make None x e = absurd cc
 list_there make (Some xs) x e = (xs, refl, same_Some (make xs) x e)
@@ -186,7 +186,7 @@ list_there make (Some xs) x e = (xs, refl, same_Some (make xs) x e)
 listed_there : {A : Type 0} (Is : List ℕ → A → Type 0) (item : List ℕ → Option A) (len : ℕ) → IsReader Is item → (b : List ℕ) (xs : List A) → items item len (vlen b) (behind_head b) ≡ Some xs → AreListed Is len b xs
 listed_there Is item len r b xs e = items_stand Is item len r (vlen b) (behind_head b) xs e
 
--- what is read of a record stands in it
+-- a body that is read is in the record
 body_stands : (t : Tables) (b : List ℕ) (k : Kind) (x : Body) → kind b ≡ Some k → body_of t b k ≡ Some x → IsBody t b x
 body_stands t b KUnknown x k e = subst (IsBody t b) (same_Some term.unknown x e) k
 body_stands t b KInteger x k e = subst (IsBody t b) (same_Some (term.integer (scalar b)) x e) (k, scalar_stands b (scalar b) refl)
@@ -216,7 +216,7 @@ body_stands t b KRestrict x k e = subst (IsBody t b) (same_Some (term.restrict (
 term_same : (text : List ℕ) (visible : Bool) (said : Body) (x : Term) → text ≡ x.name → visible ≡ x.root → said ≡ x.body → record { name = text; root = visible; body = said } ≡ x
 term_same text visible said x p q r = rw (p, q, r) refl
 
--- what a record spells is read of it
+-- the type that a record spells is read from it
 pub says_of : (t : Tables) (b : List ℕ) (x : Term) → Spells t b x → term_of t b ≡ Some x
 unfolding term_of
 says_of t b x h =
@@ -251,7 +251,7 @@ read_parts t b x e = at (kind b) refl e
             at_body None said = absurd (let e = rw (known, named, said) at e in cc)
             at_body (Some y) said = with_body k known text named (Some y) said (let e = rw (known, named, said) at e in e)
 
--- what is read of a whole record is what it spells
+-- the type read from a whole record is the one that it spells
 pub spells_of : (t : Tables) (b : List ℕ) (x : Term) → IsWhole b → ¬ HasStrayMark b → term_of t b ≡ Some x → Spells t b x
 spells_of t b x whole form e =
     let r = read_parts t b x e in

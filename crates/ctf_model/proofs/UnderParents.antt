@@ -1,4 +1,5 @@
--- What a sound draft gives: it keeps the rule of references, and stays under its parent.
+-- Consequences of a sound draft: its dictionary keeps the rule of references, and can be imported
+-- over its parent.
 use Rattle.std.proofs.Common.{◌≡◌, ℕ, ◌<◌, ◌≤◌, true, false, List, [], ◌∷◌, length, Option, Some, None, refl, subst, arith}
 use Rattle.std.specs.List.{AllByRecursion, flat_map, list_any}
 use Rattle.std.proofs.lemmas.Bool.{le-ltb}
@@ -35,7 +36,7 @@ flat_low : (parent : Dictionary) (xs : List Term) → AllByRecursion (λ x. AllB
 flat_low parent [] h = tt
 flat_low parent (x ∷ xs) h = all_joined (InParent parent) (references x.body) (flat_map (λ x. references x.body) xs) h.0 (flat_low parent xs h.1)
 
--- what its types name in the parent is there
+-- the types of the parent that a draft's type refers to exist
 each_low : (d : Draft) (parent : Dictionary) → d.parent ≡ Some parent → (x : Term) → NamesThere d x → AllByRecursion (InParent parent) (references x.body)
 each_low d parent e x h = none_all (is_absent d) (InParent parent) (λ n g. there_in_parent (content d) parent n (rw e at g)) (references x.body) h
 

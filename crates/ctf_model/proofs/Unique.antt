@@ -1,4 +1,4 @@
--- A section splits in one way, and spells one list of terms.
+-- A section splits in one way, and spells one list of types.
 use Rattle.std.proofs.Common.{◌≡◌, ℕ, ◌+◌, ◌≤◌, List, [], ◌∷◌, ◌++◌, length, take, drop, Option, Some, None, refl, sym, ap, subst, ◌∙◌, arith, ⊎_elim}
 use Rattle.std.specs.Prelude.{MatchOption}
 use Rattle.std.proofs.lemmas.Bool.{cases_lt}
@@ -13,24 +13,24 @@ use Rattle.ctf_model.specs.format.Section.{Section}
 use Rattle.ctf_model.proofs.Prefix.{IsWhole-prefix}
 use Rattle.ctf_model.proofs.SpelledRead.{says_of}
 
--- the shorter of two fronts begins the longer
+-- of two prefixes the shorter is a prefix of the longer
 front_begins : (a b x y : List ℕ) → a ++ x ≡ b ++ y → length a ≤ length b → b ≡ a ++ drop (length a) b
 front_begins a b x y e le =
     let same : take (length a) b ≡ a = sym (take-append-le (length a) b y le) ∙ ap (take (length a)) (sym e) ∙ take_at a x (length a) refl in
     sym (take-append-drop (length a) b) ∙ ap (λ (f : List ℕ). f ++ drop (length a) b) same
 
--- a whole record that begins like a shorter one is that one
+-- a whole record that begins with another whole record is that one
 longer : (a b x y : List ℕ) → IsWhole a → IsWhole b → a ++ x ≡ b ++ y → length a ≤ length b → a ≡ b
 longer a b x y p q e le =
     let begins = front_begins a b x y e le in
     let none = IsWhole-prefix a (drop (length a) b) p (subst IsWhole begins q) in
     sym (begins ∙ ap (λ (r : List ℕ). a ++ r) none ∙ append-nil a)
 
--- two whole records that begin the same bytes are the same
+-- two whole records at the start of the same bytes are equal
 pub one_front : (a b x y : List ℕ) → IsWhole a → IsWhole b → a ++ x ≡ b ++ y → a ≡ b
 one_front a b x y p q e = ⊎_elim (λ lt. longer a b x y p q e (omega arith)) (λ le. sym (longer b a y x q p (sym e) le)) (cases_lt (length a) (length b))
 
--- what stands behind them is the same
+-- what follows them is equal
 pub one_rest : (a b x y : List ℕ) → a ≡ b → a ++ x ≡ b ++ y → x ≡ y
 one_rest a b x y same e = append_cancel_left b x y (ap (λ (f : List ℕ). f ++ x) (sym same) ∙ e)
 
@@ -43,7 +43,7 @@ not_nothing a x p e = at (kind a) p
     at None p = p
     at (Some k) p = let h = p.has_head in let n : length a + length x ≡ 0 = sym (length-append a x) ∙ ap length e in omega arith
 
--- a section spells one list
+-- a section spells only one list
 pub one_list : (t : Tables) (b c : List ℕ) (xs ys : List Term) → b ≡ c → Section t b xs → Section t c ys → xs ≡ ys
 one_list t b c [] [] same p q = refl
 one_list t b c [] (y ∷ ys) same p q = absurd (not_nothing q.0 q.1 q.3.whole (sym q.2 ∙ sym same ∙ p))

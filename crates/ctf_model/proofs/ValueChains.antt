@@ -1,4 +1,4 @@
--- What a value shows does not hang on how many numbers may follow on each other, once these are enough.
+-- The text of a value does not depend on the bound, once that is large enough.
 use Rattle.std.proofs.Common.{◌≡◌, ℕ, zero, suc, ◌+◌, ◌*◌, ◌≤◌, cond, eqb, List, [], ◌∷◌, map, Result, Ok, Err, refl, ap, ◌∙◌, arith}
 use Rattle.std.specs.List.{AllByRecursion, range_with_len}
 use Rattle.ctf_model.specs.rules.Chains.{by_value}
@@ -13,9 +13,9 @@ use Rattle.ctf_model.specs.declared.faults.Fault.{Fault}
 use Rattle.ctf_model.proofs.Settled.{all_map}
 use Rattle.ctf_model.proofs.ShortChains.{PassesOn, descend}
 
--- ---- a value shows what the values that it holds show
+-- ---- the text depends only on nested values
 
--- two ways to show the values of a type agree
+-- two functions agree on all values of a type
 abbrev pub Agree : Shows → Shows → ℕ → Type 0
 Agree f g t = (q : ℕ) → f t q ≡ g t q
 
@@ -47,7 +47,7 @@ body_same s memory f g p (term.function returned ts) a = refl
 body_same s memory f g p (term.forward t) a = refl
 body_same s memory f g p term.unknown a = refl
 
--- the same of a number, where it names a type
+-- the same for a number, if it names a type
 rule_same : (s : Space) (memory : List ℕ) (f g : Shows) (n p : ℕ) → ((z : Term) → space_type s n ≡ Ok z → AllByRecursion (Agree f g) (by_value z.body)) → by_rule s memory f n p ≡ by_rule s memory g n p
 rule_same s memory f g n p h = ap (λ (x : Pieces). cond (eqb n 0) (ends incomplete) x) (at (space_type s n) refl)
   where
@@ -55,9 +55,9 @@ rule_same s memory f g n p h = ap (λ (x : Pieces). cond (eqb n 0) (ends incompl
     at (Err fault) e = refl
     at (Ok z) e = body_same s memory f g p z.body (h z e)
 
--- ---- enough numbers
+-- ---- a large enough bound
 
--- with more numbers a type's values show what they do with x
+-- with a bound above `x` the texts of a type's values stay the same
 abbrev SameFrom : Space → List ℕ → ℕ → ℕ → Type 0
 SameFrom s memory x n = (y : ℕ) → x ≤ y → Agree (shown_within s memory x) (shown_within s memory y) n
 

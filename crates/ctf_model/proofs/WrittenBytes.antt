@@ -36,7 +36,7 @@ use Rattle.ctf_model.proofs.WrittenPieces.{AreRecorded, NamesNone, section_of, c
 use Rattle.ctf_model.proofs.RecordedTypes.{recorded}
 use Rattle.ctf_model.proofs.NamedSites.{joined_named, is_there}
 
--- what bytes can say: its parts fit the format, and what they name is there
+-- a dictionary that can be written: its parts fit the format, and the types that it refers to exist
 pub record IsWritable (d : Dictionary) : Type 0 where
   pub child : d.child ≡ not (is_empty d.parname)
   pub parname : IsName d.parname
@@ -46,11 +46,11 @@ pub record IsWritable (d : Dictionary) : Type 0 where
   pub terms : AllByRecursion Fits d.terms
   pub missing : AllByRecursion (NamesNone d.child (length d.terms)) d.terms
   pub short : AllByRecursion NamesShort d.terms
-  -- it tells nothing of symbols
+  -- it has no symbols
   pub symbols : d.symbols ≡ []
   pub entries : d.entries ≡ []
 
--- ---- what was written
+-- ---- successful writing
 
 record IsWrittenOut (d : Dictionary) (bytes : List ℕ) : Type 0 where
   same : bytes_of d ≡ bytes
@@ -148,7 +148,7 @@ none_broken : {S : Type 0} (code : ℕ) (table : List (S → Option ℕ)) (s : S
 none_broken code [] s h = refl
 none_broken code (rule ∷ table) s h = rw h.0 (none_broken (code + 1) table s h.1)
 
--- rules that are kept leave it to the later ones
+-- kept rules pass on to the later ones
 later_broken : {S : Type 0} (code last : ℕ) (table more : List (S → Option ℕ)) (s : S) → AllByRecursion (λ rule. rule s ≡ None) table → code + length table ≡ last → first_broken code (table ++ more) s ≡ first_broken last more s
 later_broken code last [] more s h e = let same : code ≡ last = omega arith in rw same refl
 later_broken code last (rule ∷ table) more s h e = rw h.0 (later_broken (code + 1) last table more s h.1 (omega arith))
@@ -162,7 +162,7 @@ none_nameless t (site ∷ more) h = at (name t site.reference) refl h.0 (none_na
     at None e named later = absurd (named e)
     at (Some x) e named later = rw e later
 
--- the reference to a name is 0 exactly where the name is empty
+-- the reference to a name is 0 exactly if the name is empty
 reference_zero : (names : List (List ℕ)) (t : List ℕ) → eqb (name_reference names t) 0 ≡ is_empty t
 unfolding name_reference
 reference_zero names t = at (is_empty t) refl
@@ -171,7 +171,7 @@ reference_zero names t = at (is_empty t) refl
     at true e = rw e refl
     at false e = rw e (ne_eqb _ 0 (omega arith))
 
--- ---- nothing is told of symbols
+-- ---- no symbols
 
 no_symbols : (ctf : List ℕ) → symbols (lists_of ctf) ≡ []
 unfolding symbols symbols_in
@@ -193,7 +193,7 @@ symbols_kept ctf = (refl, (refl, (refl, tt)))
 abbrev unwritten_by : Option ℕ → Option ℕ → Option Fault
 unwritten_by value declared = or_later 15 value (or_later 16 declared None)
 
--- what is known of the bytes of a dictionary
+-- properties of the bytes of a dictionary
 record AreRead (d : Dictionary) (ctf : List ℕ) : Type 0 where
   laid : IsLaid (name_reference (strings_of d) d.parlabel) (name_reference (strings_of d) d.parname) ctf (labels_written d) (records_written d) (string_bytes (strings_of d))
   found : AllFound d

@@ -1,4 +1,4 @@
--- What the head of a written record reads as.
+-- Reading back the head of a written record.
 use Rattle.std.proofs.Common.{◌≡◌, ℕ, ◌+◌, ◌/◌, ◌%◌, ◌^◌, ◌<◌, ◌≤◌, Bool, true, false, eqb, ltb, List, ◌++◌, length, refl, arith}
 use Rattle.std.proofs.lemmas.Bool.{ne_eqb, ltb-true, ltb-false}
 use Rattle.ctf_model.specs.format.Bytes.{number, u32_at}
@@ -13,7 +13,7 @@ pub number_u32 : (n : ℕ) → n < 2 ^ 32 → number (u32 n) ≡ n
 unfolding number
 number_u32 n low = omega arith
 
--- the bytes are a head with a name reference, an info and a number in its field, and then v
+-- the bytes are a head with this name reference, info and field, followed by `v`
 pub record HasHead (b v : List ℕ) (r i n : ℕ) : Type 0 where
   pub name : u32_at b 0 ≡ r
   pub info : info b ≡ i

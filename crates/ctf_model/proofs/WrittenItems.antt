@@ -1,4 +1,4 @@
--- What the written items of a list read as.
+-- Reading back the written items of a list.
 use Rattle.std.proofs.Common.{◌≡◌, ℕ, ◌+◌, ◌*◌, ◌/◌, ◌%◌, ◌^◌, ◌<◌, Bool, true, false, ltb, List, [], ◌∷◌, ◌++◌, length, drop, Option, Some, refl, ap, arith}
 use Rattle.std.specs.List.{flat_map, AllByRecursion}
 use Rattle.std.specs.Int.{cast_signed, cast_unsigned, w32}
@@ -18,12 +18,12 @@ use Rattle.ctf_model.specs.writing.WrittenNames.{name_reference}
 use Rattle.ctf_model.specs.writing.WrittenRecords.{u16, u32, member_bytes, enumerator_bytes}
 use Rattle.ctf_model.proofs.WrittenHeads.{number_u16, number_u32}
 
--- the bytes are an item of this length, whatever stands behind them
+-- the bytes are an item of this length, whatever follows
 pub record IsItem {A : Type 0} (item : List ℕ → Option A) (size : ℕ) (bytes : List ℕ) (x : A) : Type 0 where
   pub len : length bytes ≡ size
   pub reads : (rest : List ℕ) → item (bytes ++ rest) ≡ Some x
 
--- items, one after the other, are read back
+-- a sequence of items is read back
 pub items_read : {A : Type 0} (item : List ℕ → Option A) (write : A → List ℕ) (size : ℕ) (xs : List A) (rest : List ℕ) → AllByRecursion (λ x. IsItem item size (write x) x) xs → items item size (length xs) (flat_map write xs ++ rest) ≡ Some xs
 items_read item write size [] rest all = refl
 items_read item write size (x ∷ xs) rest all =
@@ -32,7 +32,7 @@ items_read item write size (x ∷ xs) rest all =
     let later : drop size (write x ++ behind) ≡ behind = drop_at (write x) behind size all.0.len in
     rw joined (items_more item size (length xs) (write x ++ behind) x xs (all.0.reads behind) (rw later (items_read item write size xs rest all.1)))
 
--- they have this length
+-- items have this length
 pub items_len : {A : Type 0} (item : List ℕ → Option A) (write : A → List ℕ) (size : ℕ) (xs : List A) → AllByRecursion (λ x. IsItem item size (write x) x) xs → length (flat_map write xs) ≡ size * length xs
 items_len item write size [] all = omega arith
 items_len item write size (x ∷ xs) all =

@@ -1,4 +1,4 @@
--- Where the parts of a written dictionary lie.
+-- The positions of the parts of a written dictionary.
 use Rattle.std.proofs.Common.{◌≡◌, ℕ, ◌+◌, ◌-◌, ◌%◌, ◌^◌, ◌<◌, Bool, true, false, eqb, ltb, List, [], ◌++◌, length, take, drop, None, refl, sym, ap, ◌∙◌, arith}
 use Rattle.std.specs.Prelude.{slice_range, slice_index, not, ◌&&◌}
 use Rattle.std.specs.List.{AllByRecursion}
@@ -12,13 +12,13 @@ use Rattle.ctf_model.specs.writing.Written.{fields_over, header_bytes}
 use Rattle.ctf_model.specs.writing.WrittenRecords.{u32}
 use Rattle.ctf_model.proofs.WrittenHeads.{number_u32}
 
--- a part of joined bytes
+-- a part of concatenated bytes
 part : (a b c : List ℕ) (from to : ℕ) → from ≡ length a → to ≡ length a + length b → slice_range (a ++ (b ++ c)) from to ≡ b
 part a b c from to p q =
     let len : to - from ≡ length b = omega arith in
     rw len (ap (take (length b)) (drop_at a (b ++ c) from (sym p)) ∙ take_at b c (length b) refl)
 
--- the bytes of a dictionary, cut into the parts that they were joined of
+-- the bytes of a dictionary, cut into the parts that they were joined from
 pub record IsLaid (parlabel parname : ℕ) (ctf ls rs ss : List ℕ) : Type 0 where
   pub fields : fields ctf ≡ fields_over parlabel parname (length ls) (length rs) (length ss)
   pub magic : u16_at ctf 0 ≡ 0xcff1

@@ -1,4 +1,4 @@
--- The records of written types: they are a section, and keep the rules of records.
+-- The records of written types form a section, and keep the rules of records.
 use Rattle.std.proofs.Common.{◌≡◌, ℕ, suc, ◌+◌, Bool, false, List, [], ◌∷◌, ◌++◌, length, map, None, refl, ap, sym, ◌∙◌}
 use Rattle.std.specs.List.{AllByRecursion, flat_map, concat, list_any}
 use Rattle.std.proofs.lemmas.List.{append_assoc}
@@ -15,11 +15,11 @@ use Rattle.ctf_model.proofs.NamedSites.{said_named, joined_named}
 use Rattle.ctf_model.proofs.RecordedTypes.{IsRecorded}
 use Rattle.ctf_model.proofs.SpelledRead.{says_of}
 
--- no own type that a type names is missing
+-- no own type that `x` refers to is missing
 abbrev pub NamesNone : Bool → ℕ → Term → Type 0
 NamesNone child count x = list_any (is_missing child count) (references x.body) ≡ false
 
--- each type is written by these bytes
+-- each type is written as these bytes
 abbrev pub AreRecorded : List (List ℕ) → (Term → List ℕ) → List Term → Type 0
 AreRecorded names write xs = AllByRecursion (λ x. IsRecorded names (write x) x) xs
 
@@ -45,7 +45,7 @@ nothing_stops = stops_none [] refl
 pub cut_of : (names : List (List ℕ)) (write : Term → List ℕ) (xs : List Term) → AreRecorded names write xs → IsCut (flat_map write xs) (map write xs) []
 cut_of names write xs h = record { joined = joined write xs; whole = all_whole names write xs h; stops = nothing_stops }
 
--- ---- what is read record by record
+-- ---- reading record by record
 
 pub no_walk_fault : (write : Term → List ℕ) (xs : List Term) (index at : ℕ) → walk_fault (pieces index at (map write xs) []) ≡ None
 no_walk_fault write [] index at = refl

@@ -2,5 +2,5 @@ pub mod KindNames
 pub mod TypeNames
 pub mod NameLaws
 pub mod NameRows
-pub mod Found
+pub mod Lookups
 pub mod FindRows

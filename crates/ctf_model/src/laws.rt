@@ -77,9 +77,9 @@ pub fn faultless_exactly_where_denoted()
     ensures computed { ComputesWhatIsDenoted }
 {}
 
-/// In a dictionary that breaks no rule, the size, the alignment and the resolved type of each own
-/// type follow by their rules from those of other types: the bound on the length of chains changes
-/// none.
+/// In a dictionary that breaks no rule, the size, alignment and resolved type of each own type
+/// follow from those of other types by their rules. The bound on chains in their definitions is
+/// never reached.
 pub fn own_figures_are_their_rules()
     ensures asked { FiguresAskByValue }
     ensures bounded { FaultlessValuesAreBounded }

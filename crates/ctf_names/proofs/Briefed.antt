@@ -1,13 +1,13 @@
--- What is taken of a type that was found.
+-- The stored parts of a looked-up type.
 use Rattle.std.proofs.Common.{◌≡◌, ℕ, true, false, List, Option, Some, None, refl, sym, ap, ◌∙◌}
 use Rattle.std.specs.Prelude.{MatchOption}
 use Rattle.std.specs.Option.{option_map}
-use Rattle.ctf_model.specs.names.Found.{is_pointer_body, is_pointer_to}
+use Rattle.ctf_model.specs.names.Lookups.{is_pointer_body, is_pointer_to}
 use Rattle.ctf_model.specs.format.Name.{Tables, name}
 use Rattle.ctf_model.specs.format.Shown.{kind_of, reference_of, shape}
 use Rattle.ctf_model.specs.format.Term.{Body, Tag, Term}
 use Rattle.ctf_model.specs.format.Term as term
-use Rattle.ctf_model.specs.names.Found.{tag_of}
+use Rattle.ctf_model.specs.names.Lookups.{tag_of}
 use Rattle.ctf_model.specs.declared.kinds.Kind.{Kind}
 use Rattle.ctf_sections.specs.ShortNames.{if_short}
 use Rattle.ctf_names.specs.Briefs.{is_target, target_by}
@@ -46,7 +46,7 @@ target_said n (term.volatile t) = refl
 target_said n (term.const t) = refl
 target_said n (term.restrict t) = refl
 
--- a visible type falls into the bucket of its name
+-- a visible type is in the bucket of its name
 pub falls_visible : (n : ℕ) (t : Tables) (reference : ℕ) (o : Option Term) (short : Option (List ℕ)) (b : ℕ) → option_map (λ x. x.root) o ≡ Some true → option_map (λ x. Some x.name) o ≡ Some (name t reference) → short ≡ if_short longest_hashed (name t reference) → b ≡ bucket_of_short n short → MatchOption o ⊥ (λ x. (k : ℕ) → is_in n k x ≡ is_target k (Some b))
 falls_visible n t reference None short b root named shown is = absurd cc
 falls_visible n t reference (Some x) short b root named shown is =
@@ -55,7 +55,7 @@ falls_visible n t reference (Some x) short b root named shown is =
     let at : b ≡ bucket_of_short n (if_short longest_hashed (Some x.name)) = is ∙ ap (bucket_of_short n) (shown ∙ ap (if_short longest_hashed) says) in
     λ k. rw (visible, at) refl
 
--- a hidden one into none
+-- a hidden one is in none
 pub falls_hidden : (n : ℕ) (o : Option Term) → option_map (λ x. x.root) o ≡ Some false → MatchOption o ⊥ (λ x. (k : ℕ) → is_in n k x ≡ is_target k None)
 falls_hidden n None root = absurd cc
 falls_hidden n (Some x) root = let hidden : x.root ≡ false = cc in λ k. rw hidden refl

@@ -1,4 +1,4 @@
--- What names come to, a type more at a time.
+-- The measured names of types, one type at a time.
 use Rattle.std.proofs.Common.{◌≡◌, ℕ, suc, ◌+◌, ◌-◌, ◌≤◌, [], ◌∷◌, Option, Some, None, Result, Err, sym, ap, ◌∙◌, arith}
 use Rattle.std.specs.Option.{IfSome}
 use Rattle.std.proofs.lemmas.Option.{IfSome_then}
@@ -14,7 +14,7 @@ use Rattle.ctf_names.specs.declared.name_lengths.NameLengths.{NameLengths}
 use Rattle.ctf_names.specs.declared.measures.Measured.{Measured}
 use Rattle.ctf_names.proofs.Unrolls.{at_type, at_void}
 
--- nothing is round it
+-- a name without layers
 pub end_found : (s : Space) (n : ℕ) (x : Result Declaration Fault) (lengths : Result NameLengths Fault) → ((k : ℕ) → declaration_within s (suc k) n ≡ x) → measure x ≡ lengths → IsMeasured s n (record { layers = 0; lengths = lengths })
 end_found s n x lengths all e = record {
   same = λ k. all (k + 0) ∙ sym (all 0);
@@ -27,7 +27,7 @@ void_found s n k e = at_void s (suc k) n (omega arith) e
 pub type_found : (s : Space) (n k : ℕ) → (n ≡ 0 → ⊥) → declaration_within s (suc k) n ≡ declaration_of (declaration_within s k) (space_type s n)
 type_found s n k ne = at_type s (suc k) k n (omega arith) ne
 
--- a layer more
+-- one more layer
 pub round_found : (s : Space) (n t : ℕ) (layer : Layer) (m : Measured) (lengths : Result NameLengths Fault) → ((k : ℕ) → declaration_within s (suc k) n ≡ around layer (declaration_within s k t)) → IsMeasured s t m
     → ((x : Result Declaration Fault) → measure x ≡ m.lengths → lengths ≡ measure (around layer x)) → IsMeasured s n (record { layers = m.layers + 1; lengths = lengths })
 round_found s n t layer m lengths step inside more =
@@ -42,12 +42,12 @@ round_found s n t layer m lengths step inside more =
       right = rw one (ap measure here ∙ sym (more (declaration_within s (suc m.layers) t) inside.right));
     }
 
--- what all of it is
+-- the whole declaration
 within : (s : Space) (n t j : ℕ) (layer : Layer) (m : Measured) (most : ℕ) → ((k : ℕ) → declaration_within s (suc k) n ≡ around layer (declaration_within s k t)) → IsMeasured s t m → most ≡ suc (suc (j + m.layers))
     → declaration_within s most n ≡ around layer (declaration_within s (suc m.layers) t)
 within s n t j layer m most step inside e = rw e (step (suc (j + m.layers)) ∙ ap (around layer) (inside.same j))
 
--- why there is no name
+-- the reason that there is no name
 pub no_name : (s : Space) (n t : ℕ) (layer : Layer) (m : Measured) (refused : Option Fault) → ((k : ℕ) → declaration_within s (suc k) n ≡ around layer (declaration_within s k t)) → IsMeasured s t m → m.layers ≤ 1026
     → ((x : Result Declaration Fault) → measure x ≡ m.lengths → IfSome refused (λ f. text_of_declaration (around layer x) ≡ Err f)) → IfSome refused (λ f. spelled_name s n ≡ Err f)
 no_name s n t layer m refused step inside few because =

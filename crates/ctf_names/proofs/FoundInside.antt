@@ -1,4 +1,4 @@
--- The declaration of a type from what is inside of its name.
+-- The declaration of a type, from the structure of its name.
 use Rattle.std.proofs.Common.{◌≡◌, ℕ, List, Option, Some, None, Result, refl, ap, ◌∙◌}
 use Rattle.std.specs.Prelude.{option_map}
 use Rattle.std.proofs.lemmas.Option.{same_Some}
@@ -32,7 +32,7 @@ bare_behind : (tag : Option Tag) (name : List ℕ) → name_by tag name ≡ bare
 bare_behind None name = refl
 bare_behind (Some tag) name = refl
 
--- a type that was found, where a name is inside
+-- a looked-up type whose name is a bare name
 pub name_found : (f : ℕ → Result Declaration Fault) (o : Option Term) (x : Shape) (tag : Option Tag) (name : List ℕ)
     → option_map (λ y. shape y.body) o ≡ Some x → option_map (λ y. y.name) o ≡ Some name → inside x ≡ a_name tag
     → declaration_of f (or_no_type o) ≡ bare_name (behind_tag tag (or_anon name))
@@ -40,7 +40,7 @@ name_found f None x tag name is called has = absurd cc
 name_found f (Some y) x tag name is called has =
     by_inside f y.name y.body ∙ ap (λ (z : Shape). declaration_from f y.name (inside z)) (same_Some _ _ is) ∙ ap (declaration_from f y.name) has ∙ ap (name_by tag) (same_Some _ _ called) ∙ bare_behind tag name
 
--- the same where a layer is
+-- one whose name has a layer
 pub layer_found : (f : ℕ → Result Declaration Fault) (o : Option Term) (x : Shape) (layer : Layer) (t : ℕ)
     → option_map (λ y. shape y.body) o ≡ Some x → inside x ≡ a_layer layer t
     → declaration_of f (or_no_type o) ≡ around layer (f t)

@@ -1,4 +1,4 @@
--- Types in chains, one more at a time, and what is found among them.
+-- Types in chains, one more at a time, and look-ups in them.
 use Rattle.std.proofs.Common.{◌≡◌, ℕ, ◌+◌, ◌==◌, ◌<◌, ◌≤◌, ltb, Bool, true, false, List, length, set, get_or, replicate, Option, Some, None, refl, sym, ap, ◌∙◌, arith}
 use Rattle.std.specs.Prelude.{◌&&◌, slice_get, MatchOption}
 use Rattle.std.specs.Option.{option_map}
@@ -8,7 +8,7 @@ use Rattle.std.proofs.lemmas.Bool.Decides.{Decides-eqb}
 use Rattle.std.proofs.lemmas.List.{get_or_default, get_or-set_other, get_or-set_same, length-replicate, length-set}
 use Rattle.std.proofs.lemmas.Option.{same_Some, slice_get_within}
 use Rattle.std.proofs.lemmas.Slice.Eq.{bytes_eq-Decides}
-use Rattle.ctf_model.specs.names.Found.{first_place, is_called, same_tag, tag_of, Written}
+use Rattle.ctf_model.specs.names.Lookups.{first_place, is_called, same_tag, tag_of, Written}
 use Rattle.ctf_model.specs.format.Shown.{Shape, shape}
 use Rattle.ctf_model.specs.format.Term.{Tag, Term}
 use Rattle.ctf_sections.specs.ShortNames.{if_short, is_named}
@@ -23,9 +23,9 @@ use Rattle.ctf_names.proofs.Briefed.{tag_said}
 use Rattle.ctf_names.proofs.Led.{all_end, all_kept, all_put, past}
 use Rattle.ctf_names.proofs.Places.{first_passes, none_passes}
 
--- ---- one type more
+-- ---- one more type
 
--- a visible type falls into its bucket alone
+-- a visible type is only in its own bucket
 falls_into : (n : ℕ) (x : Term) (b : Brief) (k : ℕ) → IsBrief n x b → x.root ≡ true → bucket n x.name ≡ k → is_target k b.bucket ≡ true
 falls_into n x b k says root is = sym (says.falls k) ∙ rw (root, (Decides-eqb (bucket n x.name) k).1 is) refl
 
@@ -82,9 +82,9 @@ entered terms heads next p n b at some inside short chained = by_term (slice_get
             let read : get_or (set next p (get_or heads n 0)) q 0 ≡ get_or heads n 0 = ap (λ j. get_or (set next p (get_or heads n 0)) j 0) (sym same) ∙ get_or-set_same next p (get_or heads n 0) 0 short in
             rw (read, ← into, ← same) led
 
--- ---- what is found
+-- ---- look-ups
 
--- what was passed over hasn't the name, and what comes falls into its bucket
+-- the types passed so far have another name, and the next one is in the bucket
 pub record Reached (terms : List Term) (w : Written) (at : ℕ) : Type 0 where
   pub before : (i : ℕ) (x : Term) → i < at → slice_get terms i ≡ Some x → is_called w x ≡ false
   pub there : (x : Term) → slice_get terms at ≡ Some x → is_in (length terms) (bucket (length terms) w.name) x ≡ true
@@ -115,7 +115,7 @@ begun terms heads next w at chained inside is =
       there = led.there;
     }
 
--- what comes is visible, and in the bucket
+-- the next one is visible, and in the bucket
 visible : (terms : List Term) (w : Written) (at : ℕ) (x : Term) → Reached terms w at → slice_get terms at ≡ Some x → (x.root ≡ true) × (bucket (length terms) x.name ≡ bucket (length terms) w.name)
 visible terms w at x reached here =
     let parts = both x.root (bucket (length terms) x.name == bucket (length terms) w.name) (reached.there x here) in
@@ -148,7 +148,7 @@ pub record Gone (terms : List Term) (w : Written) (at to : ℕ) : Type 0 where
   pub reached : Reached terms w to
   pub onward : at < to
 
--- a type was looked at that hasn't the name
+-- the next one has another name
 pub missed : (terms : List Term) (heads next : List ℕ) (w : Written) (at : ℕ) (o : Option Term) (r : Bool) → Chained terms 0 heads next → Reached terms w at → o ≡ slice_get terms at → MatchOption o ⊥ (λ x. x.root ≡ true → r ≡ is_called w x) → r ≡ false → Gone terms w at (get_or next at 0)
 missed terms heads next w at None r chained reached same says fails = absurd says
 missed terms heads next w at (Some x) r chained reached same says fails = record {
@@ -159,7 +159,7 @@ missed terms heads next w at (Some x) r chained reached same says fails = record
     shown : x.root ≡ true
     shown = (visible terms w at x reached (sym same)).0
 
--- one was that has it
+-- the next one has the name
 pub hit : (terms : List Term) (w : Written) (at : ℕ) (o : Option Term) (r : Bool) → Reached terms w at → o ≡ slice_get terms at → MatchOption o ⊥ (λ x. x.root ≡ true → r ≡ is_called w x) → r ≡ true → Some at ≡ first_place (is_called w) terms
 hit terms w at None r reached same says fits = absurd says
 hit terms w at (Some x) r reached same says fits =
@@ -200,7 +200,7 @@ same_word (Some x) s tag w called r shown is fits names says =
     let told : r ≡ bytes_eq x.name w.name = says ∙ ap (is_named w.name) has_name ∙ bytes_swapped w.name x.name in
     λ root. rw (root, of_tag, fits) told
 
--- ---- as they are built and read
+-- ---- as built and as read
 
 pub none_chained : (terms : List Term) (heads next : List ℕ) (n m : ℕ) → heads ≡ replicate n 65535 → next ≡ replicate m 65535 → n ≡ length terms + 2 → m ≡ length terms → length terms ≤ 32766 → Chained terms (length terms) heads next
 none_chained terms heads next n m heads_are next_are count many few = rw (heads_are, next_are) (record {

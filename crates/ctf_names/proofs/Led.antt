@@ -4,7 +4,7 @@ use Rattle.std.specs.Prelude.{slice_get, nat_lt, if◌then◌else◌}
 use Rattle.std.proofs.lemmas.Bool.{eqb-true, eqb-false, ltb-true, ltb-false}
 use Rattle.std.proofs.lemmas.List.{get_or-replicate, get_or-set_other, get_or-set_same, length-replicate, length-set}
 use Rattle.std.proofs.lemmas.Option.{same_Some, slice_get_within}
-use Rattle.ctf_model.specs.names.Found.{first_place}
+use Rattle.ctf_model.specs.names.Lookups.{first_place}
 use Rattle.ctf_model.specs.format.Term.{Term}
 use Rattle.ctf_names.specs.Leading.{AllLead, Leads}
 use Rattle.ctf_names.proofs.Places.{first_passes, none_passes}
@@ -21,7 +21,7 @@ past xs i is = by_case (ltb i (length xs)) refl
     by_case false e = ltb-false i (length xs) e
     by_case true e = absurd (not_past xs i (ltb-true i (length xs) e) is)
 
--- behind the last type there is none
+-- after the last type there is none
 pub leads_end : (passes : Term → Bool) (terms : List Term) (to : ℕ) → length terms ≤ to → Leads passes terms (length terms) to
 leads_end passes terms to le = record {
   onward = le;
@@ -29,7 +29,7 @@ leads_end passes terms to le = record {
   there = λ x is. absurd (let inside = slice_get_within terms to x is in omega (arith, le, inside));
 }
 
--- one type more, which does not pass
+-- one more type, which does not pass
 pub leads_back : (passes : Term → Bool) (terms : List Term) (p to : ℕ) (x : Term) → Leads passes terms (p + 1) to → slice_get terms p ≡ Some x → passes x ≡ false → Leads passes terms p to
 leads_back passes terms p to x led here fails = record {
   onward = omega (arith, led.onward);
@@ -45,7 +45,7 @@ leads_back passes terms p to x led here fails = record {
         let one : x ≡ y = same_Some x y (sym here ∙ at) in
         rw (← one) fails
 
--- one type more, which passes
+-- one more type, which passes
 pub leads_here : (passes : Term → Bool) (terms : List Term) (p : ℕ) (x : Term) → slice_get terms p ≡ Some x → passes x ≡ true → Leads passes terms p p
 leads_here passes terms p x here fits = record {
   onward = omega arith;
@@ -78,7 +78,7 @@ all_put passes terms table p b x all here inside says = record { each = λ k lt.
         let at : get_or (set table b p) k 0 ≡ get_or table k 0 = get_or-set_other table b k p 0 other in
         rw at (leads_back (passes k) terms p (get_or table k 0) x (all.each k lt) here (says k ∙ e))
 
--- ---- what is found
+-- ---- look-ups
 
 -- the first type that passes
 pub first_led : (passes : Term → Bool) (terms : List Term) (to : ℕ) → Leads passes terms 0 to → (if nat_lt to (length terms) then Some to else None) ≡ first_place passes terms

@@ -1,4 +1,4 @@
--- Lengths of names, a layer more at a time.
+-- Lengths of names, one more layer at a time.
 use Rattle.std.proofs.Common.{◌≡◌, ℕ, ◌+◌, ◌<◌, true, false, List, [], ◌∷◌, length, Option, None, refl, sym, ap, ◌∙◌, arith, length-append}
 use Rattle.std.specs.Prelude.{min}
 use Rattle.std.specs.List.{flat_map}
@@ -37,9 +37,9 @@ all_three : (d : Declaration) (layer : Layer) (name declarator : ℕ) (below : O
 unfolding lengths_of
 all_three d layer name declarator below a b c = rw (a, b, c) refl
 
--- ---- a layer more
+-- ---- one more layer
 
--- the lengths of the marks of a layer and of those inside
+-- the lengths of a layer's mark and of those inside
 fronts_more : (m : Mark) (ms : List Mark) → length (flat_map front (m ∷ ms)) ≡ length (front m) + length (flat_map front ms)
 fronts_more m ms = length-append (front m) (flat_map front ms)
 
@@ -68,7 +68,7 @@ round_is layer d inside m name declarator below e is n sides b =
     (omega (arith, sides, old_declarator, lefts, rights))
     (b ∙ ap (beyond layer) under ∙ sym (past_more layer d.layers))
 
--- ---- the text of a layer round a type
+-- ---- the text of a layer around a type
 
 whole_length : (layer : Layer) (d : Declaration) (m : Mark) → m ≡ mark true layer (past d.layers) → length (declared (layer ∷ d.layers) d.name []) ≡ length (marked_text (m ∷ marks false d.layers) d.name)
 whole_length layer d m is =

@@ -25,7 +25,7 @@ past_more (Qualified q) layers = refl
 
 -- ---- texts
 
--- the declarator of marks round another declarator
+-- the declarator of marks around another declarator
 abbrev around : List Mark → List ℕ → List ℕ
 around ms d = flat_map text_before (reverse ms) ++ (d ++ flat_map right ms)
 
@@ -45,7 +45,7 @@ some_length ms d h =
     let inner = length-append d (flat_map right ms) in
     omega (arith, outer, inner)
 
--- with something declared already
+-- with a non-empty declarator
 pub declared_some : (layers : List Layer) (name d : List ℕ) → 0 < length d → declared layers name d ≡ flat_map front (marks false layers) ++ (name ++ 32 ∷ around (marks false layers) d)
 unfolding declared
 declared_some [] name d h = rw (joined_some name d h) (rw (append-nil d) refl)
@@ -65,7 +65,7 @@ declared_some (Qualified q ∷ layers) name d h =
       | false ↦ rw (around_more (Front q) (marks false layers) d) (rw (append-nil d) (rw (declared_some layers name d h) (simp append_assoc)))
     ]
 
--- below a qualifier in front the marks don't hang on what is outermost
+-- below a qualifier in front, the marks do not depend on being outermost
 marks_same : (layers : List Layer) → is_pointer (past layers) ≡ false → marks true layers ≡ marks false layers
 marks_same [] h = refl
 marks_same (Pointer ∷ layers) h = absurd cc
@@ -145,7 +145,7 @@ text_length ms name n e =
     let j = joined_length name (declarator ms) n (omega (arith, d, l, e)) in
     omega (arith, j, length-append (flat_map front ms) (join_texts name (declarator ms)))
 
--- ---- written from the last on
+-- ---- written from the end
 
 pub lefts_step : (ms : List Mark) (m : Mark) (i : ℕ) → i < length ms → flat_map text_before (reverse (take (i + 1) ms)) ≡ text_before (get_or ms i m) ++ flat_map text_before (reverse (take i ms))
 lefts_step ms m i h = rw (take_more ms i m h) (rw (reverse-append (take i ms) (get_or ms i m ∷ [])) refl)

@@ -1,8 +1,8 @@
--- The first type that passes, by what is so of each.
+-- The first type that passes, from facts about each.
 use Rattle.std.proofs.Common.{◌≡◌, ℕ, zero, suc, ◌<◌, Bool, true, false, List, [], ◌∷◌, length, Option, Some, None, refl, arith}
 use Rattle.std.specs.Prelude.{slice_get, if◌then◌else◌}
 use Rattle.std.specs.Option.{option_map}
-use Rattle.ctf_model.specs.names.Found.{first_place}
+use Rattle.ctf_model.specs.names.Lookups.{first_place}
 use Rattle.ctf_model.specs.format.Term.{Term}
 
 pub none_passes : (passes : Term → Bool) (terms : List Term) → ((i : ℕ) (x : Term) → slice_get terms i ≡ Some x → passes x ≡ false) → first_place passes terms ≡ None

@@ -1,4 +1,4 @@
--- Pointers, one more at a time, in order, and what is found among them.
+-- Pointers, one more at a time, sorted, and look-ups among them.
 use Rattle.std.proofs.Common.{◌≡◌, ◌⊎◌, inl, inr, ℕ, ◌+◌, ◌-◌, ◌==◌, ◌<◌, ◌≤◌, ltb, Bool, true, false, List, [], ◌∷◌, ◌++◌, length, get_or, set, replicate, Option, Some, None, refl, sym, ap, ◌∙◌, arith}
 use Rattle.std.specs.Prelude.{nat_le, nat_lt, slice_get, MatchOption, if◌then◌else◌}
 use Rattle.std.specs.Option.{option_map}
@@ -15,7 +15,7 @@ use Rattle.std.proofs.lemmas.List.{get_or_default, length-set}
 use Rattle.std.proofs.lemmas.List.MinMax.{ranks_by}
 use Rattle.std.proofs.lemmas.List.Sorted.{sorted_far, Contains-permutation, IsPermutation-sym}
 use Rattle.std.proofs.lemmas.Option.{slice_get_past}
-use Rattle.ctf_model.specs.names.Found.{first_place, is_pointer_body, is_pointer_to}
+use Rattle.ctf_model.specs.names.Lookups.{first_place, is_pointer_body, is_pointer_to}
 use Rattle.ctf_model.specs.format.Term.{Body, Term}
 use Rattle.ctf_model.specs.format.Term as term
 use Rattle.ctf_order.proofs.Lent.{any_to, itself, only}
@@ -90,7 +90,7 @@ kept_without terms base slots i ps has none = record {
   all = λ j t le. by_back {P = λ j. slot base slots t ≡ None → points_to t (slice_get terms j) ≡ true → list_any (is_early_pointer t j) ps ≡ true} i (λ k behind without is. has.all k t behind without is) (λ without is. absurd (let bad : false ≡ true = sym (none t without) ∙ is in cc)) j le;
 }
 
--- a type points to one type at most
+-- a type points to at most one type
 one_target : (o : Option Term) (t u : ℕ) → points_to t o ≡ true → points_to u o ≡ true → t ≡ u
 one_target None t u p q = absurd cc
 one_target (Some x) t u p q = by_body x.body p q
@@ -129,7 +129,7 @@ entered terms base slots i ps p has at says = record {
         let mine : points_to p.target (slice_get terms i) ≡ true = rw at at says in
         any_to (is_early_pointer t i) (ps ++ p ∷ []) p (early t i p (one_target (slice_get terms i) p.target t mine is) (omega (arith, at))) (Contains-append_right ps (p ∷ []) p (itself p))
 
--- ---- one type more
+-- ---- one more type
 
 pub not_pointer : (terms : List Term) (base p : ℕ) (firsts : List ℕ) (ps : List Pointer) (b : Brief) → IsBriefAt terms p b → b.target ≡ None → PointersFrom terms base (p + 1) firsts ps → PointersFrom terms base p firsts ps
 not_pointer terms base p firsts ps b at none from = by_term (slice_get terms p) refl at
@@ -187,7 +187,7 @@ put_outside terms base p firsts ps b t q at some slotless to place from = by_ter
             let same : t.0 ≡ base + k = eqb-true t.0 (base + k) test in
             slot_there base (length firsts) t.0 k (record { is = sym same; inside = lt }) slotless)
 
--- ---- in order
+-- ---- sorted
 
 pub ordered : (terms : List Term) (base slots : ℕ) (ps qs : List Pointer) → HasOutside terms base slots 0 ps → IsPermutation ps qs → HasOutside terms base slots 0 qs
 ordered terms base slots ps qs has moved = record {
@@ -195,9 +195,9 @@ ordered terms base slots ps qs has moved = record {
   all = λ i t le without is. let one = any_from (is_early_pointer t i) ps (has.all i t le without is) in any_to (is_early_pointer t i) qs one.0 one.2 (Contains-permutation ps qs one.0 moved one.1);
 }
 
--- ---- what is found
+-- ---- look-ups
 
--- what one that does not precede another says
+-- consequences of one pointer not preceding another
 not_before : (a b : Pointer) → pointer_precedes a b ≡ false → (b.target ≤ a.target) × (a.target ≡ b.target → b.place ≤ a.place)
 not_before a b h = (by_target (ltb a.target b.target) refl, λ same. by_place (ltb a.place b.place) refl same)
   where
@@ -221,7 +221,7 @@ parted t ps sorted i j d le lt h =
     let rises = (not_before (get_or ps j d) (get_or ps i d) (far ps sorted i j d le lt)).0 in
     lt-ltb (get_or ps i d).target t (omega (arith, rises, ltb-true (get_or ps j d).target t h))
 
--- a pointer to the type stands at the place of the search or behind it
+-- a pointer to the type is at the start of the search or after it
 pub record Behind (t from : ℕ) (ps : List Pointer) (q : Pointer) : Type 0 where
   pub inside : from < length ps
   pub target : (d : Pointer) → (get_or ps from d).target ≡ t
@@ -256,7 +256,7 @@ behind t from ps sorted low high q (k, lt, is) same = by_case (ltb k from) refl
         says : (d : Pointer) → ((get_or ps from d).target ≤ (get_or ps k d).target) × ((get_or ps k d).target ≡ (get_or ps from d).target → (get_or ps from d).place ≤ (get_or ps k d).place)
         says d = not_before (get_or ps k d) (get_or ps from d) (far ps sorted from k d (ltb-false k from e) lt)
 
--- a type that points there is a pointer of the list
+-- a type that points there is a pointer in the list
 none_to : (t base slots : ℕ) (terms : List Term) (ps : List Pointer) → HasOutside terms base slots 0 ps → slot base slots t ≡ None → ((q : Pointer) → Contains ps q → q.target ≡ t → ⊥) → first_place (is_pointer_to t) terms ≡ None
 none_to t base slots terms ps has without none = none_passes (is_pointer_to t) terms (λ i x is. not_one i x is (is_pointer_to t x) refl)
   where
@@ -268,7 +268,7 @@ none_to t base slots terms ps has without none = none_passes (is_pointer_to t) t
         let says = both (one.0.target == t) (nat_le one.0.place i) one.2 in
         none one.0 one.1 (eqb-true one.0.target t says.0))
 
--- ---- the three ends of a search, where `low` are before the type and `high` are not
+-- ---- the three ends of a search: pointers in `low` are before the type, those in `high` are not
 
 abbrev pub Low : ℕ → ℕ → List Pointer → Type 0
 Low t from ps = (j : ℕ) (d : Pointer) → j < from → nat_lt (get_or ps j d).target t ≡ true
@@ -306,7 +306,7 @@ first_there t base slots from terms ps p has sorted without low high inside at s
             let first = behind t from ps sorted low high one.0 one.1 (eqb-true one.0.target t says.0) in
             omega (arith, first.place p, ap (λ (z : Pointer). z.place) at, leb-true one.0.place i says.1, lt))
 
--- ---- of a slot
+-- ---- slots
 
 pub first_in_slot : (terms : List Term) (base t s : ℕ) (firsts : List ℕ) (ps : List Pointer) → PointersFrom terms base 0 firsts ps → slot base (length firsts) t ≡ Some s → (if nat_lt (get_or firsts s 0) (length terms) then Some (get_or firsts s 0) else None) ≡ first_place (is_pointer_to t) terms
 first_in_slot terms base t s firsts ps from slotted =

@@ -1,4 +1,4 @@
--- So much of a count as a number is of all below 2^32.
+-- Scaling a 32-bit number to a count: `hash * count / 2^32` is below the count.
 use Rattle.std.proofs.Common.{ℕ, ◌*◌, ◌/◌, ◌^◌, ◌<◌, ◌≤◌, arith}
 use Rattle.std.proofs.Math.Nat.{div-le_of_le-mul, mul-le-mul, mul-le-mul_right}
 

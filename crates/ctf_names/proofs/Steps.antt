@@ -1,6 +1,6 @@
--- One pointer further.
+-- One more pointer.
 use Rattle.std.proofs.Common.{◌≡◌, ℕ, zero, suc, ◌+◌, ◌-◌, ◌<◌, Ok, Err, refl, arith}
-use Rattle.ctf_model.specs.names.Found.{pointers_on, pointer_to}
+use Rattle.ctf_model.specs.names.Lookups.{pointers_on, pointer_to}
 use Rattle.ctf_model.specs.spaces.Space.{Space}
 use Rattle.ctf_model.specs.declared.faults.Fault.{Fault}
 

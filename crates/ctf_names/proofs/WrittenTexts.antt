@@ -1,8 +1,8 @@
--- What stands in front of the last stars and blanks of a text, a byte more at a time.
+-- The text before the last stars and blanks, one more byte at a time.
 use Rattle.std.proofs.Common.{◌≡◌, ℕ, Bool, true, false, List, [], ◌∷◌, ◌++◌, refl, ap, ◌∙◌}
 use Rattle.std.specs.Prelude.{◌&&◌}
 use Rattle.std.specs.List.{list_all}
-use Rattle.ctf_model.specs.names.Found.{base, is_star_or_blank}
+use Rattle.ctf_model.specs.names.Lookups.{base, is_star_or_blank}
 
 all_more : (xs : List ℕ) (b : ℕ) → is_star_or_blank b ≡ true → list_all is_star_or_blank (xs ++ b ∷ []) ≡ list_all is_star_or_blank xs
 all_more [] b e = rw e refl

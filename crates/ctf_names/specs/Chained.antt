@@ -1,11 +1,11 @@
--- Types in chains, one for each bucket of names. The words are ours.
+-- Types in chains, one for each bucket of names. Source: ours.
 use Rattle.std.specs.Prelude.{◌≡◌, ◌+◌, ◌≤◌, ℕ, true, List, length, Some, slice_get, slice_index}
 use Rattle.ctf_model.specs.format.Term.{Term}
 use Rattle.ctf_names.specs.Buckets.{bucket, is_in}
 use Rattle.ctf_names.specs.Leading.{AllLead, Leads}
 
--- from a number on: each bucket leads to the first type in it,
--- and each visible type to the next one in its own bucket
+-- for the types from `from` on: each bucket leads to its first type, and each visible type to the
+-- next in its bucket
 pub record Chained (terms : List Term) (from : ℕ) (firsts nexts : List ℕ) : Type 0 where
   pub heads : AllLead (is_in (length terms)) terms from firsts
   pub next : (p : ℕ) (x : Term) → from ≤ p → slice_get terms p ≡ Some x → x.root ≡ true

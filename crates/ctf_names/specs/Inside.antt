@@ -1,4 +1,4 @@
--- What is inside of a type's name. The words are ours.
+-- The structure of a type's name, one layer at a time. Source: ours.
 use Rattle.std.specs.Prelude.{ℕ, List, Option, Some, None, Result}
 use Rattle.ctf_model.specs.format.Shown.{ArrayParts, Shape, array_in}
 use Rattle.ctf_model.specs.format.Term.{Tag, struct_tag, union_tag, enum_tag}
@@ -10,7 +10,7 @@ use Rattle.ctf_model.specs.declared.layers.Layer.{Layer}
 use Rattle.ctf_model.specs.declared.layers.Layer.TheVariants.{Pointer, Array, Function, Qualified}
 use Rattle.ctf_model.specs.declared.layers.Qualifier.TheVariants.{Volatile, Const, Restrict}
 
--- a name, behind the word of a tag if it has one, or a layer round the type with a number
+-- a name after the keyword of its tag, if any, or a layer around the type with a number
 pub data Inside : Type 0 where
   a_name : Option Tag → Inside
   a_layer : Layer → ℕ → Inside
@@ -39,7 +39,7 @@ inside_by KVolatile x = layer_round (Qualified Volatile) x.reference
 inside_by KConst x = layer_round (Qualified Const) x.reference
 inside_by KRestrict x = layer_round (Qualified Restrict) x.reference
 
--- what a type of a shape is in its own name
+-- the outermost part of a type's name
 abbrev pub inside : Shape → Inside
 inside x = inside_by x.kind x
 
@@ -47,7 +47,7 @@ abbrev pub name_by : Option Tag → List ℕ → Result Declaration Fault
 name_by None name = bare_name (or_anon name)
 name_by (Some tag) name = tagged_name tag name
 
--- the declaration of a type with a name, from what is inside
+-- the declaration of a type, given those of others
 abbrev pub declaration_from : (ℕ → Result Declaration Fault) → List ℕ → Inside
     → Result Declaration Fault
 declaration_from others name (a_name tag) = name_by tag name

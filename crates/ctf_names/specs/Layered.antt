@@ -1,4 +1,4 @@
--- What is inside of a type's name, as it is found. The word is ours.
+-- The structure of a type's name as the code computes it. Source: ours.
 use Rattle.std.specs.Option.{option_map}
 use Rattle.ctf_names.specs.Inside as inside
 use Rattle.ctf_names.specs.declared.inside.Inside.{Inside}

@@ -1,4 +1,4 @@
--- What each layer of a declaration adds to its text, and where. The words are ours.
+-- What each layer of a declaration adds to its text, and where. Source: ours.
 use Rattle.std.specs.Prelude.{ℕ, ◌++◌, Bool, false, List, [], ◌∷◌, Option, reverse, codes, decimal, if◌then◌else◌}
 use Rattle.std.specs.List.{flat_map}
 use Rattle.ctf_model.specs.names.TypeNames.{join_texts, past, is_pointer, is_behind, word_of_qualifier}
@@ -7,7 +7,7 @@ use Rattle.ctf_model.specs.declared.layers.Layer.TheVariants.{Pointer, Array, Fu
 use Rattle.ctf_names.specs.declared.marks.Mark.{Mark}
 use Rattle.ctf_names.specs.declared.marks.Mark.TheVariants.{Front, Alone, Before, Star, Grouped, Count, Call}
 
--- a layer with what is past it, by whether it is the outermost
+-- the mark of a layer, given the one past it, and whether it is the outermost
 abbrev pub mark : Bool → Layer → Option Layer → Mark
 mark outermost Pointer below = if is_behind below then Grouped else Star
 mark outermost (Array count) below = Count count
@@ -19,7 +19,7 @@ abbrev pub marks : Bool → List Layer → List Mark
 marks outermost [] = []
 marks outermost (layer ∷ layers) = mark outermost layer (past layers) ∷ marks false layers
 
--- what stands in front of the name, right before the declarator, and behind it
+-- the text of a mark before the name, right before the declarator, and after it
 abbrev pub front : Mark → List ℕ
 front (Front q) = word_of_qualifier q ++ codes " "
 front _ = []

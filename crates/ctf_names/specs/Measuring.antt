@@ -1,4 +1,4 @@
--- What the name of a type comes to, as it is found. The words are ours.
+-- The measured length of a type's name. Source: ours.
 use Rattle.std.specs.Prelude.{◌≡◌, ◌+◌, ℕ, suc}
 use Rattle.ctf_model.specs.names.TypeNames.{around, declaration_within}
 use Rattle.ctf_model.specs.spaces.Space.{Space}
@@ -7,7 +7,7 @@ use Rattle.ctf_names.specs.declared.measures.Measured.{Measured}
 use Rattle.ctf_names.specs.declared.measures.Step.{Step}
 use Rattle.ctf_names.specs.declared.measures.Step.TheVariants.{End, Round}
 
--- the declaration is found within that many layers, and no more of them change it
+-- the lengths are those of the declaration, which has at most that many layers
 pub record IsMeasured (s : Space) (n : ℕ) (m : Measured) : Type 0 where
   pub same : (k : ℕ)
       → declaration_within s (suc (k + m.layers)) n ≡ declaration_within s (suc m.layers) n

@@ -1,4 +1,4 @@
--- How long the parts of a declaration's text are that other layers are put round. The words are
+-- The lengths of the parts of a declaration, for computing those of more layers around it. Source:
 -- ours.
 use Rattle.std.specs.Prelude.{ℕ, ◌+◌, false, List, [], ◌∷◌, length, min, Result, Ok, Err}
 use Rattle.std.specs.List.{flat_map}
@@ -8,15 +8,15 @@ use Rattle.ctf_model.specs.declared.layers.Layer.{Layer}
 use Rattle.ctf_names.specs.Marks.{front, text_before, marks, right}
 use Rattle.ctf_names.specs.declared.name_lengths.NameLengths.{NameLengths}
 
--- a length, where all that are too long count alike
+-- a length, where all that are too long count the same
 abbrev pub cap_length : ℕ → ℕ
 cap_length n = min n 65537
 
--- a layer more
+-- one more layer outside
 abbrev pub one_more : Layer → Declaration → Declaration
 one_more layer d = record { layers = layer ∷ d.layers; name = d.name }
 
--- that of a declaration which is no outermost one
+-- the lengths of a declaration that is not the outermost
 unfoldable pub lengths_of : Declaration → NameLengths
 lengths_of d = record {
   name = cap_length (length (flat_map front (marks false d.layers)) + length d.name);
@@ -25,11 +25,11 @@ lengths_of d = record {
   below = past d.layers;
 }
 
--- that of a name
+-- the lengths of a bare name
 abbrev pub of_base : List ℕ → NameLengths
 of_base name = lengths_of (record { layers = []; name = name })
 
--- that of what a type comes to
+-- the lengths of a type's declaration, or its fault
 abbrev pub measure : Result Declaration Fault → Result NameLengths Fault
 measure (Ok d) = Ok (lengths_of d)
 measure (Err fault) = Err fault

@@ -1,4 +1,4 @@
--- Which word stands in front of the name of a type. The words are ours.
+-- The keyword before the name of a type. Source: ours.
 use Rattle.std.specs.Prelude.{Option, Some, None}
 use Rattle.ctf_model.specs.format.Shown.{Shape}
 use Rattle.ctf_model.specs.format.Term.{Tag}

@@ -1,6 +1,6 @@
--- What is looked for among types. The words are ours.
+-- What a look-up searches for among types. Source: ours.
 use Rattle.std.specs.Prelude.{Bool}
-use Rattle.ctf_model.specs.names.Found.{is_called, is_pointer_to}
+use Rattle.ctf_model.specs.names.Lookups.{is_called, is_pointer_to}
 use Rattle.ctf_model.specs.format.Term.{Term}
 use Rattle.ctf_names.specs.Sorts.{tag_in}
 use Rattle.ctf_names.specs.declared.sought.Sought.{Sought}

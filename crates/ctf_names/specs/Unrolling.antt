@@ -1,4 +1,4 @@
--- A declaration as it is unrolled from the outermost layer on. The words are ours.
+-- Unrolling a declaration from its outermost layer. Source: ours.
 use Rattle.std.specs.Prelude.{List, [], ◌∷◌, Result}
 use Rattle.ctf_model.specs.names.TypeNames.{Declaration, around}
 use Rattle.ctf_model.specs.declared.faults.Fault.{Fault}
@@ -9,7 +9,7 @@ use Rattle.ctf_names.specs.declared.unrolling.Unrolled.{Unrolled}
 abbrev pub declare : Unrolled → Declaration
 declare u = record { layers = u.layers.items; name = base_text u.base }
 
--- what is inside, in these layers
+-- `inside` within these layers
 abbrev pub around_all : List Layer → Result Declaration Fault → Result Declaration Fault
 around_all [] inside = inside
 around_all (layer ∷ layers) inside = around layer (around_all layers inside)

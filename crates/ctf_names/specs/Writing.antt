@@ -1,5 +1,5 @@
 -- What a written name shows.
-use Rattle.ctf_model.specs.names.Found as found
+use Rattle.ctf_model.specs.names.Lookups as found
 use Rattle.ctf_names.specs.Sorts.{tag_in}
 use Rattle.ctf_names.specs.declared.written.NameParts.{NameParts}
 

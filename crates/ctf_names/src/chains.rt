@@ -3,7 +3,7 @@ ghost use Rattle.std.specs.Prelude.{◌≡◌, ◌+◌, ◌<◌, ◌^◌, true, 
 ghost use Rattle.std.specs.Option.{ForSome};
 ghost use Rattle.ctf_check.specs.CheckedView.{dictionary_of, tables_of};
 ghost use Rattle.ctf_check.specs.TypedView.{dictionary_in, term_in};
-ghost use Rattle.ctf_model.specs.names.Found.{first_place, is_called as is_called_so};
+ghost use Rattle.ctf_model.specs.names.Lookups.{first_place, is_called as is_called_so};
 ghost use Rattle.ctf_model.specs.format.Term.{Term};
 ghost use Rattle.ctf_names.specs.Briefs.{IsBriefAt};
 ghost use Rattle.ctf_names.specs.Chained.{Chained};

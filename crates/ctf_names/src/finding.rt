@@ -2,7 +2,7 @@
 ghost use Rattle.std.specs.Prelude.{◌≡◌, Ok};
 ghost use Rattle.std.specs.Option.{option_map};
 ghost use Rattle.std.specs.Result.{result_map_both};
-ghost use Rattle.ctf_model.specs.names.Found.{lookup, or_not_found as or_not_found_of, pointers_on as pointed_of, pointer_behind as pointer_behind_of, pointer_to as pointer_of};
+ghost use Rattle.ctf_model.specs.names.Lookups.{lookup, or_not_found as or_not_found_of, pointers_on as pointed_of, pointer_behind as pointer_behind_of, pointer_to as pointer_of};
 ghost use Rattle.ctf_model.specs.figures.Figures.{resolved_type as resolved_of};
 ghost use Rattle.ctf_names.specs.Fitting.{Fits};
 ghost use Rattle.ctf_space.specs.SpaceView.{own_lists, parent_lists, space_of};

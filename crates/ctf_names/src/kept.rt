@@ -1,7 +1,7 @@
 //! The names and pointers of a dictionary, in tables.
 ghost use Rattle.std.specs.Prelude.{◌≡◌, IfOk, replicate};
 ghost use Rattle.ctf_check.specs.CheckedView.{dictionary_of, lists_of};
-ghost use Rattle.ctf_model.specs.names.Found.{first_place};
+ghost use Rattle.ctf_model.specs.names.Lookups.{first_place};
 ghost use Rattle.ctf_names.specs.Fitting.{IsNamesOf};
 ghost use Rattle.ctf_names.specs.Sought.{passes};
 

@@ -1,7 +1,7 @@
 //! The least number of the types that are looked for in a space.
 ghost use Rattle.std.specs.Prelude.{◌≡◌};
 ghost use Rattle.std.specs.Option.{option_map};
-ghost use Rattle.ctf_model.specs.names.Found.{least as least_of, least_own, least_parents};
+ghost use Rattle.ctf_model.specs.names.Lookups.{least as least_of, least_own, least_parents};
 ghost use Rattle.ctf_names.specs.Fitting.{Fits, IsNamesOf};
 ghost use Rattle.ctf_names.specs.Sought.{passes};
 ghost use Rattle.ctf_space.specs.SpaceView.{own_lists, parent_lists, space_of};

@@ -1,7 +1,7 @@
 //! The pointers of a dictionary, by the types that they point to.
 ghost use Rattle.std.specs.Prelude.{◌≡◌, ◌+◌, ◌<◌, ◌^◌, ℕ, List, length, OnOk, IfSome, Some, None, nat_lt, if◌then◌else◌};
 ghost use Rattle.std.specs.List.Sorted.{IsSortedBy, IsPermutation};
-ghost use Rattle.ctf_model.specs.names.Found.{first_place, is_pointer_to};
+ghost use Rattle.ctf_model.specs.names.Lookups.{first_place, is_pointer_to};
 ghost use Rattle.ctf_model.specs.format.Term.{Term};
 ghost use Rattle.ctf_names.specs.Briefs.{IsBriefAt};
 ghost use Rattle.ctf_names.specs.Pointers.{pointer_precedes, slot, HasOutside, LowerBefore, NoneLowerBehind, PointersFrom};

@@ -1,7 +1,7 @@
 //! Which keyword is in front of the name of a type.
 ghost use Rattle.std.specs.Prelude.{◌≡◌};
 ghost use Rattle.ctf_check.specs.FactsView.{shape_view};
-ghost use Rattle.ctf_model.specs.names.Found.{same_tag};
+ghost use Rattle.ctf_model.specs.names.Lookups.{same_tag};
 ghost use Rattle.ctf_names.specs.Sorts.{tag_in, tag_shown};
 
 use ctf_check::Shape;

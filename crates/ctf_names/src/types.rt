@@ -2,7 +2,7 @@
 ghost use Rattle.std.specs.Prelude.{◌≡◌, ◌+◌, ◌<◌, ◌^◌, ℕ, length, IfSome, MatchOption, slice_get, option_and_then, option_map};
 ghost use Rattle.ctf_check.specs.CheckedView.{dictionary_of, tables_of};
 ghost use Rattle.ctf_check.specs.TypedView.{dictionary_in, term_in};
-ghost use Rattle.ctf_model.specs.names.Found.{is_pointer_to};
+ghost use Rattle.ctf_model.specs.names.Lookups.{is_pointer_to};
 ghost use Rattle.ctf_names.specs.Briefs.{is_target, target_by, IsBrief, IsBriefAt};
 ghost use Rattle.ctf_names.specs.Buckets.{is_in};
 ghost use Rattle.ctf_sections.specs.StringsView.{tables};
@@ -79,7 +79,7 @@ fn brief_of(found: &Typed<'_>, strings: &Strings<'_>, types: usize) -> Brief
     }
 }
 
-/// What an index needs of the own type with a number, from 0.
+/// The parts of an own type that the index of names stores; `place` is its index, from 0.
 #[inline(always)]
 pub(crate) fn brief_at(dictionary: &Checked<'_>, strings: &Strings<'_>, place: usize) -> Brief
     requires there { place < length (dictionary_of dictionary.now).terms }

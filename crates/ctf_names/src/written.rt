@@ -1,7 +1,7 @@
 //! Names as they are written, with keywords in front and stars at the end.
 ghost use Rattle.std.specs.Prelude.{◌≡◌, ◌≤◌, length, drop, option_copied, Some, None, if◌then◌else◌};
 ghost use Rattle.std.specs.List.{count_by};
-ghost use Rattle.ctf_model.specs.names.Found.{base as base_of, begins_with, is_no_name as is_none, is_star as star, is_star_or_blank as star_or_blank, written_name as written_of};
+ghost use Rattle.ctf_model.specs.names.Lookups.{base as base_of, begins_with, is_no_name as is_none, is_star as star, is_star_or_blank as star_or_blank, written_name as written_of};
 ghost use Rattle.ctf_names.specs.Writing.{written_in};
 
 use crate::sorts::Sort;

@@ -1,4 +1,4 @@
--- What stays of a draft that something is added to.
+-- What an addition to a draft leaves unchanged.
 use Rattle.std.proofs.Common.{◌≡◌, ℕ, Option, Result, Ok, Err, refl, ap, sym, subst, ◌∙◌}
 use Rattle.std.specs.Prelude.{IfOk, OnErr}
 use Rattle.ctf_model.specs.opened.Steps.{silent}
@@ -26,7 +26,7 @@ part_alike d (part.MemberAt t name tnum offset size) a e = silent_alike d (add_m
 part_alike d (part.Enumerator t name value) a e = silent_alike d (add_enumerator d t.0 (record { name = name.now; value = value })) a (λ b h. enumerator_alike d t.0 (record { name = name.now; value = value }) b h) e
 part_alike d (part.Label name last) a e = silent_alike d (add_label d (record { name = name.now; last = last })) a (λ b h. label_alike d (record { name = name.now; last = last }) b h) e
 
--- so it stays under what it was under
+-- so the draft keeps its parent
 pub still_under : {A : Type 0} (number : A → ℕ) (result : Result A Fault) (adds : Draft → Result Added Fault) (old new : Owned) (above : Option Kept) → ((a : Added) → adds old.draft ≡ Ok a → AreAlike old.draft a.draft) → IfOk result (λ n. adds old.draft ≡ Ok (record { draft = new.draft; answer = number n })) → OnErr result (new ≡ old) → IsUnder old.draft above → IsUnder new.draft above
 still_under number (Ok n) adds old new above alike ok err under =
     let same = alike (record { draft = new.draft; answer = number n }) ok in
@@ -36,7 +36,7 @@ still_under number (Ok n) adds old new above alike ok err under =
 still_under number (Err f) adds old new above alike ok err under =
     subst (λ (d : Owned). IsUnder d.draft above) (sym err) under
 
--- and its dictionary is still what it was written as
+-- and its dictionary is still as written
 pub still_written : {A : Type 0} (number : A → ℕ) (result : Result A Fault) (adds : Draft → Result Added Fault) (old new : Owned) (kept : Kept) → ((a : Added) → adds old.draft ≡ Ok a → AreAlike old.draft a.draft) → IfOk result (λ n. adds old.draft ≡ Ok (record { draft = new.draft; answer = number n })) → OnErr result (new ≡ old) → IsWritten (rollback old.draft) kept → IsWritten (rollback new.draft) kept
 still_written number (Ok n) adds old new kept alike ok err w =
     let same = alike (record { draft = new.draft; answer = number n }) ok in

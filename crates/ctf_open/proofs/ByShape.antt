@@ -1,4 +1,4 @@
--- What a type is, from what was found of it.
+-- A type's content, from a look-up.
 use Rattle.std.proofs.Common.{◌≡◌, Bool, Option, Some, None, Ok, sym, ap}
 use Rattle.std.specs.Option.{option_map}
 use Rattle.std.proofs.lemmas.Option.{same_Some}

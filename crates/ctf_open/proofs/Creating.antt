@@ -1,4 +1,4 @@
--- What a new draft and an update come to.
+-- The result of a new draft and of an update.
 use Rattle.std.proofs.Common.{◌≡◌, ◌+◌, ℕ, true, arith, List, length, Option, None, Some, Result, Ok, Err, refl, ap, sym, subst, ◌∙◌, ◌⊎◌, inl, inr}
 use Rattle.std.specs.Prelude.{option_map}
 use Rattle.ctf_model.specs.opened.Steps.{Stepped, with_count, created, settled_as, step_update, updated_if, updated_over}
@@ -16,7 +16,7 @@ use Rattle.ctf_model.specs.declared.faults.Fault.{Fault}
 abbrev pub MadeOf : Option Kept → List ℕ → List ℕ → DataModel → Result Draft Fault
 MadeOf above parname parlabel model = new_draft (option_map modelled_by above) parname parlabel model
 
--- a draft that is written is settled as that
+-- a written draft is settled as its dictionary
 settled_done : (above parent : Option Kept) (d now : Draft) (kept : Kept) → IsWritten d kept → parent ≡ above → now ≡ commit d → settled_as above d (written (content d)) ≡ Ok (record { own = kept; parent = parent; draft = Some now })
 settled_done above parent d now kept w same settles =
     rw (same, settles) (ap (settled_as above d) w.bytes ∙ ap (λ (k : Kept). Ok (record { own = k; parent = above; draft = Some (commit d) })) (sym w.alone))
@@ -29,7 +29,7 @@ created_done above parent parname parlabel model d now kept made w same settles 
 more_by_nothing : (n m : ℕ) → (n + (0 + 0)) + m ≡ n + m
 more_by_nothing n m = omega arith
 
--- what is written is all that is kept
+-- the written bytes are everything that is stored
 pub written_fits : (d : Draft) (kept : Kept) (room : Option Room) (parent : ℕ) → IsWritten d kept → fits_in room (length kept.lists.ctf + parent) ≡ true → fits_in room (kept_bytes kept + parent) ≡ true
 written_fits d kept room parent w fits =
     let alone : kept_bytes kept ≡ length kept.lists.ctf + (0 + 0) = ap kept_bytes w.alone in
@@ -49,7 +49,7 @@ unfolding created
 created_unmade above parname parlabel model room f refused =
     subst (λ (r : Result Open Fault). IsUncreated r room f) (sym (ap (updated_over above) refused)) refl
 
--- where there is always room, it was not made
+-- without a limit, a refusal means that it was not made
 pub uncreated_free : (r : Result Open Fault) (f : Fault) → IsUncreated r None f → r ≡ Err f
 uncreated_free (Ok s) f h = let no = h.1 in absurd cc
 uncreated_free (Err g) f h = ap (λ (x : Fault). Err x) (sym h)
@@ -58,7 +58,7 @@ pub refused_free : (r : Result Stepped Fault) (f : Fault) → IsRefused r None f
 refused_free (Ok step) f h = let no = h.1 in absurd cc
 refused_free (Err g) f h = ap (λ (x : Fault). Err x) (sym h)
 
--- what may fail in two ways
+-- an error of either sort
 pub either : {A B C : Type 0} → (B → C) → A ⊎ B → A ⊎ C
 either f (inl a) = inl a
 either f (inr b) = inr (f b)

@@ -1,4 +1,4 @@
--- What is added to a draft changes neither its parent nor its data model, nor what was updated.
+-- Additions to a draft change neither its parent, nor its data model, nor its updated part.
 use Rattle.std.proofs.Common.{◌≡◌, ℕ, List, [], ◌∷◌, ◌++◌, Bool, true, false, Option, Some, None, Result, Ok, Err, refl, ap, sym, subst, ◌∙◌}
 use Rattle.std.specs.Prelude.{◌||◌, option_map, is_some, not}
 use Rattle.std.specs.Option.{ForSome}
@@ -19,11 +19,11 @@ use Rattle.ctf_model.specs.declared.data_model.DataModel.TheVariants.{Lp64, Ilp3
 use Rattle.ctf_model.specs.declared.faults.Fault.{Fault}
 use Rattle.ctf_model.specs.declared.faults.TheConstants.Fault.{MODEL_DIFFERS, NAME_HAS_ZERO, PARENT_IS_CHILD}
 
--- without what is pending the two are the same
+-- the drafts are equal apart from their pending parts
 abbrev pub AreAlike : Draft → Draft → Type 0
 AreAlike a b = rollback b ≡ rollback a
 
--- what is answered where nothing is refused
+-- the result if there is no refusal
 unless_ok : {A : Type 0} (fault : Option Fault) (done : Result A Fault) (a : A) → unless fault done ≡ Ok a → done ≡ Ok a
 unless_ok None done a e = e
 unless_ok (Some f) done a e = absurd cc
@@ -32,7 +32,7 @@ then_ok : {A : Type 0} (n : Result ℕ Fault) (next : ℕ → Result A Fault) (a
 then_ok (Ok n) next a e = (n, e)
 then_ok (Err f) next a e = absurd cc
 
--- the draft of an answer
+-- the draft in the answer
 added_alike : (d : Draft) (b a : Added) → AreAlike d b.draft → unless None (Ok b) ≡ Ok a → AreAlike d a.draft
 added_alike d b a alike e = let is : b ≡ a = cc in subst (λ (x : Added). AreAlike d x.draft) is alike
 
@@ -90,7 +90,7 @@ label_alike d x a e =
 
 -- ---- new drafts
 
--- a model that is the same as another is that one
+-- equal data models
 same_is : (a b : DataModel) → same_model a b ≡ true → b ≡ a
 same_is Lp64 Lp64 e = refl
 same_is Ilp32 Ilp32 e = refl
@@ -101,7 +101,7 @@ not_other : (a b : DataModel) (same : Bool) → same_model a b ≡ same → not 
 not_other a b true e h = same_is a b e
 not_other a b false e h = absurd cc
 
--- no row is met where the first one is none
+-- if no condition holds, the first does not
 none_met : (row : Row) (rows : List Row) → first_met (row ∷ rows) ≡ None → (row.met ≡ false) × (first_met rows ≡ None)
 none_met row rows e = at row.met refl e
   where
@@ -109,7 +109,7 @@ none_met row rows e = at row.met refl e
     at false m h = let rest = rw m at h in (m, rest)
     at true m h = let clash = rw m at h in absurd cc
 
--- nothing is against a draft that is made
+-- no condition holds for a draft that is made
 none_against : {A : Type 0} (fault : Option Fault) (done : Result A Fault) (a : A) → unless fault done ≡ Ok a → fault ≡ None
 none_against None done a e = refl
 none_against (Some f) done a e = absurd cc
@@ -147,7 +147,7 @@ pub made_under : {P : Type 0} (kept : P → Kept) (parent : Option P) (above : O
 made_under kept parent above parname parlabel model d same e =
     made_of above parname parlabel model d (ap (λ (o : Option Modelled). new_draft o parname parlabel model) (sym (map_twice kept modelled_by parent ∙ ap (option_map modelled_by) same)) ∙ e)
 
--- one is there just where its lists are
+-- a value is present exactly if its lists are
 pub there : {P R : Type 0} (kept : P → Kept) (o : Option P) (now : R → Kept) (r : Option R) → option_map kept o ≡ option_map now r → is_some o ≡ is_some r
 there kept None now None e = refl
 there kept None now (Some r) e = absurd cc

@@ -1,4 +1,4 @@
--- What an import without a fault says of the two dictionaries.
+-- Consequences of an import without a fault.
 use Rattle.std.proofs.Common.{◌≡◌, Bool, true, false, None, refl, subst}
 use Rattle.ctf_model.specs.format.Dictionary.{Dictionary}
 use Rattle.ctf_model.specs.figures.FigureLaws.{parent_alone}
@@ -20,7 +20,7 @@ plain_parent i e = at i.child.dictionary.child i.parent.dictionary.child refl re
     at true true c p e = let fault = rw (c, p) at e in absurd cc
     at false true c p e = let fault = rw c at e in absurd cc
 
--- and the other is one
+-- the importing dictionary is a child
 is_child : (i : Import) → import_fault i ≡ None → i.child.dictionary.child ≡ true
 is_child i e = at i.child.dictionary.child refl e
   where
@@ -34,14 +34,14 @@ parents_fit s own p l model same fits = rw (model, ← same) fits
 
 -- ---- data models
 
--- models that are the same
+-- equal data models
 same_model_is : (a b : DataModel) → same_model a b ≡ true → b ≡ a
 same_model_is Lp64 Lp64 e = refl
 same_model_is Ilp32 Ilp32 e = refl
 same_model_is Lp64 Ilp32 e = absurd cc
 same_model_is Ilp32 Lp64 e = absurd cc
 
--- the two are of one data model
+-- both have the same data model
 one_model : (i : Import) → import_fault i ≡ None → same_model i.child.model i.parent.model ≡ true
 one_model i e = at (same_model i.child.model i.parent.model) refl
   where
@@ -52,6 +52,6 @@ one_model i e = at (same_model i.child.model i.parent.model) refl
 pub same_models : (child parent : Kept) → fault_over child parent ≡ None → parent.model ≡ child.model
 same_models child parent e = same_model_is child.model parent.model (one_model (record { child = modelled_by child; parent = modelled_by parent }) e)
 
--- so either is judged by the child's
+-- so both may be checked with the child's model
 pub judged_alike : (child parent : Kept) → fault_over child parent ≡ None → import_fault (of_one_model child.model (kept_dictionary child) (kept_dictionary parent)) ≡ None
 judged_alike child parent e = subst (λ (m : DataModel). import_fault (record { child = modelled_by child; parent = record { dictionary = kept_dictionary parent; model = m } }) ≡ None) (same_models child parent e) e

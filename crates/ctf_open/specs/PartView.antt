@@ -1,4 +1,4 @@
--- What is added to a draft besides types. The words are ours.
+-- Additions to a draft other than types. Source: ours.
 use Rattle.std.specs.Prelude.{Result}
 use Rattle.ctf_model.specs.opened.Steps.{silent}
 use Rattle.ctf_open.specs.declared.adding.Part.{Part}

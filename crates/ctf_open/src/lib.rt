@@ -60,7 +60,7 @@ mod tables;
 pub use adding::Part;
 pub use bytes::owned_bytes;
 pub use imports::Imported;
-pub use loading::{Loaded, MODEL_UNSAID};
+pub use loading::{DEFAULT_MODEL, Loaded};
 pub use open_dictionary::{OpenDictionary, parts_of};
 pub use programs::named_count;
 pub use questions::{array_of, encoding_of, signature_of};

@@ -18,7 +18,7 @@ use std::marker::Model;
 use std::rc::Rc;
 
 /// The data model of a dictionary if none is stated.
-pub const MODEL_UNSAID: DataModel = DataModel::Lp64;
+pub const DEFAULT_MODEL: DataModel = DataModel::Lp64;
 
 /// What is derived from a dictionary: the map of its symbols, and the tables that it has without a
 /// parent.

@@ -7,7 +7,7 @@ ghost use Rattle.ctf_check.specs.FactsView.{shape_view};
 ghost use Rattle.ctf_entries.specs.FunctionView.{signature};
 ghost use Rattle.ctf_layout.specs.Reached.{position_of};
 ghost use Rattle.ctf_model.specs.figures.Figures.{reference as reference_of};
-ghost use Rattle.ctf_model.specs.names.Found.{lookup};
+ghost use Rattle.ctf_model.specs.names.Lookups.{lookup};
 ghost use Rattle.ctf_model.specs.rules.Refusals.{out_of_memory};
 ghost use Rattle.ctf_model.specs.spaces.Space.{space_type};
 ghost use Rattle.ctf_model.specs.symbols.SymbolQuestions.{by_name, label_of, object_of};

@@ -1,4 +1,4 @@
--- Items beside the ranks of their names, one more at a time, and in order.
+-- Items with the ranks of their names: one more at a time, and sorted.
 use Rattle.std.proofs.Common.{◌≡◌, ◌⊎◌, inl, inr, ℕ, zero, suc, ◌+◌, ◌==◌, ◌<◌, ◌≤◌, Bool, true, false, List, [], ◌∷◌, ◌++◌, length, map, get_or, Option, Some, None, refl, ap, ◌∙◌, arith}
 use Rattle.std.specs.Prelude.{nat_le, ◌&&◌, ◌||◌}
 use Rattle.std.specs.List.{list_any, Contains}
@@ -26,9 +26,9 @@ only x y (suc k, lt, is) = absurd (omega (arith, lt))
 pub itself : {X : Type 0} (x : X) → Contains (x ∷ []) x
 itself x = (0, omega arith, refl)
 
--- ---- one item more
+-- ---- one more item
 
--- an item of the same name that is not greater was there before
+-- an item with the same name that is not greater is already there
 abbrev WasThere : Naming → List Ranked → NamedItem → Type 0
 WasThere t ranked x = (text : List ℕ) → IsNamed t text x → HasRanked t text ranked x.item
 
@@ -38,7 +38,7 @@ pub record HasEntry (ranked : List Ranked) (e : NamedItem) : Type 0 where
   pub there : Contains ranked one
   pub is : one.entry ≡ e
 
--- what is ranked so far, and the last of it beside its name
+-- the items ranked so far, and the last one with its name
 pub record SoFar (t : Naming) (items : List NamedItem) (ranked : List Ranked) (before : Option Named) : Type 0 where
   pub ranks : Ranks t items ranked
   pub lent : ForSome before (IsLent t)
@@ -112,7 +112,7 @@ taken t xs x ranked n before far is lent = record {
     here : HasEntry (ranked ++ record { rank = rank n.name.now; entry = n.entry } ∷ []) n.entry
     here = record { one = record { rank = rank n.name.now; entry = n.entry }; there = Contains-append_right ranked _ _ (itself _); is = refl }
 
--- ---- in order
+-- ---- sorted
 
 abbrev pub entry_in : Ranked → NamedItem
 entry_in r = r.entry
@@ -194,7 +194,7 @@ fits t items sorted ranked o same ranks moved up = record {
     right : (r : Ranked) → Contains o.entries.items r → IsRanked t r
     right r h = ranks.right r (Contains-permutation o.entries.items ranked r (IsPermutation-sym ranked o.entries.items moved) h)
 
--- the same items in another order have the same ranks
+-- a permutation of the items has the same ranks
 pub ranks_moved : (t : Naming) (items sorted : List NamedItem) (ranked : List Ranked) → IsPermutation items sorted → Ranks t sorted ranked → Ranks t items ranked
 ranks_moved t items sorted ranked same ranks = record {
   inside = λ r h. Contains-permutation sorted items r.entry (IsPermutation-sym items sorted same) (ranks.inside r h);

@@ -1,11 +1,11 @@
--- A search among a few items in the middle of others.
+-- A search among a few items inside a longer list.
 use Rattle.std.proofs.Common.{◌≡◌, ℕ, ◌+◌, ◌-◌, ◌<◌, ◌≤◌, ltb, Bool, true, false, List, length, get_or, take, drop, refl, ◌∙◌, arith}
 use Rattle.std.proofs.lemmas.Bool.{ltb-true, ltb-false}
 use Rattle.std.proofs.lemmas.List.{get_or-drop, get_or-take, length-drop, length-take-le}
 use Rattle.ctf_order.specs.Searching.{AreLowerBefore, AreParted}
 use Rattle.ctf_order.specs.declared.entries.Ranked.{Ranked}
 
--- the items from a place on
+-- `count` items from index `from` on
 abbrev pub middle : List Ranked → ℕ → ℕ → List Ranked
 middle entries from count = take count (drop from entries)
 
@@ -22,7 +22,7 @@ parted_middle entries from count rank inside parted i j d le lt h =
     let y : get_or (middle entries from count) j d ≡ get_or entries (from + j) d = middle_at entries from count j d short in
     rw x (parted (from + i) (from + j) d (omega (arith, le)) (omega (arith, short, inside)) (rw y at h))
 
--- those in front of the first are lower, and those before a place among them
+-- the items before the range are lower, and those before an index in it
 pub lower_before : (entries : List Ranked) (from count rank point : ℕ) → from < length entries → from + count ≤ length entries → AreParted entries rank → ((d : Ranked) → ltb (get_or entries from d).rank rank ≡ true) → point ≤ count → ((j : ℕ) (d : Ranked) → j < point → j < length (middle entries from count) → ltb (get_or (middle entries from count) j d).rank rank ≡ true) → AreLowerBefore entries rank (from + point)
 lower_before entries from count rank point far inside parted lower short before j d lt within = by_case (ltb j from) refl
   where

@@ -1,4 +1,4 @@
--- The order of names is one.
+-- The order of names is total.
 use Rattle.std.specs.Cmp.{IsTotalOrder, IsStrictWeakOrder}
 use Rattle.std.proofs.lemmas.Cmp.{then_total, nat_cmp_total, on_total}
 use Rattle.std.proofs.lemmas.List.MinMax.{ranks_by}

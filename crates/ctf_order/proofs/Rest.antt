@@ -1,4 +1,4 @@
--- What a reference names that points into the name of another.
+-- The name at a reference into the inside of another name.
 use Rattle.std.proofs.Common.{◌≡◌, ℕ, zero, suc, ◌+◌, ◌-◌, ◌^◌, ◌/◌, ◌%◌, ◌==◌, ◌≤◌, Bool, true, false, List, [], ◌∷◌, length, take, drop, Option, Some, None, refl, sym, ap, ◌∙◌, arith}
 use Rattle.std.specs.Prelude.{if◌then◌else◌}
 use Rattle.std.specs.List.{list_any, before_first, position_or_len}
@@ -42,7 +42,7 @@ text_at_rest : (o : Option (List ℕ)) (at k : ℕ) (x : List ℕ) → text_at o
 text_at_rest None at k x h le = absurd cc
 text_at_rest (Some bytes) at k x h le = rw (← drop-drop k at bytes) (text_rest (drop at bytes) x k h le)
 
--- the offset of a reference, and its table, in numbers
+-- the offset and table of a reference, as numbers
 offset_more : (r k : ℕ) → r / 2 ^ 31 ≡ (r + k) / 2 ^ 31 → (r + k) % 2 ^ 31 ≡ r % 2 ^ 31 + k
 offset_more r k same = omega (arith, same)
 

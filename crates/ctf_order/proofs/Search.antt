@@ -1,4 +1,4 @@
--- A search in items that stand in the order of their names finds the least of a name.
+-- A search in items sorted by name finds the least item of a name.
 use Rattle.std.proofs.Common.{◌≡◌, ◌⊎◌, inl, inr, ℕ, zero, suc, ◌<◌, ◌≤◌, ltb, Bool, true, false, List, [], ◌∷◌, length, map, get_or, drop, Option, Some, None, refl, sym, ap, ◌∙◌, arith}
 use Rattle.std.specs.Prelude.{nat_le, ◌==◌, ◌&&◌, ◌||◌, MatchOption}
 use Rattle.std.specs.List.{list_any, Contains}
@@ -41,7 +41,7 @@ by_name Greater p h = refl
 itself_equal : (n : ℕ) → nat_cmp n n ≡ Equal
 itself_equal n = sym (nat_cmp_is n n Equal refl)
 
--- an entry that no other precedes has the lower rank
+-- an entry that precedes another has a rank that is not greater
 ranks_up : (t : Naming) (e f : NamedItem) → precedes t f e ≡ false → rank (called t e) ≤ rank (called t f)
 ranks_up t e f far = not_less (rank (called t f)) (rank (called t e)) (by_name (nat_cmp (rank (called t f)) (rank (called t e))) (nat_cmp f.item e.item) far)
 
@@ -59,11 +59,11 @@ is_text_of t text e h = rw h ((bytes_eq-Decides text text).1 refl)
 
 -- ---- all entries from one on
 
--- each of them has a name
+-- every entry has a name
 abbrev pub AllNamed : Naming → List NamedItem → Type 0
 AllNamed t entries = (e : NamedItem) → Contains entries e → t e.reference ≡ Some (called t e)
 
--- no entry precedes one in front of it
+-- no entry precedes an earlier one
 abbrev pub Rises : Naming → List NamedItem → Type 0
 Rises t entries = (i j : ℕ) (d : NamedItem) → i ≤ j → j < length entries → precedes t (get_or entries j d) (get_or entries i d) ≡ false
 
@@ -82,7 +82,7 @@ from_first t e f entries rises (k, lt, is) = let far : precedes t (get_or entrie
 
 -- ---- the search
 
--- none of them has the name, or this is the least that has
+-- the least entry with the name
 pub record LeastOf (t : Naming) (text : List ℕ) (entries : List NamedItem) (n : ℕ) : Type 0 where
   pub entry : NamedItem
   pub there : Contains entries entry
@@ -96,14 +96,14 @@ NoneOf t text entries = (e : NamedItem) → Contains entries e → IsNamed t tex
 abbrev pub Searched : Naming → List ℕ → List NamedItem → Option ℕ → Type 0
 Searched t text entries found = MatchOption found (NoneOf t text entries) (LeastOf t text entries)
 
--- items of one name stand in order
+-- items with one name are in order
 not_smaller : (o : Ordering) (a b : ℕ) → o ≡ Equal → is_lt (ordering_then o (nat_cmp a b)) ≡ false → b ≤ a
 not_smaller o a b same h = not_less a b (rw same at h)
 
 same_called : (t : Naming) (text : List ℕ) (e : NamedItem) → IsNamed t text e → called t e ≡ text
 same_called t text e h = rw h refl
 
--- of two entries of one name the first has the smaller item
+-- of two entries with one name, the first has the smaller item
 in_order : (t : Naming) (text : List ℕ) (e f : NamedItem) → precedes t f e ≡ false → IsNamed t text e → IsNamed t text f → e.item ≤ f.item
 in_order t text e f far is also =
     let tie : nat_cmp (rank (called t f)) (rank (called t e)) ≡ Equal = ap (λ x. nat_cmp (rank x) (rank (called t e))) (same_called t text f also) ∙ ap (λ x. nat_cmp (rank text) (rank x)) (same_called t text e is) ∙ itself_equal (rank text) in
@@ -119,7 +119,7 @@ here t text e entries rises is = record { entry = e; there = (0, omega arith, re
 not_here : (t : Naming) (text : List ℕ) (e f : NamedItem) → is_text (t e.reference) text ≡ false → e ≡ f → IsNamed t text f → ⊥
 not_here t text e f h same is = let bad : is_text (t e.reference) text ≡ true = is_text_of t text e (rw same is) in absurd cc
 
--- what stands behind an entry of a greater rank has a greater one too
+-- after an entry with a greater rank, all ranks are greater
 past : (t : Naming) (text : List ℕ) (e f : NamedItem) → rank text < rank (called t e) → rank (called t e) ≤ rank (called t f) → IsNamed t text f → ⊥
 past t text e f gt far is = absurd (omega (arith, gt, far, ap rank (same_called t text f is)))
 
@@ -168,7 +168,7 @@ not_ltb a b le = by_case (ltb a b) refl
     by_case false e = refl
     by_case true e = absurd (omega (arith, le, ltb-true a b e))
 
--- ---- entries in front, of lower ranks
+-- ---- entries with lower ranks come first
 
 skipped_one : (t : Naming) (text : List ℕ) (r : Ranked) → r.rank ≡ rank (called t r.entry) → r.rank < rank text → (ltb (rank text) r.rank ≡ false) × (is_text (t r.entry.reference) text ≡ false)
 skipped_one t text r ranks lower = (not_ltb (rank text) r.rank (omega (arith, lower)), not_text (is_text (t r.entry.reference) text) refl)
@@ -185,12 +185,12 @@ skipped t text (suc n) (r ∷ kept) ranked before =
     let one = skipped_one t text r (ranked r (0, omega arith, refl)) (before 0 r (omega arith) (omega arith)) in
     rw (one.0, one.1) (skipped t text n kept (λ s h. ranked s (kept_on r s kept h)) (λ j d lt inside. before (suc j) d (omega (arith, lt)) (omega (arith, inside))))
 
--- ---- the place of a text
+-- ---- the index of a text
 
 pub rises_by : (t : Naming) (entries : List NamedItem) → IsSortedBy (precedes t) entries → Rises t entries
 rises_by t entries sorted i j d le lt = sorted_far (precedes t) (precedes_ranks t) entries sorted i j d le lt
 
--- ranks rise
+-- ranks ascend
 pub ranks_rise : (t : Naming) (kept : List Ranked) → AllRanked t kept → Rises t (map entry_in kept) → (i j : ℕ) (d : Ranked) → i ≤ j → j < length kept → (get_or kept i d).rank ≤ (get_or kept j d).rank
 ranks_rise t kept ranked rises i j d le lt =
     let x = get_or kept i d in
@@ -218,7 +218,7 @@ pub both : (a b : Bool) → (a && b) ≡ true → (a ≡ true) × (b ≡ true)
 both true b h = (refl, h)
 both false b h = absurd cc
 
--- an item of that name which is not greater
+-- an item with that name which is not greater
 pub record HasFirst (t : Naming) (text : List ℕ) (entries : List NamedItem) (item : ℕ) : Type 0 where
   pub entry : NamedItem
   pub there : Contains entries entry

@@ -1,7 +1,6 @@
--- The order of names. Source: ours. Any function of a name serves as an order for a look-up:
--- equal names have one rank, and among names of one rank a look-up compares names themselves.
--- The length stands in it, so that names of one rank have one length:
--- such names do not overlap in a table, and to go through them reads each of its bytes once.
+-- The order of names for look-ups. Source: ours. Any function of a name would do: equal names have
+-- equal ranks, and within one rank a look-up compares the names. The rank includes the length:
+-- names of one length do not overlap in a table, so comparing them reads each byte once.
 use Rattle.std.specs.Prelude.{ℕ, zero, suc, ◌+◌, ◌-◌, ◌*◌, ◌^◌, ◌%◌, ◌/◌, ltb, min, Bool, false, List, length, Option, Some, None, if◌then◌else◌}
 use Rattle.std.specs.List.{fold}
 use Rattle.std.specs.Ordering.{nat_cmp}
@@ -9,14 +8,14 @@ use Rattle.std.specs.Str.{bytes_eq}
 use Rattle.std.specs.declared.cmp.Ordering.{Ordering}
 use Rattle.ctf_model.specs.format.Bytes.{u64_at}
 
--- the high half of a product of two words
+-- the high half of the product of two words
 abbrev pub mix : ℕ → ℕ → ℕ
 mix h word = ((h + word) % 2 ^ 64 * 11400714819323198485) % 2 ^ 64 / 2 ^ 32
 
 abbrev pub hash_of_bytes : List ℕ → ℕ
 hash_of_bytes name = fold mix 0 name
 
--- of the last eight bytes, and of so many words at the front
+-- the hash of the last eight bytes and the first `n` words
 abbrev pub hash_of_words : List ℕ → ℕ → ℕ
 hash_of_words name zero = mix 0 (u64_at name (length name - 8))
 hash_of_words name (suc n) = mix (hash_of_words name n) (u64_at name (n * 8))
@@ -26,7 +25,7 @@ hash name =
     if ltb (length name) 8 then hash_of_bytes name
     else hash_of_words name (min (length name) 2048 / 8)
 
--- a number for at most 2,056 bytes of a name in the high half, its length in the low half
+-- in the high half a hash of at most 2,056 bytes of the name, in the low half its length
 unfoldable pub rank : List ℕ → ℕ
 rank name = hash name * 2 ^ 32 + length name % 2 ^ 32
 

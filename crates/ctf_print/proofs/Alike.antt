@@ -1,4 +1,4 @@
--- Past the memory all places are alike.
+-- Beyond the memory all offsets behave alike.
 use Rattle.std.proofs.Common.{◌≡◌, ℕ, zero, suc, ◌+◌, ◌*◌, ◌<◌, ◌≤◌, min, eqb, ltb, true, false, Bool, cond, List, [], ◌∷◌, length, map, Result, Ok, Err, refl, ap, arith}
 use Rattle.std.specs.List.{range_with_len}
 use Rattle.std.proofs.lemmas.Bool.{lt-ltb, eqb-false, ltb-true, ltb-false}
@@ -21,7 +21,7 @@ map_same f g (x ∷ xs) same = rw (same x, map_same f g xs same) refl
 
 -- ---- numbers
 
--- past the memory no bit is there
+-- beyond the memory no bit exists
 none_there : (memory : List ℕ) (p width : ℕ) → 8 * length memory ≤ p → 0 < width → bit_field memory p width ≡ Err short_memory
 none_there memory p width h some =
     let test : ltb (8 * length memory) (p + width) ≡ true = lt-ltb (8 * length memory) (p + width) (omega arith) in
@@ -77,7 +77,7 @@ pointer_alike Ilp32 memory p q hp hq = raw_alike memory p q 32 (omega arith) hp 
 
 -- ---- values
 
--- whatever is past the memory is alike
+-- formatting is the same at all offsets beyond the memory
 abbrev Alike : List ℕ → Shows → Type 0
 Alike memory show = (n p q : ℕ) → 8 * length memory ≤ p → 8 * length memory ≤ q → show n p ≡ show n q
 
@@ -117,7 +117,7 @@ unfolding shown_within
 alike s memory zero n p q hp hq = refl
 alike s memory (suc k) n p q hp hq = rule_alike s memory (shown_within s memory k) (alike s memory k) n p q hp hq
 
--- a place that is counted up to a number past the memory
+-- an offset that is capped at a number beyond the memory
 pub counted : (s : Space) (memory : List ℕ) (k n p most place : ℕ) → 8 * length memory ≤ most → place ≡ min p most → shown_within s memory k n place ≡ shown_within s memory k n p
 counted s memory k n p most place h e = by_order (ltb most p) refl
   where

@@ -1,4 +1,4 @@
--- Bits of a number whose bytes stand in memory.
+-- Bits of a number in memory.
 use Rattle.std.proofs.Common.{◌≡◌, ℕ, zero, suc, ◌+◌, ◌-◌, ◌*◌, ◌^◌, ◌/◌, ◌%◌, ◌<◌, ◌≤◌, List, [], ◌∷◌, drop, take, get_or, sym, ap, ◌∙◌, arith}
 use Rattle.std.proofs.Math.Nat.{div-div-eq-div-mul, div-one, mod-one, zero-div, zero-mod}
 use Rattle.std.proofs.Math.Pow.{mod-mod-pow}
@@ -12,7 +12,7 @@ use Rattle.ctf_print.proofs.Digits.{middle}
 abbrev pub AreBytes : List ℕ → Type 0
 AreBytes bs = (k : ℕ) → get_or bs k 0 < 256
 
--- without the first byte it is less by the bits of that one
+-- removing the first byte removes its bits
 behind_byte : (b n q : ℕ) → b < 256 → (b + 256 * n) / 2 ^ (8 + q) ≡ n / 2 ^ q
 behind_byte b n q h =
     let whole : (b + 256 * n) / 256 ≡ n = omega arith in
@@ -53,7 +53,7 @@ inside x f w all h =
     let split : all ≡ (rest + w) + f = omega arith in
     rw split (ap (λ m. m % 2 ^ w) (middle x f (rest + w)) ∙ mod-mod-pow (x / 2 ^ f) rest w)
 
--- bits stand in the bytes from the one on in which they begin, as many of these as they reach
+-- the bits from `p` on are in the bytes from `p / 8` on, as many as they span
 pub bits_are : (memory : List ℕ) (p w n : ℕ) → AreBytes memory → p % 8 + w ≤ 8 * n → number (take n (drop (p / 8) memory)) / 2 ^ (p % 8) % 2 ^ w ≡ bits_at memory p w
 bits_are memory p w n h few =
     let from = drop (p / 8) memory in

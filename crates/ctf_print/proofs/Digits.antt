@@ -1,4 +1,4 @@
--- The bytes of a number in so many bits, and its digits.
+-- The bytes of a number of given width, and its digits.
 use Rattle.std.proofs.Common.{◌≡◌, ℕ, zero, suc, [], ◌+◌, ◌-◌, ◌*◌, ◌^◌, ◌/◌, ◌%◌, ◌<◌, ◌≤◌, ◌++◌, min, ltb, true, false, Bool, List, refl, sym, ap, ◌∙◌, arith, append_assoc}
 use Rattle.std.proofs.Math.Nat.{div-div-eq-div-mul, mod-lt}
 use Rattle.std.proofs.lemmas.Nat.{pow-add, mod-pow-add, div-mul-add}
@@ -29,7 +29,7 @@ bytes_are (suc i) =
 
 -- ---- a byte of a number
 
--- the bits above so many, of those below others
+-- the bits above `a`, below `c + a`
 pub middle : (x a c : ℕ) → x % 2 ^ (c + a) / 2 ^ a ≡ x / 2 ^ a % 2 ^ c
 middle x a c =
     let low : x % 2 ^ a < 2 ^ a = mod-lt x (positive a) in
@@ -72,7 +72,7 @@ byte_is memory p width i h =
 
 -- ---- digits
 
--- the digits of the highest byte stand first
+-- the digits of the highest byte come first
 pub high_first : (k n : ℕ) → hexadecimal (suc k) n ≡ hex_of_byte (n / 256 ^ k % 256) ++ hexadecimal k n
 unfolding hexadecimal
 high_first zero n = let whole : n / 1 ≡ n = omega arith in rw whole refl
@@ -88,7 +88,7 @@ pub no_digits : (n : ℕ) → hexadecimal 0 n ≡ []
 unfolding hexadecimal
 no_digits n = refl
 
--- a piece in two
+-- a piece cut in two
 pub joined_piece : (a b : List ℕ) → piece (a ++ b) ≡ then_pieces (piece a) (piece b)
 unfolding then_pieces
 joined_piece a b = refl
@@ -100,9 +100,9 @@ pub halves : (width : ℕ) → 0 < width → 2 ^ width ≡ 2 ^ (width - 1) * 2
 halves zero h = absurd (omega arith)
 halves (suc k) h = let e : suc k - 1 ≡ k = omega arith in rw e (bit_power k)
 
--- ---- digits that are left
+-- ---- remaining digits
 
--- those of the highest byte that is left, and then the others
+-- those of the highest remaining byte, then the others
 pub digits_left : (count i n : ℕ) → i < count → piece (hexadecimal (count - i) n) ≡ then_pieces (piece (hex_of_byte (n / 256 ^ (count - 1 - i) % 256))) (piece (hexadecimal (count - (i + 1)) n))
 digits_left count i n h =
     let more : count - i ≡ suc (count - 1 - i) = omega arith in

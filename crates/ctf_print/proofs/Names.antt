@@ -1,4 +1,4 @@
--- The first enumerator of a value.
+-- The first enumerator with a value.
 use Rattle.std.proofs.Common.{◌≡◌, ℕ, ℤ, zero, suc, ◌+◌, true, false, Bool, List, [], ◌∷◌, length, drop, Option, Some, None, refl, sym, arith, ◌≤◌, ◌<◌}
 use Rattle.std.specs.Prelude.{IsSome, slice_get}
 use Rattle.std.specs.Ordering.{int_eq}
@@ -14,7 +14,7 @@ from_here (x ∷ es) zero e h = let same : x ≡ e = cc in rw same refl
 from_here (x ∷ es) (suc i) e h = let next : suc i + 1 ≡ suc (i + 1) = omega arith in rw next (from_here es i e h)
 from_here [] i e h = absurd cc
 
--- whether the enumerator with a number has a value
+-- whether enumerator `i` has the value
 abbrev pub Says : List Enumerator → ℤ → ℕ → Bool → Type 0
 Says es value i b = Some b ≡ option_map (λ (e : Enumerator). int_eq e.value value) (slice_get es i)
 
@@ -33,7 +33,7 @@ step_on (e ∷ es) (suc i) value h = step_on es i value h
 pub named_later : (es : List Enumerator) (i : ℕ) (value : ℤ) → Says es value i false → name_of_value (drop i es) value ≡ name_of_value (drop (i + 1) es) value
 named_later es i value h = let one : suc i ≡ i + 1 = omega arith in rw (← one) (step_on es i value h)
 
--- an item of a list, as it is lent
+-- an item of a list, as lent
 pub item_lent : {A B : Type 0} (see : A → B) (o : Option A) (x : A) (y : Option B) → option_map see o ≡ y → o ≡ Some x → y ≡ Some (see x)
 item_lent see o x y h is = sym (rw is at h)
 

@@ -1,4 +1,4 @@
--- The first enumerator of a value, as it is looked for and as it is kept.
+-- The first enumerator with a value, as searched and as stored.
 use Rattle.std.proofs.Common.{◌≡◌, ℕ, ℤ, zero, suc, ◌+◌, ◌-◌, ◌<◌, ◌≤◌, inl, inr, true, false, Bool, cond, List, [], ◌∷◌, length, drop, Option, Some, None, refl, sym, ap, ◌∙◌, arith}
 use Rattle.std.specs.Prelude.{slice_get, OnErr, OnOk, Result, Ok, Err, is_err}
 use Rattle.std.specs.BTreeMap.{BTreeMap, IsEmpty, IsUnchanged, Updates, get, is_at}
@@ -16,8 +16,8 @@ use Rattle.ctf_model.specs.format.Term.{Enumerator, Term}
 use Rattle.ctf_model.specs.spaces.Space.{Space, space_type}
 use Rattle.ctf_model.specs.spaces.TypeNumbers.{or_no_type}
 use Rattle.ctf_model.specs.values.Values.{name_of_value}
-use Rattle.ctf_print.specs.Placing.{AreFirstByValue, AreKept, IsFirstOf, enumerators_of, first_with, told_found, shown_how}
-use Rattle.ctf_print.specs.Telling.{told_in}
+use Rattle.ctf_print.specs.Placing.{AreFirstByValue, AreKept, IsFirstOf, enumerators_of, first_with, rule_of_result, shown_how}
+use Rattle.ctf_print.specs.ShowRules.{rule_in}
 use Rattle.ctf_print.specs.declared.places.FirstByValue.{FirstByValue}
 use Rattle.ctf_print.proofs.Names.{Says}
 
@@ -26,7 +26,7 @@ from_here (x ∷ es) zero e h = let same : x ≡ e = cc in rw same refl
 from_here (x ∷ es) (suc i) e h = from_here es i e h
 from_here [] i e h = absurd cc
 
--- ---- a look at each in turn
+-- ---- checking each in turn
 
 first_front : (value : ℤ) (i : ℕ) (e : Enumerator) (es : List Enumerator) (t : Bool) → int_eq e.value value ≡ t → first_with value i (e ∷ es) ≡ cond t (Some i) (first_with value (suc i) es)
 unfolding first_with
@@ -71,9 +71,9 @@ one_more es (suc i) x old new lt known updates says =
 pub none_left : (es : List Enumerator) (m : BTreeMap ℤ ℕ) (left : ℕ) → left ≡ length es → ((v : ℤ) → get int_cmp m v ≡ None) → (v : ℤ) → get int_cmp m v ≡ first_with v left (drop left es)
 none_left es m left e none v = none v ∙ sym (found_nowhere es v left (omega arith))
 
--- ---- what a place says
+-- ---- a found index
 
--- the first of a value has its name
+-- the first enumerator with a value gives its name
 pub record IsPlace (es : List Enumerator) (value : ℤ) (at : ℕ) : Type 0 where
   pub inside : at < length es
   pub named : (e : Enumerator) → slice_get es at ≡ Some e → name_of_value es value ≡ e.name
@@ -124,7 +124,7 @@ no_place_from (e ∷ es) value i first = no_place_case e es value i (no_place_fr
 pub no_place : (es : List Enumerator) (value : ℤ) → None ≡ first_with value 0 es → name_of_value es value ≡ signed_decimal value
 no_place es value first = no_place_from es value 0 (sym first)
 
--- ---- what is kept of enums
+-- ---- stored enums
 
 pub none_in : (m : BTreeMap ℤ ℕ) → IsEmpty m → (v : ℤ) → get int_cmp m v ≡ None
 none_in m e v = rw e refl
@@ -153,37 +153,37 @@ same_key n q h = elim (cases_order n q) [
 kept_case : (s : Space) (old new : BTreeMap ℕ (Option FirstByValue)) (n : ℕ) (w : Option FirstByValue) → AreKept s old → ((p : FirstByValue) → w ≡ Some p → (es : List Enumerator) → enumerators_of (shown_how s n) ≡ Some es → AreFirstByValue es p)
     → (q : ℕ) (p : FirstByValue) (t : Bool) → is_at (nat_cmp n) q ≡ t → cond t (Some w) (get nat_cmp old q) ≡ Some (Some p) → (es : List Enumerator) → enumerators_of (shown_how s q) ≡ Some es → AreFirstByValue es p
 unfolding AreKept
-kept_case s old new n w kept right q p true same is es told = right p (same_Some _ _ is) es (ap (λ (k : ℕ). enumerators_of (shown_how s k)) (same_key n q same) ∙ told)
-kept_case s old new n w kept right q p false other is es told = kept q p is es told
+kept_case s old new n w kept right q p true same is es rule = right p (same_Some _ _ is) es (ap (λ (k : ℕ). enumerators_of (shown_how s k)) (same_key n q same) ∙ rule)
+kept_case s old new n w kept right q p false other is es rule = kept q p is es rule
 
 pub kept_more : {A B : Type 0} (s t : Space) (old new : BTreeMap ℕ (Option FirstByValue)) (n : ℕ) (w : Option FirstByValue) (r : Result A B) → s ≡ t → AreKept s old → OnOk r (Updates nat_cmp old new n (Some w)) → OnErr r (IsUnchanged old new)
     → ((p : FirstByValue) → w ≡ Some p → (es : List Enumerator) → enumerators_of (shown_how t n) ≡ Some es → AreFirstByValue es p) → AreKept s new
 unfolding AreKept
-kept_more s t old new n w (Ok x) e kept updates same right q p is es told =
-    kept_case s old new n w kept (λ x from xs h. right x from xs (ap (λ (y : Space). enumerators_of (shown_how y n)) (sym e) ∙ h)) q p (is_at (nat_cmp n) q) refl (sym (updates.0 q) ∙ is) es told
-kept_more s t old new n w (Err x) e kept updates same right q p is es told = kept q p (rw same at is) es told
+kept_more s t old new n w (Ok x) e kept updates same right q p is es rule =
+    kept_case s old new n w kept (λ x from xs h. right x from xs (ap (λ (y : Space). enumerators_of (shown_how y n)) (sym e) ∙ h)) q p (is_at (nat_cmp n) q) refl (sym (updates.0 q) ∙ is) es rule
+kept_more s t old new n w (Err x) e kept updates same right q p is es rule = kept q p (rw same at is) es rule
 
 pub places_of : (s t : Space) (m : BTreeMap ℕ (Option FirstByValue)) (q : ℕ) (p : FirstByValue) (es : List Enumerator) → s ≡ t → AreKept s m → get nat_cmp m q ≡ Some (Some p) → enumerators_of (shown_how t q) ≡ Some es → AreFirstByValue es p
 unfolding AreKept
-places_of s t m q p es e kept is told = kept q p is es (ap (λ (y : Space). enumerators_of (shown_how y q)) e ∙ told)
+places_of s t m q p es e kept is rule = kept q p is es (ap (λ (y : Space). enumerators_of (shown_how y q)) e ∙ rule)
 
--- ---- how a type is shown
+-- ---- the rule of a type
 
-told_case : (o : Option Term) (x : Shape) (r : Result Term Fault) → or_no_type o ≡ r → option_map (λ z. shape z.body) o ≡ Some x → told_found r ≡ told_in x
+told_case : (o : Option Term) (x : Shape) (r : Result Term Fault) → or_no_type o ≡ r → option_map (λ z. shape z.body) o ≡ Some x → rule_of_result r ≡ rule_in x
 told_case None x r e is = absurd (nothing_there x is)
   where
     nothing_there : (y : Shape) → None ≡ Some y → ⊥
     nothing_there y h = absurd cc
-told_case (Some z) x r e is = ap told_found (sym e) ∙ ap told_in (same_Some _ _ is)
+told_case (Some z) x r e is = ap rule_of_result (sym e) ∙ ap rule_in (same_Some _ _ is)
 
-pub told_is : (s : Space) (n : ℕ) (o : Option Term) (x : Shape) → or_no_type o ≡ space_type s n → option_map (λ z. shape z.body) o ≡ Some x → shown_how s n ≡ told_in x
+pub told_is : (s : Space) (n : ℕ) (o : Option Term) (x : Shape) → or_no_type o ≡ space_type s n → option_map (λ z. shape z.body) o ≡ Some x → shown_how s n ≡ rule_in x
 unfolding shown_how
 told_is s n o x e is = told_case o x (space_type s n) e is
 
--- ---- what was looked for last
+-- ---- the last look-up
 
 pub is_place_of : (s : Space) (n : ℕ) (value : ℤ) (place : Option ℕ) (es : List Enumerator) → enumerators_of (shown_how s n) ≡ Some es → place ≡ first_with value 0 es → IsFirstOf s n value place
 unfolding IsFirstOf
-is_place_of s n value place es told is others h =
-    let same : es ≡ others = same_Some _ _ (sym told ∙ h) in
+is_place_of s n value place es rule is others h =
+    let same : es ≡ others = same_Some _ _ (sym rule ∙ h) in
     is ∙ ap (first_with value 0) same

@@ -1,4 +1,4 @@
--- What is shown of bits as they are.
+-- Values shown as raw bits.
 use Rattle.std.proofs.Common.{◌≡◌, ℕ, ◌+◌, ◌*◌, ◌≤◌, List, length, codes, refl}
 use Rattle.std.proofs.lemmas.Bool.{le-ltb}
 use Rattle.ctf_model.specs.values.MemoryBits.{bits_at, hexadecimal, started_bytes}

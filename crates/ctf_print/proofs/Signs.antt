@@ -1,4 +1,4 @@
--- Numbers with a sign, as they are read from so many bits.
+-- Signed numbers of a given width.
 use Rattle.std.proofs.Common.{◌≡◌, ℕ, zero, suc, ◌+◌, ◌-◌, ◌^◌, ◌/◌, ◌<◌, ◌≤◌, refl, sym, ap, ◌∙◌, arith, pos, negsuc, to_z, w64}
 use Rattle.std.specs.Prelude.{◌-ℤ◌}
 use Rattle.std.proofs.Math.Facts.{to_z_pos, to_z-neg}
@@ -8,13 +8,13 @@ use Rattle.std.proofs.lemmas.Bool.{lt-ltb, le-ltb}
 use Rattle.ctf_model.specs.values.MemoryBits.{signed_value}
 use Rattle.ctf_print.proofs.Digits.{halves, positive}
 
--- as many ones as there are bits
+-- a number with all bits set
 pub all_ones : (width : ℕ) → width ≤ 64 → 18446744073709551615 / 2 ^ (64 - width) ≡ 2 ^ width - 1
 all_ones width h =
     let e : 64 - (64 - width) ≡ width = omega arith in
     ones_shr 64 (64 - width) (omega arith) ∙ ap (λ k. 2 ^ k - 1) e
 
--- none is above those of a word
+-- a power of two within 64 bits
 pub below_all : (width : ℕ) → width ≤ 64 → 2 ^ width ≤ 18446744073709551616
 below_all width h = pow-le-pow_right (omega arith) h
 

@@ -1,4 +1,4 @@
--- A type is shown as its record says.
+-- The formatting of a type follows the rule of its record.
 use Rattle.std.proofs.Common.{◌≡◌, ℕ, zero, suc, ◌-◌, List, Option, Some, None, Result, Err, Bool, cond, refl, sym, ap, ◌∙◌, arith}
 use Rattle.std.specs.Option.{option_map}
 use Rattle.std.proofs.lemmas.Bool.{ne_eqb}
@@ -11,9 +11,9 @@ use Rattle.ctf_model.specs.format.Term as term
 use Rattle.ctf_model.specs.spaces.TypeNumbers.{or_no_type}
 use Rattle.ctf_model.specs.values.Values.{Shows, body_shown, by_rule, found_shown, shown_within}
 use Rattle.ctf_model.specs.declared.faults.Fault.{Fault}
-use Rattle.ctf_print.specs.Telling.{told_in, told_shown}
+use Rattle.ctf_print.specs.ShowRules.{rule_in, text_by_rule}
 
-body_told : (s : Space) (memory : List ℕ) (show : Shows) (p : ℕ) (body : Body) → body_shown s memory show p body ≡ told_shown s memory show p (told_in (shape body))
+body_told : (s : Space) (memory : List ℕ) (show : Shows) (p : ℕ) (body : Body) → body_shown s memory show p body ≡ text_by_rule s memory show p (rule_in (shape body))
 body_told s memory show p (term.integer x) = refl
 body_told s memory show p (term.float x) = refl
 body_told s memory show p (term.pointer t) = refl
@@ -50,15 +50,15 @@ unfolding shown_within
 no_type_shown s memory zero n p fault deep some e = absurd (deep refl)
 no_type_shown s memory (suc k) n p fault deep some e = found s memory (shown_within s memory k) n p (Err fault) some e
 
-told : (s : Space) (memory : List ℕ) (show : Shows) (p : ℕ) (o : Option Term) (x : Shape) → option_map (λ z. shape z.body) o ≡ Some x → found_shown s memory show p (or_no_type o) ≡ told_shown s memory show p (told_in x)
-told s memory show p None x is = absurd cc
-told s memory show p (Some z) x is =
+rule : (s : Space) (memory : List ℕ) (show : Shows) (p : ℕ) (o : Option Term) (x : Shape) → option_map (λ z. shape z.body) o ≡ Some x → found_shown s memory show p (or_no_type o) ≡ text_by_rule s memory show p (rule_in x)
+rule s memory show p None x is = absurd cc
+rule s memory show p (Some z) x is =
     let same : shape z.body ≡ x = cc in
-    body_told s memory show p z.body ∙ ap (λ y. told_shown s memory show p (told_in y)) same
+    body_told s memory show p z.body ∙ ap (λ y. text_by_rule s memory show p (rule_in y)) same
 
-pub type_shown : (s : Space) (memory : List ℕ) (k n p : ℕ) (o : Option Term) (x : Shape) → (k ≡ 0 → ⊥) → (n ≡ 0 → ⊥) → or_no_type o ≡ space_type s n → option_map (λ z. shape z.body) o ≡ Some x → shown_within s memory k n p ≡ told_shown s memory (shown_within s memory (k - 1)) p (told_in x)
+pub type_shown : (s : Space) (memory : List ℕ) (k n p : ℕ) (o : Option Term) (x : Shape) → (k ≡ 0 → ⊥) → (n ≡ 0 → ⊥) → or_no_type o ≡ space_type s n → option_map (λ z. shape z.body) o ≡ Some x → shown_within s memory k n p ≡ text_by_rule s memory (shown_within s memory (k - 1)) p (rule_in x)
 unfolding shown_within
 type_shown s memory zero n p o x deep some e is = absurd (deep refl)
 type_shown s memory (suc k) n p o x deep some e is =
     let less : suc k - 1 ≡ k = omega arith in
-    rw less (found s memory (shown_within s memory k) n p (or_no_type o) some e ∙ told s memory (shown_within s memory k) p o x is)
+    rw less (found s memory (shown_within s memory k) n p (or_no_type o) some e ∙ rule s memory (shown_within s memory k) p o x is)

@@ -1,4 +1,4 @@
--- What is put of one and then the next.
+-- Appending pieces in sequence.
 use Rattle.std.proofs.Common.{◌⊎◌, ◌≡◌, ℕ, zero, suc, ◌+◌, ◌*◌, ◌<◌, ◌≤◌, ◌++◌, eqb, ltb, true, false, Bool, cond, List, [], ◌∷◌, length, drop, get_or, Option, Some, None, Result, Ok, Err, codes, refl, sym, ap, ◌∙◌, append_assoc, length-append, arith, IfErr, inl, inr, map}
 use Rattle.std.proofs.lemmas.Bool.{ltb-true, lt-ltb, le-ltb, ne_eqb}
 use Rattle.std.proofs.lemmas.List.{append-nil, drop_more, drop_all, length-map}
@@ -13,7 +13,7 @@ use Rattle.ctf_model.specs.values.Values.{Shows, each_element, label, most_value
 use Rattle.ctf_model.specs.declared.faults.Fault.{Fault}
 use Rattle.ctf_print.specs.Written.{written, comma_before, separated_from, Refused}
 
--- ---- one and then the next
+-- ---- two pieces
 
 record Went (t : Bool) (fault : Option Fault) (text now : List ℕ) : Type 0 where
   short : t ≡ false
@@ -47,7 +47,7 @@ pub next_err : (old : List ℕ) (a b : Pieces) (f : Fault) → written old a ≡
 unfolding then_pieces
 next_err old a b f h = next_err_case old a.text a.fault b f h
 
--- ---- nothing more
+-- ---- the empty piece
 
 pub next_nothing : (old now : List ℕ) (b : Pieces) → written old b ≡ written old (then_pieces no_pieces b)
 unfolding then_pieces
@@ -66,7 +66,7 @@ unfolding then_pieces
 separated_is [] = refl
 separated_is (x ∷ xs) = rw (behind_is 1 xs (omega arith)) refl
 
--- ---- what is refused
+-- ---- refusals
 
 pub refused_first : (old : List ℕ) (a b : Pieces) (f : Fault) → Refused old a f → Refused old (then_pieces a b) f
 refused_first old a b f (inl memory) = inl memory
@@ -111,7 +111,7 @@ pub no_size : (show : Shows) (p contents count : ℕ) (sized : Result ℕ Fault)
 unfolding then_pieces
 no_size show p contents count sized fault e = rw e refl
 
--- the first element is refused wherever it stands, and all are with it
+-- if the first element is refused, so are all, at any offset
 pub first_element_refused : (old : List ℕ) (show : Shows) (p contents count size : ℕ) (sized : Result ℕ Fault) (fault : Fault) → sized ≡ Ok size → 0 < count → ((q : ℕ) → Refused old (show contents q) fault) → Refused old (separate (each_element show p contents count sized)) fault
 first_element_refused old show p contents count size sized fault e some refused =
     let first = show contents (p + 8 * size * 0) in
@@ -150,7 +150,7 @@ some_at (x ∷ xs) (suc i) h = some_at xs i (omega arith)
 pub no_more_members : {A : Type 0} (f : A → Pieces) (xs : List A) (i : ℕ) → length xs ≤ i → separated_from i (drop i (map f xs)) ≡ no_pieces
 no_more_members f xs i h = rw (drop_all i (map f xs) (omega (arith, length-map xs f))) refl
 
--- ---- one after the other
+-- ---- in sequence
 
 pub two_ok : (old now : List ℕ) (whole a b rest : Pieces) → written old whole ≡ written now (then_pieces a (then_pieces b rest)) → (middle : List ℕ) → written now a ≡ Ok middle → (last : List ℕ) → written middle b ≡ Ok last → written old whole ≡ written last rest
 two_ok old now whole a b rest is middle ha last hb = is ∙ (next_ok now middle a (then_pieces b rest) ha ∙ next_ok middle last b rest hb)
@@ -165,7 +165,7 @@ pub later_refused : (r : Result (Unit {0}) Fault) (old now : List ℕ) (a b : Pi
 later_refused (Ok x) old now a b same h = h
 later_refused (Err f) old now a b same h = refused_as old now a b f same h
 
--- what comes later ends the text
+-- the refusal of a later piece
 pub later_ended : {E : Type 0} (r : Result (Unit {0}) E) (old now : List ℕ) (a b : Pieces) (f : Fault) → written old a ≡ written now b → IfErr r (λ _. Refused now b f) → IfErr r (λ _. Refused old a f)
 later_ended (Ok x) old now a b f same h = h
 later_ended (Err e) old now a b f same h = refused_as old now a b f same h
@@ -180,7 +180,7 @@ pub label_none : (name : List ℕ) → length name ≡ 0 → label name ≡ no_p
 label_none [] h = refl
 label_none (x ∷ name) h = absurd (omega arith)
 
--- ---- a turn of the loop over members
+-- ---- one turn of the loop over members
 
 pub member_turn : {A : Type 0} (f : A → Pieces) (xs : List A) (i : ℕ) (x : A) (old now middle last : List ℕ) (whole : Pieces) → slice_get xs i ≡ Some x → written old whole ≡ written now (separated_from i (drop i (map f xs))) → written now (comma_before i) ≡ Ok middle → written middle (f x) ≡ Ok last → written old whole ≡ written last (separated_from (i + 1) (drop (i + 1) (map f xs)))
 member_turn f xs i x old now middle last whole h is ha hb =
@@ -190,7 +190,7 @@ pub member_refused : {A : Type 0} (f : A → Pieces) (xs : List A) (i : ℕ) (x 
 member_refused f xs i x old now middle whole e h is ha hb =
     second_refused old now whole (comma_before i) (f x) (separated_from (i + 1) (drop (i + 1) (map f xs))) e (is ∙ ap (written now) (at_member f xs i x h)) middle ha hb
 
--- ---- alone
+-- ---- a text by itself
 
 most_are : most_values ≡ 1027
 unfolding most_values
@@ -200,7 +200,7 @@ written_alone : (pieces : Pieces) → written [] pieces ≡ text_or_fault pieces
 unfolding written
 written_alone pieces = refl
 
--- a text by itself is what is answered
+-- a value formatted into an empty buffer is the answer
 pub alone_is : (s : Space) (memory : List ℕ) (n p : ℕ) → written [] (shown_within s memory 1027 n p) ≡ value_text s memory n p
 alone_is s memory n p = written_alone (shown_within s memory 1027 n p) ∙ sym (ap (λ (k : ℕ). text_or_fault (shown_within s memory k n p)) most_are)
 

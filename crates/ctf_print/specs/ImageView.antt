@@ -5,13 +5,13 @@ use Rattle.ctf_model.specs.values.Values.{Shows, shown_within}
 use Rattle.ctf_space.specs.SpaceView.{space_of}
 use Rattle.ctf_print.specs.declared.image.Image.{Image}
 
--- its types
+-- the space of its types
 abbrev pub types_of : Image → Space
 types_of image = space_of image.space
 
 abbrev pub memory_of : Image → List ℕ
 memory_of image = image.memory.now
 
--- what the values in it show, where no more than so many numbers follow on each other
+-- the text of its values, following at most `k` numbers
 abbrev pub shows : Image → ℕ → Shows
 shows image k = shown_within (types_of image) (memory_of image) k

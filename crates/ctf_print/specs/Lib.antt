@@ -3,6 +3,6 @@ pub mod ImageView
 pub mod ShowCacheView
 pub mod Placing
 pub mod Standing
-pub mod Telling
+pub mod ShowRules
 pub mod ShowRuleView
 pub mod Written

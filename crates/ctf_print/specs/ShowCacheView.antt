@@ -1,4 +1,4 @@
--- What is known of types. The words are ours.
+-- What the cache of formatting stores. Source: ours.
 use Rattle.std.specs.Prelude.{◌≡◌, ℕ, Option, Some}
 use Rattle.std.specs.BTreeMap.{BTreeMap, get}
 use Rattle.std.specs.Ordering.{nat_cmp}
@@ -9,11 +9,11 @@ use Rattle.ctf_print.specs.declared.show_cache.Behind.{Behind}
 use Rattle.ctf_print.specs.declared.show_cache.Sought.{Sought}
 use Rattle.ctf_print.specs.declared.places.FirstByValue.{FirstByValue}
 
--- each type that is kept stands for the one that is kept with it
+-- each stored type formats as the one stored with it
 abbrev pub AreRight : Space → BTreeMap ℕ Behind → Type 0
 AreRight s m = (q : ℕ) (b : Behind) → get nat_cmp m q ≡ Some b → StandsFor s q b.steps b.number.0
 
--- and so is what is kept of enums
+-- and the stored enums are correct
 pub record IsRight (s : Space) (steps : BTreeMap ℕ Behind)
     (kept : BTreeMap ℕ (Option FirstByValue)) (last : Option Sought) : Type 0 where
   pub behind : AreRight s steps

@@ -3,8 +3,8 @@ ghost use Rattle.std.specs.Prelude.{◌≡◌, ◌<◌, IfErr, OnOk, Ok};
 ghost use Rattle.ctf_model.specs.values.Pieces.{piece};
 ghost use Rattle.ctf_model.specs.values.Values.{enum_shown, name_of_value};
 ghost use Rattle.ctf_print.specs.Placing.{first_with, shown_how};
-ghost use Rattle.ctf_print.specs.Telling as told;
-ghost use Rattle.ctf_print.specs.Telling.{said_size};
+ghost use Rattle.ctf_print.specs.ShowRules as rule;
+ghost use Rattle.ctf_print.specs.ShowRules.{stated_size};
 ghost use Rattle.ctf_print.specs.Written.{Refused, written};
 
 use crate::integers::{put_signed, twos_complement};
@@ -36,7 +36,7 @@ fn put_name(
 
 /// The size in bytes of an enum; that of an int if the record has none.
 fn enum_size(said: Option<u64>) -> u64
-    ensures size { result ≡ said_size said }
+    ensures size { result ≡ stated_size said }
     ensures some { 0 < result }
 {
     match said {
@@ -56,11 +56,11 @@ pub fn show_enum(
     known: &mut ShowCache<'_>,
     out: &mut Text,
 ) -> Result<(), Fault>
-    requires { shown_how known.old number.0 ≡ told.enum said enumerators.now }
+    requires { shown_how known.old number.0 ≡ rule.enum said enumerators.now }
     ensures ok { OnOk result (written out.old
-        (enum_shown memory.now at (said_size said) enumerators.now) ≡ Ok out.new) }
+        (enum_shown memory.now at (stated_size said) enumerators.now) ≡ Ok out.new) }
     ensures err { IfErr result (Refused out.old
-        (enum_shown memory.now at (said_size said) enumerators.now)) }
+        (enum_shown memory.now at (stated_size said) enumerators.now)) }
     ensures kept { known.new ≡ known.old }
 {
     let size = enum_size(said);

@@ -5,11 +5,11 @@ ghost use Rattle.ctf_model.specs.format.Term.{Member};
 ghost use Rattle.ctf_model.specs.values.Pieces.{ends, no_pieces, piece, separate};
 ghost use Rattle.ctf_model.specs.values.Values.{each_element, enum_shown, float_shown, integer_shown, label, member_shown, raw_shown};
 ghost use Rattle.ctf_views.specs.PartsView.{encoding_info};
-ghost use Rattle.ctf_print.specs.Finding.{IsBegun, IsFound};
+ghost use Rattle.ctf_print.specs.Finding.{IsBegun, IsValueForm};
 ghost use Rattle.ctf_print.specs.ImageView.{shows, types_of};
 ghost use Rattle.ctf_print.specs.Placing.{shown_how};
-ghost use Rattle.ctf_print.specs.Telling as told;
-ghost use Rattle.ctf_print.specs.Telling.{said_size};
+ghost use Rattle.ctf_print.specs.ShowRules as rule;
+ghost use Rattle.ctf_print.specs.ShowRules.{stated_size};
 ghost use Rattle.ctf_print.specs.Written.{Refused, comma_before, written};
 
 use crate::enums::show_enum;
@@ -18,7 +18,7 @@ use crate::integers::{show_float, show_integer};
 use crate::numbers::show_raw;
 use crate::show_cache::ShowCache;
 use crate::text::Text;
-use crate::value_form::{Found, find_how};
+use crate::value_form::{ValueForm, find_how};
 use ctf_model::{Fault, TypeNum};
 use ctf_views::{Encoding, Enumerators, Members};
 
@@ -190,11 +190,11 @@ impl<'a> Pen<'a> {
         said: Option<u64>,
         enumerators: &Enumerators<'_>,
     ) -> Result<(), Ended>
-        requires { shown_how self.old.known number.0 ≡ told.enum said enumerators.now }
+        requires { shown_how self.old.known number.0 ≡ rule.enum said enumerators.now }
         ensures ok { OnOk result (written self.old.out
-            (enum_shown memory.now at (said_size said) enumerators.now) ≡ Ok self.new.out) }
+            (enum_shown memory.now at (stated_size said) enumerators.now) ≡ Ok self.new.out) }
         ensures err { IfErr result (λ _. Refused self.old.out
-            (enum_shown memory.now at (said_size said) enumerators.now) self.new.fault) }
+            (enum_shown memory.now at (stated_size said) enumerators.now) self.new.fault) }
         ensures kept { self.new.known ≡ self.old.known }
     {
         let put = show_enum(
@@ -222,10 +222,10 @@ impl<'a> Pen<'a> {
         image: &Image<'b>,
         number: TypeNum,
         nesting: u32,
-        found: &mut Found<'b>,
+        found: &mut ValueForm<'b>,
     ) -> Result<(), Ended>
         requires known { self.old.known ≡ types_of image.now }
-        ensures found { IfOk result (λ _. IsFound image.now nesting number.0 found.new) }
+        ensures found { IfOk result (λ _. IsValueForm image.now nesting number.0 found.new) }
         ensures refused { IfErr result (λ _. (p : ℕ)
             → Refused self.old.out (shows image.now nesting number.0 p) self.new.fault) }
         ensures kept { self.new.known ≡ self.old.known }
@@ -247,11 +247,11 @@ impl<'a> Pen<'a> {
         image: &Image<'b>,
         contents: TypeNum,
         nesting: u32,
-        found: &mut Found<'b>,
+        found: &mut ValueForm<'b>,
     ) -> Result<u64, Ended>
         requires known { self.old.known ≡ types_of image.now }
         ensures found { IfOk result (λ size. (size_of (types_of image.now) contents.0 ≡ Ok size)
-            × IsFound image.now nesting contents.0 found.new) }
+            × IsValueForm image.now nesting contents.0 found.new) }
         ensures refused { IfErr result (λ _. (p count : ℕ) → 0 < count
             → Refused self.old.out (separate (each_element (shows image.now nesting) p contents.0
             count (size_of (types_of image.now) contents.0))) self.new.fault) }
@@ -279,7 +279,7 @@ impl<'a> Pen<'a> {
         members: &Members<'_>,
         i: usize,
         nesting: u32,
-        found: &mut Found<'b>,
+        found: &mut ValueForm<'b>,
     ) -> Result<u64, Ended>
         requires known { self.old.known ≡ types_of image.now }
         requires inside { i < length members.now }

@@ -8,7 +8,7 @@ ghost use Rattle.ctf_print.specs.Standing.{StandsFor};
 ghost use Rattle.ctf_print.specs.declared.places.FirstByValue.{FirstByValue};
 
 use crate::places::{FirstByValue, first_of};
-use crate::telling::{ShowRule, told_by};
+use crate::show_rules::{ShowRule, rule_by};
 use ctf_model::TypeNum;
 use ctf_space::Space;
 use ctf_views::Enumerators;
@@ -92,7 +92,7 @@ impl<'a> ShowCache<'a> {
             return None;
         }
         match self.space.term(number) {
-            Ok(found) => match told_by(found.shape()) {
+            Ok(found) => match rule_by(found.shape()) {
                 ShowRule::As(next) => Some(next),
                 _ => None,
             },

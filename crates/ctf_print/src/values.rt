@@ -12,14 +12,14 @@ ghost use Rattle.ctf_model.specs.spaces.Space.{pointer_size};
 ghost use Rattle.ctf_model.specs.values.Values.{array_shown, elements_shown, member_shown, members_shown};
 ghost use Rattle.ctf_print.specs.ImageView.{memory_of, shows, types_of};
 ghost use Rattle.ctf_print.specs.Placing.{shown_how};
-ghost use Rattle.ctf_print.specs.Telling.{told_shown};
+ghost use Rattle.ctf_print.specs.ShowRules.{text_by_rule};
 ghost use Rattle.ctf_print.specs.ShowRuleView.{show_rule};
 ghost use Rattle.ctf_print.specs.Written.{Refused, written};
 
 use crate::image::Image;
 use crate::pen::{Ended, Pen};
-use crate::telling::ShowRule;
-use crate::value_form::{Found, nothing_found};
+use crate::show_rules::ShowRule;
+use crate::value_form::{ValueForm, no_form};
 use ctf_model::{DataModel, Fault, TypeNum, placeless};
 use ctf_views::{ArrayInfo, Members};
 
@@ -55,12 +55,12 @@ fn show_elements(
     if array.count == 0 {
         return pen.put_nothing();
     }
-    let mut found = nothing_found();
+    let mut found = no_form();
     let size = pen.begin_elements(image, array.contents, nesting, &mut found)?;
     let mut place = at;
     for i in 0..array.count {
         pen.put_comma(i as usize)?;
-        show_told(image, &found, place, pen)?;
+        show_by_rule(image, &found, place, pen)?;
         place = place.saturating_add(u128::from(size) * 8);
     }
     pen.put_nothing()
@@ -98,7 +98,7 @@ fn show_member<'a>(
     i: usize,
     at: u128,
     nesting: u32,
-    found: &mut Found<'a>,
+    found: &mut ValueForm<'a>,
     pen: &mut Pen<'_>,
 ) -> Result<(), Ended>
     requires known { pen.old.known ≡ types_of image.now }
@@ -111,7 +111,7 @@ fn show_member<'a>(
 {
     let offset = pen.begin_member(image, members, i, nesting, found)?;
     let place = at.saturating_add(u128::from(offset));
-    show_told(image, found, place, pen)
+    show_by_rule(image, found, place, pen)
 }
 
 /// Appends members, separated by commas.
@@ -133,7 +133,7 @@ fn show_each_member(
         pen.new.fault) }
     ensures kept { pen.new.known ≡ pen.old.known }
 {
-    let mut found = nothing_found();
+    let mut found = no_form();
     let mut i = 0;
     // Their number is read again each time, so that no frame keeps it.
     while i < members.len() {
@@ -169,14 +169,19 @@ fn show_members(
 /// that does that, and has no frame then.
 #[inline(never)]
 #[cycle(values)]
-fn show_told(image: &Image<'_>, found: &Found<'_>, at: u128, pen: &mut Pen<'_>) -> Result<(), Ended>
+fn show_by_rule(
+    image: &Image<'_>,
+    found: &ValueForm<'_>,
+    at: u128,
+    pen: &mut Pen<'_>,
+) -> Result<(), Ended>
     requires known { pen.old.known ≡ types_of image.now }
     requires how { shown_how (types_of image.now) found.now.number.0 ≡ show_rule found.now.how }
     ensures ok { OnOk result (written pen.old.out
-        (told_shown (types_of image.now) (memory_of image.now) (shows image.now found.now.nesting)
+        (text_by_rule (types_of image.now) (memory_of image.now) (shows image.now found.now.nesting)
         at (show_rule found.now.how)) ≡ Ok pen.new.out) }
     ensures err { IfErr result (λ _. Refused pen.old.out
-        (told_shown (types_of image.now) (memory_of image.now) (shows image.now found.now.nesting)
+        (text_by_rule (types_of image.now) (memory_of image.now) (shows image.now found.now.nesting)
         at (show_rule found.now.how)) pen.new.fault) }
     ensures kept { pen.new.known ≡ pen.old.known }
 {
@@ -216,9 +221,9 @@ pub fn show_value(
         (λ _. Refused pen.old.out (shows image.now nesting number.0 at) pen.new.fault) }
     ensures kept { pen.new.known ≡ pen.old.known }
 {
-    let mut found = nothing_found();
+    let mut found = no_form();
     pen.look_up(image, number, nesting, &mut found)?;
-    show_told(image, &found, at, pen)
+    show_by_rule(image, &found, at, pen)
 }
 
 /// The same, with one more typedef or qualifier followed.

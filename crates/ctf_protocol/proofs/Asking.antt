@@ -1,4 +1,4 @@
--- From a line to what it asks.
+-- From a line to its request.
 use Rattle.std.proofs.Common.{◌≡◌, ℕ, ◌≤◌, ◌<◌, List, length, Bool, true, false, Option, Err, refl, ◌∙◌, ap, sym}
 use Rattle.std.specs.Str.{IsUtf8, is_utf8}
 use Rattle.std.proofs.lemmas.Bool.{lt-ltb, le-ltb}
@@ -9,12 +9,12 @@ use Rattle.ctf_protocol.specs.lines.Ask.{ask, value_asked}
 use Rattle.ctf_model.specs.rules.Refusals.{placeless}
 use Rattle.ctf_model.specs.declared.faults.TheConstants.Fault.{NOT_JSON, LONG_LINE}
 
--- a long line is refused as such
+-- a line that is too long is refused
 pub ask-long : (line : List ℕ) → 1048576 < length line → ask line ≡ Err (0, placeless LONG_LINE)
 unfolding ask
 ask-long line h = rw (lt-ltb 1048576 (length line) h) refl
 
--- a line that is text asks what its value asks
+-- a line of text has the request of its JSON value
 pub ask-text : (line text : List ℕ) (d : Option Data) → length line ≤ 1048576 → text ≡ line → IsUtf8 line → read text ≡ d → ask line ≡ value_asked d
 unfolding ask
 ask-text line text d h same utf8 said =
@@ -24,7 +24,7 @@ not_text : (line : List ℕ) → (IsUtf8 line → ⊥) → (b : Bool) → is_utf
 not_text line n true e = absurd (n (IsUtf8-from_is_utf8 line e))
 not_text line n false e = refl
 
--- any other is no JSON
+-- any other line is not JSON
 pub ask-not_text : (line : List ℕ) → length line ≤ 1048576 → (IsUtf8 line → ⊥) → ask line ≡ Err (0, placeless NOT_JSON)
 unfolding ask
 ask-not_text line h n = rw (le-ltb 1048576 (length line) h, not_text line n (is_utf8 line) refl) refl

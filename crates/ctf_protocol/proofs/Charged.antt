@@ -1,4 +1,4 @@
--- What steps do to the charge of a library.
+-- The effect of steps on the charge of a library.
 use Rattle.std.proofs.Common.{◌≡◌, ◌≤◌, ◌<◌, ℕ, ◌+◌, List, [], ◌∷◌, ◌++◌, length, Bool, true, false, Some, eqb, sum_by, refl, ap, arith}
 use Rattle.std.specs.Prelude.{unwrap_or, filter}
 use Rattle.std.proofs.lemmas.Bool.{le-ltb, lt-ltb}
@@ -24,7 +24,7 @@ charge_is s = refl
 
 -- ---- staged lists
 
--- a piece counts its bytes
+-- a part counts with its bytes
 pub staged_more : (list : ListName) (piece : List ℕ) (s : Lists) → lists_bytes (with_staged list (list_in list s ++ piece) s) ≡ lists_bytes s + length piece
 staged_more Ctf piece s = omega (arith, length-append s.ctf piece)
 staged_more Sym piece s = omega (arith, length-append (unwrap_or s.sym []) piece)
@@ -46,7 +46,7 @@ with_case n old new x xs later false t e =
     let rest = later there in
     rw t (omega (arith, rest, sum_by-cons slot_bytes x xs, sum_by-cons slot_bytes x (slots_with n new xs)))
 
--- another slot in the place of one
+-- another slot in place of one
 pub with_bytes : (n : ℕ) (old new : Slot) (slots : List Slot) → slot_at n slots ≡ Some old → all_bytes (slots_with n new slots) + slot_bytes old ≡ all_bytes slots + slot_bytes new
 with_bytes n old new [] e = absurd cc
 with_bytes n old new (x ∷ xs) e = with_case n old new x xs (λ h. with_bytes n old new xs h) (eqb x.number n) refl e
@@ -62,7 +62,7 @@ without_case n old x xs later false t e =
     let rest = later there in
     rw t (omega (arith, rest, sum_by-cons slot_bytes x xs, sum_by-cons slot_bytes x (slots_without n xs)))
 
--- one less
+-- one slot less
 pub without_bytes : (n : ℕ) (old : Slot) (slots : List Slot) → slot_at n slots ≡ Some old → all_bytes (slots_without n slots) + slot_bytes old ≡ all_bytes slots
 without_bytes n old [] e = absurd cc
 without_bytes n old (x ∷ xs) e = without_case n old x xs (λ h. without_bytes n old xs h) (eqb x.number n) refl e
@@ -78,7 +78,7 @@ parent_case n p old x xs later false t e =
     let rest = later there in
     rw t (omega (arith, rest, sum_by-cons slot_bytes x xs, sum_by-cons slot_bytes x (slots_with_parent n p xs)))
 
--- another parent in the place of one, or of none
+-- another parent for a slot
 pub parent_more : (n : ℕ) (p : Kept) (old : Slot) (slots : List Slot) → slot_at n slots ≡ Some old → all_bytes (slots_with_parent n p slots) + parent_bytes old.parent ≡ all_bytes slots + kept_bytes p
 parent_more n p old [] e = absurd cc
 parent_more n p old (x ∷ xs) e = parent_case n p old x xs (λ h. parent_more n p old xs h) (eqb x.number n) refl e
@@ -95,11 +95,11 @@ filter_bytes keep (x ∷ xs) = filter_case keep x xs (keep x) refl (filter_bytes
 
 -- ---- steps
 
--- what has room is granted
+-- a step within the quota is granted
 pub granted : (o : Outcome) (s : State) → charge o.state ≤ quota → within_quota o s ≡ o
 granted o s le = rw (le-ltb quota (charge o.state) le) refl
 
--- and what has none is refused
+-- any other is refused
 pub over : (o : Outcome) (s : State) → quota < charge o.state → within_quota o s ≡ refuses QUOTA_FULL s
 over o s lt = rw (lt-ltb quota (charge o.state) lt) refl
 
@@ -118,6 +118,6 @@ parent_charge d parent child s at = omega (arith, charge_is s, charge_is (record
 pub slot_becomes_charge : (d : ℕ) (old new : Slot) (s : State) → slot_at d s.slots ≡ Some old → charge (record s { slots = slots_with d new s.slots }) + slot_bytes old ≡ charge s + slot_bytes new
 slot_becomes_charge d old new s at = omega (arith, charge_is s, charge_is (record s { slots = slots_with d new s.slots }), with_bytes d old new s.slots at)
 
--- a slot counts in it
+-- a slot counts
 pub slot_counts : (d : ℕ) (slot : Slot) (s : State) → slot_at d s.slots ≡ Some slot → slot_bytes slot ≤ charge s
 slot_counts d slot s at = omega (arith, charge_is s, without_bytes d slot s.slots at)

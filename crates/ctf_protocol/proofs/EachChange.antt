@@ -1,4 +1,4 @@
--- What holds of each change, whatever the library: a row a change.
+-- Properties of each change, for every library: one row per change.
 use Rattle.std.proofs.Common.{◌≡◌, ◌≤◌, true, Option, refl}
 use Rattle.ctf_model.specs.rules.Faults.{first_fault}
 use Rattle.ctf_model.specs.spaces.Kept.{Kept}
@@ -21,8 +21,8 @@ use Rattle.ctf_protocol.proofs.TableSteps as table
 use Rattle.ctf_protocol.proofs.RefusedSteps as kept
 use Rattle.ctf_protocol.proofs.WithinQuota as bounded
 
--- The keys of its answer rise, and its refusals have rows in the table of faults.
--- A refusal leaves the library as it was, and none goes over its quota.
+-- The keys of its answer ascend, and its refusals are in the table of faults. A refusal leaves the
+-- library as it was, and no change exceeds the quota.
 record Holds (state : State) (c : Change) (found : Option Kept) : Type 0 where
   in_order : IsInOrder (change_step state c found).reply.outcome
   has_row : table.right (change_step state c found) ≡ true

@@ -1,4 +1,4 @@
--- The keys of each answer stand in byte order.
+-- The keys of each answer are in byte order.
 use Rattle.std.proofs.Common.{◌≡◌, ℕ, Bool, true, false, List, [], ◌∷◌, ◌++◌, map, take, drop, Option, None, Some, Result, Ok, Err, codes, refl, sym, ap, ◌∙◌}
 use Rattle.std.specs.Prelude.{◌&&◌, is_some, nat_lt, length}
 use Rattle.std.specs.List.{list_all}
@@ -16,14 +16,14 @@ use Rattle.ctf_protocol.specs.declared.additions.Addition.{Addition}
 use Rattle.ctf_protocol.specs.declared.additions.Addition.TheVariants as add
 use Rattle.ctf_protocol.specs.answers.Answers.{Answer, Item, Single, number, truth, word, text, says, may_say}
 use Rattle.ctf_model.specs.rules.Faults.{first_fault}
-use Rattle.ctf_model.specs.names.Found.{lookup, pointer_to}
+use Rattle.ctf_model.specs.names.Lookups.{lookup, pointer_to}
 use Rattle.ctf_model.specs.names.KindNames.{name_of_kind}
 use Rattle.ctf_model.specs.figures.Figures.{align, referred_type, resolved_type, size}
 use Rattle.ctf_protocol.specs.answers.KeyOrder.{item_in_order, in_order, IsInOrder}
 use Rattle.ctf_model.specs.spaces.Kept.{Kept}
 use Rattle.ctf_model.specs.figures.Paths.{path}
 use Rattle.ctf_protocol.specs.sessions.Publications.{published_as}
-use Rattle.ctf_protocol.specs.answers.Questions.{at_most, window_of, as_fields, member_fields, member_item, enumerator_fields, enumerator_item, number_item, argument_fields, array_fields, encoding_fields, signature_fields, type_fields, size_fields, align_fields, name_fields, position_fields, value_fields, plain_answered, said_on, answer_of}
+use Rattle.ctf_protocol.specs.answers.Questions.{at_most, window_of, as_fields, member_fields, member_item, enumerator_fields, enumerator_item, number_item, argument_fields, array_fields, encoding_fields, signature_fields, type_fields, size_fields, align_fields, name_fields, position_fields, value_fields, plain_answered, facts_answer, answer_of}
 use Rattle.ctf_protocol.specs.answers.SlotAnswers.{symbol_fields, label_item, last_fields, whole_answered}
 use Rattle.ctf_model.specs.symbols.SymbolQuestions.{symbol_found, object_of, function_of, label_of}
 use Rattle.ctf_model.specs.format.Shown.{Facts, facts, list_length, named_arguments}
@@ -31,7 +31,7 @@ use Rattle.ctf_protocol.specs.sessions.Charges.{charge}
 use Rattle.ctf_protocol.specs.sessions.State.{State, Slot}
 use Rattle.ctf_protocol.proofs.StepWords.{with_slot, imports_unless, publishes_within, publishes_slot, imports_into, takes_found, adds_created, creates_over, creates_from, opens_unless, accepts_unless}
 use Rattle.ctf_protocol.specs.sessions.Outcomes.{grants, within_quota, quota, Outcome}
-use Rattle.ctf_protocol.specs.sessions.SlotQuestions.{slot_space, said_by_slot}
+use Rattle.ctf_protocol.specs.sessions.SlotQuestions.{slot_space, answer_of_slot}
 use Rattle.ctf_protocol.specs.sessions.Slots.{slots_without, has_room, slot_at}
 use Rattle.ctf_protocol.specs.sessions.Steps.{publishes_kept, becomes_by, updates_within, withdraws, takes, stages, opens, longest_list}
 use Rattle.ctf_model.specs.spaces.Space.{Space, space_type}
@@ -60,7 +60,7 @@ parts_true : (a b : Bool) → (a && b) ≡ true → (a ≡ true) × (b ≡ true)
 parts_true true b h = (refl, h)
 parts_true false b h = absurd cc
 
--- what holds of all items holds of the first, and of those behind them
+-- a fact of all items holds for the first ones and for the rest
 halves : (n : ℕ) (items : List Item) → list_all item_in_order items ≡ true → (list_all item_in_order (take n items) ≡ true) × (list_all item_in_order (drop n items) ≡ true)
 halves n items h = parts_true _ _ (sym (list_all-append item_in_order (take n items) (drop n items)) ∙ ap (list_all item_in_order) (take-append-drop n items) ∙ h)
 
@@ -77,7 +77,7 @@ each item one (x ∷ xs) = both_true (one x) (each item one xs)
 
 -- ---- questions on types
 
--- an answer that is there or refused
+-- an answer, or a refusal
 figure : {A : Type 0} (say : A → Answer) → ((a : A) → in_order (say a) ≡ true) → (r : Result A Fault) → IsInOrder (as_fields say r)
 figure say good (Ok a) = good a
 figure say good (Err fault) = tt
@@ -112,7 +112,7 @@ on_plain plain.Align s t x = figure align_fields (λ n. refl) (align s t)
 on_plain plain.Name s t x = figure name_fields (λ name. refl) (spelled_name s t)
 on_plain plain.Pointer s t x = figure type_fields (λ n. refl) (pointer_to s t)
 
-on_type : (question : TypeQuestion) (s : Space) (t : ℕ) (x : Facts) → IsInOrder (said_on question s t x)
+on_type : (question : TypeQuestion) (s : Space) (t : ℕ) (x : Facts) → IsInOrder (facts_answer question s t x)
 on_type (ask.Plain question) s t x = on_plain question s t x
 on_type (ask.Members window) s t x = figure (member_fields window) (λ ms. listed (window_of window (map member_item ms)) true (in_window window (map member_item ms) (each member_item (λ m. refl) ms)) refl) (members_answered x.shape)
 on_type (ask.Enumerators window) s t x = figure (enumerator_fields window) (λ es. listed (window_of window (map enumerator_item es)) true (in_window window (map enumerator_item es) (each enumerator_item (λ e. refl) es)) refl) (enumerators_answered x.shape)
@@ -131,7 +131,7 @@ on_whole (whole.Function n) s = figure signature_fields (λ f. arguments_rise f.
 on_whole (whole.Labels window) s = listed (window_of window (map label_item s.own.labels)) true (in_window window (map label_item s.own.labels) (each label_item (λ x. refl) s.own.labels)) refl
 on_whole (whole.Label name) s = figure last_fields (λ n. refl) (label_of s.own name)
 
-pub of_slot : (question : Question) (slot : Option Slot) → IsInOrder (said_by_slot question slot)
+pub of_slot : (question : Question) (slot : Option Slot) → IsInOrder (answer_of_slot question slot)
 of_slot question None = tt
 of_slot (OfType t question) (Some slot) = of_type question (slot_space slot) t.0 (space_type (slot_space slot) t.0)
 of_slot (OfSlot question) (Some slot) = on_whole question (slot_space slot)

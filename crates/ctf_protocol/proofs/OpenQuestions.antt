@@ -1,10 +1,10 @@
--- What a word answers of a type is what is asked of it where the type is there, and its fault else.
+-- A question about a type is answered if the type exists, else with the fault.
 use Rattle.std.proofs.Common.{◌≡◌, ℕ, List, Result, Ok, Err, refl}
 use Rattle.ctf_model.specs.declared.faults.Fault.{Fault}
 use Rattle.ctf_model.specs.figures.Figures.{align, referred_by, resolved_type, size}
 use Rattle.ctf_model.specs.figures.Paths.{path}
 use Rattle.ctf_model.specs.format.Term.{Term}
-use Rattle.ctf_model.specs.names.Found.{pointer_to}
+use Rattle.ctf_model.specs.names.Lookups.{pointer_to}
 use Rattle.ctf_model.specs.names.TypeNames.{spelled_name}
 use Rattle.ctf_model.specs.opened.Questions.{array_answered, encoding_answered, enumerators_answered, if_there, kind_answered, members_answered, on_shape, shape_of, signature_answered}
 use Rattle.ctf_model.specs.spaces.Space.{Space, space_type}

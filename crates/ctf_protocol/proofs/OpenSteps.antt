@@ -1,4 +1,4 @@
--- Steps of the draft in a slot are those of the open dictionary that stands there.
+-- Steps of the draft in a slot are those of the open dictionary there.
 use Rattle.std.proofs.Common.{refl}
 use Rattle.ctf_protocol.specs.sessions.DraftSteps.{created_slot, slot_step}
 use Rattle.ctf_protocol.specs.sessions.OpenLaws.{StepsAreMade}

@@ -24,7 +24,7 @@ use Rattle.ctf_protocol.specs.declared.requests.DraftStep.{DraftStep}
 use Rattle.ctf_protocol.specs.declared.requests.DraftStep.TheVariants as steps
 use Rattle.ctf_protocol.specs.declared.requests.ListName.{ListName}
 
--- where it is a refusal, the library is this one
+-- if the outcome is a refusal, the library is unchanged
 abbrev pub Stays : Outcome → State → Type 0
 Stays outcome state = (f : Fault) → outcome.reply.outcome ≡ Err f → outcome.state ≡ state
 
@@ -115,7 +115,7 @@ pub created_from : (parent : Option ℕ) (asked : Created) (state : State) → S
 created_from None asked state = created_over _ None asked state refl
 created_from (Some p) asked state = created_on (slot_at p state.slots) asked state
 
--- where it is a refusal, the slot is this one
+-- if the outcome is a refusal, the slot is unchanged
 abbrev Same : Slot → SlotOutcome → Type 0
 Same slot outcome = (f : Fault) → outcome.said ≡ Err f → outcome.slot ≡ slot
 
@@ -129,7 +129,7 @@ of_slot (steps.Add addition) slot = stepped (addition_answered addition) slot (a
 of_slot steps.Update slot = stepped _ slot (step_update (open_of slot))
 of_slot steps.Discard slot = stepped _ slot (discard_step (open_of slot))
 
--- a slot that takes its own place changes nothing
+-- replacing a slot by itself changes nothing
 with_case : (d : ℕ) (slot first : Slot) (rest : List Slot) → (slot_at d rest ≡ Some slot → slots_with d slot rest ≡ rest) → (t : Bool) → eqb first.number d ≡ t → slot_at d (first ∷ rest) ≡ Some slot → slots_with d slot (first ∷ rest) ≡ first ∷ rest
 with_case d slot first rest later true t e =
     let here : Some first ≡ Some slot = rw t at e in

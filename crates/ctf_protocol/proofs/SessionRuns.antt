@@ -1,4 +1,4 @@
--- Laws over the runs of many sessions: by induction on the history.
+-- Laws of the runs of many sessions, by induction on the history.
 use Rattle.std.proofs.Common.{◌≡◌, ◌≢◌, ℕ, List, [], ◌∷◌, map, Bool, true, false, Option, Some, None, option_and_then, eqb, refl, ◌∙◌, ap, sym, subst, arith, ◌⊎◌, inl, inr}
 use Rattle.std.specs.Option.{ForSome}
 use Rattle.std.proofs.lemmas.Bool.Decides.{nat_tests}
@@ -18,9 +18,9 @@ pub same_given : SameGiven
 same_given start other calls others s h e =
     (ap (λ x. private_replies x (own_inputs start calls s)) h ∙ ap (private_replies (other s)) e, ap (λ x. private_state x (own_inputs start calls s)) h ∙ ap (private_state (other s)) e)
 
--- ---- sessions that no take reaches
+-- ---- sessions that no take involves
 
--- what is found depends on the libraries of those alone that are taken from
+-- a take depends only on the libraries of the sessions in the list
 found_among : (a b : ℕ → State) (sessions : List ℕ) (request : Request) → TakesFrom sessions request → ((q : ℕ) → is_among sessions q ≡ true → a q ≡ b q) → found_in a request ≡ found_in b request
 found_among a b sessions request here h = at (taken_by request) here
   where
@@ -46,7 +46,7 @@ unreached start (call ∷ calls) r closed s i =
 
 -- ---- each session by itself
 
--- what is found depends on the libraries at each session alone
+-- a take depends only on the library of each session
 pub found_same : (a b : ℕ → State) (request : Request) → ((q : ℕ) → a q ≡ b q) → found_in a request ≡ found_in b request
 found_same a b request h = at (taken_by request)
   where
@@ -62,7 +62,7 @@ happens_by old new s request reply steps (inr own) = (true, record { own = own; 
 pub each_step_happens : EachStepHappens
 each_step_happens old new s request reply steps = happens_by old new s request reply steps steps.own
 
--- what holds for a session after events
+-- the claim for one session after some events
 abbrev Holds : (ℕ → State) → (ℕ → State) → List Event → ℕ → Type 0
 Holds start new events s = (replies_to s (granted_events events) ≡ map (address_to s) (own_replies start (calls_of (granted_events events)) s)) × (new s ≡ own_state start (calls_of (granted_events events)) s)
 
@@ -71,7 +71,7 @@ other_stays between new event happens s h =
     let other : s ≢ event.session = λ e. let hit : eqb event.session event.session ≡ false = subst (λ (x : ℕ). eqb event.session x ≡ false) e h in grind (arith, nat_tests, hit) in
     happens.others s other
 
--- memory was refused: all libraries stay
+-- out of memory: all libraries are unchanged
 refused_stays : (between new : ℕ → State) (event : Event) → Happens between event new → IsReplied between event new true → (s : ℕ) (t : Bool) → eqb event.session s ≡ t → new s ≡ between s
 refused_stays between new event happens own s true h =
     let same : event.session ≡ s = grind (arith, nat_tests, h) in

@@ -1,5 +1,5 @@
--- The steps of words, cut where proofs go by cases: each is the part of a word from one of its lines
--- on.
+-- The steps of requests, split where proofs go by cases: each is the rest of a step from one of its
+-- lines on.
 use Rattle.std.specs.Prelude.{ℕ, nat_lt, List, [], Option, Result, is_some}
 use Rattle.ctf_model.specs.opened.Open.{pending_in}
 use Rattle.ctf_model.specs.opened.Steps.{import_refusal}
@@ -15,7 +15,7 @@ use Rattle.ctf_protocol.specs.sessions.Slots.{adds_slot, has_room, over_slot, sl
 use Rattle.ctf_protocol.specs.sessions.State.{Slot, State, empty_stage}
 use Rattle.ctf_protocol.specs.sessions.Steps.{adds_draft, adds_publication}
 
--- what is done with a slot, if it is there
+-- a step on a slot, if it exists
 abbrev pub with_slot : (Slot → Outcome) → Option Slot → State → Outcome
 with_slot does slot state = finding NO_SLOT slot state does
 

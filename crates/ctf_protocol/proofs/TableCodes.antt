@@ -1,4 +1,4 @@
--- Results whose fault, if they have one, has a row in the table.
+-- Results whose fault, if any, is in the table.
 use Rattle.std.proofs.Common.{◌≡◌, ℕ, List, [], ◌∷◌, Bool, true, false, Option, Some, None, Result, Ok, Err, refl}
 use Rattle.std.specs.Prelude.{if◌then◌else◌}
 use Rattle.ctf_model.specs.rules.Faults.{or_later}

@@ -1,5 +1,4 @@
--- The faults of dictionaries, of imports, of drafts and of what they are written as have rows in the
--- table.
+-- The faults of dictionaries, imports, drafts and their writing are in the table.
 use Rattle.std.proofs.Common.{◌≡◌, ℕ, ◌+◌, List, [], ◌∷◌, Bool, true, false, Option, Some, None, Result, Ok, Err, refl}
 use Rattle.std.specs.Prelude.{if◌then◌else◌}
 use Rattle.ctf_model.specs.drafts.Adders.{add_enumerator, add_label, add_member, add_type, against_enumerator, against_label, against_member, against_place, against_type, body_at, place_member, put_member, replace_body, size_with, with_enumerator, with_label, with_member, with_type}
@@ -26,7 +25,7 @@ use Rattle.ctf_protocol.specs.sessions.RefusalLaws.{has_row}
 
 -- ---- dictionaries
 
--- as many codes from one on as there are rules
+-- the codes from `code` on have rows, one for each rule
 abbrev rows_from : {S : Type 0} → ℕ → List (S → Option ℕ) → Bool
 rows_from code [] = true
 rows_from code (rule ∷ rules) = if has_row code then rows_from (code + 1) rules else false

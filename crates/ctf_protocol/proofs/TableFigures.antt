@@ -1,4 +1,4 @@
--- The faults of types, of what they come to and of paths have rows in the table.
+-- The faults of types, figures and paths are in the table.
 use Rattle.std.proofs.Common.{◌≡◌, ℕ, suc, zero, ◌+◌, ◌*◌, List, [], ◌∷◌, true, Option, Some, None, Result, Ok, Err, refl}
 use Rattle.std.specs.Prelude.{◌==◌, ◌^◌, is_none, nat_lt, slice_get}
 use Rattle.ctf_model.specs.figures.Figures.{Figure, align, align_body, aligning, array_size, at_place, comes_to, figure_in, first_of, greater, greatest, most_numbers, of_found, or_not_reference, parents_figure, referred_type, resolved_type, resolved_body, resolving, size, size_body, sizing, times, too_big}
@@ -35,11 +35,11 @@ type_good s n = in_space s.own s.parent (place s.own.child n)
 
 -- ---- figures
 
--- where others are good
+-- the results for other types are good
 abbrev pub AreGood : (ℕ → Result ℕ Fault) → Type 0
 AreGood others = (n : ℕ) → good (others n) ≡ true
 
--- a figure's own rule brings no other faults
+-- a figure's own rule adds no other faults
 pub record Keeps (figure : Figure) : Type 0 where
   pub none : good figure.of_none ≡ true
   pub type : (others : ℕ → Result ℕ Fault) → AreGood others → (n : ℕ) (b : Body) → good (figure.of_type others n b) ≡ true

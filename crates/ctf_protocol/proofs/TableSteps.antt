@@ -1,4 +1,4 @@
--- What a request is refused with has a row in the table.
+-- Every refusal of a request is in the table.
 use Rattle.std.proofs.Common.{◌≡◌, ℕ, List, length, Bool, true, false, Option, Some, None, Result, Ok, Err, refl}
 use Rattle.std.specs.Prelude.{is_some, nat_lt, slice_get, if◌then◌else◌}
 use Rattle.std.specs.Option.{option_map}
@@ -10,13 +10,13 @@ use Rattle.ctf_model.specs.figures.Paths.{path}
 use Rattle.ctf_model.specs.format.Dictionary.{Dictionary}
 use Rattle.ctf_model.specs.format.Shown.{Facts, array_in, encoding_in, enumerators_in, facts, members_in}
 use Rattle.ctf_model.specs.format.Term.{Term}
-use Rattle.ctf_model.specs.names.Found.{lookup, pointer_to}
+use Rattle.ctf_model.specs.names.Lookups.{lookup, pointer_to}
 use Rattle.ctf_model.specs.names.TypeNames.{spelled_name}
 use Rattle.ctf_model.specs.rules.Faults.{first_fault}
 use Rattle.ctf_model.specs.rules.Refusals.{placeless}
 use Rattle.ctf_model.specs.spaces.Kept.{Kept, fault_over, modelled_by}
 use Rattle.ctf_model.specs.spaces.Space.{Space, space_type}
-use Rattle.ctf_model.specs.symbols.SymbolQuestions.{function_in, function_of, label_of, last_of_label, object_in, object_of, signature_of_function, symbol_found, told_of, type_of_object, or_refused}
+use Rattle.ctf_model.specs.symbols.SymbolQuestions.{function_in, function_of, label_of, last_of_label, object_in, object_of, signature_of_function, symbol_found, info_of_symbol, type_of_object, or_refused}
 use Rattle.ctf_model.specs.symbols.Symbols.{Symbol, is_function, is_object}
 use Rattle.ctf_model.specs.values.Values.{value_text}
 use Rattle.ctf_model.specs.writing.Written.{written}
@@ -30,7 +30,7 @@ use Rattle.ctf_protocol.proofs.TableTexts.{lookup_good, name_good, pointer_good,
 use Rattle.ctf_protocol.specs.answers.Answers.{Answer}
 use Rattle.ctf_model.specs.opened.Open.{Open, pending_in}
 use Rattle.ctf_model.specs.opened.Steps.{Stepped, with_count, created, discarded_if, discard_step, enlarged_as, enlarged_if, import_refusal, settled_as, silent, step_update, updated_if, updated_over}
-use Rattle.ctf_protocol.specs.answers.Questions.{align_fields, array_fields, as_fields, encoding_fields, enumerator_fields, member_fields, name_fields, plain_answered, position_fields, answer_of, said_on, signature_fields, size_fields, type_fields, type_answered, value_fields}
+use Rattle.ctf_protocol.specs.answers.Questions.{align_fields, array_fields, as_fields, encoding_fields, enumerator_fields, member_fields, name_fields, plain_answered, position_fields, answer_of, facts_answer, signature_fields, size_fields, type_fields, type_answered, value_fields}
 use Rattle.ctf_protocol.specs.answers.SlotAnswers.{last_fields, symbol_fields, whole_answered}
 use Rattle.ctf_protocol.specs.lines.Ask.{ask, asked_by, json, or_bad_request, request_asked, value_asked}
 use Rattle.ctf_protocol.specs.sessions.Additions.{apply_addition}
@@ -43,7 +43,7 @@ use Rattle.ctf_protocol.specs.sessions.RefusalLaws.{BadLinesAreInTheTable}
 use Rattle.ctf_protocol.specs.sessions.State.{Slot, State}
 use Rattle.ctf_protocol.proofs.StepWords.{accepts_unless, adds_created, creates_from, creates_over, imports_into, imports_unless, opens_unless, publishes_slot, publishes_within, takes_found, with_slot}
 use Rattle.ctf_protocol.specs.sessions.Outcomes.{Outcome, quota, within_quota}
-use Rattle.ctf_protocol.specs.sessions.SlotQuestions.{said_by_slot, slot_answered, slot_space}
+use Rattle.ctf_protocol.specs.sessions.SlotQuestions.{answer_of_slot, slot_answered, slot_space}
 use Rattle.ctf_protocol.specs.sessions.Slots.{adds_slot, has_room, slot_at}
 use Rattle.ctf_protocol.specs.sessions.Steps.{becomes_by, longest_list, opens, slot_becomes, stages, takes, updates_within, withdraws}
 use Rattle.ctf_protocol.specs.declared.additions.Addition.{Addition}
@@ -84,7 +84,7 @@ plain_good plain.Align s t x = fields_good align_fields (align s t) (align_good 
 plain_good plain.Name s t x = fields_good name_fields (spelled_name s t) (name_good s t)
 plain_good plain.Pointer s t x = fields_good type_fields (pointer_to s t) (pointer_good s t)
 
-on_good : (q : TypeQuestion) (s : Space) (t : ℕ) (x : Facts) → good (said_on q s t x) ≡ true
+on_good : (q : TypeQuestion) (s : Space) (t : ℕ) (x : Facts) → good (facts_answer q s t x) ≡ true
 on_good (about.Plain q) s t x = plain_good q s t x
 on_good (about.Members window) s t x = kind_good (member_fields window) (members_in x.shape.behind)
 on_good (about.Enumerators window) s t x = kind_good (enumerator_fields window) (enumerators_in x.shape.behind)
@@ -100,11 +100,11 @@ type_asked q s t = of_good q s t (space_type s t) (type_good s t)
 
 object_good : (d : Dictionary) (n : ℕ) (x : Option Symbol) → good (object_in d n x) ≡ true
 object_good d n None = refl
-object_good d n (Some x) = either (is_object x) (or_refused NO_INFO (type_of_object (told_of d.entries n))) (Err (placeless NOT_DATA)) (refused NO_INFO (type_of_object (told_of d.entries n)) refl) refl
+object_good d n (Some x) = either (is_object x) (or_refused NO_INFO (type_of_object (info_of_symbol d.entries n))) (Err (placeless NOT_DATA)) (refused NO_INFO (type_of_object (info_of_symbol d.entries n)) refl) refl
 
 function_good : (d : Dictionary) (n : ℕ) (x : Option Symbol) → good (function_in d n x) ≡ true
 function_good d n None = refl
-function_good d n (Some x) = either (is_function x) (or_refused NO_INFO (signature_of_function (told_of d.entries n))) (Err (placeless NOT_FUNCTION)) (refused NO_INFO (signature_of_function (told_of d.entries n)) refl) refl
+function_good d n (Some x) = either (is_function x) (or_refused NO_INFO (signature_of_function (info_of_symbol d.entries n))) (Err (placeless NOT_FUNCTION)) (refused NO_INFO (signature_of_function (info_of_symbol d.entries n)) refl) refl
 
 slot_asked : (q : SlotQuestion) (s : Space) → good (whole_answered q s) ≡ true
 slot_asked (whole.Find text) s = fields_good type_fields (lookup s text) (lookup_good s text)
@@ -119,7 +119,7 @@ in_slot (OfType t q) slot = type_asked q (slot_space slot) t.0
 in_slot (OfSlot q) slot = slot_asked q (slot_space slot)
 in_slot (OfHeld q) slot = refl
 
-pub by_slot : (q : Question) (slot : Option Slot) → good (said_by_slot q slot) ≡ true
+pub by_slot : (q : Question) (slot : Option Slot) → good (answer_of_slot q slot) ≡ true
 by_slot q None = refl
 by_slot q (Some slot) = in_slot q slot
 

@@ -1,4 +1,4 @@
--- The faults of spelled names, of look-ups and of shown values have rows in the table.
+-- The faults of spelled names, look-ups and formatted values are in the table.
 use Rattle.std.proofs.Common.{◌≡◌, ℕ, suc, zero, ◌+◌, ◌*◌, List, [], ◌∷◌, length, map, Bool, true, false, Option, Some, None, Result, Ok, Err, refl}
 use Rattle.std.specs.Prelude.{◌==◌, nat_lt, nat_le, codes, if◌then◌else◌}
 use Rattle.std.specs.List.{range_with_len}
@@ -7,7 +7,7 @@ use Rattle.ctf_model.specs.figures.Figures.{enum_size, incomplete, resolved_type
 use Rattle.ctf_model.specs.format.Shown.{EncodingParts, encoding_parts}
 use Rattle.ctf_model.specs.format.Term.{Body, Enumerator, Member, Term}
 use Rattle.ctf_model.specs.format.Term as term
-use Rattle.ctf_model.specs.names.Found.{base, lookup, is_called, is_no_name, is_pointer_to, least, or_not_found, pointers_on, pointer_behind, pointer_or_behind, pointer_to, stars, written_name}
+use Rattle.ctf_model.specs.names.Lookups.{base, lookup, is_called, is_no_name, is_pointer_to, least, or_not_found, pointers_on, pointer_behind, pointer_or_behind, pointer_to, stars, written_name}
 use Rattle.ctf_model.specs.names.TypeNames.{Declaration, around, bare_name, declaration, declaration_by, declaration_of, declaration_within, declared, longest_text, spelled_name, text_of_declaration, too_long}
 use Rattle.ctf_model.specs.rules.Refusals.{placeless}
 use Rattle.ctf_model.specs.spaces.Space.{Space, pointer_size, space_type}
@@ -138,7 +138,7 @@ enum_good memory p said es =
     either_shown (nat_lt 8 said) (raw_shown memory p (8 * said)) (by_number (λ n. name_of_value es (signed_value (8 * said) n)) (bit_field memory p (8 * said)))
     (raw_good memory p (8 * said)) (number_good _ (bit_field memory p (8 * said)) (field_good memory p (8 * said)))
 
--- ---- values that hold others
+-- ---- compound values
 
 abbrev AreShown : Shows → Type 0
 AreShown show = (n p : ℕ) → shown_good (show n p) ≡ true

@@ -23,7 +23,7 @@ plain_case false b d true h = absurd cc
 no_backslash : (c : ℕ) → is_plain c ≡ true → (c == 0x5c) ≡ false
 no_backslash c h = plain_case (nat_le 0x20 c) (nat_le c 0x7e) (c == 0x22) (c == 0x5c) h
 
--- a plain byte spells itself, whatever is behind it
+-- a plain byte spells itself, whatever follows
 pub plain_spells : (c : ℕ) (text : List ℕ) → is_plain c ≡ true → bytes_spelled_by (c ∷ text) ≡ and_bytes (Some c) (bytes_spelled_by text)
 unfolding bytes_spelled_by
 plain_spells c [] h = rw h refl

@@ -1,4 +1,4 @@
--- No request takes a library over its quota.
+-- No request makes a library exceed its quota.
 use Rattle.std.proofs.Common.{◌≡◌, ◌≤◌, ℕ, List, [], length, Bool, true, false, Option, Some, None, Result, Ok, Err, codes, refl, arith}
 use Rattle.std.specs.Prelude.{is_some, nat_eq, nat_lt, not}
 use Rattle.std.specs.Cmp.Lexicographic.{pointwise}
@@ -52,7 +52,7 @@ pub accepting : (fault : Option Fault) (state : State) → charge state ≤ quot
 accepting None state h = h
 accepting (Some fault) state h = h
 
--- what is opened counted already
+-- opened lists were already counted
 opening : (fault : Option Fault) (model : DataModel) (state : State) → charge state ≤ quota → Stays (opens_unless fault (record { lists = state.stage; model = model }) state)
 opening (Some fault) model state h = h
 opening None model state h =
@@ -148,7 +148,7 @@ pub created_from : (parent : Option ℕ) (asked : Created) (state : State) → c
 created_from None asked state h = created_over _ None asked state refl h
 created_from (Some p) asked state h = created_on (slot_at p state.slots) asked state h
 
--- a step that leaves the slot's dictionary as it was
+-- a step that leaves the slot's dictionary unchanged
 abbrev SameBytes : Slot → SlotOutcome → Type 0
 SameBytes slot outcome = slot_bytes outcome.slot ≡ slot_bytes slot
 

@@ -23,8 +23,8 @@ pub fn steps_happen()
     ensures { EachStepHappens }
 {}
 
-/// Whatever sessions ask, in any order, each session gets the replies of a run of its own, and its
-/// library is the one after that run.
+/// Sessions do not affect each other: however their requests interleave, each one gets the replies,
+/// and ends with the library, of a run on its own.
 pub fn each_session_runs_alone()
     ensures { EachRunsAlone }
 {}

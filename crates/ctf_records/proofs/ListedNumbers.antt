@@ -1,4 +1,4 @@
--- Numbers in items of one length, by the item's number.
+-- Numbers in items of one length, by the item's index.
 use Rattle.std.proofs.Common.{◌≡◌, ℕ, zero, suc, ◌+◌, ◌*◌, ◌<◌, ◌≤◌, List, [], ◌∷◌, length, drop, Option, Some, Bool, true, false, cond, ltb, refl, sym, ap, ◌∙◌, arith}
 use Rattle.std.specs.Prelude.{slice_index}
 use Rattle.std.proofs.lemmas.List.{drop-drop}
@@ -14,11 +14,11 @@ unfolding numbers_in
 numbers_in-length len at zero b = refl
 numbers_in-length len at (suc n) b = ap suc (numbers_in-length len at n (drop len b))
 
--- the number behind a front
+-- the number after a prefix
 pub u16_behind : (b : List ℕ) (len at : ℕ) → u16_at (drop len b) at ≡ u16_at b (len + at)
 u16_behind b len at = rw (drop-drop at len b) refl
 
--- the number in item k
+-- the number in item `k`
 pub number_at : (len at n k : ℕ) (b : List ℕ) → k < n → u16_at b (len * k + at) ≡ slice_index (numbers_in len at n b) k
 unfolding numbers_in
 number_at len at zero k b lt = absurd (omega arith)
@@ -27,7 +27,7 @@ number_at len at (suc n) (suc k) b lt =
     let e : len * suc k + at ≡ len + (len * k + at) = omega arith in
     rw e (sym (u16_behind b len (len * k + at)) ∙ number_at len at n k (drop len b) (omega arith))
 
--- it lies inside, where all items do
+-- it is inside if all items are
 pub number_inside : (len at n k : ℕ) → at + 2 ≤ len → k < n → len * k + at + 2 ≤ len * n
 number_inside len at zero k fits lt = absurd (omega arith)
 number_inside len at (suc n) zero fits lt =
@@ -38,9 +38,9 @@ number_inside len at (suc n) (suc k) fits lt =
     let f : len * suc k ≡ len * k + len = omega arith in
     let h = number_inside len at n k fits (omega arith) in omega arith
 
--- ---- of a record
+-- ---- numbers of a record
 
--- it lists as many types as its list is long
+-- the list of types is as long as the record's list
 pub arguments_count : (b : List ℕ) → kind b ≡ Some KFunction → list_length b ≡ length (listed_types b)
 arguments_count b e = rw e (sym (numbers_in-length 2 0 (vlen b) (behind_head b)))
 
@@ -50,12 +50,12 @@ struct_count b e = rw e (sym (numbers_in-length (member_len (size b)) 4 (vlen b)
 pub union_count : (b : List ℕ) → kind b ≡ Some KUnion → list_length b ≡ length (listed_types b)
 union_count b e = rw e (sym (numbers_in-length (member_len (size b)) 4 (vlen b) (behind_head b)))
 
--- a list of items of a length behind the head, each with one of the types that it lists
+-- after the head there is a list of items, each with one of the listed types
 pub record ListedIn (b : List ℕ) (len : ℕ) : Type 0 where
   pub count : list_length b ≡ length (listed_types b)
   pub room : len * list_length b ≤ len_behind b
 
--- where a kind lists some, and is neither an array nor a function, they are those of members
+-- for a kind with a list other than array and function, they are types of members
 members_of_kind : (b : List ℕ) (item : ℕ) (k : Kind) → kind b ≡ Some k → ¬ (k ≡ KArray) → ¬ (k ≡ KFunction) → item < length (listed_types_of_kind k b) → ListedIn b (member_len (size b))
 members_of_kind b item KStruct e array function lt = record { count = struct_count b e; room = rw e (omega arith) }
 members_of_kind b item KUnion e array function lt = record { count = union_count b e; room = rw e (omega arith) }
@@ -77,7 +77,7 @@ members_listed b item k e array function lt =
     let n : length (listed_types b) ≡ length (listed_types_of_kind k b) = ap (λ (o : Option Kind). length (listed_types_at o b)) e in
     members_of_kind b item k e array function (omega arith)
 
--- a member has room for its type
+-- a member is long enough for its type
 pub member_fits : (n : ℕ) → 6 ≤ member_len n
 member_fits n = at (ltb n 8192)
   where
@@ -85,12 +85,12 @@ member_fits n = at (ltb n 8192)
     at true = omega arith
     at false = omega arith
 
--- the contents and the index of an array are two numbers
+-- contents and index of an array are two numbers
 pub array_listed : (b : List ℕ) → kind b ≡ Some KArray → numbers_in 2 0 2 (behind_head b) ≡ listed_types b
 unfolding numbers_in
 array_listed b e = rw (e, u16_behind (behind_head b) 2 0) refl
 
--- ---- as they are listed
+-- ---- in order
 
 pub arguments_are : (b : List ℕ) → kind b ≡ Some KFunction → numbers_in 2 0 (list_length b) (behind_head b) ≡ listed_types b
 arguments_are b e = rw e refl
@@ -125,6 +125,6 @@ nothing_of_kind b KVolatile array function struct union = refl
 nothing_of_kind b KConst array function struct union = refl
 nothing_of_kind b KRestrict array function struct union = refl
 
--- a record of another kind lists none
+-- a record of another kind lists no types
 pub nothing_listed : (b : List ℕ) (k : Kind) → kind b ≡ Some k → ¬ (k ≡ KArray) → ¬ (k ≡ KFunction) → ¬ (k ≡ KStruct) → ¬ (k ≡ KUnion) → [] ≡ listed_types b
 nothing_listed b k e array function struct union = nothing_of_kind b k array function struct union ∙ sym (ap (λ (o : Option Kind). listed_types_at o b) e)

@@ -4,7 +4,7 @@ use Rattle.std.specs.Iterator.{MakesProgress, item_count}
 use Rattle.ctf_model.specs.format.Section.{Piece}
 use Rattle.ctf_model.specs.declared.faults.Fault.{Fault}
 
--- an iterator that gives its first item makes progress
+-- an iterator that returns an item makes progress
 pub goes_first : (can : List (Result Piece Fault) → Type 0) → ((l : List (Result Piece Fault)) → can l) → {A : Type 0} (s t : List (Result Piece Fault)) (x : Result Piece Fault) (r : A) → s ≡ x ∷ t
     → MakesProgress can (item_count (λ rest. rest)) s (Some r) t
 goes_first can always s t x r e = record {

@@ -1,5 +1,5 @@
--- Which kinds say what. Source: ctf(5), "The Type Section": whether ctt_size or ctt_type is meant,
--- and what stands behind the head, go by kind.
+-- Which fields each kind has. Source: ctf(5), "The Type Section": whether ctt_size or ctt_type is
+-- meant, and what follows the head, depends on the kind.
 use Rattle.std.specs.Prelude.{ℕ, List, Option, Some, None}
 use Rattle.std.specs.Option.{option_and_then}
 use Rattle.ctf_model.specs.format.Record.{kind, field, size, vlen, variant_len}
@@ -10,7 +10,7 @@ use Rattle.ctf_model.specs.declared.kinds.Kind.TheVariants.{KInteger, KFloat, KP
 
 -- ---- by kind
 
--- the size in bytes of a value
+-- the stated size in bytes
 abbrev pub size_of_kind : Kind → List ℕ → Option ℕ
 size_of_kind KInteger b = Some (size b)
 size_of_kind KFloat b = Some (size b)
@@ -30,12 +30,12 @@ reference_of_kind KConst b = Some (field b)
 reference_of_kind KRestrict b = Some (field b)
 reference_of_kind _ b = None
 
--- what a forward declares
+-- the kind that a forward declares
 abbrev pub declared_of_kind : Kind → List ℕ → Option Tag
 declared_of_kind KForward b = Some (tag (field b))
 declared_of_kind _ b = None
 
--- how many arguments, members or enumerators are listed
+-- the length of the list of arguments, members or enumerators
 abbrev pub listed_of_kind : Kind → List ℕ → ℕ
 listed_of_kind KFunction b = vlen b
 listed_of_kind KStruct b = vlen b
@@ -43,29 +43,29 @@ listed_of_kind KUnion b = vlen b
 listed_of_kind KEnum b = vlen b
 listed_of_kind _ b = 0
 
--- ---- of the record that begins these bytes; none or 0 where its kind isn't known
+-- ---- the record at the start of these bytes; none or 0 for an unknown kind
 
--- what a function says of a kind
+-- a function of the kind, or 0 if the kind is unknown
 abbrev pub at_kind : (Kind → ℕ) → Option Kind → ℕ
 at_kind f None = 0
 at_kind f (Some k) = f k
 
--- its size, if its kind says one
+-- its size, if its kind states one
 abbrev pub size_in : List ℕ → Option ℕ
 size_in b = option_and_then (λ k. size_of_kind k b) (kind b)
 
--- the type that its head names, if its kind names one there
+-- the type in its head, if its kind has one there
 abbrev pub reference_in : List ℕ → Option ℕ
 reference_in b = option_and_then (λ k. reference_of_kind k b) (kind b)
 
--- what it declares, if it is a forward
+-- the kind that it declares, if it is a forward
 abbrev pub declared_in : List ℕ → Option Tag
 declared_in b = option_and_then (λ k. declared_of_kind k b) (kind b)
 
--- how many arguments, members or enumerators it lists
+-- the length of its list
 abbrev pub list_length : List ℕ → ℕ
 list_length b = at_kind (λ k. listed_of_kind k b) (kind b)
 
--- how many bytes stand behind its head
+-- the number of bytes after its head
 abbrev pub len_behind : List ℕ → ℕ
 len_behind b = at_kind (λ k. variant_len k (size b) (vlen b)) (kind b)

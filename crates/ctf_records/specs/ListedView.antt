@@ -1,4 +1,4 @@
--- What a list of type numbers shows. The word is ours.
+-- What a list of type numbers shows. Source: ours.
 use Rattle.std.specs.Prelude.{ℕ, List}
 use Rattle.ctf_records.specs.ListedTypes.{numbers_in}
 use Rattle.ctf_records.specs.declared.numbers.ReferenceList.{ReferenceList}

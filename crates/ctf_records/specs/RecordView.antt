@@ -1,4 +1,4 @@
--- What a lent record shows. The words are ours; what its bytes say is in Record.antt of ctf_model.
+-- What a lent record shows. Source: ours; Record.antt of ctf_model says what its bytes mean.
 use Rattle.std.specs.Prelude.{ℕ, List, take, drop, Option, Result, Ok, Err}
 use Rattle.std.specs.Option.{option_map}
 use Rattle.ctf_model.specs.format.Section.{Piece, front_len}
@@ -12,7 +12,7 @@ use Rattle.ctf_records.specs.declared.tag.Tag.TheVariants as lent
 abbrev pub index_of : Record → ℕ
 index_of r = r.index
 
--- where it begins in its section
+-- its offset in the section
 abbrev pub at_of : Record → ℕ
 at_of r = r.at
 
@@ -20,22 +20,22 @@ at_of r = r.at
 abbrev pub bytes_of : Record → List ℕ
 bytes_of r = r.bytes.now
 
--- number, place and bytes
+-- its number, offset and bytes
 abbrev pub piece : Record → Piece
 piece r = record { index = r.index; at = r.at; bytes = r.bytes.now }
 
--- a record or the fault that reading stops with
+-- a record, or the fault that ends reading
 abbrev pub result_piece : Result Record Fault → Result Piece Fault
 result_piece (Ok r) = Ok (piece r)
 result_piece (Err f) = Err f
 
--- the whole record that begins at a place of a section, if one does, under a number
+-- the whole record at offset `at` of a section, if there is one, with this number
 abbrev pub piece_at : List ℕ → ℕ → ℕ → Option Piece
 piece_at types at index =
     option_map (λ n. record { index = index; at = at; bytes = take n (drop at types) })
     (front_len (drop at types))
 
--- what a forward declares
+-- the kind that a forward declares
 abbrev pub tag_of : Tag → term.Tag
 tag_of lent.Struct = term.struct_tag
 tag_of lent.Union = term.union_tag

@@ -1,4 +1,4 @@
--- Before its last zero byte a table has a name at each place, and none from there on.
+-- A table has a name at each offset up to its last zero byte, and none after it.
 use Rattle.std.proofs.Common.{◌≡◌, ℕ, ◌+◌, ◌-◌, ◌<◌, ◌≤◌, true, false, leb, List, length, get_or, drop, Some, None, refl, sym, ap, ◌∙◌, arith, ⊎_elim, length-drop}
 use Rattle.std.specs.Prelude.{is_none}
 use Rattle.std.proofs.lemmas.Bool.{false_from_ne_true, cases_lt, le-leb, lt-leb}
@@ -26,7 +26,7 @@ some_before bytes at k le lt hit =
 pub none_at_all : (bytes : List ℕ) → IsLastByte (is_byte 0) bytes None → (at : ℕ) → is_none (text_at (Some bytes) at) ≡ leb 0 at
 none_at_all bytes h at = none_from bytes at (λ k le lt. false_from_ne_true _ (λ hit. h k (omega arith) lt hit)) ∙ sym (le-leb 0 at (omega arith))
 
--- a table has the names that begin up to its last zero byte
+-- names begin up to the last zero byte of a table
 pub up_to_last : (bytes : List ℕ) (last : ℕ) → IsLastByte (is_byte 0) bytes (Some last) → (at : ℕ) → is_none (text_at (Some bytes) at) ≡ leb (last + 1) at
 up_to_last bytes last h at = ⊎_elim
     (λ lt. some_before bytes at last (omega arith) h.0.high h.1 ∙ sym (lt-leb (last + 1) at lt))

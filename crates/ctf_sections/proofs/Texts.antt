@@ -12,7 +12,7 @@ use Rattle.memchr.specs.Find.{IsFirstByte, is_byte}
 use Rattle.ctf_model.specs.format.Name.{is_zero, text}
 use Rattle.ctf_sections.specs.ShortNames.{if_short}
 
--- inside a list the default doesn't count
+-- inside a list the default does not matter
 same : (bytes : List ℕ) (k d : ℕ) → k < length bytes → is_zero (get_or bytes k d) ≡ true → is_zero (get_or bytes k 0) ≡ true
 same bytes k d lt hit = rw (get_or_default bytes k 0 d lt) hit
 
@@ -22,20 +22,20 @@ text_none bytes h = rw (list_any_none is_zero bytes (λ k d lt. false_from_ne_tr
 pub text_found : (bytes : List ℕ) (k : ℕ) → IsFirstByte (is_byte 0) bytes (Some k) → text bytes ≡ Some (take k bytes)
 text_found bytes k h = rw (list_any_at is_zero bytes k 0 h.0.high h.1, position_or_len_is is_zero bytes k 0 (omega arith) (λ j lt. false_from_ne_true _ (λ hit. h.0.before j (omega arith) lt hit)) (λ lt. h.1)) refl
 
--- what stands before the first zero byte
+-- the bytes before the first zero byte
 pub front_before : (bytes : List ℕ) (k : ℕ) → IsFirstByte (is_byte 0) bytes (Some k) → take k bytes ≡ before_first is_zero bytes
 front_before bytes k h = rw (position_or_len_is is_zero bytes k 0 (omega arith) (λ j lt. false_from_ne_true _ (λ hit. h.0.before j (omega arith) lt hit)) (λ lt. h.1)) refl
 
--- where there is no zero byte that is all
+-- without a zero byte, these are all bytes
 pub all_before : (bytes : List ℕ) → IsFirstByte (is_byte 0) bytes None → bytes ≡ before_first is_zero bytes
 all_before bytes h = sym (ap (λ (n : ℕ). take n bytes) (position_or_len_is is_zero bytes (length bytes) 0 (omega arith) (λ j lt. false_from_ne_true _ (λ hit. h j (omega arith) lt hit)) (λ lt. absurd (omega arith))) ∙ take_all (length bytes) bytes (omega arith))
 
--- what a search finds is the end of the text
+-- the search finds the end of the text
 pub text_is : (bytes : List ℕ) (r : Option ℕ) → IsFirstByte (is_byte 0) bytes r → text bytes ≡ option_map (λ k. take k bytes) r
 text_is bytes None h = text_none bytes h
 text_is bytes (Some k) h = text_found bytes k h
 
--- ---- texts that are not longer than is asked
+-- ---- texts up to a length
 
 pub text_cons_case : (x : ℕ) (xs : List ℕ) (t : Bool) → is_zero x ≡ t → text (x ∷ xs) ≡ (if t then Some [] else option_map (λ b. x ∷ b) (text xs))
 text_cons_case x xs true e = rw e refl

@@ -1,4 +1,4 @@
--- What a look-up by name finds: the first of that name.
+-- A look-up by name finds the first symbol or label of that name.
 use Rattle.std.proofs.Common.{◌≡◌, ◌⊎◌, inl, inr, ℕ, zero, suc, ◌+◌, ◌≤◌, Bool, true, false, List, [], ◌∷◌, Option, Some, None, Ok, Err, refl, sym, ap, ◌∙◌, arith}
 use Rattle.std.specs.Prelude.{◌==◌, MatchOption, map, slice_get, unwrap_or, if◌then◌else◌}
 use Rattle.std.specs.List.{Contains, enumerate_from}
@@ -11,7 +11,7 @@ use Rattle.std.proofs.lemmas.Slice.Eq.{bytes_eq-Decides}
 use Rattle.ctf_model.proofs.Denoted.{denotes_said}
 use Rattle.ctf_model.proofs.SymbolRules.{AreRising, considered_rising}
 use Rattle.ctf_model.specs.format.Dictionary.{Label, said_by}
-use Rattle.ctf_model.specs.symbols.Entries as told
+use Rattle.ctf_model.specs.symbols.Entries as info
 use Rattle.ctf_model.specs.symbols.Entries.{Owner, owner, owner_of}
 use Rattle.ctf_model.specs.rules.Faults.{first_fault}
 use Rattle.ctf_model.specs.format.Lists.{Lists, tables}
@@ -29,7 +29,7 @@ use Rattle.ctf_symbols.specs.Kept.{class_in, sort_in}
 use Rattle.ctf_symbols.specs.Named.{AreInOrder, AreItems, LabelsInOrder, SymbolsInOrder, called_label, called_symbol, first_called, program_names}
 use Rattle.ctf_symbols.proofs.Answering.{not_there, there}
 
--- a number with what has it
+-- the number of a numbered thing
 abbrev pub number : {A : Type 0} → ℕ × A → ℕ
 number x = x.0
 
@@ -44,7 +44,7 @@ none_there : (items : List NamedItem) (e : NamedItem) → items ≡ [] → Conta
 none_there [] e none h = absurd (omega (arith, h.1))
 none_there (f ∷ items) e none h = absurd cc
 
--- the items of rising numbers rise
+-- the items of ascending numbers ascend
 items_from : {A : Type 0} (names : Naming) (called : A → List ℕ) (low : ℕ) (xs : List (ℕ × A)) (items : List NamedItem) → AreRising number low xs → AreItems names called xs items → (e : NamedItem) → Contains items e → low ≤ e.item
 items_from names called low [] items rising each e h = absurd (none_there items e each h)
 items_from names called low (x ∷ xs) [] rising each e h = absurd each
@@ -87,7 +87,7 @@ first_case : {A : Type 0} (names : Naming) (called : A → List ℕ) (low : ℕ)
 first_case names called low x xs text e items rising each rest true same = rw same (here names called low x xs text e items rising each same)
 first_case names called low x xs text e items rising each rest false other = rw other (later names text e items (λ named. let same = same_text names (called x.1) text e each.1 named in absurd cc) (first_called called text xs) rest)
 
--- the first of a name is the one with the least number
+-- the first with a name has the least number
 first_found : {A : Type 0} (names : Naming) (called : A → List ℕ) (low : ℕ) (xs : List (ℕ × A)) (items : List NamedItem) (text : List ℕ) → AreRising number low xs → AreItems names called xs items → IsFound names items text (option_map number (first_called called text xs))
 first_found names called low [] items text rising each = λ e h named. none_there items e each h
 first_found names called low (x ∷ xs) [] text rising each = absurd each
@@ -103,7 +103,7 @@ one_found names items text (Some n) (Some m) p q = ap (λ (k : ℕ). Some k) (sa
     same : n ≤ q.entry.item → m ≤ p.entry.item → p.entry.item ≡ n → q.entry.item ≡ m → n ≡ m
     same a b c d = omega (arith, a, b, c, d)
 
--- what is found in the order of names is the first of the name
+-- the number found in the order of names is that of the first with the name
 pub found_first : {A : Type 0} (names : Naming) (called : A → List ℕ) (xs : List (ℕ × A)) (o : Order) (text : List ℕ) (found : Option ℕ) → AreRising number 0 xs → AreInOrder names called xs o → ((items : List NamedItem) → Fits names items o → IsFound names items text found)
     → found ≡ option_map number (first_called called text xs)
 found_first names called xs o text found rising order finds = ∥∥₁_elim order (search props) (λ h. one_found names h.items text found _ (finds h.items h.fits) (first_found names called 0 xs h.items text rising h.each))
@@ -114,12 +114,12 @@ enumerated_rising n (x ∷ xs) = (omega arith, enumerated_rising (n + 1) xs)
 
 -- ---- symbols
 
--- the first owner of a name
+-- the first owner with a name
 abbrev owner_called : List ℕ → List Owner → Option Owner
 owner_called text [] = None
 owner_called text (o ∷ os) = if bytes_eq o.name text then Some o else owner_called text os
 
-entry_owner : (text : List ℕ) (es : List told.Entry) → option_map owner_of (entry_named es text) ≡ owner_called text (map owner_of es)
+entry_owner : (text : List ℕ) (es : List info.Entry) → option_map owner_of (entry_named es text) ≡ owner_called text (map owner_of es)
 entry_owner text [] = refl
 entry_owner text (e ∷ es) = by_case (bytes_eq e.name text) (entry_owner text es)
   where
@@ -139,11 +139,11 @@ owners : (s : Lists) → first_fault s ≡ None → map owner_of (said_by s).ent
 unfolding said_by
 owners s sound = (denotes_said s sound).entries.owners
 
--- the first entry of a name is that of the first considered symbol of the name
+-- the first entry with a name belongs to the first considered symbol with it
 entry_of_symbol : (s : Lists) (text : List ℕ) → first_fault s ≡ None → option_map owner_of (entry_named (said_by s).entries text) ≡ option_map owner (first_called called_symbol text (with_types (symbols s)))
 entry_of_symbol s text sound = entry_owner text (said_by s).entries ∙ ap (owner_called text) (owners s sound) ∙ sym (symbol_owner text (with_types (symbols s)))
 
--- what is found has the name, and is the symbol of its number
+-- the symbol that was found has the name and its number
 pub record IsSymbol (n : ℕ) (xs : List Symbol) (text : List ℕ) (x : ℕ × Symbol) : Type 0 where
   pub place : ℕ
   pub number : n + place ≡ x.0
@@ -175,7 +175,7 @@ class_there s table k x t at (Some sort) e =
     let same : y.0 ≡ x = same_Some y.0 x (sym y.1 ∙ at) in
     ap (λ (n : ℕ). if n == 1 then Object else Function) (sym y.2 ∙ ap (λ (z : Symbol). z.sort) same)
 
--- the considered symbol that is found owns the first entry of the name
+-- the considered symbol that was found owns the first entry with the name
 pub found_owner : (s : Lists) (o : Order) (table text : List ℕ) (names : Naming) (number : ℕ) → first_fault s ≡ None → table ≡ unwrap_or s.sym [] → names ≡ program_names s.strs → SymbolsInOrder s o → ((items : List NamedItem) → Fits names items o → IsFound names items text (Some number))
     → Some (record { number = number; name = text; class = class_in (sort_in table number) }) ≡ option_map owner_of (entry_named (said_by s).entries text)
 found_owner s o table text names number sound t by order finds =
@@ -191,7 +191,7 @@ found_owner s o table text names number sound t by order finds =
         let class : class_in (sort_in table number) ≡ class_of x.1 = class_there s table number x.1 t (rw place at is.there) (sort_in table number) refl in
         rw (e, class, ← is.named, numbered) refl
 
--- where none is found there is no entry of the name
+-- if none is found, there is no entry with the name
 pub none_owned : (s : Lists) (o : Order) (text : List ℕ) (names : Naming) → first_fault s ≡ None → names ≡ program_names s.strs → SymbolsInOrder s o → ((items : List NamedItem) → Fits names items o → IsFound names items text None)
     → None ≡ option_map owner_of (entry_named (said_by s).entries text)
 none_owned s o text names sound by order finds =
@@ -220,7 +220,7 @@ label_there n (l ∷ ls) text x h = by_case (bytes_eq l.name text) (label_there 
     by_case true rest same = let is : (n, l) ≡ x = same_Some (n, l) x same in rw (← is) (0, omega arith, refl)
     by_case false rest same = let later = rest same in (suc later.0, omega (arith, later.1), later.2)
 
--- what is found of labels
+-- the result of a look-up among labels
 pub found_label : (s : Lists) (o : Order) (text : List ℕ) (names : Naming) (found : Option ℕ) → names ≡ name (tables s) → LabelsInOrder s o → ((items : List NamedItem) → Fits names items o → IsFound names items text found)
     → MatchOption found (last_of_label (said_by s).labels text ≡ None) (λ n. last_of_label (said_by s).labels text ≡ option_map (λ x. x.last) (slice_get (said_by s).labels n))
 found_label s o text names found by order finds =

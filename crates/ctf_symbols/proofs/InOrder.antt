@@ -1,4 +1,4 @@
--- The orders that a map is built with are those of its dictionary.
+-- The orders that a map is built from are those of its dictionary.
 use Rattle.std.proofs.Common.{◌≡◌, ℕ, List, [], Option, ◌∙◌}
 use Rattle.std.specs.Prelude.{unwrap_or}
 use Rattle.ctf_model.specs.format.Lists.{Lists}

@@ -1,4 +1,4 @@
--- Items of symbols and of labels, one after the other.
+-- Items of symbols and of labels, one after another.
 use Rattle.std.proofs.Common.{◌≡◌, ℕ, suc, ◌+◌, ◌-◌, ◌/◌, ◌<◌, ◌≤◌, Bool, true, false, List, [], ◌∷◌, ◌++◌, length, drop, Option, Some, None, refl, sym, ap, subst, ◌∙◌, arith}
 use Rattle.std.specs.Prelude.{◌==◌, ◌&&◌, ◌||◌, nat_le, not, unwrap_or}
 use Rattle.std.specs.List.{enumerate_from}
@@ -16,9 +16,9 @@ use Rattle.ctf_order.specs.Naming.{Naming}
 use Rattle.ctf_order.specs.declared.entries.NamedItem.{NamedItem}
 use Rattle.ctf_symbols.specs.Named.{AreItems, called_label, program_names}
 
--- ---- one after the other
+-- ---- one after another
 
--- with the items of those that are left, these are the items of all
+-- these items and those of the rest are the items of all
 abbrev pub GoesOn : {A : Type 0} → Naming → (A → List ℕ) → List (ℕ × A) → List NamedItem → List (ℕ × A) → Type 0
 GoesOn names called all items left = (more : List NamedItem) → AreItems names called left more → AreItems names called all (items ++ more)
 
@@ -72,7 +72,7 @@ named_there : (strs : Option (List ℕ)) (at : ℕ) → length (symbol_name strs
 named_there None at h = without_strings at (at == 0) refl h
 named_there (Some strs) at h = with_strings strs at (at == 0) refl h
 
--- the name of a considered symbol stands where its bytes say
+-- the name of a considered symbol is where its bytes say
 pub considered_named : (strs : Option (List ℕ)) (n : ℕ) (b : List ℕ) (x : Symbol) → x ≡ symbol_of strs b → is_considered (n, x) ≡ true → program_names strs (u32_at b 0) ≡ Some x.name
 considered_named strs n b x e h =
     let named : length (symbol_name strs (u32_at b 0)) == 0 ≡ false = ap (λ (y : Symbol). length y.name == 0) (sym e) ∙ considered_is_named n x h in
@@ -80,7 +80,7 @@ considered_named strs n b x e h =
 
 -- ---- labels
 
--- a label more
+-- one more label
 labels_more : (t : Tables) (b : List ℕ) → 8 ≤ length b → labels_in t (length b / 8) b ≡ record { name = text_or_empty t (u32_at b 0); last = u32_at b 4 } ∷ labels_in t (length (drop 8 b) / 8) (drop 8 b)
 unfolding labels_in
 labels_more t b le =
@@ -88,16 +88,16 @@ labels_more t b le =
     let one : length b / 8 ≡ suc ((length b - 8) / 8) = omega arith in
     rw (one, behind) refl
 
--- no label more
+-- no more labels
 labels_end : (t : Tables) (b : List ℕ) → length b < 8 → labels_in t (length b / 8) b ≡ []
 unfolding labels_in
 labels_end t b lt = let none : length b / 8 ≡ 0 = omega arith in rw none refl
 
--- the labels that are left
+-- the remaining labels
 abbrev pub labels_left : Tables → ℕ → List ℕ → List (ℕ × Label)
 labels_left t n b = enumerate_from n (labels_in t (length b / 8) b)
 
--- what stays true from label to label
+-- the invariant from label to label
 pub record PassesLabels (t : Tables) (all : List (ℕ × Label)) (items : List NamedItem) (n : ℕ) (rest : List ℕ) : Type 0 where
   pub goes : GoesOn (name t) called_label all items (labels_left t n rest)
   pub good : AreLabels t rest (labels_in t (length rest / 8) rest)
@@ -122,7 +122,7 @@ next_label t all items n rest behind le d p =
 pub last_label : (t : Tables) (all : List (ℕ × Label)) (items : List NamedItem) (n : ℕ) (rest : List ℕ) → length rest < 8 → PassesLabels t all items n rest → AreItems (name t) called_label all items
 last_label t all items n rest lt p = all_there (name t) called_label all _ items (ap (λ (ls : List Label). enumerate_from n ls) (labels_end t rest lt)) p.goes
 
--- those of a dictionary that breaks no rule
+-- it holds at the start for a dictionary that breaks no rule
 pub labels_at_first : (s : Lists) → first_fault s ≡ None → (bytes : List ℕ) → bytes ≡ section s.ctf SLabels → PassesLabels (tables s) (enumerate_from 0 (said_by s).labels) [] 0 bytes
 unfolding said_by
 labels_at_first s sound bytes is = rw is (record { goes = none_yet (name (tables s)) called_label (labels_left (tables s) 0 (section s.ctf SLabels)); good = (denotes_said s sound).labels })

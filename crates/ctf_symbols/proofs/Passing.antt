@@ -1,4 +1,4 @@
--- How much is left behind one symbol.
+-- What is left after one symbol.
 use Rattle.std.proofs.Common.{◌≡◌, ℕ, ◌+◌, ◌<◌, ◌≤◌, true, false, List, [], ◌∷◌, ◌++◌, length, drop, Option, None, refl, sym, ap, ◌∙◌}
 use Rattle.std.proofs.lemmas.List.{append-nil, append_assoc}
 use Rattle.ctf_model.specs.symbols.Entries.{entry_len, is_bad_entry}
@@ -8,11 +8,11 @@ use Rattle.ctf_entries.proofs.Telling.{sound_object, sound_function}
 use Rattle.ctf_entries.specs.Sound.{bad_place}
 use Rattle.ctf_symbols.specs.Kept.{lefts_from}
 
--- a number more at the end
+-- one more number at the end
 pushed : (items rest all whole : List ℕ) (v : ℕ) → all ≡ v ∷ rest → items ++ all ≡ whole → (items ++ v ∷ []) ++ rest ≡ whole
 pushed items rest all whole v e h = append_assoc items (v ∷ []) rest ∙ ap (λ (l : List ℕ). items ++ l) (sym e) ∙ h
 
--- what stays true from symbol to symbol
+-- the invariant from symbol to symbol
 pub record Passes (strs : Option (List ℕ)) (whole items : List ℕ) (n : ℕ) (rest o f : List ℕ) : Type 0 where
   pub kept : items ++ lefts_from n (symbols_of strs rest) o f ≡ whole
   pub sound : bad_place (considered_from n (symbols_of strs rest)) f ≡ None

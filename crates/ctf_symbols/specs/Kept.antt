@@ -1,4 +1,4 @@
--- How much is left of its section where the entry of each symbol begins. The words are ours.
+-- For each symbol, how many bytes of its section are left where its entry begins. Source: ours.
 use Rattle.std.specs.Prelude.{ℕ, ◌+◌, ◌-◌, ◌*◌, ◌/◌, ◌%◌, ◌==◌, List, [], ◌∷◌, length, drop, slice_index, nat_lt, Option, Some, None, if◌then◌else◌}
 use Rattle.ctf_model.specs.symbols.Entries.{entry_len}
 use Rattle.ctf_model.specs.format.Header.{section}
@@ -8,8 +8,8 @@ use Rattle.ctf_model.specs.declared.symbols.SymbolClass.{SymbolClass}
 use Rattle.ctf_model.specs.declared.symbols.SymbolClass.TheVariants.{Object, Function}
 use Rattle.ctf_model.specs.declared.sections.Section.TheVariants.{SObjects, SFunctions}
 
--- of symbols that are numbered from n on, where this is left of both sections;
--- 0 where a symbol has no entry
+-- for symbols numbered from `n` on, with these rests of both sections; 0 for a symbol without an
+-- entry
 unfoldable pub lefts_from : ℕ → List Symbol → List ℕ → List ℕ → List ℕ
 lefts_from n [] objects functions = []
 lefts_from n (x ∷ xs) objects functions =
@@ -19,20 +19,20 @@ lefts_from n (x ∷ xs) objects functions =
     ∷ lefts_from (n + 1) xs objects (drop (entry_len functions) functions))
     else 0 ∷ lefts_from (n + 1) xs objects functions
 
--- of all symbols
+-- for all symbols
 abbrev pub lefts_of : Lists → List ℕ
 lefts_of s = lefts_from 0 (symbols s) (section s.ctf SObjects) (section s.ctf SFunctions)
 
--- the end of a section that has so many bytes
+-- the last `n` bytes of a section
 abbrev pub last_bytes : ℕ → List ℕ → List ℕ
 last_bytes n b = drop (length b - n) b
 
--- what the symbol with a number stands for, if it is there
+-- the type of symbol number `number`, if it exists
 abbrev pub sort_in : List ℕ → ℕ → Option ℕ
 sort_in sym number =
     if nat_lt number (length sym / 24) then Some (slice_index sym (24 * number + 4) % 16) else None
 
--- the class of what stands for an object, or else for a function
+-- the class of an object, else that of a function
 abbrev pub class_in : Option ℕ → SymbolClass
 class_in None = Function
 class_in (Some sort) = if sort == 1 then Object else Function

@@ -1,4 +1,4 @@
--- The first, the last and each other item of a list that stands in bytes.
+-- The first, last and other items of a list in bytes.
 use Rattle.std.proofs.Common.{◌≡◌, ℕ, zero, suc, ◌+◌, ◌-◌, ◌*◌, ◌<◌, ◌≤◌, List, [], ◌∷◌, ◌++◌, length, take, drop, Option, Some, None, refl, sym, ap, subst, ◌∙◌, arith, length-drop, length-append}
 use Rattle.std.specs.Prelude.{slice_get, unwrap_or, IsSome}
 use Rattle.std.specs.Iterator.{MakesProgress, item_count}
@@ -13,12 +13,12 @@ some_is : {A : Type 0} (o : Option (List A)) → IsSome o → o ≡ Some (unwrap
 some_is None h = absurd cc
 some_is (Some x) h = refl
 
--- what is items_in is what the items say
+-- `items_in` gives the items if they are valid
 pub items_in_is : {A : Type 0} (item : List ℕ → Option A) (len n : ℕ) (b : List ℕ) → AreGood item len n b → items item len n b ≡ Some (items_in item len n b)
 unfolding items_in
 items_in_is item len n b h = some_is (items item len n b) h.good
 
--- and the other way round
+-- and conversely
 pub items_in_by : {A : Type 0} (item : List ℕ → Option A) (len n : ℕ) (b : List ℕ) (xs : List A) → items item len n b ≡ Some xs → items_in item len n b ≡ xs
 unfolding items_in
 items_in_by item len n b xs e = rw e refl
@@ -33,7 +33,7 @@ pub items_in_none : {A : Type 0} (item : List ℕ → Option A) (len n : ℕ) (b
 unfolding items_in
 items_in_none item len n b e = rw e refl
 
--- ---- where the items lie
+-- ---- positions of items
 
 row_end : (len n i : ℕ) → i < n → len * i + len ≤ len * n
 row_end len n i lt = subst (λ k. len * i + len ≤ len * k) (more lt) (wider len i (n - (i + 1)))
@@ -45,7 +45,7 @@ row_end len n i lt = subst (λ k. len * i + len ≤ len * k) (more lt) (wider le
     wider len i zero = omega arith
     wider len i (suc k) = let h = wider len i k in let e : len * (i + 1 + suc k) ≡ len * (i + 1 + k) + len = omega arith in omega arith
 
--- an item's row lies inside, and it is good
+-- the bytes of an item are inside, and it is valid
 pub record IsRow {A : Type 0} (item : List ℕ → Option A) (len i : ℕ) (b : List ℕ) : Type 0 where
   pub start : len * i ≤ length b
   pub long : len ≤ length (drop (len * i) b)
@@ -121,32 +121,32 @@ took_last item len n b x h lt e =
 positive : (n : ℕ) → (n ≡ 0 → ⊥) → 0 < n
 positive n some = omega arith
 
--- a row, where the length that it goes by is the items'
+-- the bytes of item `i`, if the item length is right
 pub placed : (b r : List ℕ) (k len i : ℕ) → r ≡ drop (k * i) b → k ≡ len → r ≡ drop (len * i) b
 placed b r k len i e f = e ∙ ap (λ (l : ℕ). drop (l * i) b) f
 
 pub row_good : {A : Type 0} (item : List ℕ → Option A) (len n : ℕ) (b : List ℕ) → AreGood item len n b → (i : ℕ) (r : List ℕ) → i < n → r ≡ drop (len * i) b → IsSome (item r)
 row_good item len n b inv i r lt e = rw e (row item len n i b inv lt).good
 
--- the item with a number is read in its row
+-- the item at an index is read from its bytes
 pub item_is : {A : Type 0} (item : List ℕ → Option A) (len n i : ℕ) (b r : List ℕ) (x : A) → AreGood item len n b → i < n → r ≡ drop (len * i) b → item r ≡ Some x → Some x ≡ slice_get (items_in item len n b) i
 item_is item len n i b r x h lt e f = gets item len n i b (Some x) h lt (ap item (sym e) ∙ f)
 
 reads : {A : Type 0} (item : List ℕ → Option A) (len n i : ℕ) (b : List ℕ) (x : A) → AreGood item len n b → i < n → Some x ≡ slice_get (items_in item len n b) i → item (drop (len * i) b) ≡ Some x
 reads item len n i b x h lt e = items_at item len n i b (items_in item len n b) (items_in_is item len n b h) lt ∙ sym e
 
--- what its row says is the item
+-- its bytes give the item
 pub row_says : {A : Type 0} (item : List ℕ → Option A) (len n i : ℕ) (b r : List ℕ) → AreGood item len n b → i < n → r ≡ drop (len * i) b → item r ≡ slice_get (items_in item len n b) i
 row_says item len n i b r h lt e = rw e (items_at item len n i b (items_in item len n b) (items_in_is item len n b h) lt)
 
 pub row_some : {A : Type 0} (item : List ℕ → Option A) (len n i : ℕ) (b r : List ℕ) → AreGood item len n b → i < n → item r ≡ slice_get (items_in item len n b) i → IsSome (item r)
 row_some item len n i b r h lt e = some_at (item r) (items_in item len n b) i (rw (items_in_length item len n b h) lt) e
 
--- there is none past the last
+-- there is none beyond the last
 pub none_past : {A : Type 0} (item : List ℕ → Option A) (len n i : ℕ) (b : List ℕ) (s : List A) → items_in item len n b ≡ s → AreGood item len n b → n ≤ i → None ≡ slice_get s i
 none_past {A = A} item len n i b s seen h le = gets_none item len n i b h le ∙ ap (λ (l : List A). slice_get l i) seen
 
--- ---- what the calls of an iterator owe, where s is what is left before it
+-- ---- obligations of an iterator's calls, where `s` is what is left before the call
 
 module _ {A : Type 0} (item : List ℕ → Option A) (len n : ℕ) (b : List ℕ) (s : List A) (seen : items_in item len n b ≡ s) (inv : AreGood item len n b) where
   pub count_is : n ≡ length s
@@ -200,6 +200,6 @@ arguments_good (suc n) b = more (items argument_of 2 n (drop 2 b)) (arguments_go
     more None h = absurd cc
     more (Some xs) h = refl
 
--- any bytes are arguments
+-- any bytes are valid arguments
 pub arguments_are_good : (n : ℕ) (b : List ℕ) → 2 * n ≤ length b → AreGood argument_of 2 n b
 arguments_are_good n b h = record { inside = h; good = arguments_good n b }

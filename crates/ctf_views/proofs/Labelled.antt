@@ -1,4 +1,4 @@
--- Bytes that are labels are rows of labels.
+-- Bytes with labels are rows of labels.
 use Rattle.std.proofs.Common.{◌≡◌, ℕ, zero, suc, ◌/◌, ◌<◌, ◌≤◌, false, List, [], ◌∷◌, length, drop, Option, Some, None, refl, arith}
 use Rattle.std.specs.Prelude.{IsSome, is_some, slice_get, unwrap_or}
 use Rattle.std.specs.Option.{option_map}
@@ -30,7 +30,7 @@ said_last : (text : Option (List ℕ)) (last : ℕ) (label : Option Label) → o
 said_last None last label e some = absurd (let none : is_some label ≡ false = rw (← e) refl in cc)
 said_last (Some t) last label e some = rw (← e) refl
 
--- the last type of the label that a row is
+-- the last type of the label in a row
 pub last_is : (t : Tables) (b : List ℕ) (labels : List Label) (i : ℕ) → label_of t b ≡ slice_get labels i → i < length labels → Some (u32_at b 4) ≡ option_map (λ x. x.last) (slice_get labels i)
 last_is t b labels i e lt = said_last (name t (u32_at b 0)) (u32_at b 4) (slice_get labels i) e (there labels i lt)
   where

@@ -1,4 +1,4 @@
--- What the reference of a member names is the member's name.
+-- The reference of a member leads to the member's name.
 use Rattle.std.proofs.Common.{◌≡◌, ℕ, Bool, true, false, List, Option, Some, None, refl, sym, ap, ◌∙◌}
 use Rattle.std.specs.Prelude.{bytes_eq, nat_lt, IsSome}
 use Rattle.std.specs.Option.{option_map}

@@ -1,4 +1,4 @@
--- The first member with a name, one step on and at the end.
+-- The first member with a name: one step, and the end.
 use Rattle.std.proofs.Common.{◌≡◌, ℕ, zero, suc, ◌+◌, ◌≤◌, Bool, true, false, List, [], ◌∷◌, length, drop, Some, None, refl, sym, ap, arith}
 use Rattle.std.specs.Prelude.{slice_get, bytes_eq}
 use Rattle.std.specs.Option.{option_map}
@@ -7,7 +7,7 @@ use Rattle.std.proofs.lemmas.Option.{same_Some}
 use Rattle.ctf_model.specs.figures.Paths.{member_named}
 use Rattle.ctf_model.specs.format.Term.{Member}
 
--- whether the member with a number has a name
+-- whether member `i` has the name
 abbrev says : List ℕ → List Member → ℕ → Bool → Type 0
 says name ms i b = Some b ≡ option_map (λ (m : Member). bytes_eq name m.name) (slice_get ms i)
 

@@ -1,4 +1,4 @@
--- What is shown of the type of a record whose names are good.
+-- The shown part of the type of a record with valid names.
 use Rattle.std.proofs.Common.{◌≡◌, ℕ, ◌*◌, Bool, List, length, Option, Some, None, refl, sym, ap, ◌∙◌, arith, ◌⊎◌, ⊎_elim}
 use Rattle.std.specs.Prelude.{IsSome}
 use Rattle.std.specs.Option.{option_map}
@@ -18,7 +18,7 @@ use Rattle.ctf_views.specs.PartsView.{array_in, encoding_in}
 use Rattle.ctf_model.specs.format.Shown.{Shown, ArrayParts, EncodingParts, shown}
 use Rattle.ctf_model.specs.format.Shown as show
 
--- what is shown of the type that bytes spell
+-- the shown part of the type that bytes spell
 abbrev pub shown_by : Tables → List ℕ → Option Shown
 shown_by t b = option_map (λ (x : Term). shown x.body) (term_of t b)
 
@@ -30,7 +30,7 @@ named_case root None o h = absurd cc
 named_case root (Some text) None h = absurd cc
 named_case root (Some text) (Some said) h = (refl, refl)
 
--- it is what is shown of its body
+-- it is the shown part of its body
 pub shown_at : (t : Tables) (b : List ℕ) (k : Kind) → kind b ≡ Some k → IsSome (term_of t b) → IsSome (body_of t b k) × (shown_by t b ≡ option_map shown (body_of t b k))
 unfolding term_of
 shown_at t b k e = rw e (named_case (is_root b) (name t (u32_at b 0)) (body_of t b k))
@@ -41,7 +41,7 @@ list_case : {A : Type 0} (o : Option (List A)) (make : List A → Body) (by : Li
 list_case None make by same h = absurd cc
 list_case (Some xs) make by same h = (refl, ap Some (same xs))
 
--- the members of a struct or union are good, and shown
+-- the members of a struct or union are valid, and shown
 pub members_shown : (t : Tables) (b : List ℕ) → (kind b ≡ Some KStruct) ⊎ (kind b ≡ Some KUnion) → IsSome (term_of t b) → IsSome (members t b) × (shown_by t b ≡ option_map show.members (members t b))
 members_shown t b k h = ⊎_elim (at_struct h) (at_union h) k
   where
@@ -63,9 +63,9 @@ enumerators_shown t b e h =
     let l = list_case (enumerators t b) _ show.enumerators (λ xs. refl) s.0 in
     (l.0, s.1 ∙ l.1)
 
--- ---- what the views are made of
+-- ---- the parts of views
 
--- the parts of a record with members, as they are read
+-- the parts of a record with members, as read
 pub record MemberParts (b rest : List ℕ) (bytes count : ℕ) : Type 0 where
   pub size_is : bytes ≡ size b
   pub count_is : count ≡ vlen b
@@ -112,7 +112,7 @@ arguments_view t b rest count xs k h r n e =
     let here : items argument_of 2 (vlen b) (behind_head b) ≡ Some xs = (rw (many, r) at e) in
     (shown_at t b KFunction k h).1 ∙ rw here refl
 
--- ---- what has no list
+-- ---- kinds without a list
 
 pub array_view : (t : Tables) (b rest : List ℕ) (p : ArrayParts) → kind b ≡ Some KArray → IsSome (term_of t b) → rest ≡ behind_head b → p ≡ array_in rest → shown_by t b ≡ Some (show.array p)
 array_view t b rest p k h r e = (shown_at t b KArray k h).1 ∙ rw (e, r) refl
@@ -126,7 +126,7 @@ tag_view t b o x k h d e =
     let same : tag_of x ≡ tag (field b) = same_Some _ _ (ap (option_map tag_of) (sym e) ∙ d ∙ here) in
     (shown_at t b KForward k h).1 ∙ rw (← same) refl
 
--- every other kind shows nothing behind its head
+-- all other kinds show nothing after the head
 pub nothing_seen : (t : Tables) (b : List ℕ) (k : Kind) → kind b ≡ Some k → IsSome (term_of t b) → (k ≡ KInteger → ⊥) → (k ≡ KFloat → ⊥) → (k ≡ KArray → ⊥) → (k ≡ KFunction → ⊥) → (k ≡ KStruct → ⊥) → (k ≡ KUnion → ⊥) → (k ≡ KEnum → ⊥) → (k ≡ KForward → ⊥)
     → shown_by t b ≡ Some show.nothing
 nothing_seen t b KUnknown e h a1 a2 a3 a4 a5 a6 a7 a8 = (shown_at t b KUnknown e h).1

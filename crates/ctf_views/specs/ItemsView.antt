@@ -1,5 +1,5 @@
--- What a lent member, enumerator or label shows. The words are ours;
--- what bytes say is in Spelling.antt and Dictionary.antt of ctf_model.
+-- What a lent member, enumerator or label shows. Source: ours; Spelling.antt and Dictionary.antt of
+-- ctf_model say what the bytes mean.
 use Rattle.ctf_model.specs.format.Dictionary as dictionary
 use Rattle.ctf_model.specs.format.Term as term
 use Rattle.ctf_views.specs.declared.enumerators.Enumerator.{Enumerator}

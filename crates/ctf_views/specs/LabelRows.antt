@@ -1,5 +1,5 @@
--- The label that eight bytes are, if its name is there. The word is ours,
--- over the reading in Dictionary.antt of ctf_model.
+-- The label in eight bytes, if its name exists. Source: ours, over the reading in Dictionary.antt
+-- of ctf_model.
 use Rattle.std.specs.Prelude.{ℕ, List, Option}
 use Rattle.std.specs.Option.{option_map}
 use Rattle.ctf_model.specs.format.Bytes.{u32_at}

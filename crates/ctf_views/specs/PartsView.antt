@@ -1,4 +1,4 @@
--- What the lent parts of an array, an integer or a float show, and what is read behind a head.
+-- What the lent parts of an array, integer or float show, and how they are read after a head.
 -- Source: ctf(5), "The Type Section"; ctf_array_t and CTF_INT_DATA of sys/ctf.h.
 use Rattle.std.specs.Prelude.{ℕ, ◌/◌, ◌%◌, ◌^◌, List}
 use Rattle.ctf_model.specs.format.Bytes.{u16_at, u32_at}
@@ -14,11 +14,11 @@ array_info a = record { contents = a.contents.0; index = a.index.0; count = a.co
 abbrev pub encoding_info : Encoding → EncodingParts
 encoding_info e = record { encoding = e.encoding; offset = e.offset; bits = e.bits }
 
--- the parts of an array in the bytes behind its head
+-- the parts of an array, from the bytes after its head
 abbrev pub array_in : List ℕ → ArrayParts
 array_in rest = record { contents = u16_at rest 0; index = u16_at rest 2; count = u32_at rest 4 }
 
--- the parts of an integer or a float in the word behind its head
+-- the parts of an integer or float, from the word after its head
 abbrev pub encoding_in : List ℕ → EncodingParts
 encoding_in rest =
     record {

@@ -1,4 +1,4 @@
--- What a lent variant shows. The word is ours.
+-- What a lent variant shows. Source: ours.
 use Rattle.ctf_records.specs.RecordView.{tag_of}
 use Rattle.ctf_views.specs.PartsView.{array_info, encoding_info}
 use Rattle.ctf_model.specs.format.Shown.{Shown, members, enumerators, arguments, array, encoding, tag, nothing}

@@ -4,7 +4,7 @@ ghost use Rattle.ctf_model.specs.format.Shown.{is_variadic as ends_open};
 ghost use Rattle.ctf_model.specs.format.Spelling.{items, argument_of};
 
 use crate::row::Row;
-use crate::rows::Rows;
+use crate::rows::RowIter;
 use ctf_model::TypeNum;
 use ctf_sections::bytes::u16_at;
 
@@ -33,14 +33,14 @@ impl Row for ArgumentRow {
 }
 
 /// The remaining types of a function's arguments, as stored, with a last 0.
-pub type Args<'a> = Rows<'a, ArgumentRow>;
+pub type Args<'a> = RowIter<'a, ArgumentRow>;
 
 /// The first `count` types in some bytes, two bytes each.
 pub fn arguments(bytes: &[u8], count: usize) -> Args<'_>
     requires { 2 * count ≤ length bytes.now }
     ensures { items argument_of 2 count bytes.now ≡ Some result }
 {
-    Rows::new(bytes, count, ArgumentRow)
+    RowIter::new(bytes, count, ArgumentRow)
 }
 
 /// Whether more arguments may follow the named ones: then the last type is 0, which is no argument

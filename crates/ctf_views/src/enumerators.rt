@@ -6,7 +6,7 @@ ghost use Rattle.ctf_sections.specs.StringsView.{tables};
 ghost use Rattle.ctf_views.specs.ItemsView.{enumerator};
 
 use crate::row::Row;
-use crate::rows::Rows;
+use crate::rows::RowIter;
 use ctf_sections::Strings;
 use ctf_sections::bytes::u32_at;
 use std::marker::Model;
@@ -73,9 +73,9 @@ impl<'a> Row for EnumeratorRow<'a> {
 }
 
 /// The remaining enumerators of an enum.
-pub type Enumerators<'a> = Rows<'a, EnumeratorRow<'a>>;
+pub type Enumerators<'a> = RowIter<'a, EnumeratorRow<'a>>;
 
-impl<'a> Rows<'a, EnumeratorRow<'a>> {
+impl<'a> RowIter<'a, EnumeratorRow<'a>> {
     /// The value of the enumerator with a number, from 0. No name is read.
     pub fn value(&self, index: usize) -> i32
         requires { index < length self.now }

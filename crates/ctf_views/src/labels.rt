@@ -7,7 +7,7 @@ ghost use Rattle.ctf_views.specs.ItemsView.{label};
 ghost use Rattle.ctf_views.specs.LabelRows.{label_of};
 
 use crate::row::Row;
-use crate::rows::Rows;
+use crate::rows::RowIter;
 use ctf_sections::Strings;
 use ctf_sections::bytes::u32_at;
 use std::marker::Model;
@@ -24,9 +24,9 @@ pub struct SaidLabel(u32);
 
 impl Model for SaidLabel {
     ghost use Rattle.std.specs.Prelude.{[]};
-    ghost use Rattle.ctf_model.specs.format.Dictionary.{Label as Said};
+    ghost use Rattle.ctf_model.specs.format.Dictionary.{Label as LabelValue};
 
-    ghost Value = { Said };
+    ghost Value = { LabelValue };
 
     ghost view = { λ it. record { name = []; last = it.0 } };
 }
@@ -61,9 +61,9 @@ impl<'a> Row for LabelRow<'a> {
 }
 
 /// The remaining labels of a dictionary.
-pub type Labels<'a> = Rows<'a, LabelRow<'a>>;
+pub type Labels<'a> = RowIter<'a, LabelRow<'a>>;
 
-impl<'a> Rows<'a, LabelRow<'a>> {
+impl<'a> RowIter<'a, LabelRow<'a>> {
     /// The last type of the label with a number, from 0, if there is one. No name is read.
     #[tactic(auto, using(crate::proofs::Labelled::last_is, crate::proofs::Labelled::no_last))]
     pub fn last_at(&self, index: usize) -> Option<u32>
@@ -84,5 +84,5 @@ pub fn read_labels<'a>(bytes: &'a [u8], strings: Strings<'a>) -> Labels<'a>
         (labels_in (tables strings) (length bytes.now / 8) bytes.now) }
     ensures { result ≡ labels_in (tables strings.entry) (length bytes.now / 8) bytes.now }
 {
-    Rows::new(bytes, bytes.len() / 8, LabelRow { strings })
+    RowIter::new(bytes, bytes.len() / 8, LabelRow { strings })
 }

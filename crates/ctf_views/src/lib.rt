@@ -37,5 +37,5 @@ pub use members::{Member, Members};
 pub use parts::{ArrayInfo, Encoding};
 pub use reading::variant;
 pub use row::Row;
-pub use rows::Rows;
+pub use rows::RowIter;
 pub use variants::Variant;

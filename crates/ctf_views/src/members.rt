@@ -9,7 +9,7 @@ ghost use Rattle.ctf_views.specs.ItemsView.{member};
 ghost use Rattle.ctf_views.specs.Lists.{AreGood, items_in};
 
 use crate::row::Row;
-use crate::rows::{Rows, bytes_at};
+use crate::rows::{RowIter, bytes_at};
 use ctf_model::TypeNum;
 use ctf_records::{WIDE_MEMBERS, member_len};
 use ctf_sections::bytes::{u16_at, u32_at};
@@ -85,7 +85,7 @@ impl<'a> Row for MemberRow<'a> {
 }
 
 /// The remaining members of a struct or union.
-pub type Members<'a> = Rows<'a, MemberRow<'a>>;
+pub type Members<'a> = RowIter<'a, MemberRow<'a>>;
 
 /// The number of the first member with a name, among `count` members in some bytes.
 #[tactic(auto, using(crate::proofs::Named::named_here, crate::proofs::Named::named_later, crate::proofs::Named::named_nowhere))]
@@ -110,7 +110,7 @@ fn first_named(
     None
 }
 
-impl<'a> Rows<'a, MemberRow<'a>> {
+impl<'a> RowIter<'a, MemberRow<'a>> {
     /// The first member with a name; an unnamed member has the empty name. `others` is what earlier
     /// comparisons showed: however long names are and wherever they overlap, a search compares at
     /// most a few times the bytes of the tables.

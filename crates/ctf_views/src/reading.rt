@@ -11,7 +11,7 @@ use crate::args::arguments;
 use crate::enumerators::EnumeratorRow;
 use crate::members::MemberRow;
 use crate::parts::{ArrayInfo, Encoding};
-use crate::rows::Rows;
+use crate::rows::RowIter;
 use crate::variants::Variant;
 use ctf_model::Kind;
 use ctf_records::Record;
@@ -28,9 +28,9 @@ pub fn variant<'a>(record: &Record<'a>, strings: Strings<'a>) -> Variant<'a>
     match record.kind() {
         Kind::KStruct | Kind::KUnion => {
             let size = record.size().unwrap();
-            Variant::Members(Rows::new(rest, count, MemberRow { size, strings }))
+            Variant::Members(RowIter::new(rest, count, MemberRow { size, strings }))
         }
-        Kind::KEnum => Variant::Enumerators(Rows::new(rest, count, EnumeratorRow { strings })),
+        Kind::KEnum => Variant::Enumerators(RowIter::new(rest, count, EnumeratorRow { strings })),
         Kind::KFunction => Variant::Args(arguments(rest, count)),
         Kind::KArray => Variant::Array(ArrayInfo::read(rest)),
         Kind::KInteger | Kind::KFloat => Variant::Encoding(Encoding::read(rest)),

@@ -12,13 +12,13 @@ use std::marker::Model;
 
 /// The remaining items of a list.
 #[derive(Drop)]
-pub struct Rows<'a, R: Row> {
+pub struct RowIter<'a, R: Row> {
     bytes: &'a [u8],
     count: usize,
     row: R,
 }
 
-impl<'a, R: Row> Model for Rows<'a, R> {
+impl<'a, R: Row> Model for RowIter<'a, R> {
     ghost use Rattle.std.specs.Prelude.{List};
     ghost use Rattle.ctf_views.specs.Lists.{items_in, AreGood};
 
@@ -58,12 +58,12 @@ fn item_at<R: Row>(row: R, bytes: &[u8], count: usize, index: usize) -> R::Item
     row.first(from_row(bytes, row.len(), index))
 }
 
-impl<'a, R: Row> Rows<'a, R> {
-    pub(crate) fn new(bytes: &'a [u8], count: usize, row: R) -> Rows<'a, R>
+impl<'a, R: Row> RowIter<'a, R> {
+    pub(crate) fn new(bytes: &'a [u8], count: usize, row: R) -> RowIter<'a, R>
         requires { AreGood (R.item_of row) (R.row_len row) count bytes.now }
         ensures { items (R.item_of row) (R.row_len row) count bytes.now ≡ Some result }
     {
-        Rows { bytes, count, row }
+        RowIter { bytes, count, row }
     }
 
     /// How the items are read, their bytes, and their number.
@@ -97,7 +97,7 @@ impl<'a, R: Row> Rows<'a, R> {
     }
 }
 
-impl<'a, R: Row> Iterator for Rows<'a, R> {
+impl<'a, R: Row> Iterator for RowIter<'a, R> {
     type Item = R::Item;
 
     ghost next_gives = { YieldsFirstBy R.seen (λ rest. rest) };
@@ -124,7 +124,7 @@ impl<'a, R: Row> Iterator for Rows<'a, R> {
     }
 }
 
-impl<'a, R: Row> DoubleEndedIterator for Rows<'a, R> {
+impl<'a, R: Row> DoubleEndedIterator for RowIter<'a, R> {
     ghost next_back_gives = { YieldsLastBy R.seen (λ rest. rest) };
 
     fn next_back(&mut self) -> Option<R::Item> {
@@ -137,10 +137,10 @@ impl<'a, R: Row> DoubleEndedIterator for Rows<'a, R> {
     }
 }
 
-impl<'a, R: Row> ExactSizeIterator for Rows<'a, R> {
+impl<'a, R: Row> ExactSizeIterator for RowIter<'a, R> {
     fn len(&self) -> usize {
         self.count
     }
 }
 
-impl<'a, R: Row> FusedIterator for Rows<'a, R> {}
+impl<'a, R: Row> FusedIterator for RowIter<'a, R> {}

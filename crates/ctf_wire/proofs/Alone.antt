@@ -1,4 +1,4 @@
--- What a broker answers to lines is what each session's own run answers: by induction on the lines.
+-- A broker answers lines as each session's own run does, by induction on the lines.
 use Rattle.std.proofs.Common.{◌≡◌, ◌≢◌, ◌≤◌, ℕ, List, [], ◌∷◌, length, Bool, true, false, None, Some, Ok, Err, Result, eqb, leb, refl, ◌∙◌, ap, sym, subst, arith, ◌⊎◌, inl, inr}
 use Rattle.std.proofs.lemmas.Bool.{leb-false}
 use Rattle.std.proofs.lemmas.Bool.Decides.{nat_tests}
@@ -21,14 +21,14 @@ use Rattle.ctf_laws.proofs.Promises.{own_runs_stay_good}
 use Rattle.ctf_laws.proofs.Replied.{runs_reply_rightly}
 use Rattle.ctf_laws.specs.Good.{IsGood}
 use Rattle.ctf_laws.specs.Replied.{AreReplies}
-use Rattle.ctf_wire.specs.Serving.{AllStay, AreMarked, BrokerStep, IsMarked, LineSteps, MayWant, Said, ServesAlone}
+use Rattle.ctf_wire.specs.Serving.{AllStay, AreMarked, BrokerStep, IsMarked, LineSteps, MayWant, Reacts, ServesAlone}
 use Rattle.ctf_broker.specs.Table.{Libraries, library_at}
 
--- what a line did: memory was refused to reading one that may want it, or it was answered
+-- the effect of a line: reading it ran out of memory, or it was answered
 abbrev Did : (ℕ → State) → List ℕ → List ℕ → (ℕ → State) → Type 0
-Did old line written new = (MayWant (Some line) × (written ≡ reply_line (no_memory 0)) × AllStay old new) ⊎ Said old (ask line) written new
+Did old line written new = (MayWant (Some line) × (written ≡ reply_line (no_memory 0)) × AllStay old new) ⊎ Reacts old (ask line) written new
 
--- a line that is too long to be stored asks what its place does
+-- a line that is too long to be stored is refused like its placeholder
 did_stored : (old new : ℕ → State) (line written : List ℕ) → LineSteps old (stored_line line) written new → Did old line written new
 did_stored old new line written = by_length (leb (length line) 1048576) refl
   where
@@ -36,17 +36,17 @@ did_stored old new line written = by_length (leb (length line) 1048576) refl
     none e (inl never) = absurd never.0
     none e (inr said) =
         let long = leb-false (length line) 1048576 e in
-        inr (subst (λ (r : Result (ℕ × Request) (ℕ × Fault)). Said old r written new) (sym (ask-long line (omega (arith, long)))) said)
+        inr (subst (λ (r : Result (ℕ × Request) (ℕ × Fault)). Reacts old r written new) (sym (ask-long line (omega (arith, long)))) said)
 
     by_length : (t : Bool) → leb (length line) 1048576 ≡ t → LineSteps old (stored_line line) written new → Did old line written new
     by_length true e h = let here : LineSteps old (Some line) written new = rw e at h in here
     by_length false e h = let gone : LineSteps old None written new = rw e at h in none e gone
 
--- each library is its own run after the history
+-- each library is that of its own run after the history
 abbrev Holds : (ℕ → State) → List Call → (ℕ → State) → Type 0
 Holds start calls now = (s : ℕ) → now s ≡ own_state start calls s
 
--- the step in a library that is its own run
+-- the step in a library of an own run
 own_step : (start now : ℕ → State) (calls : List Call) (s : ℕ) (request : Request) → Holds start calls now → step (now s) request (found_in now request) ≡ step (own_state start calls s) request (found_in (own_state start calls) request)
 own_step start now calls s request held =
     ap (λ (l : State). step l request (found_in now request)) (held s) ∙ ap (step (own_state start calls s) request) (found_same now (own_state start calls) request held)
@@ -63,7 +63,7 @@ granted_holds start old new calls s request reply held st m q true t =
     ap new (sym same) ∙ m.1 ∙ ap (λ (o : Outcome). o.state) (own_step start old calls s request held) in
     rw t (here ∙ ap (λ (x : ℕ). (step (own_state start calls x) request (found_in (own_state start calls) request)).state) same)
 
--- memory was refused to a call: all libraries stay
+-- a call ran out of memory: all libraries are unchanged
 refused_stays : (old new : ℕ → State) (s : ℕ) (request : Request) (reply : Reply) → Steps old s request reply new → IsRefused old s reply new → (q : ℕ) (t : Bool) → eqb s q ≡ t → new q ≡ old q
 refused_stays old new s request reply st m q true t =
     let same : s ≡ q = grind (arith, nat_tests, t) in
@@ -73,7 +73,7 @@ refused_stays old new s request reply st m q false t =
     let other : q ≢ s = λ e. let hit : eqb s s ≡ false = subst (λ (x : ℕ). eqb s x ≡ false) e t in grind (arith, nat_tests, hit) in
     st.others q other
 
--- a line's mark, what was written for it, and that the libraries are the own runs after it
+-- the mark of a line, its output, and that the libraries are those of own runs after it
 record Done (start : ℕ → State) (calls : List Call) (line : List ℕ) (said : Result (ℕ × Request) (ℕ × Fault)) (written : List ℕ) (new : ℕ → State) : Type 0 where
   pub mark : Mark
   pub marked : IsMarked (own_state start calls) line said mark
@@ -104,7 +104,7 @@ request_done start old new calls line s request reply written held w st (inl gra
 request_done start old new calls line s request reply written held w st (inr may) (inl granted) = granted_done start old new calls line s request reply written held w st granted
 request_done start old new calls line s request reply written held w st (inr may) (inr m) = refused_done start old new calls line s request reply written held w st may m
 
-said_done : (start old new : ℕ → State) (calls : List Call) (line : List ℕ) (said : Result (ℕ × Request) (ℕ × Fault)) (written : List ℕ) → Holds start calls old → Said old said written new → Done start calls line said written new
+said_done : (start old new : ℕ → State) (calls : List Call) (line : List ℕ) (said : Result (ℕ × Request) (ℕ × Fault)) (written : List ℕ) → Holds start calls old → Reacts old said written new → Done start calls line said written new
 said_done start old new calls line (Err refusal) written held told = record { mark = answered; marked = tt; wrote = told.0; holds = λ q. told.1 q ∙ held q }
 said_done start old new calls line (Ok said) written held told = request_done start old new calls line said.0 said.1 told.0 written held told.1 told.2 told.3 told.2.own
 
@@ -112,7 +112,7 @@ line_done : (start old new : ℕ → State) (calls : List Call) (line : List ℕ
 line_done start old new calls line written held (inl none) = record { mark = unread; marked = none.0; wrote = none.1; holds = λ q. none.2 q ∙ held q }
 line_done start old new calls line written held (inr told) = said_done start old new calls line (ask line) written held told
 
--- after a history, the same for all that follows
+-- the same for all lines that follow a history
 record RunsOn (start : ℕ → State) (calls : List Call) (lines replies : List (List ℕ)) (new : ℕ → State) : Type 0 where
   pub marks : List Mark
   pub marked : AreMarked start calls lines marks

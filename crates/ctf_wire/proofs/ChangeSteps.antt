@@ -12,7 +12,7 @@ use Rattle.ctf_wire.specs.Memory.{IsGrantedUnless}
 abbrev library_of : List Slot → ℕ → List ℕ → Option (List ℕ) → Option (List ℕ) → List Publication → State
 library_of slots next ctf symbols strings published = record { slots = slots; next = next; stage = record { ctf = ctf; sym = symbols; strs = strings }; published = published }
 
--- a library holds nothing, or something
+-- a library is empty or not
 abbrev IsEmptyOrNot : State → Type 0
 IsEmptyOrNot library = (library ≡ empty_state) ⊎ (library ≢ empty_state)
 
@@ -26,7 +26,7 @@ is_empty [] (suc zero) [] None (Some strings) published = inr (λ e. let clash :
 is_empty [] (suc zero) [] None None (p ∷ published) = inr (λ e. let clash : p ∷ published ≡ [] = ap (λ (l : State). l.published) e in cc)
 is_empty [] (suc zero) [] None None [] = inl refl
 
--- a change is granted, or it is one that may need memory
+-- a change is granted, or may need memory
 pub change_granted : (old : ℕ → State) (s : ℕ) (change : Change) (reply : Reply) (new : ℕ → State)
     → (is_quiet_change change ≡ true → old s ≢ empty_state → IsGranted old s (Changes change) reply new) → IsGrantedUnless old s (Changes change) reply new
 change_granted old s change reply new quiet = by_word (is_quiet_change change) refl

@@ -1,4 +1,4 @@
--- How lines come about as pieces of the input come.
+-- The division of the input into lines as it arrives in pieces.
 use Rattle.std.proofs.Common.{◌≡◌, ℕ, zero, suc, ◌+◌, ◌-◌, ◌<◌, ◌≤◌, List, [], ◌∷◌, ◌++◌, length, take, drop, true, false, eqb, refl, ◌∙◌, ap, sym, arith, append_assoc, add-one, drop-cons}
 use Rattle.std.proofs.lemmas.List.{take_rest, take-append-drop}
 use Rattle.std.proofs.Math.Seq.{take-add}
@@ -8,7 +8,7 @@ use Rattle.memchr.specs.Find.{Nowhere, Passes, is_byte}
 use Rattle.ctf_protocol.specs.lines.Lines.{onto_first, onto_last, whole_lines, last_piece}
 use Rattle.ctf_wire.specs.Served.{BeginsWith}
 
--- no newline stands before place n
+-- no newline is before offset `n`
 pub whole_lines-before : (bs : List ℕ) (n : ℕ) → Nowhere (Passes (is_byte 10) bs) 0 n → whole_lines (take n bs) ≡ []
 whole_lines-before bs zero h = refl
 whole_lines-before [] (suc n) h = refl
@@ -16,7 +16,7 @@ whole_lines-before (b ∷ bs) (suc n) h =
     let other : eqb b 10 ≡ false = let first = h 0 (omega arith) (omega arith) in grind (arith, nat_tests, first) in
     rw (other, whole_lines-before bs n (λ k low high. h (suc k) (omega arith) (omega arith))) refl
 
--- the next n bytes after the first at
+-- the next `n` bytes after the first `at`
 pub take-next : (at n : ℕ) (bs : List ℕ) → take (at + n) bs ≡ take at bs ++ take n (take (length bs - at) (drop at bs))
 take-next at n bs =
     let rest : take (length bs - at) (drop at bs) ≡ drop at bs = take_rest bs at in
@@ -35,7 +35,7 @@ length-front zero xs = omega arith
 length-front (suc n) [] = omega arith
 length-front (suc n) (x ∷ xs) = let h = length-front n xs in omega (arith, h)
 
--- bytes about their item k
+-- bytes around their item `k`
 pub bytes-about : (bs : List ℕ) (k : ℕ) → k < length bs → slice_index bs k ≡ 10 → bs ≡ take k bs ++ 10 ∷ take (length bs - (k + 1)) (drop (k + 1) bs)
 bytes-about bs k h is =
     let rest : drop k bs ≡ 10 ∷ drop (k + 1) bs = rw add-one (drop-cons bs k 0 h ∙ ap (λ b. b ∷ drop (suc k) bs) is) in
@@ -57,7 +57,7 @@ onto_last-after : (b : ℕ) (lines : List (List ℕ)) (piece : List ℕ) → ont
 onto_last-after b [] piece = refl
 onto_last-after b (line ∷ lines) piece = refl
 
--- what is done grows by a piece and its newline
+-- the finished part grows by a piece and its newline
 pub regrouped : (all done rest piece after : List ℕ) → all ≡ done ++ rest → rest ≡ piece ++ 10 ∷ after → all ≡ (done ++ (piece ++ 10 ∷ [])) ++ after
 regrouped all done rest piece after whole split = whole ∙ ap (λ bs. done ++ bs) split ∙ sym (append_assoc done (piece ++ 10 ∷ []) after ∙ ap (λ bs. done ++ bs) (append_assoc piece (10 ∷ []) after))
 
@@ -76,7 +76,7 @@ last_piece-newline (b ∷ bs) = elim (eqb b 10) as (λ t. (if t then last_piece 
   | false ↦ rw (whole_lines-newline bs, last_piece-newline bs) (onto_last-after b (whole_lines bs) (last_piece bs))
 ]
 
--- a piece without newline ends no line
+-- a piece without a newline ends no line
 pub whole_lines-piece : (bs piece : List ℕ) → whole_lines piece ≡ [] → whole_lines (bs ++ piece) ≡ whole_lines bs
 whole_lines-piece [] piece h = h
 whole_lines-piece (b ∷ bs) piece h = rw (whole_lines-piece bs piece h) refl
@@ -88,7 +88,7 @@ last_piece-whole (b ∷ bs) h = (elim (eqb b 10) as (λ t. (if t then [] ∷ who
   | false ↦ λ e. rw (onto_first-nil b (whole_lines bs) e, last_piece-whole bs (onto_first-nil b (whole_lines bs) e)) refl
 ]) h
 
--- it joins the last piece
+-- it extends the last piece
 pub last_piece-piece : (bs piece : List ℕ) → whole_lines piece ≡ [] → last_piece (bs ++ piece) ≡ last_piece bs ++ piece
 last_piece-piece [] piece h = last_piece-whole piece h
 last_piece-piece (b ∷ bs) piece h = rw (whole_lines-piece bs piece h, last_piece-piece bs piece h) (elim (eqb b 10) as (λ t. (if t then last_piece bs ++ piece else onto_last b (whole_lines bs) (last_piece bs ++ piece)) ≡ (if t then last_piece bs else onto_last b (whole_lines bs) (last_piece bs)) ++ piece) [
@@ -96,7 +96,7 @@ last_piece-piece (b ∷ bs) piece h = rw (whole_lines-piece bs piece h, last_pie
   | false ↦ onto_last-more b (whole_lines bs) (last_piece bs) piece
 ])
 
--- a piece and a newline end a line
+-- a piece with a newline ends a line
 pub whole_lines-line : (bs piece : List ℕ) → whole_lines piece ≡ [] → whole_lines (bs ++ (piece ++ 10 ∷ [])) ≡ whole_lines bs ++ (last_piece bs ++ piece) ∷ []
 whole_lines-line bs piece h =
     ap whole_lines (sym (append_assoc bs piece (10 ∷ []))) ∙ whole_lines-newline (bs ++ piece)
@@ -106,7 +106,7 @@ whole_lines-line bs piece h =
 pub last_piece-line : (bs piece : List ℕ) → last_piece (bs ++ (piece ++ 10 ∷ [])) ≡ []
 last_piece-line bs piece = ap last_piece (sym (append_assoc bs piece (10 ∷ []))) ∙ last_piece-newline (bs ++ piece)
 
--- what is whole stays whole
+-- complete lines stay complete
 onto_first-front : (b : ℕ) (lines more : List (List ℕ)) → BeginsWith more lines → BeginsWith (onto_first b more) (onto_first b lines)
 onto_first-front b [] more h = (onto_first b more, refl)
 onto_first-front b (line ∷ lines) more h = (h.0, ap (onto_first b) h.1)

@@ -1,4 +1,4 @@
--- What pushes and flushes add up to.
+-- Sequences of pushes and flushes.
 use Rattle.std.proofs.Common.{◌≡◌, ℕ, List, [], ◌∷◌, ◌++◌, Option, Some, None, refl, ◌∙◌, ap, append_assoc, append-nil}
 use Rattle.ctf_wire.specs.Flushes.{Flushes, and_waits, ended_piece, deliver, after_pieces}
 
@@ -10,12 +10,12 @@ pub and_waits-more : (known : Option Flushes) (bs more : List ℕ) → and_waits
 and_waits-more None bs more = refl
 and_waits-more (Some f) bs more = ap (λ w. Some (record { pieces = f.pieces; waiting = w })) (append_assoc f.waiting bs more)
 
--- a piece was pushed, and then flushed
+-- a piece was pushed and then flushed
 pub piece_ended : (known : Option Flushes) (piece : List ℕ) → ended_piece (and_waits known piece) ≡ after_pieces known (piece ∷ []) []
 piece_ended None piece = refl
 piece_ended (Some f) piece = refl
 
--- a front was pushed
+-- a prefix was pushed
 pub front_waits : (known : Option Flushes) (front : List ℕ) → and_waits known front ≡ after_pieces known [] front
 front_waits None front = refl
 front_waits (Some f) front = refl

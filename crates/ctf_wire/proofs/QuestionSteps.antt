@@ -1,4 +1,4 @@
--- A question of a session among the libraries of all, whose reply has a number of its own.
+-- A question of a session among all libraries, with a reply that carries its own number.
 use Rattle.std.proofs.Common.{◌≡◌, ◌<◌, ℕ, List, length, Bool, true, false, Result, refl, ap, subst, ◌⊎◌, inl, inr}
 use Rattle.std.specs.Prelude.{Vec}
 use Rattle.std.specs.declared.alloc.Global.{Global}
@@ -22,7 +22,7 @@ reply_to s outcome = record { session = s; outcome = outcome }
 stays : (old : ℕ → State) (s : ℕ) (request : Request) (reply : Reply) → IsGranted old s request reply old ⊎ IsRefused old s reply old → Steps old s request reply old
 stays old s request reply own = record { own = own; others = λ other ne. refl }
 
--- the line of the answer was written, or one that says that memory for it was refused
+-- the line of the answer was written, or that of out of memory
 abbrev Wrote : ℕ → Result Answer Fault → Vec ℕ Global → Vec ℕ Global → Type 0
 Wrote own result before after =
     Replies before (reply_line (reply_to own result)) after
@@ -32,7 +32,7 @@ abbrev pub Happened : (ℕ → State) → ℕ → ℕ → Request → Vec ℕ Gl
 Happened old s own request before after =
     (written : List ℕ) × AnswersAs old s own request written old × Replies before written after
 
--- a text was to be made: memory may be refused to it
+-- a text is to be made, which may run out of memory
 text_step : (old : ℕ → State) (s own d : ℕ) (q : Question) (result : Result Answer Fault) (before after : Vec ℕ Global) → makes_text q ≡ true → MayAnswer (answer_to d q (old s)) result → Wrote own result before after
     → Happened old s own (Asks d q) before after
 text_step old s own d q result before after made may (inr line) =
@@ -42,7 +42,7 @@ text_step old s own d q result before after made (inl said) (inl line) =
 text_step old s own d q result before after made (inr none) (inl line) =
     (reply_line (reply_to own result), record { reply = reply_to s result; said = refl; steps = stays old s (Asks d q) (reply_to s result) (inr (ap (reply_to s) none, refl)); granted = inr (inl made) }, line)
 
--- the answer is lent: memory may be refused to a long reply alone
+-- the answer is lent; only a long reply may run out of memory
 lent_step : (old : ℕ → State) (s own d : ℕ) (q : Question) (result : Result Answer Fault) (before after : Vec ℕ Global) → result ≡ answer_to d q (old s) → Wrote own result before after → Happened old s own (Asks d q) before after
 lent_step old s own d q result before after said (inl line) =
     let granted : IsGranted old s (Asks d q) (reply_to s result) old = (ap (reply_to s) said, refl) in

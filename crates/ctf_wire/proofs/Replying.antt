@@ -1,4 +1,4 @@
--- What one more line adds to what was served.
+-- The effect of one more line on what was served.
 use Rattle.std.proofs.Common.{◌≡◌, ◌≢◌, ℕ, ◌+◌, ◌≤◌, leb, length, List, [], ◌∷◌, ◌++◌, map, Bool, true, false, Option, Some, None, refl, ◌∙◌, ap, sym, subst, arith, append_assoc, append-nil, ◌⊎◌, inl, inr}
 use Rattle.std.specs.Prelude.{if◌then◌else◌}
 use Rattle.std.specs.List.{concat}
@@ -35,7 +35,7 @@ Answers-length {S} Step old new [] (r ∷ replies) a = absurd a
 Answers-length {S} Step old new (l ∷ lines) [] a = absurd a
 Answers-length {S} Step old new (l ∷ lines) (r ∷ replies) a = let same = Answers-length Step a.0 new lines replies a.2 in omega (arith, same)
 
--- ---- what is sent
+-- ---- sent replies
 
 -- one more group
 all_of-push : (groups : List (List (List ℕ))) (group : List (List ℕ)) → all_of (groups ++ group ∷ []) ≡ all_of groups ++ group
@@ -48,7 +48,7 @@ AreFilled-push [] (r ∷ group) all some = tt
 AreFilled-push ([] ∷ groups) group all some = absurd all
 AreFilled-push ((r ∷ g) ∷ groups) group all some = AreFilled-push groups group all some
 
--- replies were sent, and then those that waited
+-- replies were sent, then the waiting ones
 Sent-more : (a b c : Pushed) (replies waiting : List (List ℕ)) (bytes : List ℕ) → Sent a replies b → waiting ≢ [] → bytes ≡ concat waiting → SentPiece b bytes c → Sent a (replies ++ waiting) c
 Sent-more a b c replies waiting bytes p some e q =
     let P : List ℕ → Type 0 = λ bs. Appends a.contents c.contents bs in
@@ -63,7 +63,7 @@ Sent-more a b c replies waiting bytes p some e q =
       well = q.well ∙ p.well;
     }
 
--- replies were sent, and then a front of those that waited
+-- replies were sent, then a prefix of the waiting ones
 Sent-front : (a b c : Pushed) (replies waiting : List (List ℕ)) (bytes : List ℕ) → Sent a replies b → bytes ≡ concat waiting → SentPart b bytes c → SentFront a replies waiting c
 Sent-front a b c replies waiting bytes p e q =
     record {
@@ -78,9 +78,9 @@ Sent-front a b c replies waiting bytes p e q =
       broke = q.broke;
     }
 
--- ---- lines whose replies wait
+-- ---- lines with waiting replies
 
--- none waits
+-- no reply waits
 Gathered-of : {S : Type 0} (Step : S → Option (List ℕ) → List ℕ → S → Type 0) (start machine : S) (lines : List (List ℕ)) (batch : Batch) (a b : Pushed)
     → batch.bytes.items ≡ [] → batch.waits ≡ false → Serves Step start lines machine a b → Gathered Step start (length lines) lines machine batch a b
 Gathered-of {S} Step start machine lines batch a b empty quiet s =
@@ -100,7 +100,7 @@ not_nil : (waiting : List (List ℕ)) (reply : List ℕ) → waiting ++ reply �
 not_nil [] reply = λ e. cc
 not_nil (w ∷ waiting) reply = λ e. cc
 
--- one more waits
+-- one more reply waits
 Gathered-push : {S : Type 0} (Step : S → Option (List ℕ) → List ℕ → S → Type 0) (start mid new : S) (sure : ℕ) (lines : List (List ℕ)) (line reply : List ℕ) (batch batch_new : Batch) (a b : Pushed)
     → Gathered Step start sure lines mid batch a b → Step mid (stored_line line) reply new → batch_new.bytes.items ≡ batch.bytes.items ++ reply → batch_new.waits ≡ true
     → Gathered Step start sure (lines ++ line ∷ []) new batch_new a b
@@ -117,7 +117,7 @@ Gathered-push {S} Step start mid new sure lines line reply batch batch_new a b g
       some = λ e. not_nil g.waiting reply;
     }
 
--- those that wait are sent
+-- the waiting replies are sent
 Gathered-sent : {S : Type 0} (Step : S → Option (List ℕ) → List ℕ → S → Type 0) (start machine : S) (sure : ℕ) (lines : List (List ℕ)) (batch : Batch) (a b c : Pushed)
     → Gathered Step start sure lines machine batch a b → batch.waits ≡ true → SentPiece b batch.bytes.items c → Serves Step start lines machine a c
 Gathered-sent {S} Step start machine sure lines batch a b c g waits sent = record {
@@ -126,7 +126,7 @@ Gathered-sent {S} Step start machine sure lines batch a b c g waits sent = recor
   sent = Sent-more a b c g.replies g.waiting batch.bytes.items g.sent (g.some waits) g.gathered sent;
 }
 
--- only a front of them is sent
+-- only a prefix of them is sent
 Gathered-cut : {S : Type 0} (Step : S → Option (List ℕ) → List ℕ → S → Type 0) (start machine : S) (sure : ℕ) (lines : List (List ℕ)) (batch : Batch) (a b c : Pushed)
     → Gathered Step start sure lines machine batch a b → SentPart b batch.bytes.items c → BrokenOff Step start sure lines machine a c
 Gathered-cut {S} Step start machine sure lines batch a b c g sent = record {
@@ -139,7 +139,7 @@ Gathered-cut {S} Step start machine sure lines batch a b c g sent = record {
   sent = Sent-front a b c g.replies g.waiting batch.bytes.items g.sent g.gathered sent;
 }
 
--- what has bytes has replies
+-- non-empty bytes contain a reply
 has_some : (waiting : List (List ℕ)) (bytes : List ℕ) → bytes ≡ concat waiting → 65536 ≤ length bytes → waiting ≢ []
 has_some waiting bytes e long none =
     let short : length bytes ≡ 0 = ap length (e ∙ ap concat none) in
@@ -165,7 +165,7 @@ Gathered-room {S} Step start machine sure lines batch batch_new a b c g (inr sen
       some = λ e. let clash : false ≡ true = sym sent.1 ∙ e in absurd cc;
     }
 
--- nothing waits any more
+-- no reply waits any more
 Gathered-flushed : {S : Type 0} (Step : S → Option (List ℕ) → List ℕ → S → Type 0) (start machine : S) (sure : ℕ) (lines : List (List ℕ)) (batch : Batch) (a b c : Pushed)
     → Gathered Step start sure lines machine batch a b → FlushesBatch batch b true c → Serves Step start lines machine a c
 Gathered-flushed {S} Step start machine sure lines batch a b c g (inr sent) = Gathered-sent Step start machine sure lines batch a b c g sent.0 sent.1
@@ -178,7 +178,7 @@ Gathered-flushed {S} Step start machine sure lines batch a b c g (inl same) =
       sent = subst Q (sym same.1) g.sent;
     }
 
--- a line before the end is a line of all
+-- a line among the first ones is a line of all
 BrokenOff-more : {S : Type 0} (Step : S → Option (List ℕ) → List ℕ → S → Type 0) (start new : S) (sure : ℕ) (lines all : List (List ℕ)) (a c : Pushed)
     → BeginsWith all lines → BrokenOff Step start sure lines new a c → BrokenOff Step start sure all new a c
 BrokenOff-more {S} Step start new sure lines all a c more b = record {
@@ -193,13 +193,13 @@ BrokenOff-more {S} Step start new sure lines all a c more b = record {
 
 -- ---- pieces
 
--- no bytes came
+-- no bytes arrived
 pub Feeds-none : {S : Type 0} (Step : S → Option (List ℕ) → List ℕ → S → Type 0) (machine : S) (held : Option (List ℕ)) (batch : Batch) (sink : Pushed) → Feeds Step machine held batch sink [] true machine held batch sink
 Feeds-none {S} Step machine held batch sink = λ start a sure read s.
     let P : List ℕ → Type 0 = λ bs. Gathers Step start a sure bs machine held batch sink in
     subst P (sym (append-nil read)) s
 
--- a piece without newline came
+-- a piece without a newline arrived
 pub Feeds-piece : {S : Type 0} (Step : S → Option (List ℕ) → List ℕ → S → Type 0) (machine : S) (held now : Option (List ℕ)) (batch : Batch) (sink : Pushed) (piece : List ℕ)
     → whole_lines piece ≡ [] → ((bs : List ℕ) → held ≡ stored_line bs → now ≡ stored_line (bs ++ piece)) → Feeds Step machine held batch sink piece true machine now batch sink
 Feeds-piece {S} Step machine held now batch sink piece none joined = λ start a sure read s.
@@ -209,7 +209,7 @@ Feeds-piece {S} Step machine held now batch sink piece none joined = λ start a 
       holds = joined (last_piece read) s.holds ∙ ap stored_line (sym (last_piece-piece read piece none));
     }
 
--- a line that is no longer than may be stored, behind nothing
+-- a line that is short enough to be stored, after an empty piece
 pub whole_joins : (piece : List ℕ) → length piece ≤ longest_line → (bs : List ℕ) → Some [] ≡ stored_line bs → Some piece ≡ stored_line (bs ++ piece)
 whole_joins piece short [] e = rw (le-leb (length piece) longest_line short) refl
 whole_joins piece short (b ∷ bs) e = absurd (no (leb (length (b ∷ bs)) longest_line) e)
@@ -218,7 +218,7 @@ whole_joins piece short (b ∷ bs) e = absurd (no (leb (length (b ∷ bs)) longe
     no true h = cc
     no false h = cc
 
--- a piece and a newline came, and the line that they end is answered
+-- a piece with a newline arrived, and the line is answered
 pub Feeds-line : {S : Type 0} (Step : S → Option (List ℕ) → List ℕ → S → Type 0) (old new : S) (held joined now : Option (List ℕ)) (batch roomy batch_new : Batch) (b c : Pushed) (piece reply : List ℕ)
     → whole_lines piece ≡ [] → ((bs : List ℕ) → held ≡ stored_line bs → joined ≡ stored_line (bs ++ piece)) → MakesRoom batch b true roomy c
     → Step old joined reply new → batch_new.bytes.items ≡ roomy.bytes.items ++ reply → batch_new.waits ≡ true → now ≡ Some []
@@ -232,13 +232,13 @@ Feeds-line {S} Step old new held joined now batch roomy batch_new b c piece repl
       holds = cleared ∙ ap stored_line (sym (last_piece-line read piece));
     }
 
--- what waited before they came could not be sent
+-- the replies that waited before could not be sent
 pub Feeds-cut : {S : Type 0} (Step : S → Option (List ℕ) → List ℕ → S → Type 0) (old : S) (held now : Option (List ℕ)) (batch batch_new : Batch) (b c : Pushed) (bytes : List ℕ)
     → SentPart b batch.bytes.items c → Feeds Step old held batch b bytes false old now batch_new c
 Feeds-cut {S} Step old held now batch batch_new b c bytes sent = λ start a sure read s.
     BrokenOff-more Step start old sure (whole_lines read) (whole_lines (read ++ bytes)) a c (whole_lines-front read bytes) (Gathered-cut Step start old sure (whole_lines read) batch a b c s.lines sent)
 
--- more came behind what came
+-- more bytes arrived
 pub Feeds-more : {S : Type 0} (Step : S → Option (List ℕ) → List ℕ → S → Type 0) (old mid new : S) (held between now : Option (List ℕ)) (x y z : Batch) (b c d : Pushed) (bytes more : List ℕ) (done : Bool)
     → Feeds Step old held x b bytes true mid between y c → Feeds Step mid between y c more done new now z d → Feeds Step old held x b (bytes ++ more) done new now z d
 Feeds-more {S} Step old mid new held between now x y z b c d bytes more true p q = λ start a sure read s.
@@ -248,7 +248,7 @@ Feeds-more {S} Step old mid new held between now x y z b c d bytes more false p 
     let P : List ℕ → Type 0 = λ bs. BrokenOff Step start sure (whole_lines bs) new a d in
     subst P (append_assoc read bytes more) (q start a sure (read ++ bytes) (p start a sure read s))
 
--- what broke off stays so, whatever would have come
+-- once the sink failed, later bytes do not matter
 pub Feeds-broken : {S : Type 0} (Step : S → Option (List ℕ) → List ℕ → S → Type 0) (old new : S) (held now later : Option (List ℕ)) (x y z : Batch) (b c : Pushed) (bytes more : List ℕ)
     → Feeds Step old held x b bytes false new now y c → Feeds Step old held x b (bytes ++ more) false new later z c
 Feeds-broken {S} Step old new held now later x y z b c bytes more p = λ start a sure read s.
@@ -264,7 +264,7 @@ Gathers-of {S} Step start machine a b read held batch empty quiet s = record {
   holds = s.holds;
 }
 
--- all of it was fed, and nothing waits any more
+-- all of it was processed, and no reply waits any more
 TakesIn-flushed : {S : Type 0} (Step : S → Option (List ℕ) → List ℕ → S → Type 0) (old new : S) (held now : Option (List ℕ)) (x y : Batch) (b c d : Pushed) (bytes : List ℕ)
     → x.bytes.items ≡ [] → x.waits ≡ false → Feeds Step old held x b bytes true new now y c → FlushesBatch y c true d → TakesIn Step old held b bytes true new now d
 TakesIn-flushed {S} Step old new held now x y b c d bytes empty quiet fed flushed = λ start a read s.
@@ -274,7 +274,7 @@ TakesIn-flushed {S} Step old new held now x y b c d bytes empty quiet fed flushe
       holds = g.holds;
     }
 
--- all of it was fed, and then the sink failed
+-- all of it was processed, and then the sink failed
 TakesIn-cut : {S : Type 0} (Step : S → Option (List ℕ) → List ℕ → S → Type 0) (old new : S) (held now : Option (List ℕ)) (x y : Batch) (b c d : Pushed) (bytes : List ℕ)
     → x.bytes.items ≡ [] → x.waits ≡ false → Feeds Step old held x b bytes true new now y c → FlushesBatch y c false d → TakesIn Step old held b bytes false new now d
 TakesIn-cut {S} Step old new held now x y b c d bytes empty quiet fed cut = λ start a read s.
@@ -286,7 +286,7 @@ pub TakesIn-done : {S : Type 0} (Step : S → Option (List ℕ) → List ℕ →
 TakesIn-done {S} Step old new held now x y b c d bytes true empty quiet fed flushed = TakesIn-flushed Step old new held now x y b c d bytes empty quiet fed flushed
 TakesIn-done {S} Step old new held now x y b c d bytes false empty quiet fed cut = TakesIn-cut Step old new held now x y b c d bytes empty quiet fed cut
 
--- the sink failed before all was fed
+-- the sink failed before all was processed
 pub TakesIn-broken : {S : Type 0} (Step : S → Option (List ℕ) → List ℕ → S → Type 0) (old new : S) (held now : Option (List ℕ)) (x y : Batch) (b c : Pushed) (bytes : List ℕ)
     → x.bytes.items ≡ [] → x.waits ≡ false → Feeds Step old held x b bytes false new now y c → TakesIn Step old held b bytes false new now c
 TakesIn-broken {S} Step old new held now x y b c bytes empty quiet fed = λ start a read s.
@@ -298,11 +298,11 @@ some-held : (piece : List ℕ) → stored_line piece ≢ Some [] → piece ∷ [
 some-held [] h = absurd (h refl)
 some-held (b ∷ bs) h = refl
 
--- a last piece is held
+-- an unfinished piece is stored
 all_lines-last : (read : List ℕ) → stored_line (last_piece read) ≢ Some [] → whole_lines read ++ last_piece read ∷ [] ≡ all_lines read
 all_lines-last read h = ap (λ lines. whole_lines read ++ lines) (some-held (last_piece read) h)
 
--- the last piece is answered, and the reply waits
+-- the last piece is answered, and its reply waits
 Finishes-gathered : {S : Type 0} (Step : S → Option (List ℕ) → List ℕ → S → Type 0) (start old new : S) (held : Option (List ℕ)) (x y : Batch) (a b : Pushed) (read reply : List ℕ)
     → held ≢ Some [] → x.bytes.items ≡ [] → x.waits ≡ false → Step old held reply new → y.bytes.items ≡ x.bytes.items ++ reply → y.waits ≡ true → Stands Step start a read old held b
     → Gathered Step start (length (whole_lines read)) (all_lines read) new y a b
@@ -312,7 +312,7 @@ Finishes-gathered {S} Step start old new held x y a b read reply some empty quie
     subst Q (all_lines-last read (λ e. some (s.holds ∙ e)))
     (Gathered-push Step start old new (length (whole_lines read)) (whole_lines read) (last_piece read) reply x y a b (Gathered-of Step start old (whole_lines read) x a b empty quiet s.served) (subst P s.holds step) grown waits)
 
--- the reply is sent, or a front of it
+-- the reply is sent, or a prefix of it
 pub Finishes-line : {S : Type 0} (Step : S → Option (List ℕ) → List ℕ → S → Type 0) (old new : S) (held : Option (List ℕ)) (x y : Batch) (b c : Pushed) (reply : List ℕ) (done : Bool)
     → held ≢ Some [] → x.bytes.items ≡ [] → x.waits ≡ false → Step old held reply new → y.bytes.items ≡ x.bytes.items ++ reply → y.waits ≡ true → FlushesBatch y b done c → Finishes Step old held b done new c
 Finishes-line {S} Step old new held x y b c reply true some empty quiet step grown waits flushed = λ start a read s.

@@ -1,4 +1,4 @@
--- What the engine did for a broker, said of each session's own run.
+-- The engine's effect for a broker, in terms of each session's own run.
 use Rattle.std.proofs.Common.{ℕ, List, Bool, true, false, Result, Ok, Err}
 use Rattle.ctf_wire.proofs.Alone.{serves_alone}
 use Rattle.ctf_wire.specs.Endings.{EndsBy, ReadsAll, ReadsSome, Breaks}
@@ -27,7 +27,7 @@ breaks_off old new before after sure lines b = record {
   sent = b.sent;
 }
 
--- ---- what is said of lines may be said in other words
+-- ---- restating facts about lines
 
 all_by : (P Q : List (List ℕ) → Type 0) → ((lines : List (List ℕ)) → P lines → Q lines) → (old new : Pulled) (sink : Pushed) → ReadsAll P old new sink → ReadsAll Q old new sink
 all_by P Q f old new sink r = record { read = r.read; pulled = r.pulled; consumed = r.consumed; at_end = r.at_end; served = f _ r.served; ended = r.ended; sound = r.sound; well = r.well }

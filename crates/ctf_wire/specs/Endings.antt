@@ -1,4 +1,4 @@
--- How a run over a source and a sink begins and ends. Source: ours.
+-- The start and end of a run over a source and a sink. Source: ours.
 use Rattle.std.specs.Prelude.{◌≡◌, ℕ, ◌+◌, ◌<◌, ◌≤◌, ◌^◌, ◌++◌, List, length, Bool, true, false, Result, Ok, Err, if◌then◌else◌}
 use Rattle.std.specs.Io.KnownBytes.{Consumes, IsAtEnd}
 use Rattle.ctf_protocol.specs.lines.Lines.{all_lines, whole_lines}
@@ -6,23 +6,23 @@ use Rattle.ctf_wire.specs.Streams.{Pulled, Pushed}
 use Rattle.ctf_wire.specs.declared.run_faults.RunFault.{RunFault}
 use Rattle.ctf_wire.specs.declared.run_faults.RunFault.TheVariants as fault
 
--- no mark is set, and so many pulls can be counted
+-- neither the end nor a failure was met, and `reads` more pulls can be counted
 pub record IsReady (source : Pulled) (sink : Pushed) (reads : ℕ) : Type 0 where
   pub count : source.pulls + reads < 2 ^ 64
   pub unended : source.ended ≡ false
   pub sound : source.failed ≡ false
   pub writable : sink.failed ≡ false
 
--- no more pulls than allowed were made
+-- at most `reads` pulls were made
 pub record PullsAtMost (reads : ℕ) (old new : Pulled) : Type 0 where
   pub least : old.pulls ≤ new.pulls
   pub most : new.pulls ≤ old.pulls + reads
 
--- the lines to answer: a last piece is a line only where the end was met
+-- the lines to answer; an unfinished last piece is a line only at the end of the input
 abbrev pub lines_read : Bool → List ℕ → List (List ℕ)
 lines_read ended bs = if ended then all_lines bs else whole_lines bs
 
--- all that there was is read, and each line is served
+-- all input is read, and each line is served
 pub record ReadsAll (Served : List (List ℕ) → Type 0) (old new : Pulled)
     (sink : Pushed) : Type 0 where
   pub read : List ℕ
@@ -34,7 +34,8 @@ pub record ReadsAll (Served : List (List ℕ) → Type 0) (old new : Pulled)
   pub sound : new.failed ≡ false
   pub well : sink.failed ≡ false
 
--- the whole lines that were read are served, and a last piece is not; the reader failed or not
+-- the whole lines that were read are served, an unfinished last piece is not; the reader may have
+-- failed
 pub record ReadsSome (Served : List (List ℕ) → Type 0) (failed : Bool) (old new : Pulled)
     (sink : Pushed) : Type 0 where
   pub read : List ℕ
@@ -45,8 +46,8 @@ pub record ReadsSome (Served : List (List ℕ) → Type 0) (failed : Bool) (old 
   pub failing : new.failed ≡ failed
   pub well : sink.failed ≡ false
 
--- the replies to the lines that were read broke off, but not those to whole lines of the earlier
--- reads: what is missing answers lines of the last read
+-- the replies broke off. Those to lines of earlier reads are complete; only replies to lines of the
+-- last read are missing
 pub record Breaks (Broken : ℕ → List (List ℕ) → Type 0) (old new : Pulled)
     (sink : Pushed) : Type 0 where
   pub earlier : List ℕ
@@ -58,8 +59,8 @@ pub record Breaks (Broken : ℕ → List (List ℕ) → Type 0) (old new : Pulle
   pub sound : new.failed ≡ false
   pub broke : sink.failed ≡ true
 
--- how a run of at most so many reads ends, where lines may be served or broken off;
--- running out of memory is told elsewhere
+-- how a run of at most `reads` reads ends, with lines served or broken off; out of memory is
+-- covered elsewhere
 abbrev pub EndsBy : (List (List ℕ) → Type 0) → (ℕ → List (List ℕ) → Type 0) → ℕ → Pulled → Pulled
     → Pushed → Result (Unit {0}) RunFault → Type 0
 EndsBy Served Broken reads old new sink (Ok done) = ReadsAll Served old new sink

@@ -1,4 +1,4 @@
--- To which requests memory may be refused, once their lines were read. Source: ours.
+-- Requests that may run out of memory after their line was read. Source: ours.
 use Rattle.std.specs.Prelude.{◌≡◌, ◌<◌, ◌⊎◌, ℕ, length, true, false, Result, Ok, Err}
 use Rattle.ctf_library.specs.Telling.{makes_text}
 use Rattle.ctf_protocol.specs.answers.Answers.{Reply}
@@ -11,9 +11,9 @@ use Rattle.ctf_model.specs.declared.faults.Fault.{Fault}
 use Rattle.ctf_protocol.specs.declared.requests.Request.{Request}
 use Rattle.ctf_protocol.specs.declared.requests.Request.TheVariants.{Asks, Changes}
 
--- A request of a session with this library may need memory: a question whose answer is a text that
--- is made, or whose reply is longer than the room behind a batch; a change that is not one of those
--- which give something back, or any change of a session that holds nothing.
+-- A request of a session with this library may need memory: a question whose answer is a newly made
+-- text, or whose reply exceeds the room after a batch; a change, unless it only releases something,
+-- or any change of a session that holds nothing.
 abbrev pub MayNeedMemory : ℕ → State → Request → Type 0
 MayNeedMemory s library (Asks d question) =
     (makes_text question ≡ true)
@@ -24,12 +24,12 @@ MayNeedMemory s library (Asks d question) =
 MayNeedMemory s library (Changes change) =
     (is_quiet_change change ≡ false) ⊎ (library ≡ empty_state)
 
--- the same of a line: one that asks nothing needs none
+-- the same for a line; one without a request needs none
 abbrev pub MayRefuse : (ℕ → State) → Result (ℕ × Request) (ℕ × Fault) → Type 0
 MayRefuse libraries (Ok said) = MayNeedMemory said.0 (libraries said.0) said.1
 MayRefuse libraries (Err refusal) = ⊥
 
--- a request was granted, or it is one that may need memory
+-- the request was granted, or it may need memory
 abbrev pub IsGrantedUnless : (ℕ → State) → ℕ → Request → Reply → (ℕ → State) → Type 0
 IsGrantedUnless old s request reply new =
     IsGranted old s request reply new ⊎ MayNeedMemory s (old s) request

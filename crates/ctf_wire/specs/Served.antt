@@ -1,4 +1,4 @@
--- What a machine that answers lines was asked, and what of its replies came out. Source: ours.
+-- The lines given to a machine that answers them, and the replies that were output. Source: ours.
 use Rattle.std.specs.Prelude.{◌≡◌, ℕ, ◌≤◌, List, [], ◌∷◌, ◌++◌, length, map, Bool, true, false, Option}
 use Rattle.std.specs.List.{concat}
 use Rattle.std.specs.Io.KnownBytes.{Appends}
@@ -6,7 +6,7 @@ use Rattle.ctf_protocol.specs.lines.Lines.{stored_line}
 use Rattle.ctf_wire.specs.Flushes.{after_pieces}
 use Rattle.ctf_wire.specs.Streams.{Pushed}
 
--- from old, these lines have these replies, one for each, and leave new
+-- from state `old`, these lines have these replies, one each, and lead to state `new`
 abbrev pub Answers : {S : Type 0} → (S → Option (List ℕ) → List ℕ → S → Type 0) → S → List (List ℕ)
     → List (List ℕ) → S → Type 0
 Answers {S} Step old [] [] new = new ≡ old
@@ -15,17 +15,17 @@ Answers {S} Step old (line ∷ lines) [] new = ⊥
 Answers {S} Step old (line ∷ lines) (reply ∷ replies) new =
     (mid : S) × Step old (stored_line line) reply mid × Answers Step mid lines replies new
 
--- a list begins with these
+-- the list begins with `front`
 abbrev pub BeginsWith : {X : Type 0} → List X → List X → Type 0
 BeginsWith {X} xs front = (more : List X) × (xs ≡ front ++ more)
 
--- these bytes were pushed and then flushed, and nothing failed
+-- the bytes were pushed and then flushed, without a failure
 pub record SentPiece (before : Pushed) (bytes : List ℕ) (after : Pushed) : Type 0 where
   pub written : Appends before.contents after.contents bytes
   pub flushed : after.flushes ≡ after_pieces before.flushes (bytes ∷ []) []
   pub well : after.failed ≡ before.failed
 
--- a front of these bytes was pushed, and the sink failed
+-- a prefix of the bytes was pushed, and the sink failed
 pub record SentPart (before : Pushed) (bytes : List ℕ) (after : Pushed) : Type 0 where
   pub front : List ℕ
   pub begins : BeginsWith bytes front
@@ -33,12 +33,12 @@ pub record SentPart (before : Pushed) (bytes : List ℕ) (after : Pushed) : Type
   pub flushed : after.flushes ≡ after_pieces before.flushes [] front
   pub broke : after.failed ≡ true
 
--- these bytes were sent, or the sink failed after a front of them
+-- the bytes were sent, or the sink failed after a prefix of them
 abbrev pub Sends : Pushed → List ℕ → Bool → Pushed → Type 0
 Sends before bytes true after = SentPiece before bytes after
 Sends before bytes false after = SentPart before bytes after
 
--- groups of replies, one behind the other
+-- the concatenation of groups of replies
 abbrev pub all_of : List (List (List ℕ)) → List (List ℕ)
 all_of [] = []
 all_of (group ∷ groups) = group ++ all_of groups
@@ -49,7 +49,7 @@ AreFilled [] = Unit {0}
 AreFilled ([] ∷ groups) = ⊥
 AreFilled ((reply ∷ group) ∷ groups) = AreFilled groups
 
--- these replies were pushed, flushed in groups of whole ones, and nothing failed
+-- the replies were pushed and flushed in groups of whole replies, without a failure
 pub record Sent (before : Pushed) (replies : List (List ℕ)) (after : Pushed) : Type 0 where
   pub groups : List (List (List ℕ))
   pub grouped : all_of groups ≡ replies
@@ -58,8 +58,8 @@ pub record Sent (before : Pushed) (replies : List (List ℕ)) (after : Pushed) :
   pub flushed : after.flushes ≡ after_pieces before.flushes (map concat groups) []
   pub well : after.failed ≡ before.failed
 
--- these replies were pushed, flushed in groups of whole ones, and then a front of those
--- that waited, and the sink failed
+-- these replies were pushed and flushed in groups of whole replies, then a prefix of the waiting
+-- ones was pushed, and the sink failed
 pub record SentFront (before : Pushed) (replies waiting : List (List ℕ))
     (after : Pushed) : Type 0 where
   pub groups : List (List (List ℕ))
@@ -71,15 +71,15 @@ pub record SentFront (before : Pushed) (replies waiting : List (List ℕ))
   pub flushed : after.flushes ≡ after_pieces before.flushes (map concat groups) front
   pub broke : after.failed ≡ true
 
--- these lines have their replies, and the replies are sent
+-- these lines have replies, and the replies are sent
 pub record Serves {S : Type 0} (Step : S → Option (List ℕ) → List ℕ → S → Type 0) (old : S)
     (lines : List (List ℕ)) (new : S) (before after : Pushed) : Type 0 where
   pub replies : List (List ℕ)
   pub answers : Answers Step old lines replies new
   pub sent : Sent before replies after
 
--- the first of these lines are answered; their replies are sent, at least so many of them,
--- and of the last few, which waited, a front
+-- the first of these lines are answered; at least `sure` of their replies are sent, and a prefix of
+-- the last ones, which waited
 pub record BrokenOff {S : Type 0} (Step : S → Option (List ℕ) → List ℕ → S → Type 0) (old : S)
     (sure : ℕ) (lines : List (List ℕ)) (new : S) (before after : Pushed) : Type 0 where
   pub answered : List (List ℕ)

@@ -1,4 +1,4 @@
--- What serving the lines of all sessions does to a broker and a sink. Source: ours.
+-- The effect of serving all sessions' lines on a broker and a sink. Source: ours.
 use Rattle.std.specs.Prelude.{◌≡◌, ◌≢◌, ℕ, ◌≤◌, List, [], ◌∷◌, ◌++◌, length, true, Option, None, Some, Result, Ok, Err, ◌⊎◌}
 use Rattle.ctf_lines.specs.Memory.{takes_memory}
 use Rattle.ctf_protocol.specs.lines.Ask.{ask}
@@ -21,58 +21,57 @@ use Rattle.ctf_wire.specs.Streams.{Pulled, Pushed}
 use Rattle.ctf_broker.specs.Table.{Libraries, library_at}
 use Rattle.ctf_wire.specs.declared.run_faults.RunFault.{RunFault}
 
--- what a line asks, where none stands for one that was too long to be stored
+-- the request in a line; none stands for a line that was too long to be stored
 abbrev pub ask_stored : Option (List ℕ) → Result (ℕ × Request) (ℕ × Fault)
 ask_stored None = Err (0, placeless LONG_LINE)
 ask_stored (Some line) = ask line
 
--- all libraries are as before
+-- all libraries are unchanged
 abbrev pub AllStay : (ℕ → State) → (ℕ → State) → Type 0
 AllStay old new = (s : ℕ) → new s ≡ old s
 
--- a line was answered: its refusal, or the reply to its request's step
-abbrev pub Said : (ℕ → State) → Result (ℕ × Request) (ℕ × Fault) → List ℕ → (ℕ → State) → Type 0
-Said old (Err refusal) written new = (written ≡ fault_line refusal.0 refusal.1) × AllStay old new
-Said old (Ok said) written new =
+-- a line was answered: with its refusal, or with the reply to its request's step
+abbrev pub Reacts : (ℕ → State) → Result (ℕ × Request) (ℕ × Fault) → List ℕ → (ℕ → State) → Type 0
+Reacts old (Err refusal) written new = (written ≡ fault_line refusal.0 refusal.1) × AllStay old new
+Reacts old (Ok said) written new =
     (reply : Reply) × (written ≡ reply_line reply) × Steps old said.0 said.1 reply new
     × IsGrantedUnless old said.0 said.1 reply new
 
--- memory may be refused to reading a line, but to none that is too long, and to none that has no
--- backslash and no list and asks what keeps no text, however long it is
+-- reading this line may run out of memory: it is not too long, and has a backslash or a list, or
+-- its request stores a text
 abbrev pub MayWant : Option (List ℕ) → Type 0
 MayWant None = ⊥
 MayWant (Some line) = (length line ≤ longest_line) × (takes_memory line ≡ true)
 
--- one line among the libraries of all sessions: memory was refused to reading it,
--- or it was answered
+-- one line among all sessions' libraries: reading it ran out of memory, or it was answered
 abbrev pub LineSteps : (ℕ → State) → Option (List ℕ) → List ℕ → (ℕ → State) → Type 0
 LineSteps old line written new =
     (MayWant line × (written ≡ reply_line (no_memory 0)) × AllStay old new)
-    ⊎ Said old (ask_stored line) written new
+    ⊎ Reacts old (ask_stored line) written new
 
--- one line at a broker
+-- one line given to a broker
 abbrev pub BrokerStep : Libraries → Option (List ℕ) → List ℕ → Libraries → Type 0
 BrokerStep old line written new = LineSteps (library_at old) line written (library_at new)
 
--- a mark that memory was refused to reading a line stands at none that needs none to be read, and
--- one that it was refused to a request stands at none that needs no memory
+-- a line is marked `unread` only if reading it may need memory, and `refused` only if its request
+-- may need memory
 abbrev pub IsMarked : (ℕ → State) → List ℕ → Result (ℕ × Request) (ℕ × Fault) → Mark → Type 0
 IsMarked libraries line said unread = MayWant (Some line)
 IsMarked libraries line said refused = MayRefuse libraries said
 IsMarked libraries line said answered = Unit {0}
 
--- the same of each line, among the libraries that it meets
+-- the same for each line, with the libraries at its time
 abbrev pub AreMarked : (ℕ → State) → List Call → List (List ℕ) → List Mark → Type 0
 AreMarked start calls (line ∷ lines) (mark ∷ marks) =
     IsMarked (own_state start calls) line (ask line) mark
     × AreMarked start (calls_after calls mark (ask line)) lines marks
 AreMarked start calls _ _ = Unit {0}
 
--- these lines are served: each has the reply that its session's own run gives, and each session's
--- library is that of its own run; where all libraries were good, all are, and each of these replies
--- is right of the library that its line met: a question is answered of the one dictionary that the
--- lists of its slot denote, malformed lists are refused by the first rule that they break, and what
--- an update wrote denotes what its draft held
+-- These lines are served: each has the reply of its session's own run, and each session's library
+-- is that of its own run. If all libraries were good, they still are, and each reply is correct for
+-- the library at its time: questions are answered from the one dictionary that the slot's lists
+-- denote, malformed lists are refused for the first broken rule, and an update's bytes denote the
+-- draft's content.
 pub record RunsAlone (old : Libraries) (lines replies : List (List ℕ))
     (new : Libraries) : Type 0 where
   pub marks : List Mark
@@ -83,7 +82,7 @@ pub record RunsAlone (old : Libraries) (lines replies : List (List ℕ))
   pub right : AreGood (library_at old) → AreReplies (library_at old) lines marks replies
   pub good : AreGood (library_at old) → AreGood (library_at new)
 
--- whatever a broker answers to lines is what each session's own run answers
+-- a broker answers lines as each session's own run does
 abbrev pub ServesAlone : Type 0
 ServesAlone =
     (old new : Libraries) (lines replies : List (List ℕ)) → Answers BrokerStep old lines replies new
@@ -96,8 +95,8 @@ pub record WritesOut (old : Libraries) (lines : List (List ℕ)) (new : Librarie
   pub runs : RunsAlone old lines replies new
   pub sent : Sent before replies after
 
--- the first of these lines are served; their replies are sent, at least so many of them,
--- and of the last few, which waited, a front
+-- the first of these lines are served; at least `sure` of their replies are sent, and a prefix of
+-- the last ones, which waited
 pub record BreaksOff (old : Libraries) (sure : ℕ) (lines : List (List ℕ)) (new : Libraries)
     (before after : Pushed) : Type 0 where
   pub answered : List (List ℕ)
@@ -108,8 +107,7 @@ pub record BreaksOff (old : Libraries) (sure : ℕ) (lines : List (List ℕ)) (n
   pub enough : sure ≤ length replies
   pub sent : SentFront before replies waiting after
 
--- what a run of at most so many reads does to the libraries of all sessions,
--- to its source and to its sink
+-- the effect of a run of at most `reads` reads on all libraries, the source and the sink
 abbrev pub ServesTo : ℕ → Libraries → Libraries → Pulled → Pulled → Pushed → Pushed
     → Result (Unit {0}) RunFault → Type 0
 ServesTo reads old new source_old source_new sink_old sink_new result =

@@ -1,4 +1,4 @@
--- What one turn does: one read, and the replies to all lines that it ended. Source: ours.
+-- One turn: a read, and the replies to all lines that it completed. Source: ours.
 use Rattle.std.specs.Prelude.{◌≡◌, ℕ, ◌≤◌, ◌++◌, List, [], length, Bool, true, false, Option, Result, Ok, Err}
 use Rattle.std.specs.Io.KnownBytes.{Consumes, IsAtEnd}
 use Rattle.ctf_protocol.specs.lines.Lines.{whole_lines, all_lines}
@@ -9,7 +9,7 @@ use Rattle.ctf_wire.specs.Streams.{Pulled, Pushed}
 use Rattle.ctf_wire.specs.declared.run_faults.RunFault.{RunFault}
 use Rattle.ctf_wire.specs.declared.run_faults.RunFault.TheVariants as fault
 
--- the pull took some bytes, and what it took is served
+-- the pull got some bytes, and they are served
 pub record TurnGoes {S : Type 0} (Step : S → Option (List ℕ) → List ℕ → S → Type 0) (old : S)
     (held : Option (List ℕ)) (source : Pulled) (sink : Pushed) (new : S)
     (held_new : Option (List ℕ)) (source_new : Pulled) (sink_new : Pushed) : Type 0 where
@@ -45,7 +45,7 @@ pub record TurnUnread {S : Type 0} (old : S) (source : Pulled) (sink : Pushed) (
   pub machine : new ≡ old
   pub sink_kept : sink_new ≡ sink
 
--- the pull took some bytes or met the end, and the sink failed
+-- the pull got some bytes or met the end, and the sink failed
 pub record TurnBreaks {S : Type 0} (Step : S → Option (List ℕ) → List ℕ → S → Type 0) (old : S)
     (held : Option (List ℕ)) (source : Pulled) (sink : Pushed) (new : S)
     (source_new : Pulled) (sink_new : Pushed) : Type 0 where
@@ -59,7 +59,7 @@ pub record TurnBreaks {S : Type 0} (Step : S → Option (List ℕ) → List ℕ 
       → BrokenOff Step start (length (whole_lines read))
       (lines_read source_new.ended (read ++ bytes)) new before sink_new
 
--- one turn: it goes on, or the run ends
+-- one turn: the run goes on, or ends
 abbrev pub Turns : {S : Type 0} → (S → Option (List ℕ) → List ℕ → S → Type 0) → S → Option (List ℕ)
     → Pulled → Pushed → Result Bool RunFault → S → Option (List ℕ) → Pulled → Pushed → Type 0
 Turns {S} Step old held source sink (Ok true) new held_new source_new sink_new =

@@ -1,17 +1,17 @@
--- Bytes that were pushed and not flushed yet. Source: ours.
+-- Bytes that are pushed and not yet flushed. Source: ours.
 use Rattle.std.specs.Prelude.{◌≡◌, ℕ, List, Bool, true, false}
 use Rattle.std.specs.Io.KnownBytes.{Appends}
 use Rattle.ctf_wire.specs.Flushes.{and_waits}
 use Rattle.ctf_wire.specs.Served.{BeginsWith}
 use Rattle.ctf_wire.specs.Streams.{Pushed}
 
--- these bytes were pushed, and wait
+-- the bytes were pushed, and wait
 pub record TakesAll (before : Pushed) (bytes : List ℕ) (after : Pushed) : Type 0 where
   pub written : Appends before.contents after.contents bytes
   pub waits : after.flushes ≡ and_waits before.flushes bytes
   pub well : after.failed ≡ before.failed
 
--- a front of these bytes was pushed, and the sink failed
+-- a prefix of the bytes was pushed, and the sink failed
 pub record TakesFront (before : Pushed) (bytes : List ℕ) (after : Pushed) : Type 0 where
   pub front : List ℕ
   pub begins : BeginsWith bytes front
@@ -19,7 +19,7 @@ pub record TakesFront (before : Pushed) (bytes : List ℕ) (after : Pushed) : Ty
   pub waits : after.flushes ≡ and_waits before.flushes front
   pub broke : after.failed ≡ true
 
--- these bytes were pushed, or a front of them
+-- the bytes were pushed, or a prefix of them
 abbrev pub Takes : Pushed → List ℕ → Bool → Pushed → Type 0
 Takes before bytes true after = TakesAll before bytes after
 Takes before bytes false after = TakesFront before bytes after

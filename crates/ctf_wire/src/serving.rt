@@ -2,7 +2,7 @@
 ghost use Rattle.std.specs.Prelude.{◌≡◌, ◌≢◌, ◌⊎◌, ◌<◌, ◌^◌, ℕ, List, length, Err};
 ghost use Rattle.ctf_protocol.specs.lines.ReplyLines.{reply_line};
 ghost use Rattle.ctf_protocol.specs.sessions.Runs.{no_memory};
-ghost use Rattle.ctf_answers.specs.Replies.{reply_of, said_to};
+ghost use Rattle.ctf_answers.specs.Replies.{reply_of, change_reply};
 ghost use Rattle.ctf_wire.specs.Endings.{IsReady, PullsAtMost};
 ghost use Rattle.ctf_wire.specs.Room.{HasReplyRoom, Replies};
 ghost use Rattle.ctf_wire.specs.Serving.{BrokerStep, ServesAlone, ServesTo};
@@ -24,7 +24,7 @@ use std::alloc::Global;
 /// Appends the line of a short reply.
 fn append_short(out: &mut Vec<u8>, session: u32, outcome: Result<Counts, Fault>)
     requires { HasReplyRoom out.old }
-    ensures { Replies out.old (reply_line (said_to session outcome)) out.new }
+    ensures { Replies out.old (reply_line (change_reply session outcome)) out.new }
 {
     let _ = write_change(out, session, outcome);
 }

@@ -1,4 +1,4 @@
--- The strings of what a draft holds, by its uses of names.
+-- The strings of a draft's content, from its uses of names.
 use Rattle.std.proofs.Common.{◌≡◌, ℕ, List, [], ◌∷◌, ◌++◌, map, refl, sym, ap, subst, ◌∙◌}
 use Rattle.std.specs.List.{flat_map}
 use Rattle.std.proofs.lemmas.List.Folds.{flat_map-map}
@@ -13,12 +13,12 @@ use Rattle.ctf_writer.specs.Uses.{with_names, IsRefused}
 use Rattle.ctf_writer.proofs.Distinct.{each_once}
 use Rattle.ctf_writer.proofs.Growing.{refused_more}
 
--- they are the names added at each use
+-- the names added at each use
 pub held_strings : (h : DraftContent) → strings_of (dictionary_of h) ≡ with_names [] (h.parlabel.now ∷ h.parname.now ∷ (map (λ l. l.name) h.labels.now ++ flat_map uses h.types.now))
 unfolding strings_of used_names
 held_strings h = sym (each_once (used_names (dictionary_of h))) ∙ ap (λ (ns : List (List ℕ)). with_names [] (h.parlabel.now ∷ h.parname.now ∷ (map (λ l. l.name) h.labels.now ++ ns))) (flat_map-map names_of type_of h.types.now)
 
--- the names that were added so far, and those of the rest
+-- the names added so far, and those of the remaining uses
 refused_so_far : (h : DraftContent) (f : Fault) (so_far rest : List (List ℕ)) → h.parlabel.now ∷ h.parname.now ∷ (map (λ l. l.name) h.labels.now ++ flat_map uses h.types.now) ≡ so_far ++ rest → IsRefused (with_names [] so_far) f → IsRefused (strings_of (dictionary_of h)) f
 refused_so_far h f so_far rest e r =
     let all : strings_of (dictionary_of h) ≡ with_names (with_names [] so_far) rest = held_strings h ∙ ap (with_names []) e ∙ fold-append with_name [] so_far rest in
@@ -27,7 +27,7 @@ refused_so_far h f so_far rest e r =
 -- ---- step by step
 
 module _ (h : DraftContent) where
-  -- with the parent's label, with its name, and with the labels
+  -- the parent's label, its name, and the labels
   with_label : (n0 n1 : List (List ℕ)) → n0 ≡ [] → n1 ≡ with_name n0 h.parlabel.now → n1 ≡ with_names [] (h.parlabel.now ∷ [])
   with_label n0 n1 a b = b ∙ ap (λ (ns : List (List ℕ)). with_name ns h.parlabel.now) a
 
@@ -43,7 +43,7 @@ module _ (h : DraftContent) where
       ∙ sym (fold-append with_name [] (h.parlabel.now ∷ h.parname.now ∷ map (λ l. l.name) h.labels.now) (flat_map uses h.types.now))
       ∙ sym (held_strings h)
 
-  -- what is refused at one of them
+  -- a refusal at one of these uses
   pub refused_label : (n0 : List (List ℕ)) (f : Fault) → n0 ≡ [] → IsRefused (with_name n0 h.parlabel.now) f → IsRefused (strings_of (dictionary_of h)) f
   refused_label n0 f a r =
       refused_so_far h f (h.parlabel.now ∷ []) (h.parname.now ∷ (map (λ l. l.name) h.labels.now ++ flat_map uses h.types.now)) refl

@@ -1,4 +1,4 @@
--- What a draft lends, part by part: its types fit, its names are kept, and its bytes are its parts.
+-- A draft's content, part by part: its types fit, its names are kept, and its bytes are its parts.
 use Rattle.std.proofs.Common.{◌≡◌, ℕ, ◌+◌, ◌<◌, ◌≤◌, List, ◌∷◌, ◌++◌, length, map, Option, Some, None, Ok, Err, refl, sym, ap, subst, ◌∙◌, arith, ◌⊎◌, inl, inr, true, false, ltb}
 use Rattle.std.specs.List.{flat_map, All, AllByRecursion}
 use Rattle.std.proofs.lemmas.Bool.{le-ltb, lt-ltb}

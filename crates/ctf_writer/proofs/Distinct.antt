@@ -1,4 +1,4 @@
--- Names that are added one after the other stand in the order of first use, each once.
+-- Names added one after another are in the order of first use, without repetitions.
 use Rattle.std.proofs.Common.{◌≡◌, ℕ, Bool, true, false, cond, List, [], ◌∷◌, ◌++◌, refl, sym, ap, ◌∙◌}
 use Rattle.std.specs.Prelude.{◌||◌, ◌&&◌, not, fold}
 use Rattle.std.specs.List.{list_any, filter}
@@ -8,7 +8,7 @@ use Rattle.std.proofs.lemmas.List.{append-nil, append_assoc}
 use Rattle.ctf_model.specs.writing.WrittenNames.{distinct, is_empty}
 use Rattle.ctf_writer.specs.Offsets.{with_name}
 
--- what passes two tests passes one that is both
+-- filtering by two tests is filtering by their conjunction
 filter_both : {A : Type 0} (p q r : A → Bool) → ((x : A) → r x ≡ (p x && q x)) → (xs : List A) → filter p (filter q xs) ≡ filter r xs
 filter_both {A} p q r h [] = refl
 filter_both {A} p q r h (x ∷ xs) = at (p x) refl (q x) refl (filter_both p q r h xs)
@@ -19,7 +19,7 @@ filter_both {A} p q r h (x ∷ xs) = at (p x) refl (q x) refl (filter_both p q r
     at false e true f more = let both : r x ≡ false = rw (h x, e) refl in rw (both, f, e) more
     at false e false f more = let both : r x ≡ false = rw (h x, e) refl in rw (both, f) more
 
--- it is not one of these
+-- the name is not in the list
 abbrev fresh : List (List ℕ) → List ℕ → Bool
 fresh done n = not (list_any (bytes_eq n) done)
 
@@ -40,7 +40,7 @@ same_either_way x n = at (bytes_eq n x) refl (bytes_eq x n) refl
     at true e false f = let back : bytes_eq x n ≡ true = (bytes_decides x n).1 (sym ((bytes_decides n x).0 e)) in absurd cc
     at false e true f = let back : bytes_eq n x ≡ true = (bytes_decides n x).1 (sym ((bytes_decides x n).0 f)) in absurd cc
 
--- a name that is there needs no leaving out
+-- a name in the list does not need to be filtered out
 kept_out : (done : List (List ℕ)) (x : List ℕ) → list_any (bytes_eq x) done ≡ true → (n : List ℕ) → fresh done n ≡ (fresh done n && not (bytes_eq x n))
 kept_out done x h n = at (bytes_eq x n) refl (fresh done n) refl
   where
@@ -60,11 +60,11 @@ left_out done x n = ap not (any_joined (bytes_eq n) done (x ∷ [])) ∙ at (lis
     at false true false e = absurd cc
     at false false true e = absurd cc
 
--- the names that aren't empty, each once
+-- the non-empty names without repetitions
 abbrev kept : List (List ℕ) → List (List ℕ)
 kept xs = distinct (filter (λ name. not (is_empty name)) xs)
 
--- added to some, names stand behind them where they are fresh
+-- names added to a list come after it if they are new
 added : (xs done : List (List ℕ)) → fold with_name done xs ≡ done ++ filter (fresh done) (kept xs)
 unfolding distinct
 added [] done = sym (append-nil done)
@@ -84,6 +84,6 @@ all_fresh : (xs : List (List ℕ)) → filter (fresh []) xs ≡ xs
 all_fresh [] = refl
 all_fresh (x ∷ xs) = ap (λ (ys : List (List ℕ)). x ∷ ys) (all_fresh xs)
 
--- added to none, they are each there once, in the order of first use
+-- names added to an empty list are there once, in the order of first use
 pub each_once : (xs : List (List ℕ)) → fold with_name [] xs ≡ distinct (filter (λ name. not (is_empty name)) xs)
 each_once xs = added xs [] ∙ all_fresh (kept xs)

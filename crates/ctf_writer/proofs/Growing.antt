@@ -23,7 +23,7 @@ longer : (names uses : List (List ℕ)) → length (string_bytes names) ≤ leng
 longer names [] = omega arith
 longer names (n ∷ uses) = let one = one_longer names n in let more = longer (with_name names n) uses in omega arith
 
--- what is refused at a use is refused at all of them
+-- a refusal at one use is a refusal for all of them
 pub refused_first : (names : List (List ℕ)) (n : List ℕ) (uses : List (List ℕ)) (f : Fault) → IsRefused (with_name names n) f → IsRefused (with_names names (n ∷ uses)) f
 refused_first names n uses f (inl none) = inl none
 refused_first names n uses f (inr long) = let more = longer (with_name names n) uses in let far = long.1 in inr (long.0, omega arith)
@@ -40,7 +40,7 @@ refused_at {X} name names now xs i x f lt is e h =
     let all : with_names names (map name xs) ≡ with_names now (name x ∷ map name (drop (i + 1) xs)) = ap (with_names names) cut ∙ fold-append with_name names (map name (take i xs)) (name x ∷ map name (drop (i + 1) xs)) ∙ ap (λ (ns : List (List ℕ)). with_names ns (name x ∷ map name (drop (i + 1) xs))) (sym e) in
     subst (λ (ns : List (List ℕ)). IsRefused ns f) (sym all) (refused_first now (name x) (map name (drop (i + 1) xs)) f h)
 
--- ---- the names of several
+-- ---- names of several items
 
 module _ {X : Type 0} (uses : X → List (List ℕ)) (names now : List (List ℕ)) (xs : List X) (i : ℕ) (x : X) (lt : i < length xs) (is : x ≡ get_or xs i x) (e : now ≡ with_names names (flat_map uses (take i xs))) where
   cut_at : flat_map uses xs ≡ flat_map uses (take i xs) ++ (uses x ++ flat_map uses (drop (i + 1) xs))

@@ -1,4 +1,4 @@
--- The header, and what stands behind it, appended part by part.
+-- The header and what follows it, appended part by part.
 use Rattle.std.proofs.Common.{◌≡◌, ℕ, ◌+◌, List, [], ◌∷◌, ◌++◌, ap, ◌∙◌}
 use Rattle.std.proofs.lemmas.List.{append_assoc}
 use Rattle.ctf_model.specs.writing.Written.{fields_over, header_bytes}

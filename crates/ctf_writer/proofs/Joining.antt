@@ -1,4 +1,4 @@
--- Bytes that were appended one after the other.
+-- Bytes appended one after another.
 use Rattle.std.proofs.Common.{◌≡◌, ℕ, ◌+◌, ◌%◌, ◌<◌, ◌≤◌, true, false, ltb, List, [], ◌∷◌, ◌++◌, length, map, take, get_or, refl, ap, sym, ◌∙◌, arith}
 use Rattle.std.specs.Prelude.{nat_lt, if◌then◌else◌}
 use Rattle.std.specs.List.{flat_map, AllByRecursion}
@@ -35,7 +35,7 @@ module _ {X : Type 0} (f : X → List ℕ) (xs : List X) (i : ℕ) (x : X) (lt :
   pub len_more : length (flat_map f (take (i + 1) xs)) ≡ length (flat_map f (take i xs)) + length (f x)
   len_more = ap length flat_more ∙ length-append (flat_map f (take i xs)) (f x)
 
-  -- there is room for it where there is for all
+  -- there is room for it if there is room for all
   pub room_for : length (flat_map f (take i xs)) + length (f x) ≤ length (flat_map f xs)
   room_for = let all = length-flat_map-take f xs i x lt in let same = ap (λ (y : X). length (f y)) is in omega arith
 
@@ -51,7 +51,7 @@ enumerators_joined names es = flat_map-map (enumerator_bytes names) enumerator_o
 pub arguments_joined : (ts : List TypeNum) → flat_map u16 (map number_of ts) ≡ flat_map written_argument ts
 arguments_joined ts = flat_map-map u16 number_of ts
 
--- an odd number of arguments has a pad behind it, and an even one none
+-- an odd number of arguments is followed by padding, an even one is not
 pub odd_bytes : (ts : List TypeNum) → 0 < length ts % 2 → argument_bytes (map number_of ts) ≡ flat_map written_argument ts ++ u16 0
 odd_bytes ts some =
     let odd : ltb 0 (length (map number_of ts) % 2) ≡ true = ap (λ (n : ℕ). ltb 0 (n % 2)) (length-map ts number_of) ∙ lt-ltb 0 (length ts % 2) some in
@@ -62,7 +62,7 @@ even_bytes ts none =
     let even : ltb 0 (length (map number_of ts) % 2) ≡ false = ap (λ (n : ℕ). ltb 0 (n % 2)) (length-map ts number_of) ∙ le-ltb 0 (length ts % 2) none in
     rw (even, arguments_joined ts) (append-nil (flat_map written_argument ts))
 
--- the numbers alone are no longer
+-- the numbers alone are not longer
 pub types_short : (ts : List TypeNum) → length (flat_map written_argument ts) ≤ length (argument_bytes (map number_of ts))
 types_short ts =
     let all = length-append (flat_map u16 (map number_of ts)) (if nat_lt 0 (length (map number_of ts) % 2) then u16 0 else []) in
@@ -75,7 +75,7 @@ all_mapped P f (x ∷ xs) h = (h.0, all_mapped P f xs h.1)
 
 -- ---- a record
 
--- a record's parts, and how long they are
+-- the parts of a record and their lengths
 pub record_len : (names : List (List ℕ)) (x : term.Term) → length (record_bytes names x) ≡ 4 + (2 + (length (field_bytes (field_of x.body)) + length (variant_bytes names x.body)))
 unfolding record_bytes
 record_len names x = let l = length-append (field_bytes (field_of x.body)) (variant_bytes names x.body) in omega arith

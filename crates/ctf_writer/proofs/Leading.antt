@@ -1,4 +1,4 @@
--- Where the steps of a draft's types lead, and the least type from which they lead too far.
+-- Targets of the steps of a draft's types, and the first type with too long a chain.
 use Rattle.std.proofs.Common.{◌≡◌, ℕ, ◌+◌, ◌<◌, Bool, List, [], ◌∷◌, length, map, get_or, Option, Some, None, refl, sym, ap, subst, ◌∙◌, arith}
 use Rattle.std.specs.List.{filter_map}
 use Rattle.std.specs.Option.{option_map}
@@ -23,7 +23,7 @@ use Rattle.ctf_model.specs.writing.Written.{deep_by}
 use Rattle.ctf_draft.specs.declared.types.DraftType.{DraftType}
 use Rattle.ctf_draft.specs.declared.types.Member.{Member}
 
--- (of ctf_chains)
+-- as in ctf_chains
 led_more : (o : Option ℕ) (xs : List (Option ℕ)) (h : ℕ → Option ℕ) (n : ℕ) (ns : List ℕ) → h n ≡ o → led_to xs ≡ filter_map h ns → led_to (o ∷ xs) ≡ filter_map h (n ∷ ns)
 led_more None xs h n ns here e = rw here e
 led_more (Some i) xs h n ns here e = rw here (ap (λ (is : List ℕ). i ∷ is) e)
@@ -38,7 +38,7 @@ led_all chain child count (x ∷ xs) =
     ap (λ (js : List ℕ). js ∷ map led_to (map (type_places chain child count) xs)) (led_by_numbers (own_index child count) (steps chain (body_of x.body)))
     ∙ ap (λ (jss : List (List ℕ)). filter_map (own_index child count) (steps chain (body_of x.body)) ∷ jss) (led_all chain child count xs)
 
--- the steps between the types of a draft are those of the terms that they stand for
+-- the steps between a draft's types are those of the types in the definitions
 pub steps_are : (chain : Chain) (child : Bool) (xs : List DraftType) → steps_between (draft_places chain child xs) ≡ edges (steps chain) child (map type_of xs)
 unfolding edges
 steps_are chain child xs = rw (length-map xs type_of) (led_all chain child (length xs) xs)
@@ -47,7 +47,7 @@ edges_length : (step : Body → List ℕ) (child : Bool) (xs : List Term) → le
 unfolding edges
 edges_length step child xs = length-map xs (λ (x : Term). filter_map (own_index child (length xs)) (step x.body))
 
--- (of ctf_check) the least deep type, numbered from 1, is the place that the rule gives
+-- as in ctf_check: the first deep type, counted from 1, is the rule's place
 deep_place : (es : List (List ℕ)) (r : Option ℕ) (found : Option ℕ) → Agrees r (DeepFrom es 0 (length es)) → IsLeastDeep es longest_chain found → r ≡ option_map (λ i. i + 1) found
 deep_place es None None h d = refl
 deep_place es None (Some i) h d = let inside = d.inside in absurd (h (i + 1) (i, omega arith, omega arith, d.deep, refl))
@@ -63,7 +63,7 @@ deep_place es (Some p) (Some i) h d = ap (λ (n : ℕ). Some n) same
     same : p ≡ i + 1
     same = let is = h.0.4 in omega (arith, not_less, not_more)
 
--- what is found among the types is the place of the rule
+-- the type that was found is at the rule's place
 pub found_place : (chain : Chain) (child : Bool) (xs : List DraftType) (found : Option ℕ) → IsLeastDeep (steps_between (draft_places chain child xs)) longest_chain found → option_map (λ i. i + 1) found ≡ first_deep (edges (steps chain) child (map type_of xs)) 0 (length (map type_of xs))
 found_place chain child xs found least =
     let es = edges (steps chain) child (map type_of xs) in
@@ -80,11 +80,11 @@ member_step ms k d lt =
     map_twice [] = refl
     map_twice (m ∷ ms) = ap (λ ns. m.tnum.0 ∷ ns) (map_twice ms)
 
--- the same of what a draft lends
+-- the same for a draft's content
 pub found_held : (chain : Chain) (h : DraftContent) (found : Option ℕ) → IsLeastDeep (steps_between (draft_places chain h.child h.types.now)) longest_chain found → option_map (λ i. i + 1) found ≡ deep_by (steps chain) (dictionary_of h)
 found_held chain h found least = found_place chain h.child h.types.now found least
 
--- the type of a member of a struct or union, by its number
+-- the type of a member of a struct or union, by index
 pub aggregate_step : (kind : AggregateKind) (size : ℕ) (ms : List Member) (k : ℕ) (d : Member) → k < length (steps ByValue (aggregate_body kind size (map member_of ms))) → (get_or ms k d).tnum.0 ≡ get_or (steps ByValue (aggregate_body kind size (map member_of ms))) k 0
 aggregate_step Struct size ms k d lt = member_step ms k d lt
 aggregate_step Union size ms k d lt = member_step ms k d lt

@@ -1,4 +1,4 @@
--- How long written parts are.
+-- Lengths of written parts.
 use Rattle.std.proofs.Common.{◌≡◌, ℕ, suc, mul-suc, ◌+◌, ◌*◌, ◌%◌, ◌<◌, ◌≤◌, Bool, true, false, ltb, cond, List, [], ◌∷◌, ◌++◌, length, map, take, get_or, refl, ap, ◌∙◌, arith}
 use Rattle.std.specs.List.{flat_map}
 use Rattle.std.proofs.lemmas.Bool.{ltb-true, ltb-false}
@@ -32,7 +32,7 @@ one_member names size m = at (ltb size 8192)
 more_by : (a n : ℕ) → a * suc n ≡ a + a * n
 more_by a n = let e = mul-suc a n in omega (arith, e)
 
--- members are all of one length
+-- all members have one length
 pub members_len : (names : List (List ℕ)) (size : ℕ) (ms : List term.Member) → length (flat_map (member_bytes names size) ms) ≡ member_len size * length ms
 members_len names size [] = omega arith
 members_len names size (m ∷ ms) =
@@ -42,7 +42,7 @@ members_len names size (m ∷ ms) =
     let step : member_len size * length (m ∷ ms) ≡ member_len size + member_len size * length ms = more_by (member_len size) (length ms) in
     omega (arith, front, one, more, step)
 
--- so are enumerators, labels and arguments
+-- so have enumerators, labels and arguments
 pub enumerators_len : (names : List (List ℕ)) (es : List term.Enumerator) → length (flat_map (enumerator_bytes names) es) ≡ 8 * length es
 enumerators_len names [] = refl
 enumerators_len names (e ∷ es) = let more = enumerators_len names es in omega arith
@@ -62,7 +62,7 @@ arguments_len ts = at (ltb 0 (length ts % 2)) refl
     at true e = let all = types_len ts in let some = ltb-true 0 (length ts % 2) e in rw e (omega (arith, length-append (flat_map u16 ts) (u16 0)))
     at false e = let all = types_len ts in let none = ltb-false 0 (length ts % 2) e in rw e (ap length (append-nil (flat_map u16 ts)) ∙ omega arith)
 
--- ---- by the kinds of an arm
+-- ---- by kinds
 
 pub variant_scalar : (names : List (List ℕ)) (kind : ScalarKind) (s : term.Scalar) → variant_bytes names (scalar_body kind s) ≡ scalar_bytes s
 variant_scalar names Integer s = refl
@@ -120,7 +120,7 @@ pub len_aggregate : (kind : AggregateKind) (size : ℕ) (ms : List term.Member) 
 len_aggregate Struct size ms = refl
 len_aggregate Union size ms = refl
 
--- a type that fits has at most so many members, enumerators or arguments
+-- a type that fits has at most 1,023 members, enumerators or arguments
 pub len_fits : (x : term.Body) → FitsBody x → list_len x ≤ 1023
 len_fits term.unknown h = omega arith
 len_fits (term.integer s) h = omega arith
@@ -139,7 +139,7 @@ len_fits (term.restrict t) h = omega arith
 
 -- ---- a dictionary
 
--- a dictionary's parts behind its header
+-- the parts of a dictionary after its header
 pub bytes_len : (d : Dictionary) → length (bytes_of d) ≡ 36 + (length (labels_written d) + (length (records_written d) + length (string_bytes (strings_of d))))
 unfolding bytes_of
 bytes_len d =
@@ -147,7 +147,7 @@ bytes_len d =
     let b = length-append (labels_written d) (records_written d ++ string_bytes (strings_of d)) in
     omega (arith, a, b)
 
--- what is too long so far is too long
+-- if the parts so far are too long, so is the whole
 pub too_long_at : {X : Type 0} (f : X → List ℕ) (xs : List X) (i : ℕ) (x : X) (len one : ℕ) → i < length xs → x ≡ get_or xs i x → len ≡ length (flat_map f (take i xs)) → one ≡ length (f x) → 67108864 < len + one → 67108864 < length (flat_map f xs)
 too_long_at {X} f xs i x len one lt is e g more =
     let up = length-flat_map-take f xs i x lt in

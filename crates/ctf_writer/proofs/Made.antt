@@ -1,4 +1,4 @@
--- The dictionary that an update makes.
+-- The dictionary that an update writes.
 use Rattle.std.proofs.Common.{◌≡◌, ℕ, List, ◌++◌, [], is_some, Ok, ap, ◌∙◌}
 use Rattle.std.proofs.lemmas.List.{append-nil}
 use Rattle.ctf_model.proofs.Denoted.{denotes_said}
@@ -18,7 +18,7 @@ stands_for d bytes sound is =
       under = λ parent has. draft_imported d parent bytes (said_by (lists_of bytes)) sound has is (denotes_said (lists_of bytes) denotes.faultless);
     }
 
--- nothing behind all of it
+-- nothing pending after an update
 none_behind : (all : Contents) → followed_by all no_contents ≡ all
 none_behind all = ap (λ (terms : List Term). record { terms = terms; labels = all.labels ++ no_contents.labels }) (append-nil all.terms) ∙ ap (λ (labels : List Label). record { terms = all.terms; labels = labels }) (append-nil all.labels)
 

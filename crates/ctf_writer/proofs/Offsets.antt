@@ -1,4 +1,4 @@
--- Names with their offsets: how they grow, and what is found in them.
+-- Names with their offsets: additions and look-ups.
 use Rattle.std.proofs.Common.{◌≡◌, ℕ, ◌+◌, Bool, true, false, cond, List, [], ◌∷◌, ◌++◌, length, map, Option, Some, None, refl, sym, ap, ◌∙◌, arith, is_some}
 use Rattle.std.specs.Prelude.{◌||◌}
 use Rattle.std.specs.Borrow.{Bor}
@@ -11,11 +11,11 @@ use Rattle.ctf_model.specs.writing.WrittenNames.{closed_name, string_bytes, name
 use Rattle.ctf_model.proofs.FoundAgain.{first_here, first_later}
 use Rattle.ctf_writer.specs.Offsets.{Entry, names_in, offsets_from, AreOffsets}
 
--- the test by which a name is looked up
+-- the test of a look-up by name
 abbrev pub is_name : List ℕ → Bor (List ℕ) → Bool
 is_name n k = bytes_eq n k.now
 
--- a name is found where it is one of the names
+-- a name is found if it is one of the names
 pub found_where : (n : List ℕ) (es : List Entry) → is_some (lookup (is_name n) es) ≡ list_any (bytes_eq n) (names_in es)
 found_where n [] = refl
 found_where n (e ∷ es) = at (bytes_eq n e.0.now) (found_where n es)
@@ -62,7 +62,7 @@ entry_more es k v h e =
 pub names_more : (es : List Entry) (k : Bor (List ℕ)) (v : ℕ) → names_in (es ++ (k, v) ∷ []) ≡ names_in es ++ k.now ∷ []
 names_more es k v = map-append (λ (x : Entry). x.0.now) es ((k, v) ∷ [])
 
--- what is found is where the names before it end
+-- the offset that is found is where the names before it end
 pub offset_found : (at : ℕ) (n : List ℕ) (es : List Entry) (v : ℕ) → map (λ e. e.1) es ≡ offsets_from at (names_in es) → lookup (is_name n) es ≡ Some v → v ≡ at + length (flat_map closed_name (before_first (bytes_eq n) (names_in es)))
 offset_found at n [] v h f = absurd cc
 offset_found at n (e ∷ es) v h f = go (bytes_eq n e.0.now) refl f (λ g. offset_found (at + length e.0.now + 1) n es v (cc) g)
@@ -90,7 +90,7 @@ keys_names : (es : List Entry) → map (λ k. k.now) (map (λ e. e.0) es) ≡ na
 keys_names [] = refl
 keys_names (e ∷ es) = ap (λ (ns : List (List ℕ)). e.0.now ∷ ns) (keys_names es)
 
--- behind a zero byte, the names close the strings
+-- after a zero byte, the names with theirs complete the strings
 pub closing : (es : List Entry) (ks : List (Bor (List ℕ))) (o o1 : List ℕ) → ks ≡ map (λ e. e.0) es → o1 ≡ o ++ 0 ∷ [] → o1 ++ flat_map closed_name (map (λ k. k.now) ks) ≡ o ++ string_bytes (names_in es)
 closing es ks o o1 e p =
     ap (λ (b : List ℕ). b ++ flat_map closed_name (map (λ k. k.now) ks)) p ∙ append_assoc o (0 ∷ []) (flat_map closed_name (map (λ k. k.now) ks))

@@ -1,4 +1,4 @@
--- What a draft lends to be written stands for. Source: ours.
+-- What a draft lends to its writer stands for. Source: ours.
 use Rattle.std.specs.Prelude.{ℕ, List, [], map}
 use Rattle.ctf_model.specs.format.Dictionary.{Dictionary, Label}
 use Rattle.ctf_model.specs.writing.WrittenNames.{names_of}
@@ -10,7 +10,7 @@ use Rattle.ctf_draft.specs.declared.types.Enumerator.{Enumerator}
 use Rattle.ctf_draft.specs.declared.types.Member.{Member}
 use Rattle.ctf_writer.specs.declared.draft_view.DraftContent.{DraftContent}
 
--- the dictionary that is written
+-- the dictionary to write
 abbrev pub dictionary_of : DraftContent → Dictionary
 dictionary_of h =
     record {
@@ -23,15 +23,15 @@ dictionary_of h =
       entries = [];
     }
 
--- the names of a type
+-- the names that a type uses
 abbrev pub uses : DraftType → List (List ℕ)
 uses x = names_of (type_of x)
 
--- the bytes of an argument
+-- an argument in bytes
 abbrev pub written_argument : TypeNum → List ℕ
 written_argument t = u16 t.0
 
--- those of a member, by the names of the dictionary and the size of its struct or union
+-- a member in bytes, given the dictionary's names and the size of its struct or union
 abbrev pub written_member : List (List ℕ) → ℕ → Member → List ℕ
 written_member names size m = member_bytes names size (member_of m)
 
@@ -41,6 +41,6 @@ written_enumerator names e = enumerator_bytes names (enumerator_of e)
 abbrev pub written_type : List (List ℕ) → DraftType → List ℕ
 written_type names x = record_bytes names (type_of x)
 
--- where there is no label
+-- the label used if there is none
 abbrev pub no_label : Label
 no_label = record { name = []; last = 0 }

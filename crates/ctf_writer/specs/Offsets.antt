@@ -1,4 +1,4 @@
--- Names with their offsets, as a table of them holds them.
+-- Names with their offsets in a table.
 use Rattle.std.specs.Prelude.{◌≡◌, ℕ, ◌+◌, List, [], ◌∷◌, ◌++◌, length, map, if◌then◌else◌}
 use Rattle.std.specs.Borrow.{Bor}
 use Rattle.std.specs.List.{list_any}
@@ -12,7 +12,7 @@ Entry = Bor (List ℕ) × ℕ
 abbrev pub names_in : List Entry → List (List ℕ)
 names_in entries = map (λ e. e.0.now) entries
 
--- where each of some names stands: where the one before it ends, the first at an offset
+-- the offset of each name: where the previous one ends; the first is at `at`
 abbrev pub offsets_from : ℕ → List (List ℕ) → List ℕ
 offsets_from at [] = []
 offsets_from at (name ∷ names) = at ∷ offsets_from (at + length name + 1) names
@@ -21,7 +21,7 @@ offsets_from at (name ∷ names) = at ∷ offsets_from (at + length name + 1) na
 abbrev pub AreOffsets : List Entry → Type 0
 AreOffsets entries = map (λ e. e.1) entries ≡ offsets_from 1 (names_in entries)
 
--- the names, and one more behind them, if it isn't empty and not there yet
+-- the names, with one appended unless it is empty or already there
 abbrev pub with_name : List (List ℕ) → List ℕ → List (List ℕ)
 with_name names name =
     if is_empty name then names

@@ -7,11 +7,11 @@ use Rattle.ctf_model.specs.declared.faults.Fault.{Fault}
 use Rattle.ctf_model.specs.declared.faults.TheConstants.Fault.{DICT_TOO_BIG}
 use Rattle.ctf_writer.specs.Offsets.{with_name}
 
--- the names, and those of more uses
+-- the names, with those of more uses appended
 abbrev pub with_names : List (List ℕ) → List (List ℕ) → List (List ℕ)
 with_names names uses = fold with_name names uses
 
--- memory was refused, or the strings of these names alone are longer than a dictionary may be
+-- out of memory, or the strings of these names alone exceed a dictionary's limit
 abbrev pub IsRefused : List (List ℕ) → Fault → Type 0
 IsRefused names f =
     (f ≡ out_of_memory)

@@ -111,7 +111,7 @@ fn lengths_of(held: DraftContent<'_>, strings: &Strings<'_>) -> Option<Lengths>
 }
 
 /// Appends the content of a draft, whose parts have these lengths.
-fn put_held(out: &mut Vec<u8>, held: DraftContent<'_>, strings: &Strings<'_>, lengths: Lengths)
+fn put_content(out: &mut Vec<u8>, held: DraftContent<'_>, strings: &Strings<'_>, lengths: Lengths)
     requires fits { AllByRecursion Fits (dictionary_of held).terms }
     requires strings { names strings.now ≡ strings_in (dictionary_of held) }
     requires labels { lengths.labels ≡ length (labels_written (dictionary_of held)) }
@@ -135,7 +135,7 @@ fn put_held(out: &mut Vec<u8>, held: DraftContent<'_>, strings: &Strings<'_>, le
 }
 
 /// The content of a draft as bytes, or the fault for which it is not written.
-fn write_held(alloc: Global, held: DraftContent<'_>) -> Result<Vec<u8>, Fault>
+fn write_content(alloc: Global, held: DraftContent<'_>) -> Result<Vec<u8>, Fault>
     requires { AllByRecursion Fits (dictionary_of held).terms }
     ensures ok { IfOk result (λ bytes. written (dictionary_of held.entry) ≡ Ok bytes.items) }
     ensures exact_err { IfErr result (λ f. (f ≡ out_of_memory)
@@ -147,7 +147,7 @@ fn write_held(alloc: Global, held: DraftContent<'_>) -> Result<Vec<u8>, Fault>
         return Err(placeless(Fault::DICT_TOO_BIG));
     };
     let mut out = Vec::with_capacity(alloc, lengths.whole)?;
-    put_held(&mut out, held, &strings, lengths);
+    put_content(&mut out, held, &strings, lengths);
     Ok(out)
 }
 
@@ -161,5 +161,5 @@ pub fn write(alloc: Global, draft: &Draft) -> Result<Vec<u8>, Fault>
     ensures exact_err { IfErr result (λ f. (f ≡ out_of_memory)
         ⊎ (written (held_by draft.now.draft) ≡ Err f)) }
 {
-    write_held(alloc, DraftContent::of(draft))
+    write_content(alloc, DraftContent::of(draft))
 }

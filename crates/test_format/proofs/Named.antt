@@ -1,4 +1,4 @@
--- A whole record whose names are there spells a type.
+-- A whole record with valid names spells a type.
 use Rattle.std.proofs.Common.{◌≡◌, ℕ, zero, suc, Bool, true, false, cond, List, [], ◌∷◌, ◌+◌, ◌-◌, drop, length, Option, Some, None, refl, sym, subst, arith}
 use Rattle.std.specs.Prelude.{is_none, IsSome}
 use Rattle.ctf_model.specs.declared.kinds.Kind.{Kind}
@@ -12,17 +12,17 @@ use Rattle.ctf_model.specs.format.Spelling.{term_of}
 use Rattle.ctf_model.proofs.Spelled.{AreNamed, spelled}
 use Rattle.ctf_records.proofs.Whole.{whole}
 
--- a test that does not pass leaves it to the later ones
+-- a test that fails passes on to the later ones
 none_here : (bad : Bool) (place : ℕ) (later : Option ℕ) → cond bad (Some place) later ≡ None → (bad ≡ false) × (later ≡ None)
 none_here true place later e = absurd cc
 none_here false place later e = (refl, e)
 
--- what is there is not missing
+-- a present value is not none
 not_none : {A : Type 0} (o : Option A) → is_none o ≡ false → o ≡ None → ⊥
 not_none None e n = absurd cc
 not_none (Some x) e n = absurd cc
 
--- where no site is nameless, all are named
+-- if no site is nameless, all have names
 named_all : (t : Tables) (xs : List Site) → first_nameless t xs ≡ None → AreNamed t xs
 unfolding first_nameless
 named_all t [] e = tt
@@ -34,7 +34,7 @@ is_there : {A : Type 0} (o : Option A) (x : A) → o ≡ Some x → IsSome o
 is_there None x e = absurd cc
 is_there (Some y) x e = refl
 
--- an item whose name is there, in front of others
+-- an item with a valid name, before others
 pub items_named : (t : Tables) (place len count : ℕ) (b : List ℕ) → is_none (name t (u32_at b 0)) ≡ false → first_nameless t (item_sites (place + len) len (count - 1) (drop len b)) ≡ None → first_nameless t (item_sites place len count b) ≡ None
 unfolding first_nameless item_sites
 items_named t place len zero b named later = refl
@@ -43,7 +43,7 @@ items_named t place len (suc n) b named later =
     let rest = rw one_less at later in
     rw named rest
 
--- a record whose names are there spells a type
+-- a record with valid names spells a type
 pub spells : (t : Tables) (b : List ℕ) → front_len b ≡ Some (length b) → is_none (name t (u32_at b 0)) ≡ false → first_nameless t (list_sites 0 b (kind b)) ≡ None → IsSome (term_of t b)
 spells t b fits named listed =
     let x = spelled t b 0 (whole b fits) (not_none (name t (u32_at b 0)) named) (named_all t (list_sites 0 b (kind b)) listed) in
@@ -66,6 +66,6 @@ unlisted t b KVolatile s u e = refl
 unlisted t b KConst s u e = refl
 unlisted t b KRestrict s u e = refl
 
--- a record of any other kind lists no names
+-- a record of any other kind has no names in its list
 pub none_listed : (t : Tables) (b : List ℕ) (k : Kind) → kind b ≡ Some k → (k ≡ KStruct → ⊥) → (k ≡ KUnion → ⊥) → (k ≡ KEnum → ⊥) → first_nameless t (list_sites 0 b (kind b)) ≡ None
 none_listed t b k is s u e = subst (λ (o : Option Kind). first_nameless t (list_sites 0 b o) ≡ None) (sym is) (unlisted t b k s u e)

@@ -10,11 +10,11 @@ mod requests;
 mod runs;
 mod shelves;
 
-use crate::collected::Said;
+use crate::collected::AnswerWords;
 use crate::transcripts::outcomes::Exchange;
 
 /// Answers the calls about the lines of a run. Returns whether it knows the name.
-fn answers_run(said: &mut Said, told: &Exchange, name: &str, words: &str) -> bool {
+fn answers_run(said: &mut AnswerWords, told: &Exchange, name: &str, words: &str) -> bool {
     match name {
         "run" => runs::run(said, told, words),
         "again" => runs::again(said, told, words),
@@ -30,7 +30,7 @@ fn answers_run(said: &mut Said, told: &Exchange, name: &str, words: &str) -> boo
 }
 
 /// Answers a call: its name and its arguments.
-pub fn answer(said: &mut Said, told: &Exchange, call: &str) {
+pub fn answer(said: &mut AnswerWords, told: &Exchange, call: &str) {
     let (name, words) = call.split_once(' ').unwrap_or((call, ""));
     if answers_run(said, told, name, words) {
         return;

@@ -4,15 +4,15 @@ use std::alloc::{AllocError, Global};
 
 /// Words, separated by spaces.
 #[derive(Drop)]
-pub struct Said {
+pub struct AnswerWords {
     alloc: Global,
     text: String,
     failed: bool,
 }
 
-impl Said {
-    pub fn new(alloc: Global) -> Said {
-        Said {
+impl AnswerWords {
+    pub fn new(alloc: Global) -> AnswerWords {
+        AnswerWords {
             alloc,
             text: String::new(alloc),
             failed: false,

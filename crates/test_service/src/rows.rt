@@ -2,7 +2,7 @@
 //! begins with `? ` is a row: a call and its arguments, ` = `, and the answer.
 
 use crate::calls::answer;
-use crate::collected::Said;
+use crate::collected::AnswerWords;
 use crate::transcripts::outcomes::Exchange;
 use crate::transcripts::runs::{Others, exchange_of};
 use std::{fs, io};
@@ -15,7 +15,7 @@ fn holds(
     place: (&str, usize),
 ) -> io::Result<bool> {
     let (call, want) = row.split_once(" = ").unwrap_or((row, "?"));
-    let mut said = Said::new(rt.alloc());
+    let mut said = AnswerWords::new(rt.alloc());
     answer(&mut said, exchange, call);
     let same = said.is(want);
     if !same {

@@ -193,10 +193,10 @@ impl TypedSymbol {
     fn of(entry: &[u8]) -> Option<TypedSymbol> {
         let name = u32::from_le_bytes(entry.get(..4)?.try_into().ok()?);
         let address = u64::from_le_bytes(entry.get(8..16)?.try_into().ok()?);
-        let is_told = matches!(entry[4] & 15, elf::STT_OBJECT | elf::STT_FUNC);
+        let is_typed = matches!(entry[4] & 15, elf::STT_OBJECT | elf::STT_FUNC);
         let is_there = name != 0 && entry[6..8] != [0, 0];
         let is_local = entry[4] >> 4 == elf::STB_LOCAL;
-        (is_told && is_there).then_some(TypedSymbol { name, address, is_local })
+        (is_typed && is_there).then_some(TypedSymbol { name, address, is_local })
     }
 }
 

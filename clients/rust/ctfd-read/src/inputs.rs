@@ -329,9 +329,9 @@ fn with_section(
         None => is_of_file.unwrap_or(false),
     };
     // For a section in no ELF file, the size of a long gives the model if nothing else does.
-    let is_told = section.file.is_some() || options.model.is_some();
+    let has_model = section.file.is_some() || options.model.is_some();
     let mut run = |mut found: ProgramTypes<'_>| {
-        found.table.is_ilp32 |= !is_told && has_short_longs(&found.table);
+        found.table.is_ilp32 |= !has_model && has_short_longs(&found.table);
         run(found)
     };
     match form {

@@ -81,13 +81,13 @@ impl ToldSymbols {
     fn leave_out(&mut self, part: &mut Table<'_>) {
         self.objects.resize(part.objects.len(), false);
         self.functions.resize(part.functions.len(), false);
-        for (number, is_told) in part.objects.iter_mut().zip(&mut self.objects) {
-            *number = if *is_told { 0 } else { *number };
-            *is_told |= *number != 0;
+        for (number, is_described) in part.objects.iter_mut().zip(&mut self.objects) {
+            *number = if *is_described { 0 } else { *number };
+            *is_described |= *number != 0;
         }
-        for (function, is_told) in part.functions.iter_mut().zip(&mut self.functions) {
-            *function = function.take().filter(|_| !*is_told);
-            *is_told |= function.is_some();
+        for (function, is_described) in part.functions.iter_mut().zip(&mut self.functions) {
+            *function = function.take().filter(|_| !*is_described);
+            *is_described |= function.is_some();
         }
     }
 }

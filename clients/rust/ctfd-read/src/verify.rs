@@ -51,18 +51,18 @@ impl<'t> Judges<'t> {
             if record.name.is_empty() || !met.insert(root) {
                 continue;
             }
-            let is_told = match self.extent {
-                Extent::All => walks.iter_mut().any(|walk| walk.is_told(root)),
+            let agrees = match self.extent {
+                Extent::All => walks.iter_mut().any(|walk| walk.agrees(root)),
                 Extent::Some => walks.iter_mut().fold(false, |told, walk| walk.mark(root) | told),
             };
-            if !is_told && self.extent == Extent::All {
+            if !agrees && self.extent == Extent::All {
                 return refuse(format!(
                     "{} was converted wrongly (it differs from its debug information): please \
                      report this, with the program",
                     record.tag_name()
                 ));
             }
-            count += usize::from(is_told);
+            count += usize::from(agrees);
         }
         Ok(count)
     }
@@ -136,11 +136,11 @@ impl Walk<'_, '_> {
     }
 
     /// Whether some type of the dictionary agrees with a type of the unit.
-    fn is_told(&mut self, root: u32) -> bool {
+    fn agrees(&mut self, root: u32) -> bool {
         self.candidates(root).to_vec().into_iter().any(|n| self.is_alike(root, n))
     }
 
-    /// As `is_told`, but also marks all types that agree, unless either is a declaration.
+    /// As `agrees`, but also marks all types that agree, unless either is a declaration.
     fn mark(&mut self, root: u32) -> bool {
         let kind = self.records[root as usize - 1].kind;
         let alike = self.candidates(root).to_vec();
@@ -278,7 +278,7 @@ mod tests {
         vec![int, node, pointer]
     }
 
-    fn is_told(change: impl FnOnce(&mut Vec<Record<'static>>)) -> bool {
+    fn agrees(change: impl FnOnce(&mut Vec<Record<'static>>)) -> bool {
         let mut records = unit();
         change(&mut records);
         let tables = [Table { records, ..Table::default() }];
@@ -301,9 +301,9 @@ mod tests {
 
     #[test]
     fn what_is_told_truly_is_accepted() {
-        assert!(is_told(|_| {}));
+        assert!(agrees(|_| {}));
         // Another type with the name may exist.
-        assert!(is_told(|records| {
+        assert!(agrees(|records| {
             let mut other = records[1].clone();
             other.size = 24;
             records.push(other);
@@ -312,17 +312,17 @@ mod tests {
 
     #[test]
     fn each_difference_is_refused() {
-        assert!(!is_told(|records| records[0].size = 8));
-        assert!(!is_told(|records| records[0].encoding.bits = 31));
-        assert!(!is_told(|records| records[1].size = 24));
-        assert!(!is_told(|records| records[1].name = Cow::Borrowed(b"other")));
-        assert!(!is_told(|records| records[2].of = 1));
-        assert!(!is_told(|records| members(&mut records[1], |listed| listed[1].offset = 32)));
-        assert!(!is_told(|records| members(&mut records[1], |listed| listed[1].of = 1)));
-        assert!(!is_told(|records| {
+        assert!(!agrees(|records| records[0].size = 8));
+        assert!(!agrees(|records| records[0].encoding.bits = 31));
+        assert!(!agrees(|records| records[1].size = 24));
+        assert!(!agrees(|records| records[1].name = Cow::Borrowed(b"other")));
+        assert!(!agrees(|records| records[2].of = 1));
+        assert!(!agrees(|records| members(&mut records[1], |listed| listed[1].offset = 32)));
+        assert!(!agrees(|records| members(&mut records[1], |listed| listed[1].of = 1)));
+        assert!(!agrees(|records| {
             members(&mut records[1], |listed| listed[0].name = Cow::Borrowed(b"worth"));
         }));
-        assert!(!is_told(|records| records[1] = Record::unknown()));
+        assert!(!agrees(|records| records[1] = Record::unknown()));
     }
 
     #[test]

@@ -1,12 +1,12 @@
--- An optional box that is full stays full while what it holds is lent.
+-- A full optional box stays full while its content is lent.
 use mathlib.Core.Bool.{Bool, Bool-set, true, false, true≢false}
 use Rattle.std.proofs.Common.{◌≡◌, ◌⊎◌, inl, refl, sym, ap}
 use Rattle.std.specs.Global.{Global}
 use Rattle.ctf_c.specs.handles.Lent.{with_held, with_value}
-use Rattle.ctf_c.specs.declared.handles.held.Held.{Held}
+use Rattle.ctf_c.specs.declared.handles.nullable_box.NullableBox.{NullableBox}
 use Rattle.ctf_c.specs.declared.handles.option_box.OptionBox.{OptionBox}
 
-kept : {X : Type 0} (full : Bool) (h : Held X Global) (w : X) → full ≡ true → (tells : full ≡ true)
+kept : {X : Type 0} (full : Bool) (h : NullableBox X Global) (w : X) → full ≡ true → (tells : full ≡ true)
     → ◌≡◌ {A = OptionBox X} (record { full = full; held = with_held h w; tells = tells }) (record { full = true; held = with_held h w; tells = refl })
 kept true h w e tells = ap (λ (t : true ≡ true). record { full = true; held = with_held h w; tells = t }) (Bool-set true true tells refl)
 kept false h w e tells = absurd (true≢false (sym e))

@@ -1,4 +1,4 @@
--- What is asked of a type is asked of what it shows.
+-- A question about a type is answered from its shown part.
 use Rattle.std.proofs.Common.{◌≡◌, ℕ, Bool, List, map, Option, Some, None, Result, Err, refl, sym, ap, ◌∙◌}
 use Rattle.std.specs.Option.{option_map}
 use Rattle.std.proofs.lemmas.Option.{same_Some}
@@ -15,7 +15,7 @@ use Rattle.ctf_c.specs.names.Firsts.{first_among}
 use Rattle.ctf_c.specs.names.Names.{shown_names}
 
 module _ (test : Enumerator → Bool) where
-  -- what the first enumerator that passes is, of what is shown
+  -- the first enumerator that passes, in a shown part
   abbrev pub passing : Shown → Result Enumerator Fault
   passing s = first_among test (or_refused WRONG_KIND (enumerators_in s))
 
@@ -32,12 +32,12 @@ module _ (test : Enumerator → Bool) where
   unnamed_case (show.tag tag) h = refl
   unnamed_case show.nothing h = refl
 
-  -- what has no names is no enum
+  -- a type without names is no enum
   pub unnamed : (o : Option Term) → option_map (λ (x : Term). shown_names (shown x.body)) o ≡ Some None → option_map (λ (x : Term). passing (shown x.body)) o ≡ Some (Err (placeless WRONG_KIND))
   unnamed None h = absurd cc
   unnamed (Some x) h = ap Some (unnamed_case (shown x.body) (same_Some _ _ h))
 
-  -- what a type that was found answers is what is said of it
+  -- the answer of a looked-up type
   pub said_by : (o : Option Term) (r : Result Enumerator Fault) → option_map (λ (x : Term). passing (shown x.body)) o ≡ Some r → r ≡ on_shape (λ s. passing s.behind) (shape_of (or_no_type o))
   said_by None r h = absurd cc
   said_by (Some x) r h = sym (same_Some _ _ h)

@@ -1,4 +1,4 @@
--- Rows that are filled one after the other.
+-- Rows filled one after another.
 use Rattle.std.proofs.Common.{◌≡◌, ⊎_elim, ℕ, zero, suc, ◌+◌, ◌-◌, ◌<◌, ◌≤◌, min, List, [], ◌∷◌, length, set, Some, refl, sym, ap, subst, ◌∙◌, arith, length-set}
 use Rattle.std.specs.Prelude.{IfSome, slice_get}
 use Rattle.std.proofs.lemmas.Bool.{cases_lt}
@@ -17,7 +17,7 @@ set_other (r ∷ rows) zero (suc j) row other = refl
 set_other (r ∷ rows) (suc i) zero row other = refl
 set_other (r ∷ rows) (suc i) (suc j) row other = set_other rows i j row (λ e. other (ap suc e))
 
--- the first i rows tell of items, and the others are as they were
+-- the first `i` rows give items, and the others are unchanged
 pub record IsFilled {A R : Type 0} (Tells : A → R → Type 0) (items : List A) (from : ℕ) (old now : List R) (i : ℕ) : Type 0 where
   pub many : length now ≡ length old
   pub reached : i ≤ length items - from
@@ -45,7 +45,7 @@ module _ {A R : Type 0} (Tells : A → R → Type 0) (items : List A) (from : �
           let row_is : row ≡ r = same_Some _ _ (sym (set_same now i row inside) ∙ subst (λ k. slice_get (set now i row) k ≡ Some r) same f) in
           subst (λ it. Tells x it) row_is (rw is at tells)
 
-  -- once rows or items are at their end
+  -- once rows or items are used up
   pub all_filled : (now : List R) (i left count : ℕ) → IsFilled Tells items from old now i → count ≤ i → left ≡ length items - from → count ≡ min left (length old) → Fills Tells items from old now
   all_filled now i left count h end e f = record {
     many = h.many;

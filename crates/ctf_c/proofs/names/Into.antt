@@ -1,4 +1,4 @@
--- What rows are filled with is said of a type.
+-- Rows are filled from the list of a type.
 use Rattle.std.proofs.Common.{◌≡◌, ℕ, List, length, Option, Some, None, Result, Ok, Err, refl, ap, ◌∙◌}
 use Rattle.std.specs.Option.{option_map}
 use Rattle.std.proofs.lemmas.Option.{same_Some}
@@ -36,7 +36,7 @@ module _ {A R : Type 0} (listed : Shown → Option (List A)) (Tells : A → R �
   into_unnamed none None h a f = absurd cc
   into_unnamed none (Some x) h a f = of_none (listed (shown x.body)) (none (shown x.body) (same_Some _ _ h)) a f
 
-  -- of a type whose list, or that it has none, is known
+  -- a type whose list is known, or is known to have none
   pub into_listed : (o : Option Term) (items : List A) → option_map (λ (x : Term). listed (shown x.body)) o ≡ Some (Some items) → answer ≡ Ok (length items) → Fills Tells items from old new → Into o
   into_listed None items h a f = absurd cc
   into_listed (Some x) items h a f = of_list (listed (shown x.body)) items (same_Some _ _ h) a f

@@ -1,4 +1,4 @@
--- A label stands in eight bytes: the reference to its name, and its last type.
+-- A label has eight bytes: the reference to its name, and its last type.
 use Rattle.std.proofs.Common.{◌≡◌, ℕ, zero, suc, ◌*◌, ◌<◌, ◌≤◌, List, [], ◌∷◌, length, drop, Some, None, refl, sym, ap, subst, ◌∙◌, arith}
 use Rattle.std.proofs.lemmas.List.{drop-drop, length-drop}
 use Rattle.std.specs.Prelude.{IfSome, slice_get}
@@ -14,13 +14,13 @@ use Rattle.ctf_model.specs.format.Lists.{Lists, tables}
 use Rattle.ctf_model.specs.format.Name.{Tables, name}
 use Rattle.ctf_model.specs.rules.Faults.{first_fault}
 
--- what stands at a label's place
+-- the label at an offset
 pub record StandsAt (t : Tables) (b : List ℕ) (x : Label) : Type 0 where
   pub whole : 8 ≤ length b
   pub named : name t (u32_at b 0) ≡ Some x.name
   pub last : u32_at b 4 ≡ x.last
 
--- the label with a number
+-- the label at an index
 pub record Stands (t : Tables) (b : List ℕ) (xs : List Label) (i : ℕ) : Type 0 where
   pub label : Label
   pub is : slice_get xs i ≡ Some label
@@ -34,11 +34,11 @@ stands t b (x ∷ xs) (suc i) h lt =
     let far : drop (8 * i) (drop 8 b) ≡ drop (8 * suc i) b = drop-drop (8 * i) 8 b ∙ ap (λ (m : ℕ). drop m b) (omega arith) in
     record { label = rest.label; is = rest.is; at = subst (λ (l : List ℕ). StandsAt t l rest.label) far rest.at }
 
--- the same of a dictionary without a fault
+-- the same for a faultless dictionary
 pub label_stands : (s : Lists) (i : ℕ) → first_fault s ≡ None → i < length (said_by s).labels → Stands (tables s) (section s.ctf SLabels) (said_by s).labels i
 label_stands s i e lt = stands (tables s) (section s.ctf SLabels) (said_by s).labels i (denotes_said s e).labels lt
 
--- where it begins lies inside the section
+-- its start is inside the section
 pub label_inside : (s : Lists) (i : ℕ) (b : List ℕ) → first_fault s ≡ None → i < length (said_by s).labels → b ≡ section s.ctf SLabels → 8 * i ≤ length b
 label_inside s i b e lt is =
     let whole = (label_stands s i e lt).at.whole in
@@ -48,7 +48,7 @@ label_inside s i b e lt is =
 pub label_whole : (s : Lists) (i : ℕ) (b l : List ℕ) → first_fault s ≡ None → i < length (said_by s).labels → b ≡ section s.ctf SLabels → l ≡ drop (8 * i) b → 8 ≤ length l
 label_whole s i b l e lt is at = rw (at, is) (label_stands s i e lt).at.whole
 
--- a row that tells of what stands there tells of the label
+-- the row of the bytes at its offset is the row of the label
 pub label_told : (s : Lists) (i : ℕ) (b l : List ℕ) (row : GivenLabelRow) → first_fault s ≡ None → i < length (said_by s).labels → b ≡ section s.ctf SLabels → l ≡ drop (8 * i) b
     → ((said : List ℕ) → name (tables s) (u32_at l 0) ≡ Some said → text_in s row.name_list row.name_at ≡ Some said) → row.last ≡ u32_at l 4
     → IfSome (slice_get (said_by s).labels i) (λ x. TellsLabel (Some s) x row)

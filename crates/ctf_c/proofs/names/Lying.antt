@@ -1,4 +1,4 @@
--- What lies in a type is what lies in the struct or union that it stands for.
+-- The members in a type are those in the struct or union that it resolves to.
 use Rattle.std.proofs.Common.{◌≡◌, ℕ, suc, zero, ◌+◌, ◌-◌, ◌<◌, ◌≤◌, List, [], length, set, Option, Some, None, Result, Ok, Err, refl, sym, ap, subst, ◌∙◌, arith}
 use Rattle.std.specs.Option.{option_map}
 use Rattle.std.specs.Prelude.{IfSome, IsSome, flat_map, slice_get}
@@ -28,7 +28,7 @@ use Rattle.ctf_model.specs.spaces.TypePlaces.{place}
 use Rattle.ctf_model.specs.symbols.SymbolQuestions.{or_refused}
 use Rattle.ctf_model.specs.values.Values.{most_values}
 
--- ---- the members of a type that was looked for
+-- ---- the members of a looked-up type
 
 abbrev pub members_behind : Result Term Fault → List Member
 members_behind found = or_nothing (on_shape members_answered (shape_of found))
@@ -50,7 +50,7 @@ behind_unlisted (Some x) h = listed_none (members_in (shown x.body)) (same_Some 
 pub behind_refused : (found : Result Term Fault) (fault : Fault) → found ≡ Err fault → members_behind found ≡ []
 behind_refused found fault e = rw e refl
 
--- ---- what lies in it
+-- ---- nested members
 
 pub inside_end : (left : ℕ) (s : spaces.Space) (offset depth t : ℕ) → left ≡ 0 → inside left s offset depth t ≡ []
 unfolding inside
@@ -92,7 +92,7 @@ same_inside : (k : ℕ) (s : spaces.Space) (v : Visited) (row : GivenVisitRow) �
 same_inside k s v row a b c = rw (a, b, c) refl
 
 module _ (d : Open) (k holder offset depth : ℕ) (row : GivenVisitRow) (lists : Lists) (known : lists_with (Some d) holder ≡ Some lists) where
-  -- a member and what lies in it
+  -- a member, then those nested in it
   pub filled_with : (m : Member) (c e : ℕ) (now new : List GivenVisitRow) → c ≤ length now → TellsVisited (Some lists) (visit_of holder offset depth m) row
       → row.stands_for ≡ stands_for (space_in d) row.tnum
       → FillsOn (TellsIn (Some d)) (inside k (space_in d) row.offset row.depth row.tnum) (c + 1) e (set now c row) new
@@ -125,7 +125,7 @@ outermost_told o lists t stood e = rw e (refl, refl, refl, refl, refl)
 pub visits : {A R : Type 0} (Tells : A → R → Type 0) (items : List A) (found : Result Term Fault) (answer : ℕ) (old new : List R) → if_there (Ok items) found ≡ Ok items → FillsOn Tells items 0 answer old new → Visits Tells (if_there (Ok items) found) (Ok answer) old new
 visits Tells items found answer old new e h = rw e (ap Ok (all_answered Tells items answer old new h), filled_all Tells items answer old new h)
 
--- ---- the lists of the dictionary that has a type
+-- ---- the lists that a type belongs to
 
 pub lists_are : (s : Open) (t : ℕ) (space : spaces.Space) (own : Lists) (parent : Option Lists) (lists : Lists)
     → space ≡ space_in s → own ≡ s.own.lists → parent ≡ option_map (λ p. p.lists) s.parent → lists_at (place space.own.child t) own parent ≡ Some lists → lists_with (Some s) t ≡ Some lists

@@ -1,4 +1,4 @@
--- The names of items, in their rows.
+-- The names of items in their rows.
 use Rattle.std.proofs.Common.{◌≡◌, ℕ, zero, suc, ◌+◌, ◌*◌, ◌<◌, ◌≤◌, List, [], length, map, drop, Option, Some, None, refl, sym, ap, ◌∙◌, arith, Bool, true, false, cond, ◌⊎◌}
 use Rattle.std.specs.Prelude.{IsSome, slice_get, nat_lt}
 use Rattle.std.specs.Option.{option_map}
@@ -39,7 +39,7 @@ module _ (t : Tables) (len n i : ℕ) (b : List ℕ) (good : AreGood (name_at t)
   pub row_names : (r : List ℕ) (reference : ℕ) → r ≡ drop (len * i) b → reference ≡ u32_at r 0 → name t reference ≡ slice_get (items_in (name_at t) len n b) i
   row_names r reference e f = ap (name t) (f ∙ ap (λ (bytes : List ℕ). u32_at bytes 0) e) ∙ items_at (name_at t) len n i b (items_in (name_at t) len n b) (items_in_is (name_at t) len n b good) inside
 
--- ---- names of items are what their rows begin with
+-- ---- names of items are at the start of their rows
 
 pub items_named : {A : Type 0} (t : Tables) (item : List ℕ → Option A) (called : A → List ℕ) → ((b : List ℕ) → option_map called (item b) ≡ name_at t b)
     → (len n : ℕ) (b : List ℕ) (xs : List A) → items item len n b ≡ Some xs → items (name_at t) len n b ≡ Some (map called xs)
@@ -64,7 +64,7 @@ member_names size t b = by_form (nat_lt size 8192)
     by_form true = kept _ (λ (m : Member). m.name) (λ text. refl) (name t (u32_at b 0))
     by_form false = kept _ (λ (m : Member). m.name) (λ text. refl) (name t (u32_at b 0))
 
--- ---- which names are shown
+-- ---- shown names
 
 names_by : (t : Tables) (b : List ℕ) (s : Shown) → shown_by t b ≡ Some s → option_map (λ (x : Term). shown_names (shown x.body)) (term_of t b) ≡ Some (shown_names s)
 names_by t b s h = lifted (term_of t b) h
@@ -107,7 +107,7 @@ struct_named t b rest bytes count k h r p =
     let named = items_in_by (name_at t) (member_len bytes) count rest _ (items_named t (member_of bytes t) (λ (m : Member). m.name) (member_names bytes t) (member_len bytes) count rest ms is) in
     names_by t b (show.members ms) (members_view t b rest bytes count ms k h r p is) ∙ ap (λ (names : List (List ℕ)). Some (Some names)) (sym named)
 
--- types of other kinds have none
+-- types of other kinds have no names
 pub none_named : (t : Tables) (b : List ℕ) (k : Kind) → kind b ≡ Some k → IsSome (term_of t b) → (k ≡ KStruct → ⊥) → (k ≡ KUnion → ⊥) → (k ≡ KEnum → ⊥)
     → option_map (λ (x : Term). shown_names (shown x.body)) (term_of t b) ≡ Some None
 none_named t b KUnknown e h a1 a2 a3 = names_by t b _ (shown_at t b KUnknown e h).1
@@ -129,7 +129,7 @@ none_named t b KVolatile e h a1 a2 a3 = names_by t b _ (shown_at t b KVolatile e
 none_named t b KConst e h a1 a2 a3 = names_by t b _ (shown_at t b KConst e h).1
 none_named t b KRestrict e h a1 a2 a3 = names_by t b _ (shown_at t b KRestrict e h).1
 
--- ---- the record of a type that was found
+-- ---- the record of a looked-up type
 
 pub same_term : (d dd : Checked) (r rr : Record) (t : Tables) → t ≡ tables_of dd → dd ≡ d → rr ≡ r → term_of (tables_of d) (bytes_of r) ≡ term_of t (bytes_of rr)
 same_term d dd r rr t e f g = rw (e, f, g) refl

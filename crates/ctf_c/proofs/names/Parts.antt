@@ -1,4 +1,4 @@
--- Rows that are filled by one part of a list after the other.
+-- Rows filled by one part of a list after another.
 use Rattle.std.proofs.Common.{◌≡◌, ◌⊎◌, inl, inr, ℕ, zero, suc, ◌+◌, ◌-◌, ◌<◌, ◌≤◌, min, List, [], ◌∷◌, ◌++◌, length, set, take, drop, Some, refl, sym, ap, subst, ◌∙◌, arith, length-set, length-append}
 use Rattle.std.specs.Prelude.{slice_get, flat_map}
 use Rattle.std.proofs.lemmas.Bool.{cases_lt}
@@ -83,11 +83,11 @@ module _ {A R : Type 0} (Tells : A → R → Type 0) where
       behind = λ i past. b.behind i (let p = a.answered in let n = length-append xs ys in omega (arith, p, n, past)) ∙ a.behind i (let n = length-append xs ys in omega (arith, n, past));
     }
 
-  -- an item, and then those that lie in it
+  -- an item, then those nested in it
   pub filled_member : (x : A) (inside : List A) (row : R) (c e : ℕ) (now new : List R) → c ≤ length now → Tells x row → FillsOn Tells inside (c + 1) e (set now c row) new → FillsOn Tells (x ∷ inside) c e now new
   filled_member x inside row c e now new le tells rest = filled_both (x ∷ []) inside c (c + 1) e now (set now c row) new (omega arith) (filled_one x row c now le tells) rest
 
-  -- where rows end before the items do
+  -- if the rows end before the items do
   pub filled_early : (done rest : List A) (c d : ℕ) (old now : List R) → c ≤ length old + 1 → FillsOn Tells done c d old now → length now < d → FillsOn Tells (done ++ rest) c d old now
   filled_early done rest c d old now room h lt = filled_both done rest c d d old now now room h (filled_up rest d now (let a = h.answered in let m = h.many in omega (arith, a, m, lt)))
 
@@ -105,7 +105,7 @@ module _ {A R : Type 0} (Tells : A → R → Type 0) where
   pub all_answered : (items : List A) (answer : ℕ) (old new : List R) → FillsOn Tells items 0 answer old new → answer ≡ min (length items) (length old + 1)
   all_answered items answer old new h = let a = h.answered in omega (arith, a)
 
--- ---- each item of a list leads to some
+-- ---- lists in which each item leads to more
 
 take_one : {X : Type 0} (xs : List X) (i : ℕ) (x : X) → slice_get xs i ≡ Some x → take (suc i) xs ≡ take i xs ++ x ∷ []
 take_one [] i x e = absurd cc

@@ -11,7 +11,7 @@ use Rattle.ctf_views.specs.Lists.{AreGood, items_in}
 use Rattle.ctf_c.specs.declared.names.members.MemberRow.{MemberRow}
 use Rattle.ctf_c.specs.names.MemberPlaces.{IsMember, bits_in}
 
--- what a row of bytes says of its member
+-- the member in a row of bytes
 module _ (size : ℕ) (t : Tables) (b : List ℕ) (r : MemberRow) where
   pub row_says : r.reference ≡ u32_at b 0 → r.tnum.0 ≡ u16_at b 4 → r.offset ≡ bits_in size b → IfSome (member_of size t b) (λ m. IsMember t m r)
   row_says e f g = by_form (nat_lt size 8192) g
@@ -41,7 +41,7 @@ module _ (size : ℕ) (t : Tables) (n i : ℕ) (b : List ℕ) (good : AreGood (m
   pub row_is : (r : List ℕ) → r ≡ drop (member_len size * i) b → member_of size t r ≡ slice_get (items_in (member_of size t) (member_len size) n b) i
   row_is r e = ap (member_of size t) e ∙ items_at (member_of size t) (member_len size) n i b (items_in (member_of size t) (member_len size) n b) (items_in_is (member_of size t) (member_len size) n b good) inside
 
--- a row has eight bytes at least
+-- a row has at least eight bytes
 pub least_row : (size : ℕ) → 8 ≤ member_len size
 least_row size = by_form (nat_lt size 8192)
   where

@@ -1,4 +1,4 @@
--- A symbol stands in 24 bytes.
+-- A symbol has 24 bytes.
 use Rattle.std.proofs.Common.{◌≡◌, ℕ, zero, suc, ◌+◌, ◌*◌, ◌/◌, ◌%◌, ◌<◌, ◌≤◌, List, [], length, drop, Option, Some, Ok, refl, sym, ap, ◌∙◌, arith}
 use Rattle.std.specs.Prelude.{slice_get, slice_index, unwrap_or}
 use Rattle.std.proofs.lemmas.List.{drop-drop, length-drop}
@@ -25,17 +25,17 @@ unfolding symbols_in
 symbols_length strs zero b = refl
 symbols_length strs (suc n) b = ap suc (symbols_length strs n (drop 24 b))
 
--- how many there are
+-- the number of symbols
 pub symbols_counted : (s : Lists) (table : List ℕ) → table ≡ unwrap_or s.sym [] → length table / 24 ≡ length (said_by s).symbols
 unfolding said_by symbols
 symbols_counted s table t = rw t (sym (symbols_length s.strs (length (unwrap_or s.sym []) / 24) (unwrap_or s.sym [])))
 
--- the one with a number
+-- the symbol with a number
 pub symbol_there : (s : Lists) (table : List ℕ) (n : ℕ) → table ≡ unwrap_or s.sym [] → n < length table / 24 → slice_get (said_by s).symbols n ≡ Some (symbol_of s.strs (drop (24 * n) table))
 unfolding said_by symbols
 symbol_there s table n t lt = rw t (symbol_numbered s.strs (length (unwrap_or s.sym []) / 24) n (unwrap_or s.sym []) (rw t at lt))
 
--- where it begins lies inside the table, and so does all of it
+-- its bytes are inside the table
 pub symbol_inside : (s : Lists) (table : List ℕ) (n : ℕ) → table ≡ unwrap_or s.sym [] → n < length (said_by s).symbols → 24 * n + 24 ≤ length table
 symbol_inside s table n t lt = let many = symbols_counted s table t in omega (arith, many, lt)
 
@@ -44,7 +44,7 @@ symbol_whole s table b n t lt at =
     let inside = symbol_inside s table n t lt in
     rw at (omega (arith, inside, length-drop (24 * n) table))
 
--- a row that tells of what stands there tells of the symbol
+-- the row of the bytes at its offset is the row of the symbol
 pub symbol_told : (d : Open) (n : ℕ) (table b : List ℕ) (row : GivenSymbolRow) → table ≡ unwrap_or d.own.lists.sym [] → n < length (own_in d).symbols → b ≡ drop (24 * n) table
     → row.number ≡ n → row.symbol_class ≡ class_of_sort (slice_index b 4 % 16)
     → (row.symbol_class ≡ 2 → Gives (return_of (function_of (own_in d) n)) row.type_status 0 row.tnum)

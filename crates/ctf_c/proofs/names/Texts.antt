@@ -1,4 +1,4 @@
--- A text of a section stands in the whole.
+-- A text in a section is a text in the whole.
 use Rattle.std.proofs.Common.{◌≡◌, ℕ, zero, suc, ◌+◌, ◌-◌, ◌/◌, ◌%◌, ◌^◌, ◌≤◌, Bool, true, false, cond, not, ◌||◌, eqb, List, [], ◌∷◌, length, take, drop, Option, Some, None, refl, sym, ap, ◌∙◌, arith, drop-drop, ne_eqb}
 use Rattle.std.specs.List.{list_any, position_or_len}
 use Rattle.std.specs.Option.{option_map}
@@ -18,7 +18,7 @@ text_cons x xs = by_case (is_zero x) (list_any is_zero xs)
     by_case false true = let one : 1 + position_or_len is_zero xs ≡ suc (position_or_len is_zero xs) = omega arith in rw one refl
     by_case false false = refl
 
--- a text in the front of bytes is one in all of them
+-- a text in a prefix of some bytes is one in all of them
 text_front : (n : ℕ) (xs t : List ℕ) → text (take n xs) ≡ Some t → text xs ≡ Some t
 text_front zero xs t h = absurd cc
 text_front (suc n) [] t h = absurd cc
@@ -36,7 +36,7 @@ text_within (suc o) zero xs t h = absurd cc
 text_within (suc o) (suc n) [] t h = absurd cc
 text_within (suc o) (suc n) (x ∷ xs) t h = text_within o n xs t h
 
--- a text of the strings stands in the dictionary, so far behind where they begin
+-- a text in the strings is in the dictionary, at the offset from their start
 pub in_dictionary : (s : Lists) (o : ℕ) (t : List ℕ) → text_at (Some (section s.ctf SStrings)) o ≡ Some t → text_at (Some s.ctf) (36 + (fields s.ctf).stroff + o) ≡ Some t
 in_dictionary s o t h =
     let begin = 36 + (fields s.ctf).stroff in
@@ -44,7 +44,7 @@ in_dictionary s o t h =
     let there = text_within o long (drop begin s.ctf) t h in
     sym (ap text (drop-drop o begin s.ctf ∙ ap (λ (at : ℕ). drop at s.ctf) (omega arith))) ∙ there
 
--- where no rule is broken there is a whole header
+-- a faultless dictionary has a whole header
 pub header_inside : (s : Lists) → first_fault s ≡ None → 36 ≤ length s.ctf
 header_inside s h = let ends = kept_end s 9 (omega arith) (λ rule lt. keeps_all s h rule) in omega arith
 
@@ -53,7 +53,7 @@ header_inside s h = let ends = kept_end s 9 (omega arith) (λ rule lt. keeps_all
 named_inside : (r q : ℕ) (inside t : List ℕ) (elf : Option (List ℕ)) → cond (eqb r 0) (Some []) (text_at (cond (eqb q 0) (Some inside) elf) r) ≡ Some t → (r ≡ 0 → ⊥) → q ≡ 0 → text_at (Some inside) r ≡ Some t
 named_inside r q inside t elf h some own = rw (ne_eqb r 0 some, own) at h
 
--- of one whose highest bit is not set
+-- a reference whose highest bit is 0
 pub internal_there : (s : Lists) (begin at reference : ℕ) (t : List ℕ) → at ≡ reference % 2 ^ 31 → (at ≡ 0 → ⊥) → reference / 2 ^ 31 ≡ 0 → begin ≡ 36 + (fields s.ctf).stroff → name (tables s) reference ≡ Some t
     → text_at (Some s.ctf) (begin + at) ≡ Some t
 internal_there s begin at reference t e some own f h =

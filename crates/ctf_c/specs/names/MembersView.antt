@@ -8,7 +8,7 @@ use Rattle.ctf_sections.specs.StringsView.{tables}
 use Rattle.ctf_views.specs.Lists.{items_in}
 use Rattle.ctf_c.specs.declared.names.members.MemberRows.{MemberRows}
 
--- the tables in which their names stand
+-- the tables with the names
 abbrev pub tables_behind : MemberRows → Tables
 tables_behind r = tables r.strings
 

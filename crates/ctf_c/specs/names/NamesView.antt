@@ -6,7 +6,7 @@ use Rattle.ctf_views.specs.Lists.{items_in}
 use Rattle.ctf_c.specs.names.Names.{name_at}
 use Rattle.ctf_c.specs.declared.names.named_rows.NameRows.{NameRows}
 
--- the tables in which their names stand
+-- the tables with the names
 abbrev pub tables_for : NameRows → Tables
 tables_for r = tables r.strings
 

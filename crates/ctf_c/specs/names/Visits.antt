@@ -1,6 +1,6 @@
--- What lies in a type: the members of the struct or union that it stands for, each followed by what
--- lies in it. Source: libctf(3LIB), ctf_type_visit; that types which hold nothing, or are not
--- there, end no visit, and how far offsets go, is ours.
+-- The visit of a type: the members of the struct or union that it resolves to, each followed by its
+-- own members. Source: libctf(3LIB), ctf_type_visit; that a missing type or one without members
+-- does not end a visit, and the limit of offsets, is ours.
 use Rattle.std.specs.Prelude.{ℕ, zero, suc, ◌+◌, ◌-◌, ◌^◌, min, List, [], ◌∷◌, flat_map, Result, Ok, Err}
 use Rattle.ctf_model.specs.declared.faults.Fault.{Fault}
 use Rattle.ctf_model.specs.format.Term.{Member}
@@ -8,8 +8,8 @@ use Rattle.ctf_model.specs.opened.Questions.{members_answered, on_shape, resolve
 use Rattle.ctf_model.specs.spaces.Space.{Space, space_type}
 use Rattle.ctf_model.specs.values.Values.{most_values}
 
--- a member in a visit: the struct or union that has it, its name, its type, how many bits lie in
--- front of it from the beginning of the outermost type, and how many types it lies in
+-- a member in a visit: its struct or union, its name, its type, its offset in bits from the start
+-- of the outermost type, and its nesting depth
 pub record Visited : Type 0 where
   pub holder : ℕ
   pub name : List ℕ
@@ -17,7 +17,7 @@ pub record Visited : Type 0 where
   pub offset : ℕ
   pub depth : ℕ
 
--- the outermost type by itself
+-- the outermost type itself
 abbrev pub outermost : ℕ → Visited
 outermost t = record { holder = t; name = []; tnum = t; offset = 0; depth = 0 }
 
@@ -27,7 +27,7 @@ abbrev pub or_zero : Result ℕ Fault → ℕ
 or_zero (Ok n) = n
 or_zero (Err fault) = 0
 
--- the number of the type that a type stands for, 0 where that is none
+-- the type that a type resolves to; 0 if none
 abbrev pub stands_for : Space → ℕ → ℕ
 stands_for s t = or_zero (resolved_answered s t)
 
@@ -35,17 +35,17 @@ abbrev pub or_nothing : Result (List Member) Fault → List Member
 or_nothing (Ok members) = members
 or_nothing (Err fault) = []
 
--- the members of a struct or union; other types have none
+-- the members of a struct or union; none for other types
 abbrev pub members_of : Space → ℕ → List Member
 members_of s n = or_nothing (on_shape members_answered (shape_of (space_type s n)))
 
--- ---- what lies in it
+-- ---- nested members
 
--- where a member begins whose type begins at an offset: as far as 64 bits say it
+-- the offset of a member in a type at `offset`, capped at 64 bits
 abbrev pub offset_within : ℕ → Member → ℕ
 offset_within offset m = min (offset + m.offset) (2 ^ 64 - 1)
 
--- a member of a type that begins at an offset, and lies in so many others
+-- a member of a type at this offset and depth
 abbrev pub visit_of : ℕ → ℕ → ℕ → Member → Visited
 visit_of holder offset depth m =
     record {
@@ -56,19 +56,18 @@ visit_of holder offset depth m =
       depth = depth + 1;
     }
 
--- the same, followed by what lies in it, which is said of an offset, a depth and a type
+-- the member, followed by its own members
 abbrev pub placed_with : (ℕ → ℕ → ℕ → List Visited) → ℕ → ℕ → ℕ → Member → List Visited
 placed_with inside holder offset depth m =
     visit_of holder offset depth m ∷ inside (offset_within offset m) (depth + 1) m.tnum
 
--- what lies in a type that begins at an offset and lies in so many others, where at most so many
--- lie in each other
+-- all members in a type at this offset and depth, following at most `k` levels
 unfoldable pub inside : ℕ → Space → ℕ → ℕ → ℕ → List Visited
 inside zero s offset depth t = []
 inside (suc k) s offset depth t =
     flat_map (placed_with (inside k s) (stands_for s t) offset depth)
     (members_of s (stands_for s t))
 
--- a type and what lies in it: so many types as can follow on each other at most
+-- a type and its members at all levels
 abbrev pub visits_of : Space → ℕ → List Visited
 visits_of s t = outermost t ∷ inside most_values s 0 0 t

@@ -26,6 +26,6 @@ as_handle s = record {
   tells = s.tells;
 }
 
--- what the box holds at the end is open
+-- what the box holds when the borrow ends is open in the handle
 abbrev pub HandleLends : MutBor Handle → MutBor (OptionBox Served) → Fml
 HandleLends h r = Lends Handles.the_row box_row h r as_handle

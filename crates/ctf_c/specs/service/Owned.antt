@@ -1,4 +1,4 @@
--- What is held for C: nothing, or the same as a box of a service owns.
+-- What C owns: nothing, or what a box of a service owns.
 use base.Fml.{Fml}
 use base.Stored.{Coded}
 use denote.RawPtr.{Ptr}

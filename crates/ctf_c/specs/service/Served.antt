@@ -1,4 +1,4 @@
--- What is open behind the handle of a service. The words are ours.
+-- The service behind a handle. Source: ours.
 use Rattle.std.specs.Prelude.{ℕ, List}
 use Rattle.ctf_broker.specs.Table.{Libraries}
 

@@ -1,7 +1,7 @@
 //! A value on the heap, or nothing, with a flag.
 ghost use Rattle.std.specs.Prelude.{◌≡◌, None, Some, is_some, option_map};
 
-use crate::handles::held::Held;
+use crate::handles::nullable_box::NullableBox;
 use std::alloc::Global;
 use std::mem;
 
@@ -10,7 +10,7 @@ use std::mem;
 #[derive(Drop)]
 pub struct OptionBox<T> {
     full: bool,
-    pub held: Held<T, Global>,
+    pub held: NullableBox<T, Global>,
     ghost tells: { full ≡ is_some held.value },
 }
 
@@ -21,7 +21,7 @@ impl<T> OptionBox<T> {
     {
         OptionBox {
             full: false,
-            held: Held::none(alloc),
+            held: NullableBox::none(alloc),
         }
     }
 
@@ -34,7 +34,7 @@ impl<T> OptionBox<T> {
     {
         OptionBox {
             full: true,
-            held: Held::of(value),
+            held: NullableBox::of(value),
         }
     }
 

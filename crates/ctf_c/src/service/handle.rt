@@ -8,8 +8,8 @@ use crate::service::state::Service;
 use std::alloc::Global;
 use std::marker::Model;
 
-/// A service on the heap, or nothing: a `Held` without type parameters, since C has no generic
-/// types.
+/// A service on the heap, or nothing: a `NullableBox` without type parameters, since C has no
+/// generic types.
 #[repr(C)]
 #[derive(Drop)]
 pub struct HeapPointer {

@@ -1,4 +1,4 @@
--- What is added to a draft. Source: libctf(3LIB), ctf_add_member, ctf_add_enumerator,
+-- What can be added to a draft. Source: libctf(3LIB), ctf_add_member, ctf_add_enumerator,
 -- ctf_label_set, and the functions that add types; the order of refusals is ours.
 use Rattle.std.specs.Prelude.{ℕ, ◌||◌, ◌&&◌, ◌==◌, not, nat_lt, nat_le, Bool, false, List, [], ◌∷◌, ◌++◌, length, map, set, is_none, unwrap_or, Option, Some, None, Result, Ok, Err}
 use Rattle.std.specs.List.{list_any}
@@ -17,16 +17,16 @@ use Rattle.ctf_model.specs.format.Term as term
 use Rattle.ctf_model.specs.declared.faults.Fault.{Fault}
 use Rattle.ctf_model.specs.declared.faults.TheConstants.Fault.{BAD_OFFSET, BAD_REF, DEEP_MEMBER, DUPLICATE, FULL, NAME_HAS_ZERO, NO_TYPE, SETTLED, VLEN_FULL, WRONG_KIND}
 
--- as many types as a dictionary may have
+-- the most types that a dictionary may have
 abbrev pub most_types : ℕ
 most_types = 32766
 
--- as many members, enumerators or arguments as a type may have
+-- the most members, enumerators or arguments that a type may have
 abbrev pub most_items : ℕ
 most_items = 1023
 
--- a draft that something was added to, and the number that is answered:
--- that of a type, or a member's offset
+-- the draft after an addition, and the number that is returned: that of the new type, or the offset
+-- of the new member
 pub record Added : Type 0 where
   pub draft : Draft
   pub answer : ℕ
@@ -36,7 +36,7 @@ with_pending d terms = record d { pending = record { terms = terms; labels = d.p
 
 -- ---- types
 
--- why a type is not added
+-- the reasons to refuse a type, in order
 abbrev pub against_type : Draft → Term → List Row
 against_type d x =
     record { code = NAME_HAS_ZERO; met = has_zero x.name }
@@ -47,7 +47,7 @@ against_type d x =
 abbrev pub with_type : Draft → Term → Draft
 with_type d x = with_pending d (d.pending.terms ++ x ∷ [])
 
--- a new type; it is answered its number
+-- adds a type; the answer is its number
 unfoldable pub add_type : Draft → NewType → Result Added Fault
 add_type d new =
     unless (first_met (against_type d (new_term new)))
@@ -55,7 +55,7 @@ add_type d new =
 
 -- ---- a pending type that gets a member or enumerator
 
--- what the type of a number is, apart from its name
+-- the body of a looked-up type; `unknown` if the look-up failed
 abbrev pub found_body : Result Term Fault → Body
 found_body (Err f) = term.unknown
 found_body (Ok x) = x.body
@@ -66,7 +66,7 @@ body_at d n = found_body (space_type (space_of d) n)
 abbrev pub with_body : Body → Term → Term
 with_body body x = record { name = x.name; root = x.root; body = body }
 
--- the draft in which a pending type has another body
+-- the draft with a new body for one of its pending types
 abbrev pub replaced_at : Draft → Option ℕ → Result Term Fault → Body → Draft
 replaced_at d (Some i) (Ok x) body = with_pending d (set d.pending.terms i (with_body body x))
 replaced_at d _ _ body = d
@@ -74,7 +74,7 @@ replaced_at d _ _ body = d
 abbrev pub replace_body : Draft → ℕ → Body → Draft
 replace_body d n body = replaced_at d (pending_place d n) (space_type (space_of d) n) body
 
--- a name is there already; those without a name are not compared
+-- the name is already in use; nameless items are never compared
 abbrev pub is_taken : List ℕ → List (List ℕ) → Bool
 is_taken name names = not (length name == 0) && list_any (bytes_eq name) names
 
@@ -83,11 +83,11 @@ is_taken name names = not (length name == 0) && list_any (bytes_eq name) names
 abbrev pub members_at : Draft → ℕ → Option (List Member)
 members_at d n = members_in (shown (body_at d n))
 
--- the members that are there; none, where it is no struct or union
+-- the members of type `n`; none if it is no struct or union
 abbrev pub present_members : Draft → ℕ → List Member
 present_members d n = unwrap_or (members_at d n) []
 
--- more than 512 steps by value begin at an own type
+-- a chain of more than 512 steps by value begins at this own type
 abbrev pub is_deep_from : Dictionary → Option ℕ → Bool
 is_deep_from d None = false
 is_deep_from d (Some i) = not (within (edges by_value d.child d.terms) longest_chain i)
@@ -95,7 +95,7 @@ is_deep_from d (Some i) = not (within (edges by_value d.child d.terms) longest_c
 abbrev pub is_deep : Draft → ℕ → Bool
 is_deep d n = is_deep_from (content d) (own_index (content d).child (count_of d) n)
 
--- why a member is not added to the struct or union of a number
+-- the reasons to refuse a member of struct or union `n`, in order
 abbrev pub against_member : Draft → ℕ → List ℕ → ℕ → List Row
 against_member d n name tnum =
     record { code = NAME_HAS_ZERO; met = has_zero name }
@@ -107,18 +107,18 @@ against_member d n name tnum =
     ∷ record { code = BAD_REF; met = is_absent d tnum }
     ∷ record { code = DEEP_MEMBER; met = is_deep d tnum } ∷ []
 
--- the same, once its place and the new size are known
+-- the reasons that need the member's offset and the new size
 abbrev pub against_place : ℕ → ℕ → List Row
 against_place offset size =
     record { code = BAD_OFFSET; met = is_too_far offset || is_too_far size } ∷ []
 
--- a struct or union with one member more, and of a size
+-- a struct or union with one more member, and a new size
 abbrev pub with_member : Member → ℕ → Body → Body
 with_member m size (term.struct old members) = term.struct size (members ++ m ∷ [])
 with_member m size (term.union old members) = term.union size (members ++ m ∷ [])
 with_member m size body = body
 
--- the size that a struct or union has once a member stands in it
+-- the size of struct or union `n` with a member of `bits` bits at `offset`
 abbrev pub size_with : Draft → ℕ → ℕ → ℕ → ℕ
 size_with d n offset bits = grown_size (unwrap_or (size_of (body_at d n)) 0) offset bits
 
@@ -130,16 +130,17 @@ put_member d n m bits =
       answer = m.offset;
     }))
 
--- the member at its place: the type of the member has a size, and where it is to be placed,
--- the last member's has one, and then its own type has an alignment
+-- computes the member's width and offset, then adds it. It fails if the member's type has no size;
+-- if no offset is stated, also if the last member's type has no size or the member's type no
+-- alignment
 abbrev pub place_member : Draft → ℕ → List ℕ → ℕ → Option ℕ → Result Added Fault
 place_member d n name tnum offset =
     bits_filled (space_of d) tnum then λ bits.
     member_place (space_of d) (body_at d n) tnum offset then λ place.
     put_member d n (record { name = name; tnum = tnum; offset = place }) bits
 
--- a new member of a pending struct or union, at an offset in bits if that is stated;
--- it is answered its offset
+-- adds a member to a pending struct or union, at `offset` in bits if one is stated; the answer is
+-- its offset
 unfoldable pub add_member : Draft → ℕ → List ℕ → ℕ → Option ℕ → Result Added Fault
 add_member d n name tnum offset =
     unless (first_met (against_member d n name tnum)) (place_member d n name tnum offset)
@@ -152,7 +153,7 @@ enumerators_at d n = enumerators_in (shown (body_at d n))
 abbrev pub present_enumerators : Draft → ℕ → List Enumerator
 present_enumerators d n = unwrap_or (enumerators_at d n) []
 
--- why an enumerator is not added to the enum of a number
+-- the reasons to refuse an enumerator of enum `n`, in order
 abbrev pub against_enumerator : Draft → ℕ → List ℕ → List Row
 against_enumerator d n name =
     record { code = NAME_HAS_ZERO; met = has_zero name }
@@ -167,7 +168,7 @@ abbrev pub with_enumerator : Enumerator → Body → Body
 with_enumerator e (term.enum size enumerators) = term.enum size (enumerators ++ e ∷ [])
 with_enumerator e body = body
 
--- a new enumerator of a pending enum
+-- adds an enumerator to a pending enum
 unfoldable pub add_enumerator : Draft → ℕ → Enumerator → Result Draft Fault
 add_enumerator d n e =
     unless (first_met (against_enumerator d n e.name))
@@ -175,7 +176,7 @@ add_enumerator d n e =
 
 -- ---- labels
 
--- why a label is not added; the empty name counts as one
+-- the reasons to refuse a label; the empty name is a name like any other
 abbrev pub against_label : Draft → List ℕ → List Row
 against_label d name =
     record { code = NAME_HAS_ZERO; met = has_zero name }
@@ -191,6 +192,6 @@ with_label d label =
       pending = record { terms = d.pending.terms; labels = d.pending.labels ++ label ∷ [] };
     }
 
--- a new label
+-- adds a label
 unfoldable pub add_label : Draft → Label → Result Draft Fault
 add_label d label = unless (first_met (against_label d label.name)) (Ok (with_label d label))

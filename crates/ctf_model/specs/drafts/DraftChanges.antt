@@ -1,5 +1,4 @@
--- A draft in the hands of its owner: what may be done to it,
--- one thing after the other. Source: ours.
+-- The changes that a draft's owner can make, and their sequence. Source: ours.
 use Rattle.std.specs.Prelude.{ℕ, List, [], ◌∷◌, Option, Result, Ok, Err}
 use Rattle.ctf_model.specs.drafts.Adders.{Added, add_enumerator, add_label, add_member, add_type}
 use Rattle.ctf_model.specs.format.Dictionary.{Label}
@@ -10,15 +9,15 @@ use Rattle.ctf_model.specs.declared.faults.Fault.{Fault}
 
 pub data DraftChange : Type 0 where
   adds_type : NewType → DraftChange
-  -- to the type of a number: a name, a type and an offset in bits, if that is stated
+  -- to the type with this number: a name, a type, and an offset in bits if one is stated
   adds_member : ℕ → List ℕ → ℕ → Option ℕ → DraftChange
   adds_enumerator : ℕ → Enumerator → DraftChange
   adds_label : Label → DraftChange
   discards : DraftChange
-  -- by an update that is accepted
+  -- an accepted update
   settles : DraftChange
 
--- what is refused leaves the draft as it was
+-- a refused change leaves the draft as it was
 abbrev pub or_as_before : Draft → Result Draft Fault → Draft
 or_as_before d (Err f) = d
 or_as_before d (Ok e) = e
@@ -36,7 +35,7 @@ apply_change d (adds_label label) = or_as_before d (add_label d label)
 apply_change d discards = rollback d
 apply_change d settles = commit d
 
--- after such changes, the first of the list first
+-- the draft after these changes, applied in order
 unfoldable pub after : Draft → List DraftChange → Draft
 after d [] = d
 after d (change ∷ changes) = after (apply_change d change) changes

@@ -15,13 +15,13 @@ use Rattle.ctf_model.specs.spaces.Imports.{Modelled, import_fault, of_one_model}
 use Rattle.ctf_model.specs.format.Term.{Enumerator, Term}
 use Rattle.ctf_model.specs.declared.data_model.DataModel.{DataModel}
 
--- ---- what every draft keeps
+-- ---- what holds of every draft
 
--- each type that a type names is there, in the draft or in its parent
+-- each type that type `x` refers to exists, in the draft or in its parent
 abbrev pub NamesThere : Draft → Term → Type 0
 NamesThere d x = list_any (is_absent d) (references x.body) ≡ false
 
--- what is held can stand in a dictionary
+-- the content of the draft can be written as a dictionary
 pub record HoldsTogether (d : Draft) : Type 0 where
   pub parent : is_childs d.parent ≡ false
   pub child : is_some d.parent ≡ not (length d.parname == 0)
@@ -32,7 +32,7 @@ pub record HoldsTogether (d : Draft) : Type 0 where
   pub terms : AllByRecursion Fits (all_of d).terms
   pub named : AllByRecursion (NamesThere d) (all_of d).terms
 
--- so it can without what is pending
+-- the same holds without the pending part
 pub record IsSound (d : Draft) : Type 0 where
   pub all : HoldsTogether d
   pub updated : HoldsTogether (rollback d)
@@ -68,23 +68,23 @@ LabelsKeepSound =
 abbrev pub LifeKeepsSound : Type 0
 LifeKeepsSound = (d : Draft) → IsSound d → IsSound (rollback d) × IsSound (commit d)
 
--- the numbers of a change have their fields' widths
+-- the numbers in a change fit their fields
 abbrev pub FitsChange : DraftChange → Type 0
 FitsChange (does.adds_type x) = FitsNew x.body
 FitsChange (does.adds_enumerator n e) = FitsSigned w32 e.value
 FitsChange (does.adds_label label) = label.last < 2 ^ 32
 FitsChange _ = Unit {0}
 
--- whatever is done to a draft, in which order, refused or not
+-- no sequence of changes, refused or not, makes a sound draft unsound
 abbrev pub ChangesKeepSound : Type 0
 ChangesKeepSound =
     (d : Draft) (changes : List DraftChange) → IsSound d → AllByRecursion FitsChange changes
     → IsSound (after d changes)
 
--- ---- what that gives
+-- ---- what follows from soundness
 
--- none of its types names an own type that is not there,
--- so the dictionary keeps the rule of references
+-- no type of a sound draft refers to a missing own type, so its dictionary keeps the rule of
+-- references
 abbrev pub SoundDraftsMissNone : Type 0
 SoundDraftsMissNone =
     (d : Draft) → IsSound d
@@ -93,13 +93,13 @@ SoundDraftsMissNone =
     ≡ false)
     (content d).terms
 
--- no number that a type names is the mark of the long form
+-- no type number in a sound draft equals the mark of the long form
 abbrev pub SoundDraftsNameShort : Type 0
 SoundDraftsNameShort =
     (d : Draft) → IsSound d
     → AllByRecursion (λ x. AllByRecursion (λ n. n < 0xffff) (references x.body)) (content d).terms
 
--- a draft stays under its parent: its dictionary could be imported over it at any time
+-- the dictionary of a sound draft can always be imported over the draft's parent
 abbrev pub SoundDraftsStayUnder : Type 0
 SoundDraftsStayUnder =
     (d : Draft) (parent : Dictionary) → IsSound d → d.parent ≡ Some parent
@@ -107,7 +107,7 @@ SoundDraftsStayUnder =
 
 -- ---- placement
 
--- a place, in bits, that an alignment in bytes allows, not before some bit; no such place is nearer
+-- the least offset in bits, not before `bit`, that is a multiple of the alignment in bytes
 pub record IsNextPlace (bit align at : ℕ) : Type 0 where
   pub aligned : at % (8 * max align 1) ≡ 0
   pub behind : bit ≤ at

@@ -43,7 +43,7 @@ new_char =
       body = new.integer (record { size = 1; encoding = 3; offset = 0; bits = 8 });
     }
 
--- what these make
+-- what these inputs build
 abbrev pub int : Term
 int =
     record {
@@ -67,30 +67,30 @@ three_bits = nameless (new.integer (record { size = 4; encoding = 1; offset = 0;
 abbrev pub adds : NewBody → DraftChange
 adds body = does.adds_type (nameless body)
 
--- a member that goes where it does by itself
+-- adds a member without a stated offset
 abbrev pub puts : ℕ → List ℕ → ℕ → DraftChange
 puts n name tnum = does.adds_member n name tnum None
 
 abbrev pub int_and_char : List DraftChange
 int_and_char = does.adds_type new_int ∷ does.adds_type new_char ∷ []
 
--- ---- what is answered
+-- ---- answers
 
 abbrev pub number_answer : Result Added Fault → Result ℕ Fault
 number_answer (Err f) = Err f
 number_answer (Ok added) = Ok added.answer
 
--- the number of a type that is added
+-- the number that a new type gets
 abbrev pub number_added : Draft → NewBody → Result ℕ Fault
 number_added d body = number_answer (add_type d (nameless body))
 
--- where a member goes that is added
+-- the offset that a new member gets
 abbrev pub offset_in : Draft → ℕ → List ℕ → ℕ → Option ℕ → Result ℕ Fault
 offset_in d n name tnum offset = number_answer (add_member d n name tnum offset)
 
 -- ---- a draft's life
 
--- a parent of a data model
+-- a parent with its data model
 abbrev pub over : DataModel → Dictionary → Option Modelled
 over model parent = Some (record { dictionary = parent; model = model })
 
@@ -128,16 +128,16 @@ pub record DraftsLive : Type 0 where
 
 -- ---- types
 
--- a child of p, where p has two types
+-- a child of `p`, which has two types
 abbrev pub over_two : Draft
 over_two =
     empty_draft (Some (dictionary false (integer_of 4 ∷ integer_of 1 ∷ []))) (codes "p") [] Lp64
 
--- the second of a new draft
+-- the number of the second type of a new draft
 abbrev pub second : NewBody → Result ℕ Fault
 second body = number_added (after fresh_draft (does.adds_type new_int ∷ [])) body
 
--- as many types as there may be
+-- a draft that is full: 32,766 types
 abbrev pub full_draft : Draft
 full_draft =
     record fresh_draft { updated = record { terms = replicate 32766 (integer_of 4); labels = [] } }
@@ -184,7 +184,7 @@ pub record TypesAreAdded : Type 0 where
 
 -- ---- members
 
--- a struct with that many members without names
+-- a struct with `count` nameless members
 abbrev pub crowded_struct : ℕ → Draft
 crowded_struct count =
     record fresh_draft {
@@ -201,20 +201,20 @@ pair =
     ∷ puts 3 (codes "c") 2 ∷ puts 3 (codes "i") 1 ∷ adds (new.enum 4)
     ∷ adds (new.forward term.struct_tag) ∷ [])
 
--- the struct is updated, and there is an empty one behind the others
+-- the same after an update, with an empty struct added
 abbrev pub two_structs : Draft
 two_structs = after pair (does.settles ∷ adds (new.struct 0) ∷ [])
 
--- a struct that holds itself, which was empty when the member was added
+-- a struct that was empty when itself was added to it as a member
 abbrev pub in_itself : Draft
 in_itself = after fresh_draft (adds (new.struct 0) ∷ puts 1 [] 1 ∷ [])
 
--- typedefs of a number, then of each other
+-- typedefs with the numbers from `first + 1` on, each of the type before it
 abbrev pub typedefs : ℕ → ℕ → List Term
 typedefs first zero = []
 typedefs first (suc n) = bare_term (term.typedef first) ∷ typedefs (first + 1) n
 
--- int, that many typedefs, each of the type before it, and behind them an empty struct
+-- int, `count` typedefs, each of the type before it, and an empty struct
 abbrev pub typedef_chain : ℕ → Draft
 typedef_chain count =
     record fresh_draft {
@@ -256,9 +256,9 @@ pub record MembersAreAdded : Type 0 where
   pub deep : offset_in in_itself 1 [] 1 None ≡ Err (fault 44 0)
   pub discarded : after in_itself (does.discards ∷ []) ≡ fresh_draft
 
--- ---- where members stand
+-- ---- offsets of members
 
--- as many bytes as the type of a number has
+-- the size in bytes of type `n`
 abbrev pub bytes_of : Draft → ℕ → Result ℕ Fault
 bytes_of d n = size (space_of d) n
 
@@ -281,27 +281,27 @@ with_pointer model = after (fresh_for model) (
     ∷ adds (new.struct 0) ∷ puts 4 (codes "c") 3 ∷ puts 4 (codes "p") 2 ∷ puts 4 (codes "d") 3
     ∷ adds (new.function 1 []) ∷ [])
 
--- the same with the pointer in a parent, for a data model
+-- the same, with the pointer in a parent of this data model
 abbrev pub under_pointer : DataModel → Draft
 under_pointer model =
     after (empty_draft (Some (content (with_pointer model))) (codes "p") [] model)
     (adds (new.struct 0) ∷ puts 0x8001 (codes "c") 3 ∷ [])
 
--- a union of int and char, and a struct with two numbers of three bits and a char
+-- a union of int and char, and a struct of two three-bit integers and a char
 abbrev pub packed_draft : Draft
 packed_draft = after fresh_draft (
     does.adds_type new_int ∷ does.adds_type new_char ∷ does.adds_type three_bits
     ∷ adds (new.union 0) ∷ puts 4 (codes "a") 1 ∷ puts 4 (codes "b") 2
     ∷ adds (new.struct 0) ∷ puts 5 (codes "x") 3 ∷ puts 5 (codes "y") 3 ∷ [])
 
--- an empty struct, very many of these in a struct, and int
+-- an empty struct, a struct with an array of 2^32 - 1 of it, and int
 abbrev pub many_empty : Draft
 many_empty =
     after fresh_draft (adds (new.struct 0)
     ∷ adds (new.array (record { contents = 1; index = 0; count = 2 ^ 32 - 1 }))
     ∷ adds (new.struct 0) ∷ puts 3 (codes "a") 2 ∷ does.adds_type new_int ∷ [])
 
--- then the first struct gets a member far out
+-- the same, after the first struct got a member at a great offset
 abbrev pub many_great : Draft
 many_great = after many_empty (does.adds_member 1 (codes "f") 4 (Some (2 ^ 42)) ∷ [])
 
@@ -349,13 +349,13 @@ one name = record { name = name; value = pos 1 }
 abbrev pub label : List ℕ → ℕ → Label
 label name last = record { name = name; last = last }
 
--- an enum with a name for 1, and a label v
+-- an enum with an enumerator of value 1, and a label `v`
 abbrev pub marked_enum : Draft
 marked_enum =
     after fresh_draft (adds (new.enum 4) ∷ does.adds_enumerator 1 (one (codes "A"))
     ∷ does.adds_label (label (codes "v") 1) ∷ adds (new.struct 0) ∷ [])
 
--- an enum with that many names for 1, all of them empty
+-- an enum with `count` enumerators of value 1, all nameless
 abbrev pub many_names : ℕ → Draft
 many_names count =
     record fresh_draft {

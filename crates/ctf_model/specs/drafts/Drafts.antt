@@ -1,6 +1,6 @@
--- Drafts: dictionaries that are being made, and their life.
--- Source: libctf(3LIB), ctf_create, ctf_update, ctf_discard; that names hold no zero byte,
--- and that a parent is given from the start, is ours.
+-- Drafts: dictionaries under construction, and their life cycle. Source: libctf(3LIB), ctf_create,
+-- ctf_update, ctf_discard; that names hold no zero byte, and that a parent is given from the start,
+-- is ours.
 use Rattle.std.specs.Prelude.{ℕ, ◌+◌, ◌-◌, ◌==◌, ◌||◌, ◌&&◌, not, nat_lt, Bool, false, List, [], ◌∷◌, ◌++◌, length, is_none, is_some, Option, Some, None, Result, Ok, if◌then◌else◌}
 use Rattle.std.specs.List.{list_any}
 use Rattle.std.specs.Option.{option_map}
@@ -26,7 +26,7 @@ pub record Contents : Type 0 where
 abbrev pub no_contents : Contents
 no_contents = record { terms = []; labels = [] }
 
--- one behind the other
+-- the types and labels of `a`, then those of `b`
 abbrev pub followed_by : Contents → Contents → Contents
 followed_by a b = record { terms = a.terms ++ b.terms; labels = a.labels ++ b.labels }
 
@@ -35,14 +35,14 @@ pub record Draft : Type 0 where
   pub parlabel : List ℕ
   pub parent : Option Dictionary
   pub model : DataModel
-  -- what the last update made part of its dictionary, and what was added since then
+  -- what the dictionary contains since the last update, and what was added after it
   pub updated : Contents
   pub pending : Contents
 
 abbrev pub all_of : Draft → Contents
 all_of d = followed_by d.updated d.pending
 
--- the dictionary that its terms and labels make, which tells of no symbols
+-- the dictionary of the draft's types and labels; it has no symbols
 abbrev pub content : Draft → Dictionary
 content d = record {
   child = is_some d.parent;
@@ -54,11 +54,12 @@ content d = record {
   entries = [];
 }
 
--- that dictionary over the parent: sizes, alignments and steps of a draft are those of this space
+-- that dictionary over the parent: sizes, alignments and chains of a draft are computed in this
+-- space
 abbrev pub space_of : Draft → Space
 space_of d = record { own = content d; parent = d.parent; model = d.model }
 
--- how many types it has
+-- the number of its types
 abbrev pub count_of : Draft → ℕ
 count_of d = length (all_of d).terms
 
@@ -68,15 +69,15 @@ count_of d = length (all_of d).terms
 abbrev pub next_number : Draft → ℕ
 next_number d = own_number (is_some d.parent) (count_of d)
 
--- no type has the number, of the draft or of its parent
+-- neither the draft nor its parent has a type with this number
 abbrev pub is_unknown : Draft → ℕ → Bool
 is_unknown d n = is_err (space_type (space_of d) n)
 
--- the same, where 0 may stand for no type
+-- the same, but 0 counts as present (no type)
 abbrev pub is_absent : Draft → ℕ → Bool
 is_absent d n = not (n == 0) && is_unknown d n
 
--- the place of an own type among the pending ones, from 0, if it is one of them
+-- the index of an own type among the pending ones, if it is pending
 abbrev pub behind_updated : ℕ → Option ℕ → Option ℕ
 behind_updated updated None = None
 behind_updated updated (Some i) = if nat_lt i updated then None else Some (i - updated)
@@ -85,11 +86,11 @@ abbrev pub pending_place : Draft → ℕ → Option ℕ
 pending_place d n =
     behind_updated (length d.updated.terms) (own_index (is_some d.parent) (count_of d) n)
 
--- the parent's, or updated
+-- the type is the parent's or already updated, so it cannot change
 abbrev pub is_settled : Draft → ℕ → Bool
 is_settled d n = is_none (pending_place d n)
 
--- ---- its life
+-- ---- life cycle
 
 abbrev pub has_zero : List ℕ → Bool
 has_zero name = list_any is_zero name
@@ -102,12 +103,12 @@ is_childs (Some parent) = parent.child
 abbrev pub above : Option Modelled → Option Dictionary
 above parent = option_map (λ p. p.dictionary) parent
 
--- a parent is of another data model
+-- the parent has another data model
 abbrev pub is_of_other : DataModel → Option Modelled → Bool
 is_of_other model None = false
 is_of_other model (Some parent) = not (same_model model parent.model)
 
--- why no draft is made
+-- the reasons to refuse a new draft, in order
 abbrev pub against_draft : Option Modelled → List ℕ → List ℕ → DataModel → List Row
 against_draft parent parname parlabel model =
     record { code = NAME_HAS_ZERO; met = has_zero parname || has_zero parlabel }
@@ -124,20 +125,20 @@ empty_draft parent parname parlabel model = record {
   pending = no_contents;
 }
 
--- a new draft, with a parent just where that has a name
+-- a new draft; it has a parent exactly if a parent's name is given
 unfoldable pub new_draft : Option Modelled → List ℕ → List ℕ → DataModel → Result Draft Fault
 new_draft parent parname parlabel model =
     unless (first_met (against_draft parent parname parlabel model))
     (Ok (empty_draft (above parent) parname parlabel model))
 
--- what was added since the last update is dropped, and its numbers are used again
+-- drops what was added since the last update; its numbers are used again
 abbrev pub rollback : Draft → Draft
 rollback d = record d { pending = no_contents }
 
--- all that was added is part of the dictionary
+-- makes everything added so far part of the dictionary
 abbrev pub commit : Draft → Draft
 commit d = record d { updated = all_of d; pending = no_contents }
 
--- how many types and labels were added since the last update
+-- the number of types and labels added since the last update
 abbrev pub pending_count : Draft → ℕ
 pending_count d = length d.pending.terms + length d.pending.labels

@@ -1,5 +1,5 @@
--- Which types and labels the format has room for. Source: the widths of ctf(5)'s fields;
--- that a draft's arrays say no size, and that no member begins behind its struct, is ours.
+-- Which types and labels fit the format. Source: the widths of ctf(5)'s fields; that a draft's
+-- arrays state no size, and that no member begins after the end of its struct, is ours.
 use Rattle.std.specs.Prelude.{◌≡◌, ◌<◌, ◌≤◌, ℕ, ◌*◌, ◌^◌, List, length, FitsSigned}
 use Rattle.std.specs.List.{AllByRecursion}
 use Rattle.std.specs.Int.{w32}
@@ -14,7 +14,7 @@ use Rattle.ctf_model.specs.format.Term as term
 abbrev pub IsName : List ℕ → Type 0
 IsName name = AllByRecursion (λ b. 0 < b) name
 
--- ---- types; that the numbers of types have 16 bits follows from these being there
+-- ---- types; that type numbers fit 16 bits follows because the types exist
 
 pub record FitsScalar (s : Scalar) : Type 0 where
   pub size : s.size < 2 ^ 64
@@ -26,7 +26,7 @@ pub record FitsElements (e : Elements) : Type 0 where
   pub size : e.size ≡ 0
   pub count : e.count < 2 ^ 32
 
--- a member begins in its struct or union, or where that ends
+-- a member begins inside its struct or union, or exactly at its end
 pub record FitsMember (size : ℕ) (m : Member) : Type 0 where
   pub name : IsName m.name
   pub offset : m.offset < 2 ^ 64
@@ -64,9 +64,9 @@ pub record FitsLabel (label : Label) : Type 0 where
   pub name : IsName label.name
   pub last : label.last < 2 ^ 32
 
--- ---- what is added
+-- ---- additions
 
--- its numbers have their fields' widths
+-- the numbers of the new type fit their fields
 abbrev pub FitsNew : NewBody → Type 0
 FitsNew (new.integer s) = FitsScalar s
 FitsNew (new.float s) = FitsScalar s

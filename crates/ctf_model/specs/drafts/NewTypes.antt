@@ -1,5 +1,4 @@
--- Types as they are added to a draft: what each kind says of itself,
--- and no members or enumerators yet.
+-- Types as they are added to a draft: what each kind states, without members or enumerators.
 -- Source: libctf(3LIB), ctf_add_integer, ctf_add_float, ctf_add_pointer, ctf_add_array,
 -- ctf_add_function, ctf_add_struct, ctf_add_union, ctf_add_enum, ctf_add_forward, ctf_add_typedef,
 -- ctf_add_volatile, ctf_add_const, ctf_add_restrict; that an unknown type can be added is ours.
@@ -8,14 +7,14 @@ use Rattle.ctf_model.specs.format.Shown.{ArrayParts}
 use Rattle.ctf_model.specs.format.Term.{Body, Scalar, Tag, Term}
 use Rattle.ctf_model.specs.format.Term as term
 
--- what a new type is, by its kind
+-- a new type's content, by kind
 pub data NewBody : Type 0 where
   unknown : NewBody
   integer : Scalar → NewBody
   float : Scalar → NewBody
   pointer : ℕ → NewBody
   array : ArrayParts → NewBody
-  -- what it returns, and its arguments
+  -- its return type and its arguments
   function : ℕ → List ℕ → NewBody
   -- size in bytes
   struct : ℕ → NewBody
@@ -32,7 +31,7 @@ pub record NewType : Type 0 where
   pub root : Bool
   pub body : NewBody
 
--- the type that it makes: an array says no size, and lists are empty
+-- the type that results: an array states no size, and lists are empty
 abbrev pub new_body : NewBody → Body
 new_body unknown = term.unknown
 new_body (integer scalar) = term.integer scalar

@@ -1,10 +1,10 @@
--- A dictionary as text, for people: a line for itself, for each label, for each symbol of which
--- something is told, and for each type, with its members or enumerators. Source: ours.
+-- A dictionary as readable text: one line for the dictionary, each label, each symbol with
+-- information, each type, and each member or enumerator. Source: ours.
 use Rattle.std.specs.Prelude.{ℕ, ◌+◌, ◌++◌, Bool, true, false, List, [], ◌∷◌, length, map, Some, None, Result, Ok, Err, codes, decimal, if◌then◌else◌}
 use Rattle.std.specs.List.{flat_map}
 use Rattle.ctf_model.specs.format.Dictionary.{Dictionary, Label}
 use Rattle.ctf_model.specs.symbols.Entries.{Entry, Signature}
-use Rattle.ctf_model.specs.symbols.Entries as told
+use Rattle.ctf_model.specs.symbols.Entries as info
 use Rattle.ctf_model.specs.rules.FaultNames.{name_of_fault}
 use Rattle.ctf_model.specs.figures.Figures.{align, size}
 use Rattle.ctf_model.specs.names.KindNames.{name_of_kind, name_of_tag}
@@ -18,16 +18,16 @@ use Rattle.ctf_model.specs.names.TypeNames.{spelled_name}
 use Rattle.ctf_model.specs.spaces.TypePlaces.{own_number}
 use Rattle.ctf_model.specs.declared.faults.Fault.{Fault}
 
--- ---- words of a line
+-- ---- parts of a line
 
--- a plain byte as itself, any other as a backslash, an x and two digits
+-- a plain byte unchanged, any other as a backslash, `x` and two hex digits
 abbrev pub escape : ℕ → List ℕ
 escape b = if is_plain b then b ∷ [] else 0x5c ∷ 0x78 ∷ hex_of_byte b
 
 abbrev pub in_quotes : List ℕ → List ℕ
 in_quotes name = codes "\"" ++ (flat_map escape name ++ codes "\"")
 
--- a word, an equality sign and a text
+-- `word=text`
 abbrev pub with_value : List ℕ → List ℕ → List ℕ
 with_value word text = word ++ (codes "=" ++ text)
 
@@ -37,15 +37,15 @@ with_number word n = with_value word (decimal n)
 abbrev pub after_blanks : List (List ℕ) → List ℕ
 after_blanks words = flat_map (λ word. 32 ∷ word) words
 
--- words with a blank between them
+-- a line of words, separated by blanks
 abbrev pub line_of : List ℕ → List (List ℕ) → List ℕ
 line_of first words = first ++ (after_blanks words ++ codes "\n")
 
--- numbers with commas between them
+-- numbers, separated by commas
 abbrev pub numbers : List ℕ → List ℕ
 numbers ns = with_commas (map decimal ns)
 
--- ---- the lines in front
+-- ---- the lines before the types
 
 abbrev pub yes_or_no : Bool → List ℕ
 yes_or_no true = codes "yes"
@@ -62,22 +62,22 @@ head_line d =
 abbrev pub label_line : Label → List ℕ
 label_line x = line_of (codes "label") (in_quotes x.name ∷ decimal x.last ∷ [])
 
--- what a function returns and takes; its arguments as they are stored
+-- return type and arguments of a function, with a stored last argument 0
 abbrev pub signature_words : ℕ → List ℕ → List (List ℕ)
 signature_words ret args =
     with_number (codes "return") ret ∷ with_value (codes "args") (numbers args) ∷ []
 
--- a symbol of which nothing is told has no line
-abbrev pub told_line : Entry → told.Told → List ℕ
-told_line e (told.object None) = []
-told_line e (told.object (Some t)) =
+-- the line of a symbol; none if the dictionary has no information about it
+abbrev pub info_line : Entry → info.SymbolInfo → List ℕ
+info_line e (info.object None) = []
+info_line e (info.object (Some t)) =
     line_of (codes "object") (decimal e.number ∷ in_quotes e.name ∷ decimal t ∷ [])
-told_line e (told.function None) = []
-told_line e (told.function (Some f)) =
+info_line e (info.function None) = []
+info_line e (info.function (Some f)) =
     line_of (codes "function") (decimal e.number ∷ in_quotes e.name ∷ signature_words f.ret f.args)
 
 abbrev pub symbol_line : Entry → List ℕ
-symbol_line e = told_line e e.told
+symbol_line e = info_line e e.info
 
 -- ---- types
 
@@ -97,7 +97,7 @@ to_words t = with_number (codes "to") t ∷ []
 abbrev pub size_words : ℕ → List (List ℕ)
 size_words said = with_number (codes "size") said ∷ []
 
--- what a type says of itself, apart from its name and its list; an unknown one says nothing
+-- the words for a type's own fields, without its name and its list
 abbrev pub detail : Body → List (List ℕ)
 detail (term.integer x) = scalar_words x
 detail (term.float x) = scalar_words x
@@ -118,7 +118,7 @@ abbrev pub visible : Bool → List ℕ
 visible true = codes "root"
 visible false = codes "hidden"
 
--- what is found, or the name of the fault in its place
+-- the text of a result, or the name of its fault
 abbrev pub or_fault : {A : Type 0} → (A → List ℕ) → Result A Fault → List ℕ
 or_fault text (Ok a) = text a
 or_fault text (Err fault) = name_of_fault fault.code
@@ -141,20 +141,20 @@ member_line m =
 abbrev pub value_line : Enumerator → List ℕ
 value_line e = line_of (codes "  value") (in_quotes e.name ∷ signed_decimal e.value ∷ [])
 
--- those of the members or enumerators
+-- the lines of the members or enumerators
 abbrev pub list_lines : Body → List ℕ
 list_lines (term.struct said ms) = flat_map member_line ms
 list_lines (term.union said ms) = flat_map member_line ms
 list_lines (term.enum said es) = flat_map value_line es
 list_lines _ = []
 
--- the types from the one with a number on, counted from 0
+-- the lines of these types; the first has index `i`
 unfoldable pub types_from : Space → ℕ → List Term → List ℕ
 types_from s i [] = []
 types_from s i (x ∷ xs) =
     type_line s (own_number s.own.child i) x ++ (list_lines x.body ++ types_from s (i + 1) xs)
 
--- ---- all of it
+-- ---- the whole dump
 
 abbrev pub dump : Space → List ℕ
 dump s =

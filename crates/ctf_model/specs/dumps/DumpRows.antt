@@ -3,8 +3,8 @@ use Rattle.std.specs.Prelude.{◌≡◌, ℕ, pos, negsuc, true, false, List, []
 use Rattle.std.specs.List.{concat}
 use Rattle.ctf_model.specs.format.Dictionary.{Dictionary}
 use Rattle.ctf_model.specs.dumps.Dump.{dump, in_quotes}
-use Rattle.ctf_model.specs.symbols.Entries.{Entry, Told}
-use Rattle.ctf_model.specs.symbols.Entries as told
+use Rattle.ctf_model.specs.symbols.Entries.{Entry, SymbolInfo}
+use Rattle.ctf_model.specs.symbols.Entries as info
 use Rattle.ctf_model.specs.figures.FigureRows.{array_of, by_itself, dictionary, member, bare_term}
 use Rattle.ctf_model.specs.names.NameRows.{with_name}
 use Rattle.ctf_model.specs.format.Term.{Term, Body}
@@ -21,7 +21,7 @@ int =
 abbrev pub hidden : Body → Term
 hidden body = record { name = []; root = false; body = body }
 
--- two functions of int, of which the second takes more arguments, and int
+-- two functions that return int, the second variadic, and int
 abbrev pub functions : List Term
 functions = hidden (term.function 3 (3 ∷ [])) ∷ hidden (term.function 3 (3 ∷ 0 ∷ [])) ∷ int ∷ []
 
@@ -30,7 +30,7 @@ abbrev pub structs : List Term
 structs =
     int ∷ bare_term (term.struct 8191 (member (codes "a") 1 0 ∷ member (codes "b") 1 32 ∷ [])) ∷ []
 
--- int, an array of ten, an enum, a forward, an unknown type, a typedef, a union
+-- int, an array of ten ints, an enum, a forward, an unknown type, a typedef, a union
 abbrev pub others : List Term
 others =
     int ∷ array_of 0 1 10
@@ -45,23 +45,23 @@ others =
 abbrev pub pointing : Dictionary
 pointing = record (dictionary true (hidden (term.pointer 3) ∷ [])) { parname = codes "p" }
 
-abbrev pub entry : ℕ → List ℕ → Told → Entry
-entry number name x = record { number = number; name = name; told = x }
+abbrev pub entry : ℕ → List ℕ → SymbolInfo → Entry
+entry number name x = record { number = number; name = name; info = x }
 
--- int, with a label and symbols, of some of which nothing is told
+-- int, with a label and symbols; some symbols have no information
 abbrev pub labelled_int : Dictionary
 labelled_int = record (dictionary false (int ∷ [])) {
   labels = record { name = codes "a"; last = 5 } ∷ [];
   entries =
-      entry 4 (codes "b") (told.object (Some 1)) ∷ entry 5 (codes "c") (told.object None)
-      ∷ entry 6 (codes "f") (told.function (Some (record { ret = 1; args = 0 ∷ [] })))
-      ∷ entry 7 (codes "g") (told.function None) ∷ [];
+      entry 4 (codes "b") (info.object (Some 1)) ∷ entry 5 (codes "c") (info.object None)
+      ∷ entry 6 (codes "f") (info.function (Some (record { ret = 1; args = 0 ∷ [] })))
+      ∷ entry 7 (codes "g") (info.function None) ∷ [];
 }
 
 abbrev pub dump_of_terms : List Term → List ℕ
 dump_of_terms types = dump (by_itself Lp64 types)
 
--- lines, each with its newline
+-- lines, each one including its newline
 abbrev pub lines : List (List ℕ) → List ℕ
 lines ls = concat ls
 
@@ -108,7 +108,7 @@ pub record DumpsAre : Type 0 where
       dump (record { own = pointing; parent = Some (dictionary false functions); model = Lp64 })
       ≡ lines (codes "ctf types=1 child=yes parname=\"p\" parlabel=\"\"\n"
       ∷ codes "type 32769 pointer \"\" hidden to=3 : \"int *\" bytes=8 align=8\n" ∷ [])
-  -- the data model says how wide a pointer is
+  -- the data model gives the width of a pointer
   pub of_short_pointers : dump (record { own = pointing; parent = None; model = Ilp32 })
       ≡ lines (codes "ctf types=1 child=yes parname=\"p\" parlabel=\"\"\n"
       ∷ codes "type 32769 pointer \"\" hidden to=3 : NoParent bytes=4 align=4\n" ∷ [])
@@ -116,5 +116,5 @@ pub record DumpsAre : Type 0 where
       ≡ lines (codes "ctf types=1 child=no parname=\"\" parlabel=\"\"\n" ∷ codes "label \"a\" 5\n"
       ∷ codes "object 4 \"b\" 1\n" ∷ codes "function 6 \"f\" return=1 args=0\n"
       ∷ int_line (codes "1") ∷ [])
-  -- a quote and a byte that is no character
+  -- a quote and a byte that is no printable character
   pub of_names : in_quotes (0x22 ∷ 0x61 ∷ 0xff ∷ []) ≡ codes "\"\\x22a\\xff\""

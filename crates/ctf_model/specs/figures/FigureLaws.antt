@@ -1,4 +1,4 @@
--- Laws of figures.
+-- Laws of figures (sizes, alignments and resolved types).
 use Rattle.std.specs.Prelude.{◌≡◌, ◌<◌, ℕ, false, List, [], length, None, Some, Result, slice_index_or}
 use Rattle.std.specs.List.{AllByRecursion}
 use Rattle.ctf_model.specs.rules.Chains.{IsWithin, by_value, edges, longest_chain}
@@ -14,39 +14,38 @@ use Rattle.ctf_model.specs.declared.data_model.DataModel.{DataModel}
 use Rattle.ctf_model.specs.declared.faults.Fault.{Fault}
 use Rattle.ctf_model.specs.declared.numbers.Place.TheVariants.{Parents}
 
--- the figure of a type hangs on those of the types that it leads to by value, and on no other
+-- the figure of a type depends only on the figures of the types that it leads to by value
 pub record AsksByValue (figure : Figure) : Type 0 where
   pub same : (f g : ℕ → Result ℕ Fault) (n : ℕ) (body : Body)
       → AllByRecursion (λ t. f t ≡ g t) (by_value body)
       → figure.of_type f n body ≡ figure.of_type g n body
 
--- so do those that there are
+-- all three figures have this property
 pub record FiguresAskByValue : Type 0 where
   pub resolving_asks : AsksByValue resolving
   pub sizing_asks : (model : DataModel) → AsksByValue (sizing model)
   pub aligning_asks : (model : DataModel) → AsksByValue (aligning model)
 
--- the own types that each own type leads to by value
+-- for each own type, the own types that it leads to by value
 abbrev pub value_edges : Dictionary → List (List ℕ)
 value_edges d = edges by_value d.child d.terms
 
 abbrev pub nothing : Term
 nothing = record { name = []; root = false; body = term.unknown }
 
--- the own type with a number from 0
+-- the own type at index `i`
 abbrev pub own_body : Dictionary → ℕ → Body
 own_body d i = (slice_index_or d.terms i nothing).body
 
--- no chain of steps by value is too long
+-- no chain by value is longer than the limit
 pub record HasBoundedValues (d : Dictionary) : Type 0 where
   pub each : (i : ℕ) → i < length d.terms → IsWithin (value_edges d) longest_chain i
 
--- in a dictionary that breaks no rule, none is
+-- a dictionary without a fault has no such chain
 abbrev pub FaultlessValuesAreBounded : Type 0
 FaultlessValuesAreBounded = (s : Lists) → first_fault s ≡ None → HasBoundedValues (said_by s)
 
--- the figure of an own type is what its rule says of the figures of others:
--- no bound on chains is seen
+-- the figure of an own type follows its rule; the bound in the definition of `comes_to` never shows
 abbrev pub OwnFiguresAreTheirRules : Type 0
 OwnFiguresAreTheirRules =
     (figure : Figure) → AsksByValue figure → (s : Space) → HasBoundedValues s.own → (i : ℕ)
@@ -54,11 +53,11 @@ OwnFiguresAreTheirRules =
     → figure_in figure s (own_number s.own.child i)
     ≡ figure.of_type (figure_in figure s) (own_number s.own.child i) (own_body s.own i)
 
--- the parent of a space by itself
+-- the parent of a space as a space of its own
 abbrev pub parent_alone : Space → Dictionary → Space
 parent_alone s parent = record { own = parent; parent = None; model = s.model }
 
--- a parent's type comes to what it comes to in the parent alone
+-- the figure of a parent's type is the same in the parent alone
 abbrev pub ParentsFiguresAreTheirOwn : Type 0
 ParentsFiguresAreTheirOwn =
     (figure : Figure) (s : Space) (parent : Dictionary) → s.parent ≡ Some parent → (n i : ℕ)

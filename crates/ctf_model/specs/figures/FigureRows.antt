@@ -25,7 +25,7 @@ abbrev pub integer_of : ℕ → Term
 integer_of size =
     bare_term (term.integer (record { size = size; encoding = 1; offset = 0; bits = 0 }))
 
--- an array: the size that it says, its contents, and how many
+-- an array type: its stated size, its contents, and its count
 abbrev pub array_of : ℕ → ℕ → ℕ → Term
 array_of size contents count =
     bare_term (term.array (record { size = size; contents = contents; index = 1; count = count }))
@@ -47,9 +47,8 @@ by_itself model types = record { own = dictionary false types; parent = None; mo
 
 -- ---- paths
 
--- int, char, a struct of a char and an int, a struct of two such structs,
--- a typedef of it, a struct with two members
--- of one name, and one without a name
+-- int, char, a struct of a char and an int, a struct of two such structs, a typedef of it, a struct
+-- with two members of one name, and one without a name
 abbrev pub pairs : List Term
 pairs =
     integer_of 4 ∷ integer_of 1
@@ -66,7 +65,7 @@ in_pairs t names = path (by_itself Lp64 pairs) t names
 abbrev pub lies : ℕ → ℕ → Result Position Fault
 lies offset tnum = Ok (record { offset = offset; tnum = tnum })
 
--- a struct whose one member is itself, far out; no dictionary without a fault holds one
+-- a struct whose one member is itself, at a great offset; no dictionary without a fault holds one
 abbrev pub far_out : List Term
 far_out = bare_term (term.struct 9 (member (codes "a") 1 (2 ^ 63) ∷ [])) ∷ []
 
@@ -88,13 +87,11 @@ pub record PathsLead : Type 0 where
 
 -- ---- figures
 
--- int, a pointer, a function, a forward, an array of ten pointers that says no size,
--- one that says 7, a typedef of
--- const of the array, a typedef of nothing, an enum without a size,
--- a struct that begins with a pointer and says 3,
--- a union of int, the array and the struct, an empty union, an unknown type,
--- a union whose second member is a type that isn't there and whose third is a forward, 2^60 bytes,
--- 15 times and 16 times that, an array of no forwards
+-- int, a pointer, a function, a forward, an array of ten pointers that states no size, one that
+-- states 7, a typedef of const of the array, a typedef of nothing, an enum without a size, a struct
+-- that begins with a pointer and states 3, a union of int, the array and the struct, an empty
+-- union, an unknown type, a union whose second member is a missing type and whose third is a
+-- forward, 2^60 bytes, 15 times and 16 times that, an array of no forwards
 abbrev pub many : List Term
 many =
     integer_of 4 ∷ bare_term (term.pointer 0) ∷ bare_term (term.function 0 [])
@@ -143,11 +140,11 @@ pub record FiguresAre : Type 0 where
   pub union_align : align here 12 ≡ Ok 8
   pub empty_align : align here 13 ≡ Ok 0
   pub unknown : size here 14 ≡ Err (fault 26 0)
-  -- a fault of a member comes before those of later ones
+  -- the fault of a member comes before those of later members
   pub first_fault : align here 15 ≡ Err (fault 24 0)
   pub great : size here 17 ≡ Ok (15 * 2 ^ 60)
   pub too_big : size here 18 ≡ Err (fault 27 0)
-  -- whatever the count
+  -- the contents' fault comes first, whatever the count
   pub contents_first : size here 19 ≡ Err (fault 26 0)
   pub no_number : size here 0 ≡ Err (fault 26 0)
   pub zero_resolved : resolved_type here 0 ≡ Ok 0
@@ -156,8 +153,8 @@ pub record FiguresAre : Type 0 where
 
 -- ---- over a parent
 
--- a child with an array of three of its parent's type 5, a typedef of that,
--- a typedef of a type that no parent has, and a typedef of the number between
+-- a child with an array of three of its parent's type 5, a typedef of that, a typedef of a type
+-- that no parent has, and a typedef of number 0x8000, which is no type
 abbrev pub child : Dictionary
 child =
     dictionary true (array_of 0 5 3 ∷ bare_term (term.typedef 0x8001) ∷ bare_term (term.typedef 30)

@@ -1,7 +1,6 @@
--- What a type comes to once typedefs, qualifiers, arrays and members are followed:
--- the type that it stands for, its size and its alignment.
--- Source: libctf(3LIB), ctf_type_resolve, ctf_type_reference, ctf_type_size, ctf_type_align;
--- where the manual leaves a choice it is ours.
+-- Figures of a type, once typedefs, qualifiers, arrays and members are followed: the type that it
+-- resolves to, its size and its alignment. Source: libctf(3LIB), ctf_type_resolve,
+-- ctf_type_reference, ctf_type_size, ctf_type_align; where the manual leaves a choice it is ours.
 use Rattle.std.specs.Prelude.{ℕ, zero, suc, ◌+◌, ◌*◌, ◌^◌, ◌==◌, is_none, nat_lt, max, List, [], ◌∷◌, Option, Some, None, Result, Ok, Err, slice_get, if◌then◌else◌}
 use Rattle.ctf_model.specs.rules.Chains.{longest_chain}
 use Rattle.ctf_model.specs.format.Dictionary.{Dictionary}
@@ -26,10 +25,10 @@ incomplete = placeless INCOMPLETE
 abbrev pub too_big : Fault
 too_big = placeless TOO_BIG
 
--- ---- a figure of types
+-- ---- figures
 
--- A number that a type comes to: for no type, and for a type with a number,
--- from what the types that it leads to by value come to.
+-- A number computed for every type: `of_none` for number 0, and `of_type` for a type, given the
+-- figures of the types that it leads to by value.
 pub record Figure : Type 0 where
   pub of_none : Result ℕ Fault
   pub of_type : (ℕ → Result ℕ Fault) → ℕ → Body → Result ℕ Fault
@@ -38,8 +37,8 @@ abbrev pub of_found : Figure → (ℕ → Result ℕ Fault) → ℕ → Result T
 of_found figure others n (Err f) = Err f
 of_found figure others n (Ok x) = figure.of_type others n x.body
 
--- what the number of a place comes to, where other types come to what `others` says,
--- and a parent's to what `parents` says
+-- the figure of the type at a place; `others` gives the figures of own types, `parents` those of
+-- the parent's
 abbrev pub at_place : Figure → (ℕ → Result ℕ Fault) → (ℕ → Result ℕ Fault) → Dictionary → ℕ → Place
     → Result ℕ Fault
 at_place figure parents others d n Nowhere = Err no_type
@@ -47,31 +46,31 @@ at_place figure parents others d n (Own i) =
     of_found figure others n (or_no_type (slice_get d.terms i))
 at_place figure parents others d n (Parents i) = parents n
 
--- What a number of a dictionary comes to, where at most so many numbers follow on each other.
--- (A number on which too many follow has no end: it comes to nothing.)
+-- The figure of number `n`, following at most `k` numbers. Beyond that bound the result is
+-- `Incomplete`; a dictionary without a fault never reaches it.
 unfoldable pub comes_to : Figure → (ℕ → Result ℕ Fault) → Dictionary → ℕ → ℕ → Result ℕ Fault
 comes_to figure parents d zero n = Err incomplete
 comes_to figure parents d (suc k) n =
     if n == 0 then figure.of_none
     else at_place figure parents (comes_to figure parents d k) d n (place d.child n)
 
--- As many numbers as can follow on each other in a dictionary without a fault: a chain has one type
--- more than it has steps, and behind the last type there can be a 0 or a parent's number.
+-- The bound that no dictionary without a fault reaches: a longest chain has one type more than
+-- steps, and one more number, 0 or a parent's, may follow its last type.
 unfoldable pub most_numbers : ℕ
 most_numbers = longest_chain + 2
 
--- what a parent's number comes to: a parent's types lead to its own types alone
+-- the figure of a parent's number; a parent's types lead only to its own types
 abbrev pub parents_figure : Figure → Option Dictionary → ℕ → Result ℕ Fault
 parents_figure figure None n = Err no_parent
 parents_figure figure (Some parent) n = comes_to figure (λ t. Err no_parent) parent most_numbers n
 
--- what a number comes to
+-- the figure of number `n` in a space
 abbrev pub figure_in : Figure → Space → ℕ → Result ℕ Fault
 figure_in figure s n = comes_to figure (parents_figure figure s.parent) s.own most_numbers n
 
--- ---- the type that a type stands for
+-- ---- resolved types
 
--- typedefs and qualifiers stand for their type, all others for themselves
+-- typedefs and qualifiers resolve to their type, all others to themselves
 abbrev pub resolved_body : (ℕ → Result ℕ Fault) → ℕ → Body → Result ℕ Fault
 resolved_body resolved_type n (term.typedef t) = resolved_type t
 resolved_body resolved_type n (term.volatile t) = resolved_type t
@@ -82,17 +81,17 @@ resolved_body resolved_type n _ = Ok n
 abbrev pub resolving : Figure
 resolving = record { of_none = Ok 0; of_type = resolved_body }
 
--- the number of the type that a number stands for; 0 where that is no type
+-- the type that `n` resolves to; 0 if that is no type
 abbrev pub resolved_type : Space → ℕ → Result ℕ Fault
 resolved_type = figure_in resolving
 
--- ---- the type that a type refers to
+-- ---- references
 
 abbrev pub or_not_reference : Option ℕ → Result ℕ Fault
 or_not_reference None = Err (placeless NOT_REFERENCE)
 or_not_reference (Some t) = Ok t
 
--- that of a pointer, typedef or qualifier; what a function returns isn't referred to
+-- what a pointer, typedef or qualifier refers to; a function's return type is no reference
 abbrev pub referred_type : Shape → Result ℕ Fault
 referred_type x =
     if is_none (arguments_in x.behind) then or_not_reference x.reference
@@ -110,20 +109,20 @@ reference s n = referred_by (space_type s n)
 abbrev pub unless_too_big : ℕ → Result ℕ Fault
 unless_too_big n = if nat_lt n (2 ^ 64) then Ok n else Err too_big
 
--- so many of a size
+-- `count` times a size
 abbrev pub times : ℕ → Result ℕ Fault → Result ℕ Fault
 times count (Err f) = Err f
 times count (Ok size) = unless_too_big (size * count)
 
--- an enum that says no size has that of an int (ours)
+-- an enum that states no size has that of int (ours)
 abbrev pub enum_size : ℕ → ℕ
 enum_size size = if nat_lt 0 size then size else 4
 
--- an array that says no size has that of its elements
+-- an array that states no size has count times the size of its elements
 abbrev pub array_size : (ℕ → Result ℕ Fault) → Elements → Result ℕ Fault
 array_size size a = if nat_lt 0 a.size then Ok a.size else times a.count (size a.contents)
 
--- in bytes
+-- the size in bytes of a type, given the sizes of others
 abbrev pub size_body : DataModel → (ℕ → Result ℕ Fault) → Body → Result ℕ Fault
 size_body model size (term.integer scalar) = Ok scalar.size
 size_body model size (term.float scalar) = Ok scalar.size
@@ -143,29 +142,29 @@ size_body model size term.unknown = Err incomplete
 abbrev pub sizing : DataModel → Figure
 sizing model = record { of_none = Err incomplete; of_type = λ size n. size_body model size }
 
--- the size in bytes of a value of the type that a number names
+-- the size in bytes of a value of type `n`
 abbrev pub size : Space → ℕ → Result ℕ Fault
 size s = figure_in (sizing s.model) s
 
 -- ---- alignment
 
--- the greater of two, or the first fault
+-- the greater of two figures, or the first fault
 abbrev pub greater : Result ℕ Fault → Result ℕ Fault → Result ℕ Fault
 greater (Err f) b = Err f
 greater (Ok a) (Err f) = Err f
 greater (Ok a) (Ok b) = Ok (max a b)
 
--- the greatest that the members' types come to, or the first fault; 0 where there are no members
+-- the greatest figure of the members' types, or the first fault; 0 without members
 abbrev pub greatest : (ℕ → Result ℕ Fault) → List Member → Result ℕ Fault
 greatest align [] = Ok 0
 greatest align (m ∷ ms) = greater (align m.tnum) (greatest align ms)
 
--- what the first member's type comes to; 0 where there are no members
+-- the figure of the first member's type; 0 without members
 abbrev pub first_of : (ℕ → Result ℕ Fault) → List Member → Result ℕ Fault
 first_of align [] = Ok 0
 first_of align (m ∷ ms) = align m.tnum
 
--- in bytes
+-- the alignment in bytes of a type, given the alignments of others
 abbrev pub align_body : DataModel → (ℕ → Result ℕ Fault) → Body → Result ℕ Fault
 align_body model align (term.integer scalar) = Ok scalar.size
 align_body model align (term.float scalar) = Ok scalar.size
@@ -185,6 +184,6 @@ align_body model align term.unknown = Err incomplete
 abbrev pub aligning : DataModel → Figure
 aligning model = record { of_none = Err incomplete; of_type = λ align n. align_body model align }
 
--- the alignment in bytes of the type that a number names
+-- the alignment in bytes of type `n`
 abbrev pub align : Space → ℕ → Result ℕ Fault
 align s = figure_in (aligning s.model) s

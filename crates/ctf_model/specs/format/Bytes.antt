@@ -1,19 +1,19 @@
--- Numbers in bytes. Source: ctf(5), which is read little-endian: the low byte stands first.
+-- Numbers in bytes, little-endian as in ctf(5): the low byte comes first.
 use Rattle.std.specs.Prelude.{ℕ, ◌+◌, ◌*◌, List, [], ◌∷◌, take, drop}
 
--- the number that bytes spell; no byte spells 0
+-- the number that the bytes encode; no bytes encode 0
 unfoldable pub number : List ℕ → ℕ
 number [] = 0
 number (b ∷ bs) = b + 256 * number bs
 
--- the number in the two bytes at a place
+-- the two-byte number at an offset
 abbrev pub u16_at : List ℕ → ℕ → ℕ
 u16_at bytes at = number (take 2 (drop at bytes))
 
--- the number in the four bytes at a place
+-- the four-byte number at an offset
 abbrev pub u32_at : List ℕ → ℕ → ℕ
 u32_at bytes at = number (take 4 (drop at bytes))
 
--- the number in the eight bytes at a place
+-- the eight-byte number at an offset
 abbrev pub u64_at : List ℕ → ℕ → ℕ
 u64_at bytes at = number (take 8 (drop at bytes))

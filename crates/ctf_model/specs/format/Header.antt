@@ -5,7 +5,7 @@ use Rattle.ctf_model.specs.format.Bytes.{u32_at}
 use Rattle.ctf_model.specs.declared.sections.Section.{Section}
 use Rattle.ctf_model.specs.declared.sections.Section.TheVariants.{SLabels, SObjects, SFunctions, STypes, SStrings}
 
--- the fields behind magic, version and flags, in their order; offsets count from the header's end
+-- the fields after magic, version and flags, in order; offsets count from the header's end
 pub record Fields : Type 0 where
   pub parlabel : ℕ
   pub parname : ℕ
@@ -29,11 +29,11 @@ fields ctf =
       strlen = u32_at ctf 32;
     }
 
--- a dictionary with a parent's name is a child: its low type numbers are those of the parent (ours)
+-- a dictionary with a parent's name is a child: its low type numbers belong to the parent (ours)
 abbrev pub is_child : Fields → Bool
 is_child h = not (h.parname == 0)
 
--- where a section begins and ends in the dictionary: each ends where the next one begins
+-- the byte range of a section: each ends where the next one begins
 abbrev pub range_of : Fields → Section → ℕ × ℕ
 range_of h SLabels = (36 + h.lbloff, 36 + h.objtoff)
 range_of h SObjects = (36 + h.objtoff, 36 + h.funcoff)

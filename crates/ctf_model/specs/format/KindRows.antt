@@ -11,19 +11,19 @@ use Rattle.ctf_model.specs.format.Term as term
 
 -- ---- inputs
 
--- the two bytes of a number, the low one first
+-- a number in two bytes, low byte first
 abbrev pub half : ℕ → List ℕ
 half n = n % 256 ∷ n / 256 ∷ []
 
--- the head of a hidden record: its name, its kind, the length of its list, and its field
+-- the head of a hidden record: name, kind, list length, and field
 abbrev pub head : ℕ → ℕ → ℕ → ℕ → List ℕ
 head name kind vlen field = word name ++ half (2048 * kind + vlen) ++ half field
 
--- the same with the high and low half of a size
+-- the same in the long form, with the high and low half of a size
 abbrev pub long_head : ℕ → ℕ → ℕ → ℕ → List ℕ
 long_head kind vlen high low = head 0 kind vlen 0xffff ++ word high ++ word low
 
--- two functions that return 3: one of one argument and a pad, one of two
+-- two functions that return type 3: one with one argument and padding, one with two
 abbrev pub functions : List ℕ
 functions =
     header 0 0 0 0 36 5 ++ (head 0 5 1 3 ++ half 3 ++ half 0xffff)
@@ -46,12 +46,12 @@ others =
     ++ head 0 9 0 8 ++ head 1 10 0 2 ++ head 0 11 0 8 ++ head 0 12 0 9 ++ head 0 13 0 3 ++ 0
     ∷ codes "A" ++ 0 ∷ []
 
--- ---- what they denote
+-- ---- the dictionaries that they denote
 
 abbrev pub hidden : List ℕ → Body → Term
 hidden name body = record { name = name; root = false; body = body }
 
--- the members a and b, b at an offset
+-- the members `a` and `b`, `b` at an offset
 abbrev pub members : ℕ → List Member
 members offset =
     record { name = codes "a"; tnum = 1; offset = 0 }
@@ -73,7 +73,7 @@ other_types =
     ∷ []
 
 pub record KindsDenote : Type 0 where
-  -- pointer, function and forward to restrict say no size
+  -- only these kinds have no long form: pointer, function, and forward to restrict
   pub short_alone : map is_short_kind kinds
       ≡ false ∷ false ∷ false ∷ true ∷ false ∷ true ∷ false ∷ false ∷ false ∷ true ∷ true ∷ true
       ∷ true ∷ true ∷ []
@@ -86,13 +86,13 @@ pub record KindsDenote : Type 0 where
   pub other : denoted (ctf_alone others) ≡ Some (of_types other_types)
   pub long_unknown : denoted (ctf_alone (header 0 0 0 0 16 0 ++ long_head 0 0 0 0))
       ≡ Some (of_types (hidden [] term.unknown ∷ []))
-  -- the long form of a small struct has members of 8 bytes
+  -- in the long form of a small struct, members still have 8 bytes
   pub long_struct :
       denoted (ctf_alone (header 0 0 0 0 24 0 ++ long_head 6 1 0 4 ++ word 0 ++ half 0 ++ half 3))
       ≡ Some (of_types (hidden [] (term.struct 4 (record { name = []; tnum = 0; offset = 3 } ∷ []))
       ∷ []))
 
--- ---- what is wrong with others
+-- ---- faults
 
 pub record KindsHaveFaults : Type 0 where
   pub no_pad : first_fault (ctf_alone (header 0 0 0 0 10 0 ++ head 0 5 1 0 ++ half 0))

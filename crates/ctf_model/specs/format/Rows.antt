@@ -1,5 +1,5 @@
--- Worked rows: what the definitions say of small inputs.
--- The values were worked out by hand from the format.
+-- Worked rows of the definitions on small inputs. The values were worked out by hand from the
+-- format.
 use Rattle.std.specs.Prelude.{◌≡◌, ℕ, ◌/◌, ◌%◌, ◌^◌, true, false, List, [], ◌∷◌, ◌++◌, take, slice_set, Some, None, Ok, Err, codes}
 use Rattle.ctf_model.specs.format.Dictionary.{Dictionary, denoted}
 use Rattle.ctf_model.specs.rules.Faults.{first_fault}
@@ -13,12 +13,12 @@ use Rattle.ctf_model.specs.declared.kinds.Kind.TheVariants.{KInteger, KFloat, KP
 
 -- ---- inputs
 
--- the four bytes of a number, the low one first
+-- a number in four bytes, low byte first
 abbrev pub word : ℕ → List ℕ
 word n = n % 256 ∷ n / 256 % 256 ∷ n / 2 ^ 16 % 256 ∷ n / 2 ^ 24 ∷ []
 
--- a header without flags, labels and parent's label: the parent's name,
--- four offsets, and the strings' length
+-- a header without flags, labels and parent's label: the parent's name, four offsets, and the
+-- strings' length
 abbrev pub header : ℕ → ℕ → ℕ → ℕ → ℕ → ℕ → List ℕ
 header parname objtoff funcoff typeoff stroff strlen =
     0xf1 ∷ 0xcf ∷ 2 ∷ 0 ∷ (word 0 ++ word parname ++ word 0 ++ word objtoff ++ word funcoff
@@ -36,14 +36,14 @@ int_bytes = header 0 0 0 0 12 5 ++ integer_record 1 ++ 0 ∷ 105 ∷ 110 ∷ 116
 abbrev pub outer_bytes : List ℕ
 outer_bytes = header 0 0 0 0 12 0 ++ integer_record 0x80000001
 
--- a child of p with the parent's label q, one label r that covers type 0x8001, and no types
+-- a child of `p` with the parent's label `q`, one label `r` that covers type 0x8001, and no types
 abbrev pub child_bytes : List ℕ
 child_bytes =
     0xf1 ∷ 0xcf ∷ 2 ∷ 0
     ∷ (word 3 ++ word 1 ++ word 0 ++ word 8 ++ word 8 ++ word 8 ++ word 8 ++ word 7) ++ word 5
     ++ word 0x8001 ++ 0 ∷ 112 ∷ 0 ∷ 113 ∷ 0 ∷ 114 ∷ 0 ∷ []
 
--- an integer without a name in the long form, of 2^32 + 4 bytes, not visible
+-- an integer without a name in the long form, of 2^32 + 4 bytes, hidden
 abbrev pub long_bytes : List ℕ
 long_bytes =
     header 0 0 0 0 20 0 ++ word 0 ++ 0 ∷ 8 ∷ 0xff ∷ 0xff ∷ (word 1 ++ word 4) ++ 0x10 ∷ 0
@@ -56,7 +56,7 @@ ctf_alone ctf = record { ctf = ctf; sym = None; strs = None }
 abbrev pub fault : ℕ → ℕ → Fault
 fault code place = record { code = code; place = place }
 
--- ---- what they denote
+-- ---- the dictionaries that they denote
 
 -- a visible integer of four bytes
 abbrev pub four_bytes : List ℕ → Term
@@ -70,7 +70,7 @@ four_bytes name =
 abbrev pub int : Term
 int = four_bytes (codes "int")
 
--- a dictionary of these types that isn't a child, with no labels
+-- a dictionary of these types that is no child, without labels
 abbrev pub of_types : List Term → Dictionary
 of_types types =
     record {
@@ -113,7 +113,7 @@ pub record BytesDenote : Type 0 where
   pub a_child : denoted (ctf_alone child_bytes) ≡ Some child
   pub long_form : denoted (ctf_alone long_bytes) ≡ Some (of_types (long_integer ∷ []))
 
--- ---- what is wrong with others
+-- ---- faults
 
 pub record BytesHaveFaults : Type 0 where
   pub no_byte : first_fault (ctf_alone []) ≡ Some (fault 1 0)
@@ -138,7 +138,7 @@ pub record BytesHaveFaults : Type 0 where
   pub no_table : first_fault (ctf_alone outer_bytes) ≡ Some (fault 13 36)
   pub parent_name : first_fault (ctf_alone (header 1 0 0 0 0 0)) ≡ Some (fault 13 8)
 
--- ---- how long the lists behind heads are
+-- ---- lengths of what follows a head
 
 pub record ListsAreLong : Type 0 where
   pub integer : variant_len KInteger 4 0 ≡ 4
@@ -152,9 +152,9 @@ pub record ListsAreLong : Type 0 where
   pub union : variant_len KUnion 8 3 ≡ 24
   pub enumerators : variant_len KEnum 4 3 ≡ 24
 
--- ---- which type a number names
+-- ---- the type of a number
 
--- a child with a type of its own
+-- a child with one own type
 abbrev pub child_of_int : Dictionary
 child_of_int = record child { terms = int ∷ [] }
 

@@ -1,5 +1,4 @@
--- A section of type records. Source: ctf(5), "The Type Section":
--- the records stand one after the other.
+-- A section of type records. Source: ctf(5), "The Type Section": the records follow one another.
 use Rattle.std.specs.Prelude.{◌≡◌, ℕ, zero, suc, ◌+◌, ◌&&◌, List, [], ◌∷◌, ◌++◌, length, take, drop, Option, Some, None, Result, Ok, Err, nat_lt, nat_le, ◌==◌, is_none, if◌then◌else◌}
 use Rattle.std.specs.Option.{option_and_then}
 use Rattle.std.specs.List.{concat, AllByRecursion}
@@ -11,7 +10,7 @@ use Rattle.ctf_model.specs.format.Record.{IsWhole, head_len, variant_len, size, 
 use Rattle.ctf_model.specs.format.SpelledTypes.{Spells}
 use Rattle.ctf_model.specs.format.Spelling.{term_of}
 
--- the bytes are records, one after the other, that spell these types
+-- the bytes are records, one after another, that spell these types
 abbrev pub Section : Tables → List ℕ → List Term → Type 0
 Section t b [] = b ≡ []
 Section t b (x ∷ xs) =
@@ -19,17 +18,17 @@ Section t b (x ∷ xs) =
 
 -- ---- where a section stops being records
 
--- no whole record begins the bytes
+-- no whole record is at the start of the bytes
 abbrev pub Stops : List ℕ → Type 0
 Stops b = (front rest : List ℕ) → IsWhole front → b ≡ front ++ rest → ⊥
 
--- the bytes are whole records as far as they go, and then a rest that none begins
+-- the bytes are these whole records and a rest that starts with none
 pub record IsCut (b : List ℕ) (parts : List (List ℕ)) (rest : List ℕ) : Type 0 where
   pub joined : b ≡ concat parts ++ rest
   pub whole : AllByRecursion IsWhole parts
   pub stops : Stops rest
 
--- one of the records that bytes are cut into, with those in front of it and those behind it
+-- one of the records that the bytes are cut into, with the records before and after it
 pub record RecordOf (b : List ℕ) : Type 0 where
   pub front : List (List ℕ)
   pub part : List ℕ
@@ -37,39 +36,38 @@ pub record RecordOf (b : List ℕ) : Type 0 where
   pub rest : List ℕ
   pub cut : IsCut b (front ++ part ∷ back) rest
 
--- ---- the same, computed: what reading record by record gives
+-- ---- the same, computed by reading record by record
 
--- n, where there is room for it
+-- `n`, if it fits
 abbrev pub fitting : ℕ → ℕ → Option ℕ
 fitting room n = if nat_le n room then Some n else None
 
--- the length of the whole record that begins the bytes, if one does
+-- the length of the whole record at the start of the bytes, if there is one
 unfoldable pub front_len : List ℕ → Option ℕ
 front_len b =
     if nat_lt (length b) 8 then None
     else option_and_then
     (λ k. fitting (length b) (head_len b + variant_len k (size b) (vlen b))) (kind b)
 
--- a record of a section: its number from 1, where it begins in the section, and its bytes
+-- a record of a section: its number from 1, its offset in the section, and its bytes
 pub record Piece : Type 0 where
   pub index : ℕ
   pub at : ℕ
   pub bytes : List ℕ
 
--- the fault of bytes that no whole record begins: a kind that isn't known,
--- else a record that is cut off
+-- the fault of bytes that start with no whole record: an unknown kind, else a truncated record
 abbrev pub stop_code : List ℕ → ℕ
 stop_code b = if nat_le 8 (length b) && is_none (kind b) then BAD_KIND else TRUNCATED
 
--- a record and what comes later, or the fault and nothing
+-- a record and what follows it, or a fault and nothing more
 abbrev pub record_or_stop : List ℕ → ℕ → ℕ → (ℕ → List (Result Piece Fault)) → Option ℕ
     → List (Result Piece Fault)
 record_or_stop b index at later None = Err (record { code = stop_code b; place = index }) ∷ []
 record_or_stop b index at later (Some n) =
     Ok (record { index = index; at = at; bytes = take n b }) ∷ later n
 
--- the records in order, and then the fault of a rest that none begins;
--- each record has a byte, so their number is bounded
+-- the records in order, then the fault of the rest; each record has a byte or more, so the length
+-- bounds their number
 unfoldable pub walk : ℕ → ℕ → ℕ → List ℕ → List (Result Piece Fault)
 walk zero index at b = []
 walk (suc bound) index at b =
@@ -81,12 +79,12 @@ records b = walk (length b) 1 0 b
 
 -- ---- the types of a section
 
--- x, where it is there, in front
+-- `x` in front of the list, if present
 abbrev pub onto : Option Term → List Term → List Term
 onto None xs = xs
 onto (Some x) xs = x ∷ xs
 
--- the types that records spell
+-- the types that the records spell
 unfoldable pub terms_in : Tables → List (Result Piece Fault) → List Term
 terms_in t [] = []
 terms_in t (Ok piece ∷ rest) = onto (term_of t piece.bytes) (terms_in t rest)

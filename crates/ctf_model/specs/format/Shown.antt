@@ -1,6 +1,6 @@
--- What of a type stands in the head of its record, and what behind it. Source: ctf(5), "The Type
--- Section": whether ctt_size or ctt_type is meant, the variable-length data of each kind, and the
--- last argument 0 of a function that takes more.
+-- What the head of a type's record holds, and what follows it. Source: ctf(5), "The Type Section":
+-- whether ctt_size or ctt_type is meant, the variable-length data of each kind, and the last
+-- argument 0 of a variadic function.
 use Rattle.std.specs.Prelude.{ℕ, ◌-◌, ◌&&◌, ◌==◌, nat_lt, Bool, List, length, take, slice_index, Option, Some, None, if◌then◌else◌}
 use Rattle.ctf_model.specs.format.Term.{Body, Enumerator, Member, Scalar, Elements, Tag, Term}
 use Rattle.ctf_model.specs.format.Term as term
@@ -25,7 +25,7 @@ kind_of (term.volatile t) = KVolatile
 kind_of (term.const t) = KConst
 kind_of (term.restrict t) = KRestrict
 
--- the size in bytes of a value
+-- the stated size in bytes
 abbrev pub size_of : Body → Option ℕ
 size_of (term.integer scalar) = Some scalar.size
 size_of (term.float scalar) = Some scalar.size
@@ -45,26 +45,26 @@ reference_of (term.const t) = Some t
 reference_of (term.restrict t) = Some t
 reference_of _ = None
 
--- what a forward declares
+-- the kind that a forward declares
 abbrev pub declared_by : Body → Option Tag
 declared_by (term.forward tag) = Some tag
 declared_by _ = None
 
--- ---- behind the head
+-- ---- after the head
 
--- the parts of an array apart from its size
+-- an array without its size
 pub record ArrayParts : Type 0 where
   pub contents : ℕ
   pub index : ℕ
   pub count : ℕ
 
--- the parts of an integer or a float apart from its size
+-- an integer or a float without its size
 pub record EncodingParts : Type 0 where
   pub encoding : ℕ
   pub offset : ℕ
   pub bits : ℕ
 
--- what is shown, by kind
+-- what follows the head, by kind
 pub data Shown : Type 0 where
   members : List Member → Shown
   enumerators : List Enumerator → Shown
@@ -74,16 +74,15 @@ pub data Shown : Type 0 where
   tag : Tag → Shown
   nothing : Shown
 
--- of an array
+-- the array's parts
 abbrev pub array_parts : Elements → ArrayParts
 array_parts e = record { contents = e.contents; index = e.index; count = e.count }
 
--- of an integer or a float
+-- the integer's or float's parts
 abbrev pub encoding_parts : Scalar → EncodingParts
 encoding_parts s = record { encoding = s.encoding; offset = s.offset; bits = s.bits }
 
--- what is shown of a type; its size, and the type that it points to, renames,
--- qualifies or returns, stand in the head
+-- what follows the head of a type's record; size and reference are in the head
 abbrev pub shown : Body → Shown
 shown (term.struct size items) = members items
 shown (term.union size items) = members items
@@ -95,7 +94,7 @@ shown (term.float s) = encoding (encoding_parts s)
 shown (term.forward t) = tag t
 shown _ = nothing
 
--- ---- each part, where it is shown
+-- ---- each part, if present
 
 abbrev pub members_in : Shown → Option (List Member)
 members_in (members items) = Some items
@@ -117,25 +116,25 @@ abbrev pub encoding_in : Shown → Option EncodingParts
 encoding_in (encoding parts) = Some parts
 encoding_in _ = None
 
--- how long the list of a type is; 0 where it has none
+-- the length of the type's list; 0 if it has none
 abbrev pub list_length : Shown → ℕ
 list_length (members items) = length items
 list_length (enumerators items) = length items
 list_length (arguments items) = length items
 list_length _ = 0
 
--- ---- of the arguments of a function
+-- ---- arguments of a function
 
--- a last argument 0 says that more arguments may follow, and isn't one itself
+-- a last argument 0 marks a variadic function and is no argument itself
 abbrev pub is_variadic : List ℕ → Bool
 is_variadic args = nat_lt 0 (length args) && slice_index args (length args - 1) == 0
 
 abbrev pub named_arguments : List ℕ → List ℕ
 named_arguments args = if is_variadic args then take (length args - 1) args else args
 
--- ---- all of it
+-- ---- everything
 
--- what a type is, apart from its name, without looking at other types
+-- a type without its name, looking at no other type
 pub record Shape : Type 0 where
   pub kind : Kind
   pub size : Option ℕ
@@ -153,7 +152,7 @@ shape body =
       behind = shown body;
     }
 
--- what a type says of itself
+-- a type's own fields
 pub record Facts : Type 0 where
   pub name : List ℕ
   pub root : Bool

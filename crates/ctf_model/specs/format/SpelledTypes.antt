@@ -1,6 +1,6 @@
--- Which type a record spells, by the kind and the form of the record.
--- Source: ctf(5), "The Type Section"; ctf_stype_t, ctf_type_t, ctf_member_t, ctf_lmember_t,
--- ctf_enum_t, ctf_array_t, CTF_INT_DATA of sys/ctf.h. Needs Record, Name and Term.
+-- The type that a record spells, by kind and form. Source: ctf(5), "The Type Section"; ctf_stype_t,
+-- ctf_type_t, ctf_member_t, ctf_lmember_t, ctf_enum_t, ctf_array_t, CTF_INT_DATA of sys/ctf.h.
+-- Needs Record, Name and Term.
 use Rattle.std.specs.Prelude.{◌≡◌, ◌≢◌, ◌<◌, ◌≤◌, ℕ, ◌+◌, ◌*◌, ◌/◌, ◌%◌, ◌^◌, Bool, true, false, List, [], ◌∷◌, drop, length, Some, ⊤}
 use Rattle.std.specs.Int.{cast_signed, w32}
 use Rattle.ctf_model.specs.format.Bytes.{u16_at, u32_at}
@@ -11,14 +11,14 @@ use Rattle.ctf_model.specs.format.Term as term
 use Rattle.ctf_model.specs.declared.kinds.Kind.{Kind}
 use Rattle.ctf_model.specs.declared.kinds.Kind.TheVariants.{KUnknown, KInteger, KFloat, KPointer, KArray, KFunction, KStruct, KUnion, KEnum, KForward, KTypedef, KVolatile, KConst, KRestrict}
 
--- ---- the list behind the head
+-- ---- the list after the head
 
--- items of a length stand one after the other, from the front of the bytes on
+-- the bytes start with these items, each `len` bytes long
 abbrev pub Stand : {A : Type 0} → (List ℕ → A → Type 0) → ℕ → List ℕ → List A → Type 0
 Stand Is len b [] = ⊤
 Stand Is len b (x ∷ xs) = Is b x × Stand Is len (drop len b) xs
 
--- they are the list of the record: as many as it says, from behind its head on
+-- they are the record's list: as many as its head says, right after the head
 abbrev pub AreListed : {A : Type 0} → (List ℕ → A → Type 0) → ℕ → List ℕ → List A → Type 0
 AreListed Is len b xs = (length xs ≡ vlen b) × Stand Is len (behind_head b) xs
 
@@ -28,14 +28,14 @@ pub record IsNarrowMember (t : Tables) (b : List ℕ) (m : Member) : Type 0 wher
   pub typed : m.tnum ≡ u16_at b 4
   pub placed : m.offset ≡ u16_at b 6
 
--- a member of 16 bytes: name, type, two bytes of pad, and the offset in two halves,
--- the high one first
+-- a member of 16 bytes: name, type, two bytes of padding, and the offset in two halves, high half
+-- first
 pub record IsWideMember (t : Tables) (b : List ℕ) (m : Member) : Type 0 where
   pub named : name t (u32_at b 0) ≡ Some m.name
   pub typed : m.tnum ≡ u16_at b 4
   pub placed : m.offset ≡ 2 ^ 32 * u32_at b 8 + u32_at b 12
 
--- the form goes by the size of the struct or union, not by that of its record
+-- the form depends on the size of the struct or union, not on the form of its record
 abbrev pub IsMember : ℕ → Tables → List ℕ → Member → Type 0
 IsMember size t b m = (size < 8192 → IsNarrowMember t b m) × (8192 ≤ size → IsWideMember t b m)
 
@@ -51,23 +51,23 @@ pub record IsEnumerator (t : Tables) (b : List ℕ) (e : Enumerator) : Type 0 wh
 abbrev pub IsArgument : List ℕ → ℕ → Type 0
 IsArgument b argument = argument ≡ u16_at b 0
 
--- ---- what stands behind the head of other kinds
+-- ---- what follows the head of other kinds
 
--- size, and the encoding word behind the head: 8 bits of encoding, 8 of offset, 16 of width
+-- the size, and the encoding word after the head: 8 bits of encoding, 8 of offset, 16 of width
 pub record IsScalar (b : List ℕ) (s : Scalar) : Type 0 where
   pub sized : s.size ≡ size b
   pub encoded : s.encoding ≡ u32_at (behind_head b) 0 / 2 ^ 24
   pub placed : s.offset ≡ u32_at (behind_head b) 0 / 2 ^ 16 % 256
   pub wide : s.bits ≡ u32_at (behind_head b) 0 % 2 ^ 16
 
--- size, and behind the head the types of contents and index, and the count
+-- the size, and after the head the types of contents and index, and the count
 pub record IsArray (b : List ℕ) (e : Elements) : Type 0 where
   pub sized : e.size ≡ size b
   pub contents : e.contents ≡ u16_at (behind_head b) 0
   pub index : e.index ≡ u16_at (behind_head b) 2
   pub count : e.count ≡ u32_at (behind_head b) 4
 
--- a forward's field is the kind that it declares; any other is a struct (ours)
+-- a forward's field is the kind that it declares; any other number is a struct (ours)
 abbrev pub Declares : ℕ → Tag → Type 0
 Declares field term.union_tag = field ≡ 7
 Declares field term.enum_tag = field ≡ 8
@@ -75,7 +75,7 @@ Declares field term.struct_tag = (field ≢ 7) × (field ≢ 8)
 
 -- ---- records
 
--- what the record says by its kind
+-- what the record spells, by its kind
 abbrev pub IsBody : Tables → List ℕ → Body → Type 0
 IsBody t b term.unknown = kind b ≡ Some KUnknown
 IsBody t b (term.integer s) = (kind b ≡ Some KInteger) × IsScalar b s
@@ -96,8 +96,8 @@ IsBody t b (term.volatile to) = (kind b ≡ Some KVolatile) × (to ≡ field b)
 IsBody t b (term.const to) = (kind b ≡ Some KConst) × (to ≡ field b)
 IsBody t b (term.restrict to) = (kind b ≡ Some KRestrict) × (to ≡ field b)
 
--- the field of these kinds is a type, or what a forward declares, and no size:
--- they have the short form alone (ours)
+-- for these kinds the field is a type or a declared kind, not a size, so they have only the short
+-- form (ours)
 abbrev pub is_short_kind : Kind → Bool
 is_short_kind KPointer = true
 is_short_kind KFunction = true
@@ -108,14 +108,14 @@ is_short_kind KConst = true
 is_short_kind KRestrict = true
 is_short_kind _ = false
 
--- the mark of the long form stands in the field of such a kind
+-- the field of such a kind holds the mark of the long form
 pub record HasStrayMark (b : List ℕ) : Type 0 where
   pub of : Kind
   pub known : kind b ≡ Some of
   pub short : is_short_kind of ≡ true
   pub mark : field b ≡ 0xffff
 
--- these bytes are one whole record in a form that its kind has, and spell this type
+-- the bytes are one whole record in a valid form, and spell this type
 pub record Spells (t : Tables) (b : List ℕ) (x : Term) : Type 0 where
   pub whole : IsWhole b
   pub form : ¬ HasStrayMark b

@@ -1,7 +1,6 @@
--- The type that a record spells, computed: what reading its fields gives. What it means that a
--- record spells a type is said by SpelledTypes.antt, and the law spells_what_is_read ties the two.
--- Source: ctf(5), "The Type Section"; ctf_member_t, ctf_lmember_t, ctf_enum_t,
--- ctf_array_t, CTF_INT_DATA of sys/ctf.h.
+-- The type that a record spells, computed by reading its fields. SpelledTypes.antt says what it
+-- means that a record spells a type; the law spells_what_is_read ties the two. Source: ctf(5), "The
+-- Type Section"; ctf_member_t, ctf_lmember_t, ctf_enum_t, ctf_array_t, CTF_INT_DATA of sys/ctf.h.
 use Rattle.std.specs.Prelude.{ℕ, zero, suc, ◌+◌, ◌*◌, ◌/◌, ◌%◌, ◌^◌, ◌==◌, List, [], ◌∷◌, drop, nat_lt, Option, Some, None, if◌then◌else◌}
 use Rattle.std.specs.Option.{option_map}
 use Rattle.std.specs.Int.{cast_signed, w32}
@@ -13,15 +12,15 @@ use Rattle.ctf_model.specs.format.Term as term
 use Rattle.ctf_model.specs.declared.kinds.Kind.{Kind}
 use Rattle.ctf_model.specs.declared.kinds.Kind.TheVariants.{KUnknown, KInteger, KFloat, KPointer, KArray, KFunction, KStruct, KUnion, KEnum, KForward, KTypedef, KVolatile, KConst, KRestrict}
 
--- this, and then that of its value, or none
+-- `Option`'s bind: none if the first is none
 infixl 10 ◌>>=◌
 abbrev pub ◌>>=◌ : {A B : Type 0} → Option A → (A → Option B) → Option B
 None >>= f = None
 (Some x) >>= f = f x
 
--- ---- lists behind the head
+-- ---- the list after the head
 
--- n items of a length, one after the other, if each is good
+-- `n` items of `len` bytes each, if all are valid
 abbrev pub items : {A : Type 0} → (List ℕ → Option A) → ℕ → ℕ → List ℕ → Option (List A)
 items item len zero b = Some []
 items item len (suc n) b = do
@@ -35,8 +34,8 @@ narrow_member t b =
     option_map (λ text. record { name = text; tnum = u16_at b 4; offset = u16_at b 6 })
     (name t (u32_at b 0))
 
--- a member of 16 bytes: name, type, two bytes of pad, and the offset in two halves,
--- the high one first
+-- a member of 16 bytes: name, type, two bytes of padding, and the offset in two halves, high half
+-- first
 abbrev pub wide_member : Tables → List ℕ → Option Member
 wide_member t b =
     option_map
@@ -44,7 +43,7 @@ wide_member t b =
     record { name = text; tnum = u16_at b 4; offset = 2 ^ 32 * u32_at b 8 + u32_at b 12 })
     (name t (u32_at b 0))
 
--- the form goes by the size of the struct or union, not by that of its record
+-- the form depends on the size of the struct or union, not on the form of its record
 abbrev pub member_of : ℕ → Tables → List ℕ → Option Member
 member_of size t b = if nat_lt size 8192 then narrow_member t b else wide_member t b
 
@@ -67,9 +66,9 @@ enumerators t b = items (enumerator_of t) 8 (vlen b) (behind_head b)
 abbrev pub arguments : List ℕ → Option (List ℕ)
 arguments b = items argument_of 2 (vlen b) (behind_head b)
 
--- ---- what a record says
+-- ---- the content of a record
 
--- size, and the encoding word behind the head: 8 bits of encoding, 8 of offset, 16 of width
+-- the size, and the encoding word after the head: 8 bits of encoding, 8 of offset, 16 of width
 abbrev pub scalar : List ℕ → Scalar
 scalar b =
     let word = u32_at (behind_head b) 0 in
@@ -80,7 +79,7 @@ scalar b =
       bits = word % 2 ^ 16;
     }
 
--- size, and behind the head the types of contents and index, and the count
+-- the size, and after the head the types of contents and index, and the count
 abbrev pub elements : List ℕ → Elements
 elements b =
     record {
@@ -90,12 +89,12 @@ elements b =
       count = u32_at (behind_head b) 4;
     }
 
--- a forward's field is the kind that it declares; any other is a struct (ours)
+-- a forward's field is the kind that it declares; any other number is a struct (ours)
 abbrev pub tag : ℕ → Tag
 tag field =
     if field == 7 then term.union_tag else if field == 8 then term.enum_tag else term.struct_tag
 
--- what the record says by its kind, if the names in its list are good
+-- the content of the record, by its kind, if the names in its list are valid
 abbrev pub body_of : Tables → List ℕ → Kind → Option Body
 body_of t b KUnknown = Some term.unknown
 body_of t b KInteger = Some (term.integer (scalar b))
@@ -112,7 +111,7 @@ body_of t b KVolatile = Some (term.volatile (field b))
 body_of t b KConst = Some (term.const (field b))
 body_of t b KRestrict = Some (term.restrict (field b))
 
--- the type of a record, if its names are good
+-- the type of a record, if its names are valid
 unfoldable pub term_of : Tables → List ℕ → Option Term
 term_of t b = do
   k ← kind b

@@ -1,31 +1,30 @@
--- Types, apart from how they stand in bytes. Source: ctf(5), "Type Section".
+-- Types, independent of their encoding in bytes. Source: ctf(5), "Type Section".
 use Rattle.std.specs.Prelude.{ℕ, ℤ, Bool, List}
 
 -- ---- parts of types
 
--- an integer or a float: its size in bytes, its encoding,
--- and where its value lies in its storage, in bits
+-- an integer or a float: its size in bytes, its encoding, and the offset and width of its value in
+-- bits
 pub record Scalar : Type 0 where
   pub size : ℕ
   pub encoding : ℕ
   pub offset : ℕ
   pub bits : ℕ
 
--- an array: its size in bytes, the types of its contents and of its index,
--- and how many elements it has
+-- an array: its size in bytes, the types of its contents and its index, and its number of elements
 pub record Elements : Type 0 where
   pub size : ℕ
   pub contents : ℕ
   pub index : ℕ
   pub count : ℕ
 
--- a member of a struct or union: its name, its type, and where it begins, in bits
+-- a member of a struct or union: its name, its type, and its offset in bits
 pub record Member : Type 0 where
   pub name : List ℕ
   pub tnum : ℕ
   pub offset : ℕ
 
--- a name for a value of an enum
+-- an enumerator: a name for a value of an enum
 pub record Enumerator : Type 0 where
   pub name : List ℕ
   pub value : ℤ
@@ -38,14 +37,14 @@ pub data Tag : Type 0 where
 
 -- ---- types
 
--- what a type is, by its kind; other types are named by number, and 0 is no type
+-- a type's content, by kind; other types are given by number, and 0 is no type
 pub data Body : Type 0 where
   unknown : Body
   integer : Scalar → Body
   float : Scalar → Body
   pointer : ℕ → Body
   array : Elements → Body
-  -- what it returns, and its arguments as they stand; a last argument 0 says that more may follow
+  -- its return type, and its arguments as stored; a last argument 0 marks a variadic function
   function : ℕ → List ℕ → Body
   -- size in bytes, and members
   struct : ℕ → List Member → Body
@@ -58,7 +57,7 @@ pub data Body : Type 0 where
   const : ℕ → Body
   restrict : ℕ → Body
 
--- a type: its name, whether it is visible to look-ups by name, and what it is
+-- a type: its name, whether look-ups by name see it, and its content
 pub record Term : Type 0 where
   pub name : List ℕ
   pub root : Bool

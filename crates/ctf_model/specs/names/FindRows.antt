@@ -1,7 +1,7 @@
--- Worked rows of names that are looked up, and of pointers. The values were worked out by hand.
+-- Worked rows of look-ups by name, and of pointers. The values were worked out by hand.
 use Rattle.std.specs.Prelude.{◌≡◌, ℕ, true, false, List, [], ◌∷◌, Some, None, Ok, Err, codes}
 use Rattle.ctf_model.specs.figures.FigureRows.{by_itself, dictionary, fault, bare_term}
-use Rattle.ctf_model.specs.names.Found.{base, lookup, pointer_to, stars}
+use Rattle.ctf_model.specs.names.Lookups.{base, lookup, pointer_to, stars}
 use Rattle.ctf_model.specs.spaces.Space.{Space}
 use Rattle.ctf_model.specs.format.Term.{Term, Body, Elements, Scalar}
 use Rattle.ctf_model.specs.format.Term as term
@@ -46,11 +46,10 @@ declared_space = by_itself Lp64 declared_types
 
 -- ---- words in front of names, hidden types, faults
 
--- a hidden int, an int, a union `node`, a forward of a struct `node`,
--- a struct `node`, a typedef `struct`, an enum
--- ` e`, a pointer to it that is hidden, a typedef of nothing,
--- a typedef of a type that isn't there, a pointer to
--- nothing, a second pointer to the enum, a typedef of the forward, a pointer to that typedef
+-- a hidden int, an int, a union `node`, a forward of a struct `node`, a struct `node`, a typedef
+-- `struct`, an enum ` e`, a hidden pointer to it, a typedef of nothing, a typedef of a missing
+-- type, a pointer to nothing, a second pointer to the enum, a typedef of the forward, a pointer to
+-- that typedef
 abbrev pub node_types : List Term
 node_types =
     hidden (codes "int") (scalar 4 32) ∷ with_name (codes "int") (scalar 4 32)
@@ -70,7 +69,7 @@ node_space = by_itself Lp64 node_types
 
 -- ---- over a parent
 
--- a child with an int of its own, a pointer to a type of its parent's, and a typedef of that type
+-- a child with an int of its own, a pointer to a type of its parent, and a typedef of that type
 abbrev pub child_types : List Term
 child_types =
     with_name (codes "int") (scalar 4 32) ∷ bare_term (term.pointer 6)
@@ -88,7 +87,7 @@ abbrev pub orphan_space : Space
 orphan_space = record { own = dictionary true child_types; parent = None; model = Lp64 }
 
 pub record NamesAreFound : Type 0 where
-  -- what is cut off
+  -- stars and blanks at the end
   pub bare : base (codes "char ** ") ≡ codes "char"
   pub two_stars : stars (codes "char * * ") ≡ 2
   pub inner_star : base (codes "a*b *") ≡ codes "a*b"

@@ -8,21 +8,20 @@ use Rattle.ctf_model.specs.spaces.Space.{Space, space_type}
 use Rattle.ctf_model.specs.format.Term.{Body}
 use Rattle.ctf_model.specs.declared.faults.Fault.{Fault}
 
--- the declaration of a type hangs on those of the types that its declarator goes on with,
--- and on no other
+-- the declaration of a type depends only on those of the types that its declarator refers to
 abbrev pub NamesAskByDeclarator : Type 0
 NamesAskByDeclarator =
     (f g : ℕ → Result Declaration Fault) (name : List ℕ) (body : Body)
     → AllByRecursion (λ t. f t ≡ g t) (declarator body)
     → declaration_by f name body ≡ declaration_by g name body
 
--- the rule of declarations: that of a number's type, where others have these
+-- the rule of declarations: that of number `n`, given the declarations of others
 abbrev pub declaration_rule : Space → (ℕ → Result Declaration Fault) → ℕ → Result Declaration Fault
 declaration_rule s others n =
     if n == 0 then bare_name (codes "void") else declaration_of others (space_type s n)
 
--- what is declared is what the rule says of what others declare, and the name is its text;
--- any greater bound on layers gives the same, so that none is seen
+-- declarations follow their rule, and a name is the text of its declaration; any greater bound on
+-- layers gives the same
 pub record NamesFollowRules (s : Space) : Type 0 where
   pub rule : (n : ℕ) → declaration s n ≡ declaration_rule s (declaration s) n
   pub name : (n : ℕ)

@@ -16,10 +16,10 @@ with_name name body = record { name = name; root = true; body = body }
 abbrev pub an_integer : List ℕ → Term
 an_integer name = record (integer_of 4) { name = name }
 
--- int, an array of ten of it, a pointer to that, a pointer to int, an array of ten of these, char,
--- a pointer to it, a const one, a pointer to that, volatile int, const of that, an unnamed struct,
--- a pointer to it, a function that returns int, a pointer to it, const of the array,
--- a pointer to that, a const pointer to the function
+-- int, an array of ten ints, a pointer to that, a pointer to int, an array of ten of these, char, a
+-- pointer to it, const char pointer, a pointer to that, volatile int, const of that, an unnamed
+-- struct, a pointer to it, a function that returns int, a pointer to it, const of the array, a
+-- pointer to that, a const pointer to the function
 abbrev pub ten : List Term
 ten =
     an_integer (codes "int") ∷ array_of 0 1 10 ∷ bare_term (term.pointer 2)
@@ -35,14 +35,11 @@ ten =
 abbrev pub in_ten : ℕ → Result (List ℕ) Fault
 in_ten n = spelled_name (by_itself Lp64 ten) n
 
--- int, a pointer to it, volatile and then restrict of that, an array of three of these,
--- an array of four of those,
--- a function that returns the pointer, a pointer to it, a function that returns that,
--- an array of two of that pointer,
--- forwards, a named union and an enum, an unknown type, a typedef, const of it,
--- const of nothing, a pointer to that,
--- pointers to types that aren't there, a function of nothing, const of it, a pointer to that,
--- an unnamed float, a volatile pointer to const char
+-- int, a pointer to it, volatile and then restrict of that, an array of three of these, an array of
+-- four of those, a function that returns the pointer, a pointer to it, a function that returns
+-- that, an array of two of that pointer, forwards, a named union and an enum, an unknown type, a
+-- typedef, const of it, const of nothing, a pointer to that, pointers to missing types, a function
+-- of nothing, const of it, a pointer to that, an unnamed float, a volatile pointer to const char
 abbrev pub more : List Term
 more =
     an_integer (codes "int") ∷ bare_term (term.pointer 1) ∷ bare_term (term.volatile 2)
@@ -98,7 +95,7 @@ pub record NamesAreSpelled : Type 0 where
   pub union : in_more 14 ≡ Ok (codes "union v")
   pub enum : in_more 15 ≡ Ok (codes "enum e")
   pub unknown : in_more 16 ≡ Ok (codes "(anon)")
-  -- a typedef is a name, whatever it stands for
+  -- the name of a typedef is its own, whatever it stands for
   pub typedef : in_more 17 ≡ Ok (codes "size_t")
   pub const_typedef : in_more 18 ≡ Ok (codes "const size_t")
   pub const_nothing : in_more 19 ≡ Ok (codes "const void")
@@ -111,8 +108,8 @@ pub record NamesAreSpelled : Type 0 where
 
 -- ---- over a parent
 
--- a child with a pointer to type 3 of its parent, a pointer to that,
--- and a pointer to the number between
+-- a child with a pointer to type 3 of its parent, a pointer to that, and a pointer to number
+-- 0x8000, which is no type
 abbrev pub pointers : Dictionary
 pointers =
     dictionary true (bare_term (term.pointer 3) ∷ bare_term (term.pointer 0x8001)
@@ -138,7 +135,7 @@ pub record NamesOverParents : Type 0 where
   pub of_parent : over structs 1 ≡ Ok (codes "int")
   pub past_parent : over [] 0x8001 ≡ Err (fault 24 0)
   pub between : over structs 0x8003 ≡ Err (fault 24 0)
-  -- a parent's own brackets count too
+  -- brackets of a parent's type count too
   pub round_an_array : over ten 0x8001 ≡ Ok (codes "int (**)[10]")
   pub no_parent : without 0x8001 ≡ Err (fault 23 0)
   pub no_parent_later : without 0x8002 ≡ Err (fault 23 0)

@@ -1,5 +1,5 @@
--- How C spells the name of a type. Source: ISO C, "Declarators" and "Type names";
--- ctf_type_lname of libctf(3LIB); where a blank stands, and what stands for an empty name, is ours.
+-- How C spells the name of a type. Source: ISO C, "Declarators" and "Type names"; ctf_type_lname of
+-- libctf(3LIB); where blanks go, and what replaces an empty name, is ours.
 use Rattle.std.specs.Prelude.{ℕ, zero, suc, ◌==◌, ◌++◌, nat_le, Bool, true, false, List, [], ◌∷◌, length, Option, Some, None, Result, Ok, Err, codes, decimal, if◌then◌else◌}
 use Rattle.ctf_model.specs.names.KindNames.{name_of_tag}
 use Rattle.ctf_model.specs.rules.Refusals.{placeless}
@@ -13,7 +13,7 @@ use Rattle.ctf_model.specs.declared.layers.Layer.TheVariants.{Pointer, Array, Fu
 use Rattle.ctf_model.specs.declared.layers.Qualifier.{Qualifier}
 use Rattle.ctf_model.specs.declared.layers.Qualifier.TheVariants.{Volatile, Const, Restrict}
 
--- a text is longer than those that are answered
+-- the text exceeds the longest that is answered
 abbrev pub too_long : Fault
 too_long = placeless TOO_LONG
 
@@ -24,12 +24,12 @@ word_of_qualifier Volatile = codes "volatile"
 word_of_qualifier Const = codes "const"
 word_of_qualifier Restrict = codes "restrict"
 
--- two texts, with a blank between them if the second isn't empty
+-- two texts, with a blank between them if the second is not empty
 abbrev pub join_texts : List ℕ → List ℕ → List ℕ
 join_texts b [] = b
 join_texts b (x ∷ d) = b ++ 32 ∷ x ∷ d
 
--- what qualifiers stand round, if that is no name
+-- the first layer that is no qualifier
 abbrev pub past : List Layer → Option Layer
 past [] = None
 past (Qualified q ∷ layers) = past layers
@@ -41,14 +41,14 @@ abbrev pub is_pointer : Option Layer → Bool
 is_pointer (Some Pointer) = true
 is_pointer _ = false
 
--- an array or a function: its brackets stand behind a declarator, and bind it before a star does
+-- an array or a function: its brackets follow the declarator, and bind before a star
 abbrev pub is_behind : Option Layer → Bool
 is_behind (Some (Array count)) = true
 is_behind (Some Function) = true
 is_behind _ = false
 
--- The declarator d, of what these layers, the outermost first, make of the type with a name.
--- A qualifier of a pointer stands behind its star, any other in front of the name.
+-- The declarator `d`, extended by these layers, outermost first, around the name. A pointer's
+-- qualifier follows its star; any other comes before the name.
 unfoldable pub declared : List Layer → List ℕ → List ℕ → List ℕ
 declared [] name d = join_texts name d
 declared (Pointer ∷ layers) name d =
@@ -63,7 +63,7 @@ declared (Qualified q ∷ layers) name d =
 
 -- ---- the declaration of a type
 
--- the layers of a type, the outermost first, and the name inside
+-- the layers of a type, outermost first, and the name inside
 pub record Declaration : Type 0 where
   pub layers : List Layer
   pub name : List ℕ
@@ -72,20 +72,20 @@ abbrev pub or_anon : List ℕ → List ℕ
 or_anon [] = codes "(anon)"
 or_anon (x ∷ name) = x ∷ name
 
--- a name without any layer
+-- a name without layers
 abbrev pub bare_name : List ℕ → Result Declaration Fault
 bare_name name = Ok (record { layers = []; name = name })
 
--- that of a struct, a union or an enum
+-- the name of a struct, union or enum, with its keyword
 abbrev pub tagged_name : Tag → List ℕ → Result Declaration Fault
 tagged_name tag name = bare_name (name_of_tag tag ++ (codes " " ++ or_anon name))
 
--- a layer round a declaration, if there is one
+-- a declaration with one more layer outside
 abbrev pub around : Layer → Result Declaration Fault → Result Declaration Fault
 around layer (Ok inside) = Ok (record { layers = layer ∷ inside.layers; name = inside.name })
 around layer (Err fault) = Err fault
 
--- the declaration of a type with a name, where others have these
+-- the declaration of a type, given the declarations of others
 abbrev pub declaration_by : (ℕ → Result Declaration Fault) → List ℕ → Body
     → Result Declaration Fault
 declaration_by others name term.unknown = bare_name (or_anon name)
@@ -109,7 +109,7 @@ abbrev pub declaration_of : (ℕ → Result Declaration Fault) → Result Term F
 declaration_of others (Ok x) = declaration_by others x.name x.body
 declaration_of others (Err fault) = Err fault
 
--- the declaration of a number, if fewer than so many layers are round its name
+-- the declaration of a number, if it has fewer than `k` layers
 unfoldable pub declaration_within : Space → ℕ → ℕ → Result Declaration Fault
 declaration_within s zero n = Err too_long
 declaration_within s (suc k) n =
@@ -118,11 +118,11 @@ declaration_within s (suc k) n =
 
 -- ---- names
 
--- the longest text that is answered, in bytes
+-- the longest text in an answer, in bytes
 abbrev pub longest_text : ℕ
 longest_text = 65536
 
--- each layer adds a byte or more, so the text of a declaration with as many layers is too long
+-- each layer adds a byte or more, so a declaration with that many layers is too long anyway
 abbrev pub declaration : Space → ℕ → Result Declaration Fault
 declaration s n = declaration_within s longest_text n
 
@@ -133,6 +133,6 @@ abbrev pub text_of_declaration : Result Declaration Fault → Result (List ℕ) 
 text_of_declaration (Ok d) = unless_too_long (declared d.layers d.name [])
 text_of_declaration (Err fault) = Err fault
 
--- the name of the type with a number, as C spells it
+-- the name of type `n`, as C spells it
 abbrev pub spelled_name : Space → ℕ → Result (List ℕ) Fault
 spelled_name s n = text_of_declaration (declaration s n)

@@ -1,9 +1,9 @@
--- What a dictionary comes to, in bytes. Source: ours.
+-- The size of a dictionary in bytes. Source: ours.
 use Rattle.std.specs.Prelude.{ℕ, ◌+◌, length, Option, None, Some, unwrap_or, []}
 use Rattle.ctf_model.specs.format.Lists.{Lists}
 use Rattle.ctf_model.specs.spaces.Kept.{Kept}
 
--- a list that is not there has none
+-- the bytes of all lists; an absent list has none
 abbrev pub lists_bytes : Lists → ℕ
 lists_bytes lists =
     length lists.ctf + (length (unwrap_or lists.sym []) + length (unwrap_or lists.strs []))

@@ -12,42 +12,43 @@ use Rattle.ctf_model.specs.spaces.TypePlaces.{place}
 use Rattle.ctf_model.specs.declared.numbers.Place.{Place}
 use Rattle.ctf_model.specs.declared.numbers.Place.TheVariants.{Own, Parents}
 
--- ---- dictionaries with short chains
+-- ---- short chains within a dictionary
 
--- no chain of such steps among a dictionary's own types is too long
+-- no chain of such steps among a dictionary's own types exceeds the limit
 pub record HasShortChains (steps : Body → List ℕ) (d : Dictionary) : Type 0 where
   pub each : (i : ℕ) → i < length d.terms → IsWithin (edges steps d.child d.terms) longest_chain i
 
--- none is in one that is no child, and none leaves it for a child's types
+-- the same in a dictionary that is no child, where no step leads to a child's type
 pub record IsShortParent (steps : Body → List ℕ) (d : Dictionary) : Type 0 where
   pub plain : d.child ≡ false
   pub short : HasShortChains steps d
   pub low : AllByRecursion (λ x. AllByRecursion (λ t. t < 0x8000) (steps x.body)) d.terms
 
--- none is in a dictionary, nor in the parent that it was imported over
+-- the same in a dictionary and in the parent that it was imported over
 pub record HasShortChainsIn (steps : Body → List ℕ) (s : Space) : Type 0 where
   pub own : HasShortChains steps s.own
   pub parent : ForSome s.parent (IsShortParent steps)
 
--- a dictionary that breaks no rule is such a one, and where it is no child such a parent
+-- a dictionary that breaks no rule has only short chains; if it is no child, it is also a short
+-- parent
 pub record ShortWhereFaultless (steps : Body → List ℕ) : Type 0 where
   pub own : (s : Lists) → first_fault s ≡ None → HasShortChains steps (said_by s)
   pub parent : (s : Lists) → first_fault s ≡ None → (said_by s).child ≡ false
       → IsShortParent steps (said_by s)
 
--- for steps by value, which values, figures and paths take, and for those of declarators
+-- this holds for steps by value, which values, figures and paths take, and for declarator steps
 pub record FaultlessChainsAreShort : Type 0 where
   pub values : ShortWhereFaultless by_value
   pub declarators : ShortWhereFaultless declarator
 
 -- ---- chains through both dictionaries
 
--- one of the numbers is the first of the chain behind it, if there is one
+-- the numbers contain the first of the chain that follows, if there is one
 abbrev pub GoesOn : List ℕ → List ℕ → Type 0
 GoesOn ts [] = Unit {0}
 GoesOn ts (n ∷ ns) = Any (λ t. t ≡ n) ts
 
--- each number names a type of the space, from which a step leads to the next number
+-- each number is a type of the space, with a step to the next number
 unfoldable pub IsChain : (Body → List ℕ) → Space → List ℕ → Type 0
 IsChain steps s [] = Unit {0}
 IsChain steps s (n ∷ ns) =

@@ -1,7 +1,7 @@
 -- The names of the fault codes. Source: ours.
 use Rattle.std.specs.Prelude.{ℕ, ◌==◌, List, [], ◌∷◌, codes, if◌then◌else◌}
 
--- each code with its name
+-- each fault code with its name
 abbrev pub fault_names : List (ℕ × List ℕ)
 fault_names =
     (0, codes "Memory") ∷
@@ -68,7 +68,7 @@ fault_names =
     (61, codes "QuotaFull") ∷
     (62, codes "FixedParent") ∷ []
 
--- the name that stands beside a code, or the empty text where the code has none
+-- the name of a code in the table, or the empty text
 abbrev pub name_beside : ℕ → List (ℕ × List ℕ) → List ℕ
 name_beside code [] = []
 name_beside code (row ∷ rows) = if row.0 == code then row.1 else name_beside code rows

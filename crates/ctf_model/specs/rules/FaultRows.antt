@@ -1,4 +1,4 @@
--- The codes of faults that code says by name. The numbers stand in FaultNames.antt.
+-- The fault codes that have a constant in the code. FaultNames.antt has the numbers.
 use Rattle.std.specs.Prelude.{◌≡◌, ℕ, List, [], ◌∷◌, map}
 use Rattle.ctf_model.specs.rules.FaultNames.{fault_names}
 use Rattle.ctf_model.specs.declared.faults.TheConstants.Fault.{MEMORY, TOO_SHORT, BAD_MAGIC, BAD_VERSION, COMPRESSED, SHORT_HEADER, BAD_ORDER, BAD_ALIGN, PAST_END, BAD_STRINGS, TRUNCATED, BAD_KIND, TOO_MANY, BAD_NAME, BAD_REFERENCE, VALUE_DEEP, DECL_DEEP, BAD_FUNCS, BAD_SYMBOL_TYPE, BAD_SYMTAB, NOT_CHILD, PARENT_IS_CHILD, PARENT_SHORT, NO_PARENT, NO_TYPE, NOT_REFERENCE, INCOMPLETE, TOO_BIG, NO_MEMBER, NOT_AGGREGATE, WRONG_KIND, TOO_LONG, NOT_FOUND, BAD_SYNTAX, NO_SYMBOL, NOT_DATA, NOT_FUNCTION, NO_INFO, NO_LABEL, BAD_REF, FULL, DUPLICATE, SETTLED, VLEN_FULL, DEEP_MEMBER, BAD_OFFSET, NAME_HAS_ZERO, DICT_TOO_BIG, SHORT_MEMORY, NO_SLOT, SLOTS_FULL, STAGE_FULL, READ_ONLY, NAME_TAKEN, NOT_PUBLISHED, NOT_UPDATED, LONG_REPLY, NOT_JSON, BAD_REQUEST, LONG_LINE, MODEL_DIFFERS, QUOTA_FULL, FIXED_PARENT}
@@ -17,6 +17,6 @@ fault_constants =
     ∷ NOT_UPDATED ∷ LONG_REPLY ∷ NOT_JSON ∷ BAD_REQUEST ∷ LONG_LINE ∷ MODEL_DIFFERS
     ∷ QUOTA_FULL ∷ FIXED_PARENT ∷ []
 
--- each one is the code of its row
+-- each constant is the code in its row of the table
 abbrev pub ConstantsAreCodes : Type 0
 ConstantsAreCodes = fault_constants ≡ map (λ row. row.0) fault_names

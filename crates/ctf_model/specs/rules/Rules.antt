@@ -1,5 +1,5 @@
--- The rules that a dictionary keeps, each as a fact about the whole lists.
--- Source: ours, over the layout of ctf(5).
+-- The rules of a dictionary, each as a fact about its lists. Source: ours, over the layout of
+-- ctf(5).
 use Rattle.std.specs.Prelude.{◌≡◌, ◌≢◌, ◌<◌, ◌≤◌, ℕ, ◌+◌, ◌%◌, List, [], ◌∷◌, ◌++◌, length, slice_index, slice_index_or, Bool, false, None, Any, unwrap_or, ◌⊎◌}
 use Rattle.ctf_model.specs.format.Bytes.{u16_at, u32_at}
 use Rattle.ctf_model.specs.rules.Chains.{by_value, declarator, longest_chain, BeginsChain}
@@ -20,7 +20,7 @@ use Rattle.ctf_model.specs.declared.numbers.Place.{Place}
 use Rattle.ctf_model.specs.declared.numbers.Place.TheVariants.{Nowhere, Own, Parents}
 use Rattle.ctf_model.specs.declared.sections.Section.TheVariants.{SObjects, SFunctions, STypes, SStrings}
 
--- ---- each rule, whatever the rules before it say: the lists break it at a place
+-- ---- each rule by itself: the lists break it at a place
 
 abbrev pub TooShort : Lists → ℕ → Type 0
 TooShort s place = (place ≡ 0) × (length s.ctf < 4)
@@ -37,7 +37,7 @@ IsCompressed s place = (place ≡ 0) × (slice_index s.ctf 3 % 2 ≡ 1)
 abbrev pub ShortHeader : Lists → ℕ → Type 0
 ShortHeader s place = (place ≡ 0) × (length s.ctf < 36)
 
--- a section begins before the one in front of it
+-- a section begins before the previous one
 abbrev pub IsOutOfOrder : Fields → Type 0
 IsOutOfOrder h =
     (h.objtoff < h.lbloff) ⊎ (h.funcoff < h.objtoff) ⊎ (h.typeoff < h.funcoff)
@@ -61,17 +61,17 @@ BadStrings s place =
     (place ≡ 0) × (0 < length (section s.ctf SStrings))
     × (slice_index (section s.ctf SStrings) 0 ≢ 0)
 
--- what stands where no whole record does has a kind, but one that isn't known
+-- the rest has a kind, but an unknown one
 abbrev pub HasUnknownKind : List ℕ → Type 0
 HasUnknownKind rest = (8 ≤ length rest) × (kind rest ≡ None)
 
--- after the last whole record something stands, which is cut off
+-- after the last whole record there is a truncated one
 abbrev pub Truncated : Lists → ℕ → Type 0
 Truncated s place =
     (parts : List (List ℕ)) × (rest : List ℕ) × IsCut (section s.ctf STypes) parts rest
     × (0 < length rest) × (¬ HasUnknownKind rest) × (place ≡ length parts + 1)
 
--- after the last whole record something stands, whose kind isn't known
+-- after the last whole record there is one of unknown kind
 abbrev pub BadKind : Lists → ℕ → Type 0
 BadKind s place =
     (parts : List (List ℕ)) × (rest : List ℕ) × IsCut (section s.ctf STypes) parts rest
@@ -82,67 +82,66 @@ TooMany s place =
     (parts : List (List ℕ)) × (rest : List ℕ) × IsCut (section s.ctf STypes) parts rest
     × (32766 < length parts) × (place ≡ 32767)
 
--- a name stands at the place, and its reference names nothing
+-- there is a name at the place, and its reference names nothing
 abbrev pub BadName : Lists → ℕ → Type 0
 BadName s place = NameStandsAt s.ctf place × (name (tables s) (u32_at s.ctf place) ≡ None)
 
--- among so many own types, none stands at the place of the number; 0 asks for none
+-- no type is at this place in a dictionary of `count` own types; number 0 stands for no type
 abbrev pub IsMissingAt : ℕ → ℕ → Place → Type 0
 IsMissingAt count n Nowhere = n ≢ 0
 IsMissingAt count n (Own i) = count ≤ i
 IsMissingAt count n (Parents i) = ⊥
 
--- no type has the number
+-- no type has this number
 abbrev pub IsMissing : Bool → ℕ → ℕ → Type 0
 IsMissing child count n = IsMissingAt count n (place child n)
 
--- the record spells a type that names one which is not there
+-- the record spells a type that refers to a missing one
 abbrev pub NamesMissing : Tables → Bool → ℕ → List ℕ → Type 0
 NamesMissing t child count b =
     (x : Term) × Spells t b x × Any (IsMissing child count) (references x.body)
 
--- the record names a type that is not there, or has the mark of the long form
--- where it should name or declare one
+-- the record refers to a missing type, or has the mark of the long form in a field for a type or a
+-- declared kind
 abbrev pub Misnames : Tables → Bool → ℕ → List ℕ → Type 0
 Misnames t child count b = HasStrayMark b ⊎ NamesMissing t child count b
 
--- the record of the place does so, among all that the section is cut into
+-- record number `place` of the section does so
 abbrev pub BadReference : Lists → ℕ → Type 0
 BadReference s place =
     (r : RecordOf (section s.ctf STypes)) × (place ≡ length r.front + 1)
     × Misnames (tables s) (is_child (fields s.ctf)) (length (r.front ++ r.part ∷ r.back)) r.part
 
--- of the types that the section spells, a chain of too many steps begins at that of the place
+-- a chain of too many steps begins at type number `place` of the section
 abbrev pub IsDeepBy : (Body → List ℕ) → Lists → ℕ → Type 0
 IsDeepBy steps s place =
     (types : List Term) × Section (tables s) (section s.ctf STypes) types
     × (i : ℕ) × BeginsChain steps (is_child (fields s.ctf)) types (longest_chain + 1) i
     × (place ≡ i + 1)
 
--- a value is, or holds, values on and on
+-- values nest in values too deeply
 abbrev pub ValueDeep : Lists → ℕ → Type 0
 ValueDeep s place = IsDeepBy by_value s place
 
--- a declaration goes on and on
+-- a declaration nests too deeply
 abbrev pub DeclDeep : Lists → ℕ → Type 0
 DeclDeep s place = IsDeepBy declarator s place
 
--- the entry begins inside its section, and runs past the end or has a
--- kind that is not that of functions
+-- the entry begins inside its section, and either exceeds the section or has another kind than
+-- function
 abbrev pub IsBadEntry : List ℕ → Type 0
 IsBadEntry b =
     (0 < length b) × ((length b < entry_len b) ⊎ ((is_silent b ≡ false) × (kind_number b ≢ 5)))
 
--- the entry of the function whose symbol has the place as its number is bad
+-- the entry of the function with symbol number `place` is bad
 abbrev pub BadFuncs : Lists → ℕ → Type 0
 BadFuncs s place = Any (λ site. (site.number ≡ place) × IsBadEntry site.left) (function_sites s)
 
--- one of so many own types is told, and it is not there
+-- the entry refers to a missing own type
 abbrev pub TellsMissing : Bool → ℕ → Entry → Type 0
-TellsMissing child count e = Any (IsMissing child count) (types_named e.told)
+TellsMissing child count e = Any (IsMissing child count) (types_named e.info)
 
--- among what is told of the considered symbols, the one with the place as
--- its number is told such a type
+-- the entry of symbol number `place` refers to a missing type
 abbrev pub BadSymbolType : Lists → ℕ → Type 0
 BadSymbolType s place =
     (parts : List (List ℕ)) × (rest : List ℕ) × IsCut (section s.ctf STypes) parts rest
@@ -150,32 +149,32 @@ BadSymbolType s place =
     × AreEntries (symbols s) (section s.ctf SObjects) (section s.ctf SFunctions) es
     × Any (λ e. (e.number ≡ place) × TellsMissing (is_child (fields s.ctf)) (length parts) e) es
 
--- the symbol table ends inside a symbol
+-- the symbol table ends in the middle of a symbol
 abbrev pub BadSymtab : Lists → ℕ → Type 0
 BadSymtab s place = (place ≡ 0) × (0 < length (unwrap_or s.sym []) % 24)
 
 -- ---- the first fault
 
--- no rule has the number 0
+-- rule number 0 does not exist
 abbrev pub Never : Lists → ℕ → Type 0
 Never s place = ⊥
 
--- the rules by their numbers
+-- the rules, indexed by number
 abbrev pub rules_by_number : List (Lists → ℕ → Type 0)
 rules_by_number =
     Never ∷ TooShort ∷ BadMagic ∷ BadVersion ∷ IsCompressed ∷ ShortHeader ∷ BadOrder ∷ BadAlign
     ∷ PastEnd ∷ BadStrings ∷ Truncated ∷ BadKind ∷ TooMany ∷ BadName ∷ BadReference ∷ ValueDeep
     ∷ DeclDeep ∷ BadFuncs ∷ BadSymbolType ∷ BadSymtab ∷ []
 
--- the rule of a number is broken at the place
+-- rule `number` is broken at the place
 abbrev pub IsBroken : Lists → ℕ → ℕ → Type 0
 IsBroken s number place = slice_index_or rules_by_number number Never s place
 
--- no rule below a number is broken anywhere
+-- no rule with a lower number is broken anywhere
 abbrev pub Keeps : Lists → ℕ → Type 0
 Keeps s number = (rule : ℕ) → rule < number → (place : ℕ) → IsBroken s rule place → ⊥
 
--- the least rule that is broken, at its least place
+-- the least broken rule, at its least place
 pub record IsFirstFault (s : Lists) (f : Fault) : Type 0 where
   pub broken : IsBroken s f.code f.place
   pub earlier : Keeps s f.code

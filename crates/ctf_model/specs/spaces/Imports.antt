@@ -1,6 +1,5 @@
--- When one dictionary serves as the parent of another.
--- Source: libctf(3LIB), ctf_import, ctf_setmodel;
--- that their data models have to be the same is ours.
+-- When one dictionary can be the parent of another. Source: libctf(3LIB), ctf_import, ctf_setmodel;
+-- that their data models must be equal is ours.
 use Rattle.std.specs.Prelude.{ℕ, not, nat_lt, Bool, true, false, List, [], ◌∷◌, length, Option, Some, None, if◌then◌else◌}
 use Rattle.ctf_model.specs.format.Dictionary.{Dictionary}
 use Rattle.ctf_model.specs.rules.Faults.{if_broken, or_later}
@@ -15,7 +14,7 @@ pub record Modelled : Type 0 where
   pub dictionary : Dictionary
   pub model : DataModel
 
--- a dictionary that is to be imported over a parent
+-- a child, and the parent that it is to import
 pub record Import : Type 0 where
   pub child : Modelled
   pub parent : Modelled
@@ -32,9 +31,9 @@ same_model Lp64 Lp64 = true
 same_model Ilp32 Ilp32 = true
 same_model _ _ = false
 
--- ---- rules, each with its place where it is broken
+-- ---- rules, each with the place where it is broken
 
--- it is no child
+-- the importing dictionary is no child
 abbrev pub not_child : Import → Option ℕ
 not_child i = if_broken (not i.child.dictionary.child)
 
@@ -42,11 +41,11 @@ not_child i = if_broken (not i.child.dictionary.child)
 abbrev pub parent_is_child : Import → Option ℕ
 parent_is_child i = if_broken i.parent.dictionary.child
 
--- the two are of different data models
+-- the data models differ
 abbrev pub model_differs : Import → Option ℕ
 model_differs i = if_broken (not (same_model i.child.model i.parent.model))
 
--- it names a number that is above the parent's count: the greatest one is the place
+-- the child refers to more types than the parent has; the place is the greatest such number
 abbrev pub parent_short : Import → Option ℕ
 parent_short i =
     if nat_lt (length i.parent.dictionary.terms) (greatest_needed i.child.dictionary)
@@ -54,12 +53,12 @@ parent_short i =
 
 -- ---- their order
 
--- a rule, and the code of its fault
+-- a rule, and its fault code
 pub record Rule : Type 0 where
   pub code : ℕ
   pub broken : Import → Option ℕ
 
--- the rules of an import, in the order that they are judged in
+-- the rules of an import, in the order of checking
 abbrev pub import_rules : List Rule
 import_rules =
     record { code = NOT_CHILD; broken = not_child }
@@ -67,11 +66,11 @@ import_rules =
     ∷ record { code = MODEL_DIFFERS; broken = model_differs }
     ∷ record { code = PARENT_SHORT; broken = parent_short } ∷ []
 
--- the first of some rules that is broken
+-- the fault of the first broken rule
 abbrev pub first_against : List Rule → Import → Option Fault
 first_against [] i = None
 first_against (rule ∷ rules) i = or_later rule.code (rule.broken i) (first_against rules i)
 
--- why one dictionary is not imported over another
+-- the reason to refuse an import, if any
 abbrev pub import_fault : Import → Option Fault
 import_fault i = first_against import_rules i

@@ -1,4 +1,4 @@
--- A dictionary that is kept: its lists, and the data model of its program. Source: ours.
+-- A stored dictionary: its lists, and its program's data model. Source: ours.
 use Rattle.std.specs.Prelude.{Option, None, Some}
 use Rattle.std.specs.Option.{option_map}
 use Rattle.ctf_model.specs.format.Dictionary.{Dictionary, said_by}
@@ -13,28 +13,28 @@ pub record Kept : Type 0 where
   pub lists : Lists
   pub model : DataModel
 
--- the data model where none is said
-abbrev pub model_unsaid : DataModel
-model_unsaid = Lp64
+-- the data model if none is stated
+abbrev pub default_model : DataModel
+default_model = Lp64
 
--- lists that are kept where no data model is said
-abbrev pub kept_unsaid : Lists → Kept
-kept_unsaid lists = record { lists = lists; model = model_unsaid }
+-- lists stored without a stated data model
+abbrev pub as_kept : Lists → Kept
+as_kept lists = record { lists = lists; model = default_model }
 
--- the data model of what is made over a parent: the parent's, if there is one
+-- the data model of a new dictionary over a parent: the parent's, if there is one
 abbrev pub model_over : Option Kept → DataModel
-model_over None = model_unsaid
+model_over None = default_model
 model_over (Some parent) = parent.model
 
--- what it says
+-- the dictionary that the lists encode
 abbrev pub kept_dictionary : Kept → Dictionary
 kept_dictionary kept = said_by kept.lists
 
--- that, with its model
+-- that dictionary, with its data model
 abbrev pub modelled_by : Kept → Modelled
 modelled_by kept = record { dictionary = kept_dictionary kept; model = kept.model }
 
--- what questions see of it, over its parent if it has one
+-- the space that questions see: the dictionary, over its parent if it has one
 abbrev pub kept_space : Kept → Option Kept → Space
 kept_space own parent = record {
   own = kept_dictionary own;
@@ -42,7 +42,7 @@ kept_space own parent = record {
   model = own.model;
 }
 
--- the fault of one as the parent of another
+-- the fault of importing `parent` into `child`
 abbrev pub fault_over : Kept → Kept → Option Fault
 fault_over child parent =
     import_fault (record { child = modelled_by child; parent = modelled_by parent })

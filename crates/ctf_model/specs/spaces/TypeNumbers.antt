@@ -1,4 +1,4 @@
--- Which type a number names. Source: ctf(5); ctf_lookup_by_id of libctf.
+-- The type that a number names. Source: ctf(5); ctf_lookup_by_id of libctf.
 use Rattle.std.specs.Prelude.{ℕ, Option, Some, None, Result, Ok, Err, slice_get}
 use Rattle.ctf_model.specs.format.Dictionary.{Dictionary}
 use Rattle.ctf_model.specs.format.Term.{Term}
@@ -12,7 +12,7 @@ use Rattle.ctf_model.specs.declared.numbers.Place.TheVariants.{Nowhere, Own, Par
 abbrev pub no_type : Fault
 no_type = record { code = NO_TYPE; place = 0 }
 
--- a parent's type is asked for, and no parent was imported
+-- the number is a parent's, and no parent was imported
 abbrev pub no_parent : Fault
 no_parent = record { code = NO_PARENT; place = 0 }
 
@@ -20,7 +20,7 @@ abbrev pub or_no_type : Option Term → Result Term Fault
 or_no_type None = Err no_type
 or_no_type (Some x) = Ok x
 
--- the type that stands at a place of a dictionary with its imported parent, or none
+-- the type at a place of a dictionary with its imported parent
 abbrev pub type_in : Dictionary → Option Dictionary → Place → Result Term Fault
 type_in d parent Nowhere = Err no_type
 type_in d parent (Own i) = or_no_type (slice_get d.terms i)

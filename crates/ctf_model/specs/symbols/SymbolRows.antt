@@ -2,7 +2,7 @@
 use Rattle.std.specs.Prelude.{◌≡◌, ℕ, ◌+◌, List, [], ◌∷◌, ◌++◌, Some, None, Result, Ok, Err, codes}
 use Rattle.ctf_model.specs.format.Dictionary.{said_by}
 use Rattle.ctf_model.specs.symbols.Entries.{Entry}
-use Rattle.ctf_model.specs.symbols.Entries as told
+use Rattle.ctf_model.specs.symbols.Entries as info
 use Rattle.ctf_model.specs.rules.Faults.{first_fault}
 use Rattle.ctf_model.specs.format.KindRows.{half}
 use Rattle.ctf_model.specs.format.Lists.{Lists}
@@ -13,24 +13,25 @@ use Rattle.ctf_model.specs.declared.faults.Fault.{Fault}
 
 -- ---- inputs
 
--- a symbol: where its name begins, what it stands for, and its section; its value and size are 0
+-- a symbol: the offset of its name, its info byte, and its section; value and size are 0
 abbrev pub symbol : ℕ → ℕ → ℕ → List ℕ
 symbol name info section =
     word name ++ info ∷ 0 ∷ half section ++ word 0 ++ word 0 ++ word 0 ++ word 0
 
--- names at 1, 9, 11, 13, 15, 17
+-- strings with names at 1, 9, 11, 13, 15, 17
 abbrev pub program_strings : List ℕ
 program_strings =
     0 ∷ codes "_START_" ++ 0 ∷ codes "x" ++ 0 ∷ codes "a" ++ 0 ∷ codes "b" ++ 0 ∷ codes "c" ++ 0
     ∷ codes "f" ++ 0 ∷ []
 
--- nothing; a mark; objects in no section, absolute at 0, and twice in a section; and a function
+-- a null symbol; a linker's mark; objects that are undefined, absolute at 0, and twice in a
+-- section; and a function
 abbrev pub program_symbols : List ℕ
 program_symbols =
     symbol 0 0 0 ++ symbol 1 0x11 1 ++ symbol 9 0x11 0 ++ symbol 11 0x11 0xfff1 ++ symbol 13 0x11 1
     ++ symbol 15 0x11 1 ++ symbol 17 0x12 1
 
--- a dictionary of int with sections of objects and of functions, over these symbols
+-- a dictionary of int with these object and function sections, over these symbols
 abbrev pub over : ℕ → List ℕ → List ℕ → ℕ → ℕ → Lists
 over parname objects functions funcoff typeoff = record {
   ctf =
@@ -43,7 +44,7 @@ over parname objects functions funcoff typeoff = record {
 abbrev pub plain_lists : Lists
 plain_lists = over 0 (half 1) (half 0) 2 4
 
--- a function that takes type 1 and returns it, and one that takes any number of arguments
+-- a function that takes and returns type 1, and a variadic one
 abbrev pub one_argument : Lists
 one_argument = over 0 (half 1) (half 0x2801 ++ half 1 ++ half 1) 2 8
 
@@ -54,7 +55,7 @@ any_arguments = over 0 (half 1) (half 0x2801 ++ half 1 ++ half 0) 2 8
 abbrev pub child_object : Lists
 child_object = over 1 (half 9) (half 0) 2 4
 
--- a label a that covers 5 types
+-- a label `a` that covers 5 types
 abbrev pub labelled_lists : Lists
 labelled_lists =
     record {
@@ -65,18 +66,18 @@ labelled_lists =
       strs = None;
     }
 
--- ---- what is told
+-- ---- answers
 
-abbrev pub entry : ℕ → List ℕ → told.Told → Entry
-entry number name told = record { number = number; name = name; told = told }
+abbrev pub entry : ℕ → List ℕ → info.SymbolInfo → Entry
+entry number name info = record { number = number; name = name; info = info }
 
 abbrev refused : {A : Type 0} → ℕ → Result A Fault
 refused code = Err (fault code 0)
 
 pub record SymbolsTell : Type 0 where
   pub entries : (said_by plain_lists).entries
-      ≡ entry 4 (codes "b") (told.object (Some 1)) ∷ entry 5 (codes "c") (told.object None)
-      ∷ entry 6 (codes "f") (told.function None) ∷ []
+      ≡ entry 4 (codes "b") (info.object (Some 1)) ∷ entry 5 (codes "c") (info.object None)
+      ∷ entry 6 (codes "f") (info.function None) ∷ []
   pub accepted : first_fault plain_lists ≡ None
   pub object_0 : object_of (said_by plain_lists) 0 ≡ refused 35
   pub object_1 : object_of (said_by plain_lists) 1 ≡ refused 37
@@ -109,8 +110,7 @@ pub record SymbolsHaveFaults : Type 0 where
   pub kind : first_fault (over 0 (half 1) (half 0x3801 ++ half 1 ++ half 1) 2 8) ≡ Some (fault 17 6)
   pub argument : first_fault (over 0 (half 1) (half 0x2801 ++ half 1 ++ half 2) 2 8)
       ≡ Some (fault 18 6)
-  -- the entry of a kind that isn't known says nothing only where it has no arguments,
-  -- whatever its root bit
+  -- an entry of another kind is empty only without arguments; its root bit does not matter
   pub no_kind : first_fault (over 0 (half 1) (half 0x0001 ++ half 1 ++ half 1) 2 8)
       ≡ Some (fault 17 6)
   pub silent_root : first_fault (over 0 (half 1) (half 0x0400) 2 4) ≡ None

@@ -1,6 +1,6 @@
--- The symbols of a program, and which of them a dictionary tells something of.
--- Source: ELF64, "Symbol Table" (Elf64_Sym; STT_OBJECT, STT_FUNC, SHN_UNDEF, SHN_ABS).
--- Which ones are considered is ours, after libctf.
+-- The symbols of a program, and those that a dictionary has entries for. Source: ELF64, "Symbol
+-- Table" (Elf64_Sym; STT_OBJECT, STT_FUNC, SHN_UNDEF, SHN_ABS). Which ones are considered is ours,
+-- after libctf.
 use Rattle.std.specs.Prelude.{ℕ, zero, suc, ◌/◌, ◌%◌, ◌==◌, ◌&&◌, ◌||◌, not, nat_le, Bool, List, [], ◌∷◌, length, drop, slice_index, Option, unwrap_or, codes, if◌then◌else◌}
 use Rattle.std.specs.List.{enumerate_from, filter}
 use Rattle.std.specs.Str.{bytes_eq}
@@ -14,18 +14,18 @@ use Rattle.ctf_model.specs.declared.symbols.SymbolClass.TheVariants.{Object, Fun
 
 pub record Symbol : Type 0 where
   pub name : List ℕ
-  -- what it stands for: 1 is an object, 2 a function
+  -- the symbol's type: 1 for an object, 2 for a function
   pub sort : ℕ
-  -- the section that it stands in; 0 is none
+  -- the section of its definition; 0 if undefined
   pub section : ℕ
   pub value : ℕ
 
--- the name at an offset of the program's strings; where there is none it is empty (ours)
+-- the name at an offset of the program's strings; empty if there is none (ours)
 abbrev pub symbol_name : Option (List ℕ) → ℕ → List ℕ
 symbol_name strs offset = if offset == 0 then [] else unwrap_or (text_at strs offset) []
 
--- the symbol that 24 bytes are: name, info with the sort in the low 4 bits,
--- another byte, section, value, and size
+-- the symbol in 24 bytes: name, info with the symbol's type in the low 4 bits, another byte,
+-- section, value, and size
 abbrev pub symbol_of : Option (List ℕ) → List ℕ → Symbol
 symbol_of strs b =
     record {
@@ -35,20 +35,20 @@ symbol_of strs b =
       value = u64_at b 8;
     }
 
--- n symbols, one after the other
+-- `n` symbols, one after another
 unfoldable pub symbols_in : Option (List ℕ) → ℕ → List ℕ → List Symbol
 symbols_in strs zero b = []
 symbols_in strs (suc n) b = symbol_of strs b ∷ symbols_in strs n (drop 24 b)
 
--- the symbols of a symbol table; a rest of fewer than 24 bytes is none
+-- the symbols of a symbol table; a rest of fewer than 24 bytes is ignored
 abbrev pub symbols_of : Option (List ℕ) → List ℕ → List Symbol
 symbols_of strs sym = symbols_in strs (length sym / 24) sym
 
--- the symbols of a program; without a symbol table there are none
+-- the symbols of a program; none without a symbol table
 unfoldable pub symbols : Lists → List Symbol
 symbols s = symbols_of s.strs (unwrap_or s.sym [])
 
--- ---- those that a dictionary tells something of
+-- ---- considered symbols: those with an entry
 
 abbrev pub is_object : Symbol → Bool
 is_object x = x.sort == 1
@@ -56,25 +56,24 @@ is_object x = x.sort == 1
 abbrev pub is_function : Symbol → Bool
 is_function x = x.sort == 2
 
--- the linker's marks
+-- marks that the linker adds
 abbrev pub is_mark : List ℕ → Bool
 is_mark name = bytes_eq name (codes "_START_") || bytes_eq name (codes "_END_")
 
 abbrev pub is_named : Symbol → Bool
 is_named x = not (length x.name == 0) && not (is_mark x.name)
 
--- an absolute object of the value 0 is no object
+-- an absolute object of value 0, which counts as no object
 abbrev pub is_absolute_zero : Symbol → Bool
 is_absolute_zero x = is_object x && x.section == 0xfff1 && x.value == 0
 
--- an object or a function that is defined and has a name of its own,
--- and whose number fits in 4 bytes
+-- a defined object or function with a name of its own, whose number fits in 4 bytes
 unfoldable pub is_considered : ℕ × Symbol → Bool
 is_considered x =
     nat_le x.0 0xffffffff && (is_object x.1 || is_function x.1) && not (x.1.section == 0)
     && is_named x.1 && not (is_absolute_zero x.1)
 
--- the considered ones of symbols that are numbered from n on, each with its number
+-- the considered ones among symbols numbered from `n` on
 abbrev pub considered_from : ℕ → List Symbol → List (ℕ × Symbol)
 considered_from n xs = filter is_considered (enumerate_from n xs)
 

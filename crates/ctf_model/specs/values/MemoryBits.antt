@@ -1,5 +1,5 @@
--- Numbers in the memory of a program. Source: ctf(5), which reads them little-endian:
--- bit i of the memory is bit i % 8 of byte i / 8.
+-- Numbers in the memory of a program, little-endian as in ctf(5): bit i of the memory is bit i % 8
+-- of byte i / 8.
 use Rattle.std.specs.Prelude.{ℕ, ℤ, pos, zero, suc, ◌+◌, ◌-◌, ◌*◌, ◌^◌, ◌/◌, ◌%◌, ◌-ℤ◌, ◌++◌, nat_lt, List, [], length, Result, Ok, Err, if◌then◌else◌}
 use Rattle.ctf_model.specs.format.Bytes.{number}
 use Rattle.ctf_model.specs.rules.Refusals.{placeless}
@@ -7,11 +7,11 @@ use Rattle.ctf_model.specs.dumps.Texts.{hex_of_byte}
 use Rattle.ctf_model.specs.declared.faults.Fault.{Fault}
 use Rattle.ctf_model.specs.declared.faults.TheConstants.Fault.{SHORT_MEMORY}
 
--- bits of a value lie past the memory
+-- the memory ends before the value does
 abbrev pub short_memory : Fault
 short_memory = placeless SHORT_MEMORY
 
--- the number in so many bits from bit p on: the memory is one number, its low byte first
+-- the `width` bits from bit `p` on; the memory is one number, low byte first
 abbrev pub bits_at : List ℕ → ℕ → ℕ → ℕ
 bits_at memory p width = number memory / 2 ^ p % 2 ^ width
 
@@ -20,15 +20,15 @@ abbrev pub bit_field : List ℕ → ℕ → ℕ → Result ℕ Fault
 bit_field memory p width =
     if nat_lt (8 * length memory) (p + width) then Err short_memory else Ok (bits_at memory p width)
 
--- two's complement: of so many bits the highest counts as a negative number
+-- two's complement: the highest of `width` bits has negative weight
 abbrev pub signed_value : ℕ → ℕ → ℤ
 signed_value width n = if nat_lt n (2 ^ (width - 1)) then pos n else pos n -ℤ pos (2 ^ width)
 
--- how many bytes so many bits begin
+-- the number of bytes that `width` bits occupy
 abbrev pub started_bytes : ℕ → ℕ
 started_bytes width = (width + 7) / 8
 
--- a number of so many bytes, the highest first, by two digits each
+-- a number of `k` bytes as hex digits, high byte first
 unfoldable pub hexadecimal : ℕ → ℕ → List ℕ
 hexadecimal zero n = []
 hexadecimal (suc k) n = hexadecimal k (n / 256) ++ hex_of_byte (n % 256)

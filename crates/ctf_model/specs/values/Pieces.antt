@@ -1,16 +1,16 @@
--- What is shown of a value: pieces of text, one behind the other, and then an end,
--- which is done or a fault. Source: ours.
+-- The text of a value as pieces in sequence, with a fault if it could not be completed. Source:
+-- ours.
 use Rattle.std.specs.Prelude.{ℕ, ◌++◌, nat_lt, List, [], ◌∷◌, length, Option, Some, None, Result, Ok, Err, codes, if◌then◌else◌}
 use Rattle.ctf_model.specs.names.TypeNames.{longest_text, too_long}
 use Rattle.ctf_model.specs.declared.faults.Fault.{Fault}
 
 pub record Pieces : Type 0 where
-  -- those before the end, joined
+  -- the joined text before the end
   pub text : List ℕ
-  -- the fault that they end by; none where they end done
+  -- the fault that ended it; none if complete
   pub fault : Option Fault
 
--- one piece
+-- a single piece
 abbrev pub piece : List ℕ → Pieces
 piece text = record { text = text; fault = None }
 
@@ -24,7 +24,7 @@ abbrev pub goes_on : List ℕ → Option Fault → Pieces → Pieces
 goes_on text None next = record { text = text ++ next.text; fault = next.fault }
 goes_on text (Some fault) next = record { text = text; fault = Some fault }
 
--- one and then the next; nothing is shown behind a fault
+-- the first pieces, then the next; after a fault nothing follows
 unfoldable pub then_pieces : Pieces → Pieces → Pieces
 then_pieces first next = goes_on first.text first.fault next
 
@@ -32,7 +32,7 @@ abbrev pub each_behind_comma : List Pieces → Pieces
 each_behind_comma [] = no_pieces
 each_behind_comma (x ∷ xs) = then_pieces (piece (codes ", ")) (then_pieces x (each_behind_comma xs))
 
--- one after the other, with commas between them
+-- in sequence, separated by commas
 abbrev pub separate : List Pieces → Pieces
 separate [] = no_pieces
 separate (x ∷ xs) = then_pieces x (each_behind_comma xs)
@@ -40,13 +40,13 @@ separate (x ∷ xs) = then_pieces x (each_behind_comma xs)
 abbrev pub between : List ℕ → List ℕ → Pieces → Pieces
 between first last inside = then_pieces (piece first) (then_pieces inside (piece last))
 
--- ---- what is answered
+-- ---- the answer
 
 abbrev pub ended_by : Option Fault → List ℕ → Result (List ℕ) Fault
 ended_by None text = Ok text
 ended_by (Some fault) text = Err fault
 
--- a text that is too long is refused, however it ends; else the fault is answered, or the text
+-- a text that is too long is refused, even if it ended with a fault; else the fault or the text
 abbrev pub text_or_fault : Pieces → Result (List ℕ) Fault
 text_or_fault pieces =
     if nat_lt longest_text (length pieces.text) then Err too_long

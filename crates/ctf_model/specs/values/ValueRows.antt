@@ -9,7 +9,7 @@ use Rattle.ctf_model.specs.declared.faults.Fault.{Fault}
 
 -- ---- inputs
 
--- an integer: its encoding, its offset and its width
+-- an integer type: its encoding, offset and width
 abbrev pub integer_at : ℕ → ℕ → ℕ → Term
 integer_at encoding offset bits =
     bare_term
@@ -22,18 +22,14 @@ float_at offset bits =
 abbrev pub enumerator : List ℕ → ℤ → Enumerator
 enumerator name value = record { name = name; value = value }
 
--- int, char, a struct of a char and an int, three bits behind six, an enum with A = 1, double,
--- a forward, a pointer,
--- an array of two of the struct, a typedef of it, const of that, an array of no forwards,
--- an array of two forwards,
--- a union of an int without a name and a char, an integer without bits, one of 65 bits,
--- a signed one of 64, an unsigned one of 32,
--- an enum of 16 bytes, one of a byte with A = -1, an enumerator without a name = 0, B = -1,
--- C = 128, one that says no size,
--- a struct of a char and a forward, an unknown type, a function, a typedef of nothing,
--- a struct of a type that isn't there,
--- an empty struct, an array of three of it, a float without bits, a float of 12 bits behind 4,
--- an integer of 9 bits behind 255
+-- int, char, a struct of a char and an int, three bits at offset six, an enum with A = 1, double, a
+-- forward, a pointer, an array of two of the struct, a typedef of it, const of that, an array of no
+-- forwards, an array of two forwards, a union of a nameless int and a char, an integer without
+-- bits, one of 65 bits, a signed one of 64, an unsigned one of 32, an enum of 16 bytes, one of a
+-- byte with A = -1, a nameless enumerator = 0, B = -1, C = 128, one without a size, a struct of a
+-- char and a forward, an unknown type, a function, a typedef of nothing, a struct of a missing
+-- type, an empty struct, an array of three of it, a float without bits, a float of 12 bits at
+-- offset 4, an integer of 9 bits at offset 255
 abbrev pub types : List Term
 types =
     integer_at 1 0 32 ∷ integer_at 3 0 8
@@ -68,7 +64,7 @@ ten_bytes = 0x41 ∷ 0x80 ∷ 0x00 ∷ 0xff ∷ 0xff ∷ 0xff ∷ 0xff ∷ 0xff 
 -- ---- each kind
 
 pub record ValuesShow : Type 0 where
-  -- three bits behind six: 111, and 010
+  -- three bits at offset six: 111, and 010
   pub below_zero : shows (0xc0 ∷ 0x01 ∷ []) 4 0 ≡ Ok (codes "-1")
   pub above_zero : shows (0x80 ∷ 0x00 ∷ []) 4 0 ≡ Ok (codes "2")
   pub short : shows (0xc0 ∷ []) 4 0 ≡ Err (fault 48 0)
@@ -98,7 +94,7 @@ pub record ValuesShow : Type 0 where
   pub unsigned : shows (0xff ∷ 0xff ∷ 0xff ∷ 0xff ∷ []) 18 0 ≡ Ok (codes "4294967295")
   pub wide_enum : shows (1 ∷ 0 ∷ 0 ∷ 0 ∷ 0 ∷ 0 ∷ 0 ∷ 0 ∷ 2 ∷ 0 ∷ 0 ∷ 0 ∷ 0 ∷ 0 ∷ 0 ∷ 0xab ∷ []) 19 0
       ≡ Ok (codes "0xab000000000000020000000000000001")
-  -- the first enumerator of a value
+  -- the first enumerator with a value
   pub first_name : shows (0xff ∷ []) 20 0 ≡ Ok (codes "A")
   pub no_name : shows (0 ∷ []) 20 0 ≡ Ok []
   pub never_so_great : shows (0x80 ∷ []) 20 0 ≡ Ok (codes "-128")
@@ -119,7 +115,7 @@ pub record ValuesShow : Type 0 where
 
 -- ---- over a parent
 
--- a child with an array of two of its parent's type 3, and with a typedef of that type
+-- a child with an array of two of its parent's type 3, and a typedef of that type
 abbrev pub childs : List Term
 childs = array_of 0 3 2 ∷ bare_term (term.typedef 3) ∷ []
 

@@ -1,5 +1,5 @@
--- What a value in the memory of a program shows, by its type.
--- Source: ours; where the numbers of a type stand is ctf(5), "The Type Section".
+-- The text of a value in a program's memory, by its type. Source: ours; the encoding of a type's
+-- numbers is ctf(5), "The Type Section".
 use Rattle.std.specs.Prelude.{ℕ, ℤ, pos, zero, suc, ◌+◌, ◌*◌, ◌%◌, ◌==◌, ◌++◌, nat_lt, Bool, List, [], ◌∷◌, map, Result, Ok, Err, codes, if◌then◌else◌}
 use Rattle.std.specs.List.{range_with_len}
 use Rattle.std.specs.Ordering.{int_eq}
@@ -16,7 +16,7 @@ use Rattle.ctf_model.specs.declared.faults.Fault.{Fault}
 
 -- ---- numbers
 
--- what a number shows, or the fault that stands in its place
+-- the text of a number, or its fault
 abbrev pub by_number : (ℕ → List ℕ) → Result ℕ Fault → Pieces
 by_number text (Ok n) = piece (text n)
 by_number text (Err fault) = ends fault
@@ -24,7 +24,7 @@ by_number text (Err fault) = ends fault
 abbrev pub raw_text : ℕ → ℕ → List ℕ
 raw_text width n = codes "0x" ++ hexadecimal (started_bytes width) n
 
--- so many bits from bit p on, as they are
+-- `width` bits from bit `p` on, in hexadecimal
 abbrev pub raw_shown : List ℕ → ℕ → ℕ → Pieces
 raw_shown memory p width = by_number (raw_text width) (bit_field memory p width)
 
@@ -35,8 +35,7 @@ is_signed encoding = encoding % 2 == 1
 abbrev pub integer_value : ℕ → ℕ → ℕ → ℤ
 integer_value encoding width n = if is_signed encoding then signed_value width n else pos n
 
--- an integer stands behind its offset, and is raw where it has more than 64 bits;
--- one without bits is void
+-- an integer begins at its offset; more than 64 bits are shown in hexadecimal, none as void
 abbrev pub integer_shown : List ℕ → ℕ → EncodingParts → Pieces
 integer_shown memory p x =
     if x.bits == 0 then piece (codes "void")
@@ -50,42 +49,42 @@ float_shown memory p x =
 
 -- ---- enums
 
--- the name of the first enumerator with a value, or else the number
+-- the name of the first enumerator with this value, else the number
 unfoldable pub name_of_value : List Enumerator → ℤ → List ℕ
 name_of_value [] value = signed_decimal value
 name_of_value (e ∷ es) value = if int_eq e.value value then e.name else name_of_value es value
 
--- an enum of a size in bytes; its number has a sign, and is raw where it has more than 64 bits
+-- an enum of `size` bytes; its number is signed, and shown in hexadecimal beyond 64 bits
 abbrev pub enum_shown : List ℕ → ℕ → ℕ → List Enumerator → Pieces
 enum_shown memory p size es =
     if nat_lt 8 size then raw_shown memory p (8 * size)
     else by_number (λ n. name_of_value es (signed_value (8 * size) n)) (bit_field memory p (8 * size))
 
--- ---- values that hold others
+-- ---- compound values
 
--- what shows a value, by the number of its type and the bit that it begins at
+-- formats the value of type `n` at bit offset `p`
 abbrev pub Shows : Type 0
 Shows = ℕ → ℕ → Pieces
 
--- a name and what stands behind it, where there is one
+-- a name and ` = `; nothing for the empty name
 abbrev pub label : List ℕ → Pieces
 label [] = no_pieces
 label (x ∷ name) = then_pieces (piece (x ∷ name)) (piece (codes " = "))
 
--- a member of a value that begins at bit p
+-- a member of the value at bit `p`
 abbrev pub member_shown : Shows → ℕ → Member → Pieces
 member_shown show p m = then_pieces (label m.name) (show m.tnum (p + m.offset))
 
 abbrev pub members_shown : Shows → ℕ → List Member → Pieces
 members_shown show p ms = between (codes "{") (codes "}") (separate (map (member_shown show p) ms))
 
--- elements of a size in bytes, one behind the other
+-- `count` elements of `size` bytes, one after another
 abbrev pub each_element : Shows → ℕ → ℕ → ℕ → Result ℕ Fault → List Pieces
 each_element show p contents count (Ok size) =
     map (λ i. show contents (p + 8 * size * i)) (range_with_len 0 count)
 each_element show p contents count (Err fault) = ends fault ∷ []
 
--- the size of the contents matters where there are any
+-- the size of the contents matters only if there are elements
 abbrev pub elements_shown : Shows → ℕ → ℕ → ℕ → Result ℕ Fault → Pieces
 elements_shown show p contents count size =
     if count == 0 then no_pieces else separate (each_element show p contents count size)
@@ -96,8 +95,8 @@ array_shown show p contents count size =
 
 -- ---- any value
 
--- the value of a type that begins at bit p, where others are shown so;
--- typedefs and qualifiers show what their type does
+-- the text of a value at bit `p`, given a function for nested values; a typedef or qualifier
+-- formats as its type
 abbrev pub body_shown : Space → List ℕ → Shows → ℕ → Body → Pieces
 body_shown s memory show p (term.integer x) = integer_shown memory p (encoding_parts x)
 body_shown s memory show p (term.float x) = float_shown memory p (encoding_parts x)
@@ -119,26 +118,26 @@ abbrev pub found_shown : Space → List ℕ → Shows → ℕ → Result Term Fa
 found_shown s memory show p (Ok x) = body_shown s memory show p x.body
 found_shown s memory show p (Err fault) = ends fault
 
--- the rule of values: what the value of a number's type shows, where others are shown so
+-- the rule of values: the text of type `n`'s value, given a function for nested values
 abbrev pub by_rule : Space → List ℕ → Shows → Shows
 by_rule s memory show n p =
     if n == 0 then ends incomplete else found_shown s memory show p (space_type s n)
 
--- The value of a number's type, where at most so many numbers follow on each other.
--- (A number on which too many follow has no end: it shows nothing.)
+-- The text of type `n`'s value, following at most `k` numbers. Beyond that bound it ends with the
+-- fault `Incomplete`.
 unfoldable pub shown_within : Space → List ℕ → ℕ → Shows
 shown_within s memory zero n p = ends incomplete
 shown_within s memory (suc k) n p = by_rule s memory (shown_within s memory k) n p
 
--- As many numbers as can follow on each other in dictionaries without a fault: a chain has one own
--- type more than it has steps, as many of the parent's, and behind the last type there can be a 0.
+-- The bound that dictionaries without a fault never reach: a chain has one own type more than it
+-- has steps, as many of the parent's, and a 0 may follow the last type.
 unfoldable pub most_values : ℕ
 most_values = 2 * (longest_chain + 1) + 1
 
--- what the value of a number's type shows that begins at bit p of the memory
+-- the text of the value of type `n` at bit `p` of the memory
 abbrev pub shown_value : Space → List ℕ → Shows
 shown_value s memory n p = shown_within s memory most_values n p
 
--- what is answered of it
+-- that text as an answer
 abbrev pub value_text : Space → List ℕ → ℕ → ℕ → Result (List ℕ) Fault
 value_text s memory n p = text_or_fault (shown_value s memory n p)

@@ -19,31 +19,31 @@ use Rattle.ctf_model.specs.writing.WrittenRecords.{record_bytes}
 
 -- ---- names and records
 
--- the string section of these names, and no other table
+-- a string section with exactly these names, and no second table
 abbrev pub table_of : List (List ℕ) → Tables
 table_of names = record { internal = string_bytes names; elf = None }
 
--- a name that isn't empty is one of these
+-- a name is empty or one of these
 abbrev pub IsKept : List (List ℕ) → List ℕ → Type 0
 IsKept names text = is_empty text ≡ false → list_any (bytes_eq text) names ≡ true
 
--- the reference to a name names it
+-- the reference to a name denotes it
 pub record IsFound (names : List (List ℕ)) (text : List ℕ) : Type 0 where
   pub low : name_reference names text < 2 ^ 31
   pub found : name (table_of names) (name_reference names text) ≡ Some text
 
--- a name that is empty or one of those that stand in the strings is found there,
--- unless these are too long
+-- every name that is empty or in the table can be found by its reference, unless the strings are
+-- too long
 abbrev pub NamesAreFoundAgain : Type 0
 NamesAreFoundAgain =
     (names : List (List ℕ)) (text : List ℕ) → AllByRecursion IsName names → IsKept names text
     → length (string_bytes names) < 2 ^ 31 → IsFound names text
 
--- no number that a type names is the mark of the long form
+-- no type number that a type refers to equals the mark of the long form
 abbrev pub NamesShort : Term → Type 0
 NamesShort x = AllByRecursion (λ n. n < 0xffff) (references x.body)
 
--- a type that fits, and whose names are found, is spelled by its record
+-- the record of a type that fits, and whose names are found, spells that type
 abbrev pub RecordsSpell : Type 0
 RecordsSpell =
     (names : List (List ℕ)) (x : Term) → Fits x → NamesShort x
@@ -51,27 +51,27 @@ RecordsSpell =
 
 -- ---- drafts
 
--- where a sound draft is written, its bytes denote what it holds: its types and labels,
--- its parent's name and label, and no symbols
+-- the written bytes of a sound draft denote its types and labels, its parent's name and label, and
+-- no symbols
 abbrev pub WrittenDenotes : Type 0
 WrittenDenotes =
     (d : Draft) (bytes : List ℕ) → IsSound d → written (content d) ≡ Ok bytes
     → Denotes (lists_of bytes) (content d)
 
--- they are those of a child just where the draft has a parent
+-- the bytes are a child's exactly if the draft has a parent
 abbrev pub WrittenIsChild : Type 0
 WrittenIsChild =
     (d : Draft) (bytes : List ℕ) → IsSound d → written (content d) ≡ Ok bytes
     → is_child (fields bytes) ≡ is_some d.parent
 
--- what they denote can be imported over that parent
+-- the dictionary that they denote can be imported over that parent
 abbrev pub WrittenIsImported : Type 0
 WrittenIsImported =
     (d : Draft) (parent : Dictionary) (bytes : List ℕ) (child : Dictionary) → IsSound d
     → d.parent ≡ Some parent → written (content d) ≡ Ok bytes → Denotes (lists_of bytes) child
     → import_fault (of_one_model d.model child parent) ≡ None
 
--- bytes that are not too many have just the fault for which they are not written
+-- bytes within the size limit have exactly the fault for which the draft is not written
 abbrev pub BytesAreJudgedAlike : Type 0
 BytesAreJudgedAlike =
     (d : Draft) → IsSound d → length (bytes_of (content d)) ≤ most_written

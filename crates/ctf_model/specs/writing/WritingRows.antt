@@ -17,11 +17,12 @@ use Rattle.ctf_model.specs.declared.faults.Fault.{Fault}
 
 -- ---- whole dictionaries
 
--- what is written of a draft
+-- the bytes that a draft is written as
 abbrev pub written_of : Draft → Result (List ℕ) Fault
 written_of d = written (content d)
 
--- int and char, s with a char c and an int i, and a struct without a name of two of these, a and b
+-- int and char, a struct `s` with a char `c` and an int `i`, and an unnamed struct with two of
+-- these, `a` and `b`
 abbrev pub structs : Draft
 structs =
     after fresh_draft (does.adds_type new_int
@@ -50,7 +51,7 @@ structs_bytes =
 abbrev pub linked_bytes : List ℕ
 linked_bytes = header 1 0 0 0 8 3 ++ word 0 ++ 0 ∷ 0x1c ∷ 1 ∷ 0 ∷ [] ++ 0 ∷ (codes "p" ++ 0 ∷ [])
 
--- the parent's label, then the parent's name, then the label
+-- strings: the parent's label, then the parent's name, then the label
 abbrev pub labelled_bytes : List ℕ
 labelled_bytes =
     0xf1 ∷ 0xcf ∷ 2 ∷ 0 ∷ (word 1 ++ word 3 ++ word 0 ++ word 8 ++ word 8 ++ word 8
@@ -76,7 +77,7 @@ pub record DictionariesAreWritten : Type 0 where
 
 -- ---- names
 
--- the names of labels, types, members and enumerators, some of them used twice
+-- names of labels, types, members and enumerators, some of them used twice
 abbrev pub many_names : Dictionary
 many_names = record {
   child = false;
@@ -110,15 +111,15 @@ pub record NamesAreWritten : Type 0 where
 
 -- ---- records
 
--- with the names a and b, which stand at 1 and 3
+-- the record of a type with the names `a` and `b` in the strings, at 1 and 3
 abbrev pub bytes_of_term : Term → List ℕ
 bytes_of_term x = record_bytes (codes "a" ∷ codes "b" ∷ []) x
 
--- a hidden type without a name
+-- a hidden, nameless type
 abbrev pub hidden : Body → List ℕ
 hidden body = bytes_of_term (record { name = []; root = false; body = body })
 
--- a struct of this size with a member b of type 5
+-- a struct of this size with a member `b` of type 5
 abbrev pub struct_of : ℕ → ℕ → List ℕ
 struct_of size offset = hidden (term.struct size (member (codes "b") 5 offset ∷ []))
 

@@ -1,5 +1,5 @@
--- The bytes that a dictionary is written as. Source: ours, over the layout of ctf(5).
--- Flags are 0, there are no objects and functions, and nothing stands behind the strings.
+-- The bytes that a dictionary is written as. Source: ours, over the layout of ctf(5). Flags are 0,
+-- object and function sections are empty, and nothing follows the strings.
 use Rattle.std.specs.Prelude.{ℕ, ◌+◌, List, ◌∷◌, ◌++◌, length, nat_lt, if◌then◌else◌, Option, None, Some, Result, Ok, Err}
 use Rattle.std.specs.List.{flat_map}
 use Rattle.ctf_model.specs.rules.Chains.{by_value, declarator, edges}
@@ -15,7 +15,7 @@ use Rattle.ctf_model.specs.declared.faults.TheConstants.Fault.{VALUE_DEEP, DECL_
 
 -- ---- the parts
 
--- a name, and the last type that is covered
+-- a name, and the last type that the label covers
 abbrev pub label_bytes : List (List ℕ) → Label → List ℕ
 label_bytes names label = u32 (name_reference names label.name) ++ u32 label.last
 
@@ -35,7 +35,8 @@ header_bytes h =
     ∷ (u32 h.parlabel ++ (u32 h.parname ++ (u32 h.lbloff ++ (u32 h.objtoff ++ (u32 h.funcoff
     ++ (u32 h.typeoff ++ (u32 h.stroff ++ u32 h.strlen)))))))
 
--- the references to the parent's label and name, over labels, records and strings of these lengths
+-- the header for these references to the parent's label and name, with labels, records and strings
+-- of these lengths
 abbrev pub fields_over : ℕ → ℕ → ℕ → ℕ → ℕ → Fields
 fields_over parlabel parname labels records strings = record {
   parlabel = parlabel;
@@ -65,24 +66,24 @@ bytes_of d =
     header_bytes (fields_written d) ++ (labels_written d ++ (records_written d
     ++ strings_written d))
 
--- as many bytes as are written
+-- the most bytes that are written
 abbrev pub most_written : ℕ
 most_written = 67108864
 
 abbrev pub dictionary_too_big : Dictionary → Option ℕ
 dictionary_too_big d = if nat_lt most_written (length (bytes_of d)) then Some 0 else None
 
--- the first type at which a chain of such steps begins that is too long
+-- the first type with too long a chain of such steps
 abbrev pub deep_by : (Body → List ℕ) → Dictionary → Option ℕ
 deep_by steps d = first_deep (edges steps d.child d.terms) 0 (length d.terms)
 
--- why a dictionary is not written: a chain that is too long, or too many bytes
+-- the reason not to write a dictionary: a chain that is too long, or too many bytes
 unfoldable pub unwritten : Dictionary → Option Fault
 unwritten d =
     or_later VALUE_DEEP (deep_by by_value d)
     (or_later DECL_DEEP (deep_by declarator d) (or_later DICT_TOO_BIG (dictionary_too_big d) None))
 
--- the bytes, or why there are none
+-- the bytes, or the reason against them
 abbrev pub bytes_unless : Option Fault → List ℕ → Result (List ℕ) Fault
 bytes_unless None bytes = Ok bytes
 bytes_unless (Some f) bytes = Err f
@@ -90,6 +91,6 @@ bytes_unless (Some f) bytes = Err f
 unfoldable pub written : Dictionary → Result (List ℕ) Fault
 written d = bytes_unless (unwritten d) (bytes_of d)
 
--- the bytes as a dictionary, which comes without a symbol table
+-- these bytes as a dictionary without a symbol table
 abbrev pub lists_of : List ℕ → Lists
 lists_of bytes = record { ctf = bytes; sym = None; strs = None }

@@ -1,8 +1,7 @@
--- The record that a type is written as. Source: ctf(5), "The Type Section";
--- CTF_TYPE_INFO, CTF_INT_DATA, ctf_stype_t, ctf_type_t, ctf_array_t, ctf_member_t,
--- ctf_lmember_t, ctf_enum_t of sys/ctf.h.
--- That a record is short where it can be, that an array says no size,
--- and what stands in pads, is ours.
+-- The record that a type is written as. Source: ctf(5), "The Type Section"; CTF_TYPE_INFO,
+-- CTF_INT_DATA, ctf_stype_t, ctf_type_t, ctf_array_t, ctf_member_t, ctf_lmember_t, ctf_enum_t of
+-- sys/ctf.h. That a record is short whenever it can be, that an array states no size, and the
+-- content of padding, is ours.
 use Rattle.std.specs.Prelude.{ℕ, ◌+◌, ◌*◌, ◌/◌, ◌%◌, ◌^◌, Bool, List, [], length, ◌++◌, nat_lt, if◌then◌else◌}
 use Rattle.std.specs.Int.{cast_unsigned, to_le_bytes, w16, w32}
 use Rattle.std.specs.List.{flat_map}
@@ -13,7 +12,7 @@ use Rattle.ctf_model.specs.writing.WrittenNames.{name_reference}
 use Rattle.ctf_model.specs.declared.kinds.Kind.{Kind}
 use Rattle.ctf_model.specs.declared.kinds.Kind.TheVariants.{KUnknown, KInteger, KFloat, KPointer, KArray, KFunction, KStruct, KUnion, KEnum, KForward, KTypedef, KVolatile, KConst, KRestrict}
 
--- ---- numbers, the low byte first
+-- ---- numbers, low byte first
 
 abbrev pub u16 : ℕ → List ℕ
 u16 n = to_le_bytes w16 n
@@ -21,7 +20,7 @@ u16 n = to_le_bytes w16 n
 abbrev pub u32 : ℕ → List ℕ
 u32 n = to_le_bytes w32 n
 
--- in two halves, the high one first
+-- in two halves, high half first
 abbrev pub halves : ℕ → List ℕ
 halves n = u32 (n / 2 ^ 32) ++ u32 (n % 2 ^ 32)
 
@@ -47,21 +46,21 @@ number_of_kind KRestrict = 13
 abbrev pub root_bit : Bool → ℕ
 root_bit root = if root then 1 else 0
 
--- how many members, enumerators or arguments it has
+-- the number of members, enumerators or arguments
 abbrev pub list_len : Body → ℕ
 list_len x = list_length (shown x)
 
--- kind, root flag and length of the list, packed
+-- kind, root flag and list length, packed
 abbrev pub info_of : Term → ℕ
 info_of x = number_of_kind (kind_of x.body) * 2 ^ 11 + root_bit x.root * 2 ^ 10 + list_len x.body
 
--- what a forward declares has the number of its kind
+-- a forward's field is the number of the kind that it declares
 abbrev pub tag_number : Tag → ℕ
 tag_number term.struct_tag = number_of_kind KStruct
 tag_number term.union_tag = number_of_kind KUnion
 tag_number term.enum_tag = number_of_kind KEnum
 
--- what stands in the field: a size, a type, or what is declared
+-- the field: a size, a type, or the declared kind
 abbrev pub field_of : Body → ℕ
 field_of term.unknown = 0
 field_of (term.integer scalar) = scalar.size
@@ -78,11 +77,11 @@ field_of (term.volatile t) = t
 field_of (term.const t) = t
 field_of (term.restrict t) = t
 
--- the field, or else the mark of the long form, and then the number in halves
+-- the field, or else the mark of the long form and the number in halves
 abbrev pub field_bytes : ℕ → List ℕ
 field_bytes n = if nat_lt n 0xffff then u16 n else u16 0xffff ++ halves n
 
--- ---- behind the head
+-- ---- after the head
 
 abbrev pub scalar_bytes : Scalar → List ℕ
 scalar_bytes s = u32 (s.encoding * 2 ^ 24 + s.offset * 2 ^ 16 + s.bits)
@@ -94,15 +93,14 @@ element_bytes e = u16 e.contents ++ u16 e.index ++ u32 e.count
 abbrev pub argument_bytes : List ℕ → List ℕ
 argument_bytes args = flat_map u16 args ++ (if nat_lt 0 (length args % 2) then u16 0 else [])
 
--- the form of a member goes by the size of its struct or union;
--- names are referred to in the strings
+-- a member's form depends on the size of its struct or union
 abbrev pub member_bytes : List (List ℕ) → ℕ → Member → List ℕ
 member_bytes names size m =
     if nat_lt size 8192
     then u32 (name_reference names m.name) ++ u16 m.tnum ++ u16 m.offset
     else u32 (name_reference names m.name) ++ u16 m.tnum ++ u16 0 ++ halves m.offset
 
--- the value in two's complement
+-- the name, and the value in two's complement
 abbrev pub enumerator_bytes : List (List ℕ) → Enumerator → List ℕ
 enumerator_bytes names e = u32 (name_reference names e.name) ++ u32 (cast_unsigned w32 e.value)
 
@@ -118,7 +116,7 @@ variant_bytes names _ = []
 
 -- ---- the record
 
--- name, info, field, and what the kind has behind these
+-- name, info, field, and the kind's own data
 unfoldable pub record_bytes : List (List ℕ) → Term → List ℕ
 record_bytes names x =
     u32 (name_reference names x.name) ++ (u16 (info_of x) ++ (field_bytes (field_of x.body)

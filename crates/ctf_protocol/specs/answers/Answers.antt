@@ -1,27 +1,27 @@
--- What a session is answered: fields, each with a key and a value. Source: ours.
+-- Answers to a session: fields, each with a key and a value. Source: ours.
 use Rattle.std.specs.Prelude.{ℕ, ℤ, Bool, List, [], ◌∷◌, Option, None, Some, Result}
 use Rattle.ctf_model.specs.declared.faults.Fault.{Fault}
 
 -- ---- values
 
--- a value that stands by itself
+-- a single value
 pub data Single : Type 0 where
   number : ℕ → Single
   signed : ℤ → Single
   truth : Bool → Single
-  -- a word of this service, as the name of a kind
+  -- a word of the protocol, such as the name of a kind
   word : List ℕ → Single
-  -- bytes of a dictionary that are read as text, as the name of a type
+  -- bytes of a dictionary to be read as text, such as the name of a type
   text : List ℕ → Single
-  -- bytes that aren't
+  -- bytes that are no text
   bytes : List ℕ → Single
 
--- a part of an object
+-- a field of an object in a list
 pub record AnswerField : Type 0 where
   pub key : List ℕ
   pub value : Single
 
--- an item of a list: a value by itself, or an object
+-- an item of a list: a single value, or an object
 pub data Item : Type 0 where
   bare : Single → Item
   object : List AnswerField → Item
@@ -35,31 +35,31 @@ pub record Field : Type 0 where
   pub key : List ℕ
   pub value : Value
 
--- what a granted request is answered; its keys stand in byte order
+-- the answer to a granted request, with its keys in byte order
 abbrev pub Answer : Type 0
 Answer = List Field
 
--- ---- to speak of them
+-- ---- constructors
 
 abbrev pub entry : List ℕ → Single → AnswerField
 entry key value = record { key = key; value = value }
 
--- a field of a single value
+-- a field with a single value
 abbrev pub says : List ℕ → Single → Field
 says key value = record { key = key; value = one value }
 
--- a field that is there where its value is
+-- an optional field
 abbrev pub may_say : List ℕ → Option Single → List Field
 may_say key None = []
 may_say key (Some value) = says key value ∷ []
 
--- a field of a list
+-- a field with a list
 abbrev pub lists : List ℕ → List Item → Field
 lists key items = record { key = key; value = many items }
 
 -- ---- replies
 
--- the reply to one request: the session that it goes to, and the answer or the refusal
+-- the reply to a request: its session, and the answer or the refusal
 pub record Reply : Type 0 where
   pub session : ℕ
   pub outcome : Result Answer Fault

@@ -1,4 +1,4 @@
--- What a question on an open dictionary as a whole is answered. Source: ours.
+-- Answers to questions about a whole open dictionary. Source: ours.
 use Rattle.std.specs.Prelude.{ℕ, Bool, List, [], ◌∷◌, length, take, drop, is_some, codes}
 use Rattle.ctf_protocol.specs.answers.Answers.{Answer, says, number, truth, word, text, bytes}
 use Rattle.ctf_model.specs.format.Dictionary.{Dictionary}
@@ -8,7 +8,7 @@ use Rattle.ctf_model.specs.declared.data_model.DataModel.{DataModel}
 use Rattle.ctf_protocol.specs.declared.questions.HeldQuestion.{HeldQuestion}
 use Rattle.ctf_protocol.specs.declared.questions.HeldQuestion.TheVariants as held
 
--- a dictionary as a whole, whether it is that of a draft, and whether it has a parent
+-- the fields of `info`: of a child, of a draft, with a parent, and the number of pending items
 abbrev pub info_fields : Dictionary → Bool → Bool → ℕ → Answer
 info_fields d draft imported pending =
     says (codes "child") (truth d.child)
@@ -20,7 +20,7 @@ info_fields d draft imported pending =
     ∷ says (codes "pending") (number pending)
     ∷ says (codes "types") (number (length d.terms)) ∷ []
 
--- some bytes of a dictionary, and how many it has in all
+-- a range of a dictionary's bytes, and their total number
 abbrev pub bytes_fields : ℕ → ℕ → List ℕ → Answer
 bytes_fields from count ctf =
     says (codes "bytes") (bytes (take count (drop from ctf)))

@@ -1,4 +1,4 @@
--- The keys of an answer, and those of each object in it, stand in byte order. Source: ours.
+-- The keys of an answer, and of each object in it, are in byte order. Source: ours.
 use Rattle.std.specs.Prelude.{◌≡◌, ℕ, ◌==◌, ◌&&◌, ◌||◌, nat_lt, Bool, true, false, List, [], ◌∷◌, map, Option, Result, Ok, Err}
 use Rattle.std.specs.List.{list_all}
 use Rattle.ctf_protocol.specs.answers.Answers.{Answer, Item, Value, bare, object, one, many}
@@ -8,13 +8,13 @@ use Rattle.ctf_protocol.specs.sessions.Steps.{step}
 use Rattle.ctf_model.specs.declared.faults.Fault.{Fault}
 use Rattle.ctf_protocol.specs.declared.requests.Request.{Request}
 
--- one key stands before another
+-- `xs` comes before `ys` in byte order
 abbrev pub precedes : List ℕ → List ℕ → Bool
 precedes xs [] = false
 precedes [] (y ∷ ys) = true
 precedes (x ∷ xs) (y ∷ ys) = nat_lt x y || (x == y && precedes xs ys)
 
--- each key stands before the next
+-- the keys are strictly ascending
 abbrev pub rise : List (List ℕ) → Bool
 rise [] = true
 rise (key ∷ []) = true
@@ -31,12 +31,12 @@ value_in_order (many items) = list_all item_in_order items
 abbrev pub in_order : Answer → Bool
 in_order fields = rise (map (λ f. f.key) fields) && list_all (λ f. value_in_order f.value) fields
 
--- where something is answered, its keys rise
+-- the keys of an answer are ascending; a refusal has none
 abbrev pub IsInOrder : Result Answer Fault → Type 0
 IsInOrder (Ok answer) = in_order answer ≡ true
 IsInOrder (Err fault) = Unit {0}
 
--- whatever is answered to a request
+-- this holds for the answer to every request
 abbrev pub KeysRise : Type 0
 KeysRise =
     (state : State) (request : Request) (found : Option Kept)

@@ -1,6 +1,6 @@
 -- Worked rows for questions on types. The values were worked out by hand.
 use Rattle.std.specs.Prelude.{◌≡◌, ℕ, ◌-◌, ◌^◌, ◌++◌, negsuc, pos, false, List, [], ◌∷◌, Some, None, Result, Ok, Err, codes}
-use Rattle.ctf_model.specs.spaces.Kept.{kept_unsaid}
+use Rattle.ctf_model.specs.spaces.Kept.{as_kept}
 use Rattle.ctf_protocol.specs.answers.Answers.{Answer, lists, says, number}
 use Rattle.ctf_protocol.specs.lines.Ask.{ask}
 use Rattle.ctf_model.specs.format.KindRows.{functions, structs, others}
@@ -24,30 +24,30 @@ use Rattle.ctf_protocol.specs.declared.requests.Change.TheVariants as change
 use Rattle.ctf_protocol.specs.declared.requests.Request.{Request}
 use Rattle.ctf_protocol.specs.declared.requests.Request.TheVariants.{Changes, Asks}
 
--- ---- what is answered
+-- ---- answers
 
--- a session whose one slot has this dictionary
+-- a session with this dictionary in slot 1
 abbrev pub holding : List ℕ → State
 holding ctf =
     record empty_state {
-      slots = record { number = 1; kept = kept_unsaid (ctf_alone ctf); parent = None; draft = None }
+      slots = record { number = 1; kept = as_kept (ctf_alone ctf); parent = None; draft = None }
           ∷ [];
       next = 2;
     }
 
--- the line of what it is answered, session 0
+-- the reply line for session 0
 abbrev pub answer_line : List ℕ → Request → List ℕ
 answer_line ctf request = reply_line (step (holding ctf) request None).reply
 
--- a question on a type of slot 1
+-- a question about type `t` of slot 1
 abbrev pub on : ℕ → TypeQuestion → Request
 on t question = Asks 1 (OfType (record { 0 = t }) question)
 
--- a name that is looked up in slot 1
+-- a look-up of a name in slot 1
 abbrev pub looked_up : List ℕ → Request
 looked_up text = Asks 1 (OfSlot (whole.Find text))
 
--- all items, or those from one on
+-- all items
 abbrev pub all_items : Window
 all_items = record { from = 0; count = None }
 
@@ -128,7 +128,7 @@ pub record QuestionsAreAnswered : Type 0 where
   pub nothing_staged : answer_line int_bytes (Changes change.Check)
       ≡ codes "{\"fault\":{\"code\":1,\"name\":\"TooShort\",\"place\":0},\"s\":0}\n"
 
--- ---- what is asked and written
+-- ---- requests and their lines
 
 abbrev pub line_of : Answer → List ℕ
 line_of answer = reply_line (record { session = 7; outcome = Ok answer })
@@ -138,14 +138,14 @@ abbrev pub record_line : List ℕ → Body → List ℕ
 record_line name body =
     line_of (record_fields (facts (record { name = name; root = false; body = body })))
 
--- a question on type 3 of slot 2, in session 1
+-- a question of session 1 about type 3 of slot 2
 abbrev pub asks : TypeQuestion → Result (ℕ × Request) (ℕ × Fault)
 asks question = Ok (1, Asks 2 (OfType (record { 0 = 3 }) question))
 
 abbrev pub is_refused : Result (ℕ × Request) (ℕ × Fault)
 is_refused = Err (1, fault 58 0)
 
--- a line with the word `find`, with these fields more
+-- a line with the word `find` and these additional fields
 abbrev pub find_line : List ℕ → List ℕ
 find_line fields = codes "{\"s\":1,\"op\":\"find\",\"d\":2" ++ (fields ++ codes "}")
 
@@ -198,9 +198,9 @@ pub record QuestionsAreLines : Type 0 where
   pub position : line_of (position_fields (record { offset = 96; tnum = 1 }))
       ≡ codes "{\"ok\":{\"offset\":96,\"t\":1},\"s\":7}\n"
 
--- ---- names that are asked for
+-- ---- escapes in names
 
--- a line with the word `path`, with these fields more
+-- a line with the word `path` and these additional fields
 abbrev pub path_line : List ℕ → List ℕ
 path_line fields = codes "{\"s\":1,\"op\":\"path\",\"d\":2,\"t\":3" ++ (fields ++ codes "}")
 
@@ -212,7 +212,7 @@ pub record PathsAreLines : Type 0 where
       ≡ asks_path (codes "b" ∷ codes "i 1" ∷ [])
   pub escapes : ask (path_line (codes ",\"names\":[\"\\\\x00z\",\"\\\\x5c\"]"))
       ≡ asks_path ((0 ∷ codes "z") ∷ (92 ∷ []) ∷ [])
-  -- JSON's own escapes are undone before
+  -- JSON's own escapes are decoded first
   pub escapes_of_json : ask (path_line (codes ",\"names\":[\"\\u0061\\u005cx41\"]"))
       ≡ asks_path (codes "aA" ∷ [])
   pub no_names : ask (path_line (codes ",\"names\":[]")) ≡ asks_path []
@@ -235,7 +235,7 @@ pub record TextsSpell : Type 0 where
   pub plain : bytes_spelled_by (codes " a~") ≡ Some (codes " a~")
   pub first_and_last : bytes_spelled_by (codes "\\x00\\xffb") ≡ Some (0 ∷ 255 ∷ codes "b")
   pub plain_escaped : bytes_spelled_by (codes "\\x61") ≡ Some (codes "a")
-  -- what an escape spells isn't read again
+  -- the result of an escape is not decoded again
   pub backslash : bytes_spelled_by (codes "\\x5cx41") ≡ Some (92 ∷ codes "x41")
   pub upper_case : bytes_spelled_by (codes "\\x0A") ≡ None
   pub upper_x : bytes_spelled_by (codes "\\X0a") ≡ None

@@ -1,11 +1,11 @@
--- What a question is answered. Source: libctf(3LIB), ctf_type_kind, ctf_member_iter, ctf_enum_iter,
+-- The answer to a question. Source: libctf(3LIB), ctf_type_kind, ctf_member_iter, ctf_enum_iter,
 -- ctf_func_args, ctf_array_info, ctf_type_encoding, ctf_type_reference, ctf_type_resolve,
 -- ctf_type_size, ctf_type_align, ctf_type_lname, ctf_type_pointer; the form of answers is ours.
 use Rattle.std.specs.Prelude.{ℕ, ◌++◌, List, [], ◌∷◌, length, map, take, drop, Option, Some, None, Result, Ok, Err, codes}
 use Rattle.std.specs.Option.{option_map}
 use Rattle.ctf_protocol.specs.answers.Answers.{Answer, Item, says, may_say, lists, entry, number, signed, truth, word, text, bare, object}
 use Rattle.ctf_model.specs.figures.Figures.{align, referred_type, resolved_type, size}
-use Rattle.ctf_model.specs.names.Found.{pointer_to}
+use Rattle.ctf_model.specs.names.Lookups.{pointer_to}
 use Rattle.ctf_model.specs.names.KindNames.{name_of_kind, name_of_tag}
 use Rattle.ctf_model.specs.figures.Paths.{Position, path}
 use Rattle.ctf_model.specs.format.Shown.{ArrayParts, EncodingParts, Facts, facts, is_variadic, list_length, named_arguments}
@@ -39,16 +39,16 @@ record_fields x =
     ++ (may_say (codes "type") (option_map number x.shape.reference)
     ++ says (codes "vlen") (number (list_length x.shape.behind)) ∷ [])))
 
--- as many as are wanted, or all
+-- the first `count` items, or all
 abbrev pub at_most : {A : Type 0} → Option ℕ → List A → List A
 at_most None xs = xs
 at_most (Some count) xs = take count xs
 
--- the items from one on
+-- the items of a window
 abbrev pub window_of : {A : Type 0} → Window → List A → List A
 window_of window xs = at_most window.count (drop window.from xs)
 
--- some items of a list, and how many there are in all
+-- some items of a list, and their total number
 abbrev pub list_fields : List ℕ → Window → List Item → Answer
 list_fields key window items =
     lists key (window_of window items) ∷ says (codes "total") (number (length items)) ∷ []
@@ -72,7 +72,7 @@ enumerator_fields window items =
 abbrev pub number_item : ℕ → Item
 number_item n = bare (number n)
 
--- what a function returns and takes
+-- the return type and arguments of a function
 abbrev pub argument_fields : ℕ → List ℕ → Answer
 argument_fields ret args =
     lists (codes "args") (map number_item (named_arguments args))
@@ -95,35 +95,34 @@ encoding_fields e =
 abbrev pub type_fields : ℕ → Answer
 type_fields t = says (codes "t") (number t) ∷ []
 
--- in bytes
+-- a size in bytes
 abbrev pub size_fields : ℕ → Answer
 size_fields n = says (codes "size") (number n) ∷ []
 
 abbrev pub align_fields : ℕ → Answer
 align_fields n = says (codes "align") (number n) ∷ []
 
--- as C spells it
+-- a name, as C spells it
 abbrev pub name_fields : List ℕ → Answer
 name_fields name = says (codes "name") (text name) ∷ []
 
--- what a value shows
+-- the text of a value
 abbrev pub value_fields : List ℕ → Answer
 value_fields shown = says (codes "text") (text shown) ∷ []
 
--- how many bits lie in front of a member, and its type
+-- the offset of a member in bits, and its type
 abbrev pub position_fields : Position → Answer
 position_fields at =
     says (codes "offset") (number at.offset) ∷ says (codes "t") (number at.tnum) ∷ []
 
 -- ---- questions on types
 
--- what a figure is answered as, or its fault
+-- the answer for a value, or its fault
 abbrev pub as_fields : {A : Type 0} → (A → Answer) → Result A Fault → Result Answer Fault
 as_fields say (Err fault) = Err fault
 as_fields say (Ok a) = Ok (say a)
 
--- each question that brings no more than the type, which a number names in a space,
--- and which says this of itself
+-- the answer to a question that needs only the type's number, for a type with these facts
 abbrev pub plain_answered : PlainQuestion → Space → ℕ → Facts → Result Answer Fault
 plain_answered plain.Kind s t x = as_fields kind_fields (kind_answered x.shape)
 plain_answered plain.Record s t x = Ok (record_fields x)
@@ -137,21 +136,21 @@ plain_answered plain.Align s t x = as_fields align_fields (align s t)
 plain_answered plain.Name s t x = as_fields name_fields (spelled_name s t)
 plain_answered plain.Pointer s t x = as_fields type_fields (pointer_to s t)
 
--- each question on such a type
-abbrev pub said_on : TypeQuestion → Space → ℕ → Facts → Result Answer Fault
-said_on (ask.Plain question) s t x = plain_answered question s t x
-said_on (ask.Members window) s t x =
+-- the answer to any question about such a type
+abbrev pub facts_answer : TypeQuestion → Space → ℕ → Facts → Result Answer Fault
+facts_answer (ask.Plain question) s t x = plain_answered question s t x
+facts_answer (ask.Members window) s t x =
     as_fields (member_fields window) (members_answered x.shape)
-said_on (ask.Enumerators window) s t x =
+facts_answer (ask.Enumerators window) s t x =
     as_fields (enumerator_fields window) (enumerators_answered x.shape)
-said_on (ask.Path names) s t x = as_fields position_fields (path s t names)
-said_on (ask.Show memory offset) s t x = as_fields value_fields (value_text s memory t offset)
+facts_answer (ask.Path names) s t x = as_fields position_fields (path s t names)
+facts_answer (ask.Show memory offset) s t x = as_fields value_fields (value_text s memory t offset)
 
--- the same where the number may name no type
+-- the same, or the fault if the number names no type
 abbrev pub answer_of : TypeQuestion → Space → ℕ → Result Term Fault → Result Answer Fault
-answer_of question s t (Ok x) = said_on question s t (facts x)
+answer_of question s t (Ok x) = facts_answer question s t (facts x)
 answer_of question s t (Err fault) = Err fault
 
--- what a question on the type of a number is answered
+-- the answer to a question about type `t`
 abbrev pub type_answered : TypeQuestion → Space → ℕ → Result Answer Fault
 type_answered question s t = answer_of question s t (space_type s t)

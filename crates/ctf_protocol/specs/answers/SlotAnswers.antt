@@ -1,11 +1,11 @@
--- What a question on a slot as a whole is answered.
--- Source: libctf(3LIB), ctf_lookup_by_name, ctf_lookup_by_symbol, ctf_func_info, ctf_func_args,
--- ctf_label_iter, ctf_label_info; the form of answers is ours.
+-- The answer to a question about a whole slot. Source: libctf(3LIB), ctf_lookup_by_name,
+-- ctf_lookup_by_symbol, ctf_func_info, ctf_func_args, ctf_label_iter, ctf_label_info; the form of
+-- answers is ours.
 use Rattle.std.specs.Prelude.{ℕ, List, [], ◌∷◌, map, Result, Ok, codes}
 use Rattle.ctf_protocol.specs.answers.Answers.{Answer, Item, says, entry, number, word, text, object}
 use Rattle.ctf_model.specs.format.Dictionary.{Label}
 use Rattle.ctf_model.specs.symbols.Entries.{Owner}
-use Rattle.ctf_model.specs.names.Found.{lookup}
+use Rattle.ctf_model.specs.names.Lookups.{lookup}
 use Rattle.ctf_model.specs.names.KindNames.{name_of_class}
 use Rattle.ctf_protocol.specs.answers.Questions.{as_fields, list_fields, signature_fields, type_fields}
 use Rattle.ctf_model.specs.spaces.Space.{Space}
@@ -17,7 +17,7 @@ use Rattle.ctf_protocol.specs.declared.questions.Window.{Window}
 
 -- ---- answers, field by field
 
--- whether a symbol is an object or a function, and its number
+-- a symbol's class and its number
 abbrev pub symbol_fields : Owner → Answer
 symbol_fields x =
     says (codes "class") (word (name_of_class x.class)) ∷ says (codes "sym") (number x.number) ∷ []
@@ -35,7 +35,7 @@ last_fields last = says (codes "last") (number last) ∷ []
 
 -- ---- questions
 
--- what a question on a slot is answered, from what the slot sees
+-- the answer to a question about a slot, given its space
 abbrev pub whole_answered : SlotQuestion → Space → Result Answer Fault
 whole_answered (whole.Find written) s = as_fields type_fields (lookup s written)
 whole_answered (whole.Symbol name) s = as_fields symbol_fields (symbol_found s.own name)

@@ -1,6 +1,7 @@
--- What a line asks: for each word its fields, each with its range, and then what they make. A field
--- that is missing, of another sort or out of range makes the line a bad request.
--- What is JSON is serde_json's reading of it; all else is ours. Needs LineFields and AskAdditions.
+-- The request that a line contains: for each word its fields with their ranges, and the request
+-- made of them. A field that is missing, of another type or out of range makes the line a bad
+-- request. What is JSON is serde_json's reading of it; all else is ours. Needs LineFields and
+-- AskAdditions.
 use Rattle.std.specs.Prelude.{ℕ, List, length, is_none, unwrap_or, Option, None, Some, Result, Ok, Err, nat_lt, codes, if◌then◌else◌}
 use Rattle.std.specs.Str.{is_utf8}
 use Rattle.serde_json.specs.Data.{Data}
@@ -9,7 +10,7 @@ use Rattle.serde_json.specs.Read.{read}
 use Rattle.ctf_protocol.specs.sessions.Creations.{creation}
 use Rattle.ctf_protocol.specs.lines.Lines.{longest_line}
 use Rattle.ctf_protocol.specs.sessions.Publications.{is_publication_name}
-use Rattle.ctf_model.specs.spaces.Kept.{model_unsaid}
+use Rattle.ctf_model.specs.spaces.Kept.{default_model}
 use Rattle.ctf_protocol.specs.words.ModelNames.{model_named}
 use Rattle.ctf_model.specs.declared.data_model.DataModel.{DataModel}
 use Rattle.ctf_model.specs.rules.Refusals.{placeless}
@@ -36,7 +37,7 @@ use Rattle.ctf_protocol.specs.lines.AskAdditions.{addition_asked}
 
 -- ---- fields of some words
 
--- the list that a part belongs to
+-- the staged list that a part belongs to
 abbrev pub list_named : List ℕ → Option ListName
 list_named w =
     if is_text w (codes "ctf") then Some Ctf
@@ -44,30 +45,30 @@ list_named w =
     else if is_text w (codes "str") then Some Str
     else None
 
--- bytes as hexadecimal digits
+-- bytes given as hexadecimal digits
 abbrev pub bytes_in : Data → Option (List ℕ)
 bytes_in line = text_in (codes "bytes") line ▹ bytes_spelled
 
--- the data model, if one is said
+-- the data model, if one is stated
 abbrev pub model_asked : Data → Option (Option DataModel)
 model_asked line =
     if is_none (get (codes "model") line) then Some None
     else (text_in (codes "model") line ▹ model_named) ▸ λ model. Some model
 
--- the slot of the parent, if one is named
+-- the slot of the parent, if one is given
 abbrev pub parent_asked : Data → Option (Option ℕ)
 parent_asked line =
     if is_none (get (codes "parent") line) then Some None
     else slot_under (codes "parent") line ▸ λ d. Some d
 
--- the name of a publication is a text as it stands, without escapes
+-- the name of a publication is plain text, without escapes
 abbrev pub publication_named : List ℕ → Option (List ℕ)
 publication_named name = if is_publication_name name then Some name else None
 
 abbrev pub publication_asked : Data → Option (List ℕ)
 publication_asked line = text_in (codes "name") line ▹ publication_named
 
--- any session may be taken from, the operator's among them
+-- the session to take from; any session, the operator's 0 included
 abbrev pub owner_asked : Data → Option ℕ
 owner_asked line = number_in 0 4294967295 (codes "owner") line
 
@@ -79,7 +80,7 @@ names_asked line =
 abbrev pub symbol_asked : Data → Option ℕ
 symbol_asked line = number_in 0 4294967295 (codes "sym") line
 
--- ---- changes: the fields of each, and what they make
+-- ---- changes: the fields of each, and the request made of them
 
 abbrev pub part_asked : Data → Option Request
 part_asked line =
@@ -90,7 +91,7 @@ part_asked line =
 abbrev pub open_asked : Data → Option Request
 open_asked line =
     model_asked line ▸ λ model.
-    Changes (change.Open (unwrap_or model model_unsaid))
+    Changes (change.Open (unwrap_or model default_model))
 
 abbrev pub import_asked : Data → Option Request
 import_asked line =
@@ -145,9 +146,9 @@ discard_asked line =
     slot_in line ▸ λ d.
     Changes (change.Draft d draft.Discard)
 
--- ---- questions: their own fields, and then where they are asked
+-- ---- questions: their own fields, then the slot and type
 
--- on a type of a slot
+-- about a type of a slot
 abbrev pub about_type : Option TypeQuestion → Data → Option Request
 about_type question line =
     question ▹ λ q.
@@ -155,28 +156,28 @@ about_type question line =
     type_asked line ▸ λ t.
     Asks d (OfType t q)
 
--- on a slot as a whole
+-- about a slot as a whole
 abbrev pub about_slot : Option SlotQuestion → Data → Option Request
 about_slot question line =
     question ▹ λ q.
     slot_in line ▸ λ d.
     Asks d (OfSlot q)
 
--- on what a slot holds
+-- about the dictionary in a slot
 abbrev pub about_held : Option HeldQuestion → Data → Option Request
 about_held question line =
     question ▹ λ q.
     slot_in line ▸ λ d.
     Asks d (OfHeld q)
 
--- the bytes that are wanted of a dictionary: the first of them, and at most how many
+-- the range of a dictionary's bytes: the first, and their greatest number
 abbrev pub bytes_asked : Data → Option HeldQuestion
 bytes_asked line =
     number_in 0 4294967295 (codes "from") line ▹ λ from.
     number_in 0 1048576 (codes "count") line ▸ λ count.
     holding.Bytes from count
 
--- the memory that a value stands in, and the bit that it begins at
+-- the memory with the value, and the bit at which the value begins
 abbrev pub show_asked : Data → Option TypeQuestion
 show_asked line =
     bytes_in line ▹ λ memory.
@@ -185,7 +186,7 @@ show_asked line =
 
 -- ---- words
 
--- what a word asks, with its fields
+-- the request of a word with its fields
 abbrev pub asked_with : Data → Word → Option Request
 asked_with line word.Part = part_asked line
 asked_with line word.Check = Some (Changes change.Check)
@@ -236,11 +237,11 @@ abbrev pub value_asked : Option Data → Result (ℕ × Request) (ℕ × Fault)
 value_asked None = Err (0, placeless NOT_JSON)
 value_asked (Some line) = asked_by line (number_in 1 4294967295 (codes "s") line)
 
--- the value of a line; bytes that are no text aren't JSON
+-- the JSON value of a line; bytes that are not UTF-8 are not JSON
 abbrev pub json : List ℕ → Option Data
 json line = if is_utf8 line then read line else None
 
--- a line's session and request, or its session or 0 and the refusal
+-- the session and the request of a line; or its session (0 if unknown) and the refusal
 unfoldable pub ask : List ℕ → Result (ℕ × Request) (ℕ × Fault)
 ask line =
     if nat_lt longest_line (length line) then Err (0, placeless LONG_LINE)

@@ -1,5 +1,6 @@
--- What a line adds to a draft: for each kind of type, and for members, enumerators and labels, the
--- fields with their ranges, and then what they make. Source: ours. Needs LineFields.
+-- The additions to a draft that a line can contain: for each kind of type, and for members,
+-- enumerators and labels, the fields with their ranges, and the addition made of them. Source:
+-- ours. Needs LineFields.
 use Rattle.std.specs.Prelude.{ℕ, ℤ, pos, negsuc, Bool, true, List, is_none, Option, None, Some, nat_le, codes, if◌then◌else◌}
 use Rattle.serde_json.specs.Data.{Data, Items}
 use Rattle.serde_json.specs.Find.{get, as_array, as_bool, as_i64, as_number, as_u64}
@@ -20,7 +21,7 @@ use Rattle.ctf_protocol.specs.lines.LineFields.{◌▹◌, ◌▸◌, in_range, 
 
 -- ---- new types
 
--- a size in bytes, this one where that isn't said
+-- a size in bytes, or this default
 abbrev pub size_or : ℕ → Data → Option ℕ
 size_or size line =
     if is_none (get (codes "size") line) then Some size
@@ -41,7 +42,7 @@ new_array_asked line =
     number_in 0 4294967295 (codes "count") line ▸ λ count.
     record { contents = contents; index = index; count = count }
 
--- the number that a value is, where it is that of a type
+-- the type number that a value is, if it is in range
 abbrev pub type_listed : Data → Option TypeNum
 type_listed value =
     ((as_number value ▹ as_u64) ▹ in_range 0 65535) ▸ λ t.
@@ -64,8 +65,7 @@ declared_named w =
     else if is_text w (codes "enum") then Some declared.Enum
     else None
 
--- a new type of a kind, with its name and whether look-ups see it,
--- which they do where that isn't said
+-- whether look-ups by name see a new type; the default is yes
 abbrev pub root_asked : Data → Option Bool
 root_asked line =
     if is_none (get (codes "root") line) then Some true
@@ -80,7 +80,7 @@ new_type_asked kind line =
 
 -- ---- members, enumerators and labels
 
--- an offset in bits, if it is stated
+-- an offset in bits, if one is stated
 abbrev pub offset_asked : Data → Option (Option ℕ)
 offset_asked line =
     if is_none (get (codes "offset") line) then Some None
@@ -94,7 +94,7 @@ new_member_asked line =
     offset_asked line ▸ λ offset.
     add.Member t name tnum offset
 
--- z, where a signed 32-bit number has room for it
+-- `z`, if it fits a signed 32-bit number
 abbrev pub within_signed : ℤ → Option ℤ
 within_signed (pos n) = if nat_le n 2147483647 then Some (pos n) else None
 within_signed (negsuc n) = if nat_le n 2147483647 then Some (negsuc n) else None
@@ -136,7 +136,7 @@ kind_with line adds.Const = type_under (codes "type") line ▸ kind.Const
 kind_with line adds.Restrict = type_under (codes "type") line ▸ kind.Restrict
 kind_with line _ = None
 
--- what such a word adds, with its fields
+-- the addition that a word and its fields state
 abbrev pub addition_with : Data → Addable → Option Addition
 addition_with line adds.Member = new_member_asked line
 addition_with line adds.Enumerator = new_enumerator_asked line

@@ -52,7 +52,7 @@ field_text f = key_text f.key ++ json_text f.value
 
 -- ---- answers and refusals
 
--- the line of an object under a word, for a session
+-- the line of an object under a key, for a session
 abbrev pub object_line : List ℕ → ℕ → List Field → List ℕ
 object_line under s fields =
     concat (codes "{\"" ∷ under ∷ codes "\":{" ∷ with_commas (map field_text fields)
@@ -73,16 +73,16 @@ fault_line s f = object_line (codes "fault") s (fault_fields f)
 
 -- ---- replies
 
--- the longest line of a reply, in bytes without its newline
+-- the longest reply line, in bytes without its newline
 abbrev pub longest_reply : ℕ
 longest_reply = 4194304
 
--- a line that is longer than a reply may be is refused
+-- the line, or a refusal if it is longer than a reply may be
 unfoldable pub fitting_line : ℕ → List ℕ → List ℕ
 fitting_line s line =
     if nat_le (length line) (longest_reply + 1) then line else fault_line s (placeless LONG_REPLY)
 
--- the line of an answer, if it may be so long
+-- the line of an answer, or a refusal if it is too long
 abbrev pub fitting_answer : ℕ → Answer → List ℕ
 fitting_answer s answer = fitting_line s (answer_line s answer)
 

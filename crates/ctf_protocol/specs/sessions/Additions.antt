@@ -1,5 +1,5 @@
--- What is added to a draft, as a request says it.
--- Source: libctf(3LIB), ctf_add_type and its kin; the form of answers is ours.
+-- The additions to a draft that a request states. Source: libctf(3LIB), ctf_add_type and its kin;
+-- the form of answers is ours.
 use Rattle.std.specs.Prelude.{ℕ, map, Result, codes}
 use Rattle.ctf_protocol.specs.answers.Answers.{Answer}
 use Rattle.ctf_protocol.specs.sessions.Opened.{under, unsaid}
@@ -50,7 +50,7 @@ asked_body (kind.Restrict t) = new.restrict t.0
 
 -- ---- additions
 
--- what is added, to an open dictionary
+-- makes an addition to an open dictionary
 abbrev pub apply_addition : Addition → Open → Result Stepped Fault
 apply_addition (add.Type name root kind) =
     type_added (record { name = name; root = root; body = asked_body kind })
@@ -59,7 +59,7 @@ apply_addition (add.Enumerator t name value) =
     enumerator_added t.0 (record { name = name; value = value })
 apply_addition (add.Label name last) = label_added (record { name = name; last = last })
 
--- the number of a type or an offset is answered
+-- answers the number of a type, or an offset
 abbrev pub addition_answered : Addition → ℕ → Answer
 addition_answered (add.Type name root kind) = under (codes "t")
 addition_answered (add.Member t name tnum offset) = under (codes "offset")

@@ -7,7 +7,7 @@ use Rattle.ctf_protocol.specs.sessions.Outcomes.{quota}
 use Rattle.ctf_protocol.specs.sessions.Steps.{step}
 use Rattle.ctf_protocol.specs.declared.requests.Request.{Request}
 
--- no request takes a library over its quota
+-- no request makes a library exceed its quota
 abbrev pub RequestsStayWithinQuota : Type 0
 RequestsStayWithinQuota =
     (state : State) (request : Request) (found : Option Kept) → charge state ≤ quota

@@ -1,16 +1,15 @@
--- New drafts, as a request asks for them. Source: ours.
+-- Requests for new drafts. Source: ours.
 use Rattle.std.specs.Prelude.{ℕ, List, [], ◌∷◌, Option, Some, None}
 use Rattle.ctf_model.specs.declared.data_model.DataModel.{DataModel}
 
--- the slot of the parent, if it has one, the names of the parent and of its label,
--- and the data model, if that is said
+-- the parent's slot, if any, the names of the parent and its label, and the data model, if stated
 pub record Created : Type 0 where
   pub parent : Option ℕ
   pub parname : List ℕ
   pub parlabel : List ℕ
   pub model : Option DataModel
 
--- a parent is there just where it has a name
+-- a parent is given exactly if its name is
 abbrev pub creation : Option ℕ → List ℕ → List ℕ → Option DataModel → Option Created
 creation None [] parlabel model =
     Some (record { parent = None; parname = []; parlabel = parlabel; model = model })

@@ -25,7 +25,7 @@ after state request = (step state request None).state
 abbrev pub reply_to : State → Request → List ℕ
 reply_to state request = reply_line (step state request None).reply
 
--- a session with the integer int in slot 1, of a program with pointers of 4 bytes
+-- a session with the integer int in slot 1, from a program with 4-byte pointers
 abbrev pub with_int : State
 with_int =
     record empty_state {
@@ -39,7 +39,7 @@ with_int =
       next = 2;
     }
 
--- a new draft, with this data model if one is stated
+-- a new draft without a parent, with this data model if one is stated
 abbrev pub alone_of : Option DataModel → Request
 alone_of model =
     Changes (change.Create (record { parent = None; parname = []; parlabel = []; model = model }))
@@ -60,7 +60,7 @@ adds_struct = Add (add.Type (codes "s") true (kind.Struct 0))
 abbrev pub tells : ℕ → HeldQuestion → Request
 tells d question = Asks d (OfHeld question)
 
--- a draft without a parent in slot 1, and with a struct that is pending
+-- a draft without a parent in slot 1, with a pending struct
 abbrev pub draft_state : State
 draft_state = after empty_state (alone_of None)
 

@@ -1,5 +1,5 @@
--- Drafts in slots: how they are made and what is done to them, as to the open dictionary there.
--- Source: libctf(3LIB), ctf_create, ctf_update, ctf_discard; the form of answers is ours.
+-- Drafts in slots: their creation and their steps, as those of the open dictionary there. Source:
+-- libctf(3LIB), ctf_create, ctf_update, ctf_discard; the form of answers is ours.
 use Rattle.std.specs.Prelude.{unwrap_or, ℕ, Option, Result, codes}
 use Rattle.ctf_protocol.specs.sessions.Additions.{apply_addition, addition_answered}
 use Rattle.ctf_protocol.specs.sessions.Creations.{Created}
@@ -12,7 +12,7 @@ use Rattle.ctf_model.specs.declared.faults.Fault.{Fault}
 use Rattle.ctf_protocol.specs.declared.requests.DraftStep.{DraftStep}
 use Rattle.ctf_protocol.specs.declared.requests.DraftStep.TheVariants.{Add, Update, Discard}
 
--- the data model that is asked for, or the parent's where none is
+-- the stated data model, or the parent's if none is stated
 abbrev pub model_made : Option Kept → Created → DataModel
 model_made parent asked = unwrap_or asked.model (model_over parent)
 
@@ -21,7 +21,7 @@ unfoldable pub created_slot : ℕ → Option Kept → Created → Result Slot Fa
 created_slot number parent asked =
     slot_made number (created parent asked.parname asked.parlabel (model_made parent asked))
 
--- the step of the draft in a slot; an update and a discard answer how many types there are then
+-- a step of the draft in a slot; update and discard answer the number of types
 unfoldable pub slot_step : DraftStep → Slot → SlotOutcome
 slot_step (Add addition) slot =
     slot_stepped (addition_answered addition) slot (apply_addition addition (open_of slot))

@@ -1,9 +1,9 @@
--- Worked rows of limits, each at its edge, of refusals in their order, and of what counts.
--- The values were worked out by hand.
+-- Worked rows of limits, each at its edge, of the order of refusals, and of what counts against the
+-- quota. The values were worked out by hand.
 use Rattle.std.specs.Prelude.{◌≡◌, ℕ, List, [], ◌∷◌, length, true, false, Option, None, Some, Err, codes}
 use Rattle.ctf_model.specs.format.Rows.{ctf_alone, int_bytes}
 use Rattle.ctf_model.specs.rules.Refusals.{placeless}
-use Rattle.ctf_model.specs.spaces.Kept.{Kept, kept_unsaid}
+use Rattle.ctf_model.specs.spaces.Kept.{Kept, as_kept}
 use Rattle.ctf_protocol.specs.answers.Answers.{Answer, says}
 use Rattle.ctf_protocol.specs.answers.Answers as answers
 use Rattle.ctf_protocol.specs.lines.Ask.{ask}
@@ -21,45 +21,45 @@ use Rattle.ctf_protocol.specs.declared.requests.ListName.TheVariants.{Ctf}
 
 -- ---- limits
 
--- a library with this many staged bytes
+-- a library with these staged bytes
 abbrev pub staging : List ℕ → State
 staging bytes = record empty_state { stage = ctf_alone bytes }
 
 pub record LimitsHold : Type 0 where
-  -- 64 MiB of a staged list
+  -- 64 MiB for a staged list
   pub longest_list : (bytes : List ℕ) → length bytes ≡ 67108864
       → stages Ctf bytes empty_state
       ≡ grants (says (codes "length") (answers.number 67108864) ∷ []) (staging bytes)
   pub longer_list : (bytes : List ℕ) (state : State) → length bytes ≡ 67108865
       → stages Ctf bytes state ≡ refuses STAGE_FULL state
-  -- 256 MiB of a library
+  -- 256 MiB for a library
   pub greatest_charge : (outcome : Outcome) (state : State) → charge outcome.state ≡ 268435456
       → within_quota outcome state ≡ outcome
   pub greater_charge : (outcome : Outcome) (state : State) → charge outcome.state ≡ 268435457
       → within_quota outcome state ≡ refuses QUOTA_FULL state
-  -- 1023 slots, numbered up to the greatest number of 32 bits
+  -- 1023 slots, with numbers up to 2^32 - 1
   pub last_slot : (state : State) → length state.slots ≡ 1022 → state.next ≡ 4294967295
       → has_room state ≡ true
   pub no_slot_more : (state : State) → length state.slots ≡ 1023 → has_room state ≡ false
   pub no_number_more : (state : State) → length state.slots ≡ 0 → state.next ≡ 4294967296
       → has_room state ≡ false
-  -- 4 MiB of a reply's line, without its newline
+  -- 4 MiB for a reply line, without its newline
   pub longest_reply : (s : ℕ) (line : List ℕ) → length line ≡ 4194305
       → fitting_line s line ≡ line
   pub longer_reply : (s : ℕ) (line : List ℕ) → length line ≡ 4194306
       → fitting_line s line ≡ fault_line s (placeless LONG_REPLY)
-  -- 1 MiB of a request's line
+  -- 1 MiB for a request line
   pub longer_line : (line : List ℕ) → length line ≡ 1048577
       → ask line ≡ Err (0, placeless LONG_LINE)
-  -- 64 bytes of a publication's name
+  -- 64 bytes for a publication's name
   pub longest_name : is_publication_name
       (codes "0123456789012345678901234567890123456789012345678901234567890123") ≡ true
   pub longer_name : is_publication_name
       (codes "01234567890123456789012345678901234567890123456789012345678901234") ≡ false
 
--- ---- refusals in their order
+-- ---- the order of refusals
 
--- a dictionary stands in slot 1, and is published already
+-- a library with a dictionary in slot 1, already published
 abbrev pub published_already : Kept → State → State
 published_already kept state =
     record state {
@@ -68,7 +68,7 @@ published_already kept state =
     }
 
 pub record RefusalsAreInOrder : Type 0 where
-  -- without a slot nothing is judged, made or looked for
+  -- without a free slot, nothing is checked, made or looked for
   pub open_full : (model : DataModel) (state : State) → has_room state ≡ false
       → opens model state ≡ refuses SLOTS_FULL state
   pub create_full : (asked : Created) (state : State) → asked.parent ≡ None
@@ -78,20 +78,20 @@ pub record RefusalsAreInOrder : Type 0 where
       → creates asked state ≡ refuses SLOTS_FULL state
   pub take_full : (found : Option Kept) (state : State) → has_room state ≡ false
       → takes found state ≡ refuses SLOTS_FULL state
-  -- what is not there is of no size
+  -- a missing publication is refused before any size is considered
   pub take_nothing : (state : State) → has_room state ≡ true
       → takes None state ≡ refuses NOT_PUBLISHED state
-  -- a name is taken, whatever the charge comes to
+  -- a taken name is refused whatever the charge
   pub name_taken : (kept : Kept) (state : State)
       → publishes 1 (codes "base") (published_already kept state)
       ≡ refuses NAME_TAKEN (published_already kept state)
 
--- ---- what counts
+-- ---- charges
 
 abbrev pub int : Kept
-int = kept_unsaid (ctf_alone int_bytes)
+int = as_kept (ctf_alone int_bytes)
 
--- the integer int, over itself as a parent
+-- the integer int, with itself as its parent
 abbrev pub over_int : Slot
 over_int = record { number = 1; kept = int; parent = Some int; draft = None }
 
@@ -108,7 +108,7 @@ pub record DictionariesCount : Type 0 where
   pub all_lists : charge (record empty_state {
     slots = record {
       number = 1;
-      kept = kept_unsaid (record { ctf = 1 ∷ []; sym = Some (2 ∷ []); strs = Some (3 ∷ []) });
+      kept = as_kept (record { ctf = 1 ∷ []; sym = Some (2 ∷ []); strs = Some (3 ∷ []) });
       parent = None;
       draft = None;
     } ∷ [];

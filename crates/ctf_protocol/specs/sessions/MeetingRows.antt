@@ -1,6 +1,6 @@
--- Worked rows for sessions that meet. The values were worked out by hand.
+-- Worked rows of sessions that exchange publications. The values were worked out by hand.
 use Rattle.std.specs.Prelude.{◌≡◌, ℕ, ◌==◌, List, [], ◌∷◌, None, Ok, Err, codes, if◌then◌else◌}
-use Rattle.ctf_model.specs.spaces.Kept.{kept_unsaid}
+use Rattle.ctf_model.specs.spaces.Kept.{as_kept}
 use Rattle.ctf_protocol.specs.lines.Ask.{ask}
 use Rattle.ctf_protocol.specs.lines.Output.{own_reply}
 use Rattle.ctf_protocol.specs.lines.ReplyLines.{reply_line}
@@ -14,17 +14,17 @@ use Rattle.ctf_protocol.specs.declared.requests.Request.TheVariants.{Changes}
 
 -- ---- inputs
 
--- the integer int, in a slot
+-- the integer int in a slot
 abbrev pub int_in : ℕ → Slot
 int_in number =
     record
-    { number = number; kept = kept_unsaid (ctf_alone int_bytes); parent = None; draft = None }
+    { number = number; kept = as_kept (ctf_alone int_bytes); parent = None; draft = None }
 
--- a session that has it in slot 1
+-- a session with int in slot 1
 abbrev pub holder : State
 holder = record empty_state { slots = int_in 1 ∷ []; next = 2 }
 
--- session 1 has it, and no other session has anything
+-- session 1 holds int, all other sessions are empty
 abbrev pub world : ℕ → State
 world s = if s == 1 then holder else empty_state
 
@@ -34,9 +34,9 @@ call s change = record { session = s; request = Changes change }
 abbrev pub base : List ℕ
 base = codes "base"
 
--- ---- what is answered
+-- ---- answers
 
--- the newest call first: session 1 publishes, and then session 2 takes
+-- newest call first: session 1 publishes, then session 2 takes
 abbrev pub publish_all : List Call
 publish_all = call 1 (Publish 1 base) ∷ []
 
@@ -47,11 +47,11 @@ take_calls = call 2 (Take 1 base) ∷ publish_all
 abbrev pub then_reset : List Call
 then_reset = call 1 Reset ∷ take_calls
 
--- session 1 withdraws what it published
+-- session 1 withdraws its publication
 abbrev pub withdrawn : List Call
 withdrawn = call 1 (Withdraw base) ∷ take_calls
 
--- what a session is replied then
+-- the reply to a session after these calls
 abbrev pub reply_in : List Call → ℕ → Change → List ℕ
 reply_in calls s change = reply_line (own_reply world calls s (Changes change))
 
@@ -87,7 +87,7 @@ pub record SessionsMeet : Type 0 where
       own_inputs world (calls_among (1 ∷ 2 ∷ []) (call 2 (Take 1 base) ∷ call 3 Clear ∷ publish_all)) 2
       ≡ own_inputs world take_calls 2
 
--- ---- what lines ask
+-- ---- the requests of lines
 
 pub record MeetingsAreAsked : Type 0 where
   pub publish : ask (codes "{\"s\":1,\"op\":\"publish\",\"d\":2,\"name\":\"Az09._-\"}")

@@ -1,11 +1,11 @@
--- What a word answers of a slot is what is asked of the open dictionary in it, under the word's
--- keys; a call in process answers the same value. Each record is a law of src/session_laws.rt.
+-- A protocol word answers, under its keys, what the call on the open dictionary in the slot gives;
+-- a call in process gives the same value. Each record is a law of src/session_laws.rt.
 use Rattle.std.specs.Prelude.{◌≡◌, ℕ, ℤ, Bool, List, [], codes, Option, Some, Result}
 use Rattle.ctf_model.specs.declared.faults.Fault.{Fault}
 use Rattle.ctf_model.specs.declared.numbers.TypeNum.{TypeNum}
 use Rattle.ctf_model.specs.figures.Figures.{reference}
 use Rattle.ctf_model.specs.format.Shown.{Shape}
-use Rattle.ctf_model.specs.names.Found.{lookup}
+use Rattle.ctf_model.specs.names.Lookups.{lookup}
 use Rattle.ctf_model.specs.opened.Open.{own_in, space_in}
 use Rattle.ctf_model.specs.opened.Questions.{align_answered, array_answered, encoding_answered, enumerators_answered, kind_answered, members_answered, name_answered, path_answered, pointer_answered, resolved_answered, on_shape, shape_of, signature_answered, size_answered, value_answered}
 use Rattle.ctf_model.specs.opened.Steps.{created, discard_step, enumerator_added, import_refusal, label_added, member_added, type_added, step_update}
@@ -34,15 +34,15 @@ use Rattle.ctf_protocol.specs.declared.questions.TypeQuestion.TheVariants as ask
 use Rattle.ctf_protocol.specs.declared.questions.Window.{Window}
 use Rattle.ctf_protocol.specs.declared.requests.DraftStep.TheVariants.{Add, Update, Discard}
 
--- what the type of a number is in a slot, if it is there
+-- the shape of a type in a slot, if it exists
 abbrev pub shape_in : Slot → TypeNum → Result Shape Fault
 shape_in s t = shape_of (space_type (space_in (open_of s)) t.0)
 
--- a word that brings no more than the number of a type
+-- a question that needs only a type's number
 abbrev pub of_type : PlainQuestion → TypeNum → Slot → Result Answer Fault
 of_type question t s = slot_answered (OfType t (ask.Plain question)) s
 
--- what a type says of itself
+-- a type's own fields
 pub record TypesAreAsked : Type 0 where
   pub kind : (s : Slot) (t : TypeNum) → of_type plain.Kind t s
       ≡ as_fields kind_fields (on_shape kind_answered (shape_in s t))
@@ -58,7 +58,7 @@ pub record TypesAreAsked : Type 0 where
       → slot_answered (OfType t (ask.Enumerators w)) s
       ≡ as_fields (enumerator_fields w) (on_shape enumerators_answered (shape_in s t))
 
--- what a type comes to: of a number that names none, 0 among them, nothing is said
+-- figures of a type; for a number that names none, 0 included, there are none
 pub record FiguresAreAsked : Type 0 where
   pub reference_is : (s : Slot) (t : TypeNum) → of_type plain.Reference t s
       ≡ as_fields type_fields (reference (space_in (open_of s)) t.0)

@@ -1,5 +1,4 @@
--- A slot is an open dictionary under a number: what is done to the one is done to the other. The
--- words are ours.
+-- A slot is an open dictionary with a number: steps of one are steps of the other. Source: ours.
 use Rattle.std.specs.Prelude.{ℕ, List, [], ◌∷◌, Result, Ok, Err}
 use Rattle.ctf_model.specs.opened.Open.{Open}
 use Rattle.ctf_model.specs.opened.Steps.{Stepped}
@@ -13,12 +12,12 @@ slot_with n o = record { number = n; kept = o.own; parent = o.parent; draft = o.
 abbrev pub open_of : Slot → Open
 open_of slot = record { own = slot.kept; parent = slot.parent; draft = slot.draft }
 
--- what is open, as the slot of a number
+-- the open dictionary as slot `n`
 abbrev pub slot_made : ℕ → Result Open Fault → Result Slot Fault
 slot_made n (Ok o) = Ok (slot_with n o)
 slot_made n (Err fault) = Err fault
 
--- what is answered, and what the slot is then
+-- the answer, and the slot afterwards
 pub record SlotOutcome : Type 0 where
   pub said : Result Answer Fault
   pub slot : Slot
@@ -30,16 +29,16 @@ slot_granted answer slot = record { said = Ok answer; slot = slot }
 abbrev pub slot_refused : Fault → Slot → SlotOutcome
 slot_refused fault slot = record { said = Err fault; slot = slot }
 
--- the step of the open dictionary in a slot, and what is answered of the number that it gives
+-- a step of the open dictionary in a slot, with the answer for the number that it gives
 abbrev pub slot_stepped : (ℕ → Answer) → Slot → Result Stepped Fault → SlotOutcome
 slot_stepped say slot (Ok step) =
     slot_granted (say step.answer) (slot_with slot.number step.served)
 slot_stepped say slot (Err fault) = slot_refused fault slot
 
--- a number is answered under a key
+-- the answer with a number under this key
 abbrev pub under : List ℕ → ℕ → Answer
 under key n = says key (number n) ∷ []
 
--- nothing is answered
+-- the empty answer
 abbrev pub unsaid : ℕ → Answer
 unsaid n = []

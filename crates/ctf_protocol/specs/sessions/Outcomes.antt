@@ -1,5 +1,5 @@
--- What a request is answered and what the library is then, and the ways in which a word refuses.
--- Source: ours. Needs State, Charges and Answers.
+-- The outcome of a request: its answer and the library afterwards; and the ways to refuse. Source:
+-- ours. Needs State, Charges and Answers.
 use Rattle.std.specs.Prelude.{ℕ, Bool, Option, None, Some, Result, Ok, Err, nat_lt, if◌then◌else◌}
 use Rattle.ctf_protocol.specs.answers.Answers.{Answer, Reply}
 use Rattle.ctf_protocol.specs.sessions.Charges.{charge}
@@ -8,7 +8,7 @@ use Rattle.ctf_model.specs.rules.Refusals.{placeless}
 use Rattle.ctf_model.specs.declared.faults.Fault.{Fault}
 use Rattle.ctf_model.specs.declared.faults.TheConstants.Fault.{QUOTA_FULL}
 
--- the reply, not yet addressed to its session, and the library after it
+-- the reply, not yet addressed to its session, and the library afterwards
 pub record Outcome : Type 0 where
   pub reply : Reply
   pub state : State
@@ -23,38 +23,38 @@ grants answer state = outcome_of (Ok answer) state
 abbrev pub refuses : ℕ → State → Outcome
 refuses code state = outcome_of (Err (placeless code)) state
 
--- ---- a line of a word: its refusal, or what the lines behind it say
+-- ---- building blocks: a refusal, or else the rest of the step
 
--- refused with a code unless this holds
+-- refuses with a code unless the condition holds
 abbrev pub needs : Bool → ℕ → State → Outcome → Outcome
 needs holds code state later = if holds then later else refuses code state
 
--- refused with a code where this holds
+-- refuses with a code if the condition holds
 abbrev pub refused_where : Bool → ℕ → State → Outcome → Outcome
 refused_where holds code state later = if holds then refuses code state else later
 
--- refused with this fault, if it is one
+-- refuses with this fault, if there is one
 abbrev pub refused_by : Option Fault → State → Outcome → Outcome
 refused_by None state later = later
 refused_by (Some fault) state later = outcome_of (Err fault) state
 
--- refused with a code where nothing is there
+-- refuses with a code if the value is missing
 abbrev pub finding : {A : Type 0} → ℕ → Option A → State → (A → Outcome) → Outcome
 finding code None state later = refuses code state
 finding code (Some x) state later = later x
 
--- refused with the fault of what was to be made
+-- refuses with the fault, if there is no value
 abbrev pub making : {A : Type 0} → Result A Fault → State → (A → Outcome) → Outcome
 making (Ok x) state later = later x
 making (Err fault) state later = outcome_of (Err fault) state
 
--- ---- the quota, the last refusal of the words that may make a library larger
+-- ---- the quota, the last check of requests that may enlarge a library
 
--- the greatest charge that a request may leave a library with, in bytes
+-- the greatest allowed charge of a library, in bytes
 abbrev pub quota : ℕ
 quota = 268435456
 
--- a step that would leave a greater one is refused
+-- refuses a step that would exceed the quota
 abbrev pub within_quota : Outcome → State → Outcome
 within_quota outcome state =
     if nat_lt quota (charge outcome.state) then refuses QUOTA_FULL state else outcome

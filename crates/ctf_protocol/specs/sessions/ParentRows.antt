@@ -1,7 +1,7 @@
--- Worked rows for parents and slots. The values were worked out by hand from the format.
+-- Worked rows of parents and slots. The values were worked out by hand from the format.
 use Rattle.std.specs.Prelude.{◌≡◌, ℕ, List, [], ◌∷◌, ◌++◌, None, Some, codes}
 use Rattle.ctf_model.specs.format.KindRows.{half, head, structs}
-use Rattle.ctf_model.specs.spaces.Kept.{kept_unsaid}
+use Rattle.ctf_model.specs.spaces.Kept.{as_kept}
 use Rattle.ctf_protocol.specs.answers.QuestionRows.{on}
 use Rattle.ctf_protocol.specs.lines.ReplyLines.{reply_line}
 use Rattle.ctf_model.specs.format.Rows.{ctf_alone, header, word}
@@ -15,20 +15,20 @@ use Rattle.ctf_protocol.specs.declared.requests.Request.TheVariants.{Changes}
 
 -- ---- inputs
 
--- a child of p: one pointer, to type 3 of its parent
+-- a child of `p` with one pointer, to type 3 of its parent
 abbrev pub pointing : List ℕ
 pointing = header 1 0 0 0 8 3 ++ head 0 3 0 3 ++ 0 ∷ codes "p" ++ 0 ∷ []
 
--- a struct that holds a pointer to itself, and that pointer
+-- a struct with a pointer to itself, and that pointer
 abbrev pub linked_struct : List ℕ
 linked_struct = header 0 0 0 0 24 0 ++ (head 0 6 1 8 ++ word 0 ++ half 2 ++ half 0) ++ head 0 3 0 1
 
 abbrev pub slot : ℕ → List ℕ → Slot
 slot number ctf =
-    record { number = number; kept = kept_unsaid (ctf_alone ctf); parent = None; draft = None }
+    record { number = number; kept = as_kept (ctf_alone ctf); parent = None; draft = None }
 
--- a session with a child in slot 1, three types in slot 2, two types in slot 3,
--- and a child in slot 4; some bytes are staged
+-- a session with a child in slot 1, three types in slot 2, two types in slot 3, a child in slot 4,
+-- and some staged bytes
 abbrev pub four_slots : State
 four_slots =
     record empty_state {
@@ -46,11 +46,11 @@ reply_to state request = reply_line (step state request None).reply
 abbrev pub imports_into : ℕ → ℕ → Request
 imports_into d parent = Changes (Import d parent)
 
--- slot 1 over slot 2
+-- the same after slot 2 was imported into slot 1
 abbrev pub over_structs : State
 over_structs = after four_slots (imports_into 1 2)
 
--- ---- what is answered
+-- ---- answers
 
 abbrev pub done_line : List ℕ
 done_line = codes "{\"ok\":{},\"s\":0}\n"

@@ -1,4 +1,4 @@
--- Which requests take no memory, and what may be answered where it is refused. Source: ours.
+-- Requests that take no memory, and replies where memory may run out. Source: ours.
 use Rattle.std.specs.Prelude.{◌≡◌, ◌⊎◌, Bool, true, false, Result, Err}
 use Rattle.ctf_protocol.specs.answers.Answers.{Answer}
 use Rattle.ctf_model.specs.rules.Refusals.{out_of_memory}
@@ -15,7 +15,7 @@ use Rattle.ctf_protocol.specs.declared.requests.Change.{Change}
 use Rattle.ctf_protocol.specs.declared.requests.Change.TheVariants as change
 use Rattle.ctf_protocol.specs.declared.requests.DraftStep.TheVariants.{Discard}
 
--- a question that takes no memory
+-- questions that take no memory
 abbrev pub is_quiet_plain : PlainQuestion → Bool
 is_quiet_plain plain.Kind = true
 is_quiet_plain plain.Array = true
@@ -40,11 +40,11 @@ is_quiet (OfType t question) = is_quiet_on question
 is_quiet (OfSlot question) = is_quiet_whole question
 is_quiet (OfHeld question) = false
 
--- the answer to a question, or memory for it was refused
+-- the answer to a question, or out of memory
 abbrev pub MayAnswer : Result Answer Fault → Result Answer Fault → Type 0
 MayAnswer said result = (result ≡ said) ⊎ (result ≡ Err out_of_memory)
 
--- a change that takes no memory
+-- changes that take no memory
 abbrev pub is_quiet_change : Change → Bool
 is_quiet_change change.Clear = true
 is_quiet_change change.Reset = true

@@ -9,25 +9,25 @@ use Rattle.ctf_protocol.specs.sessions.State.{State}
 use Rattle.ctf_protocol.specs.sessions.Steps.{step}
 use Rattle.ctf_protocol.specs.declared.requests.Request.{Request}
 
--- a request that is refused leaves the library as it was
+-- a refused request leaves the library as it was
 abbrev pub RefusalsChangeNothing : Type 0
 RefusalsChangeNothing =
     (state : State) (request : Request) (found : Option Kept) (fault : Fault)
     → (step state request found).reply.outcome ≡ Err fault
     → (step state request found).state ≡ state
 
--- a code has a row in the table of faults
+-- the code is in the table of faults
 abbrev pub has_row : ℕ → Bool
 has_row code = list_any (λ row. row.0 == code) fault_names
 
--- so whatever a request is refused with has a name
+-- every refusal of a request has a code in the table
 abbrev pub RefusalsAreInTheTable : Type 0
 RefusalsAreInTheTable =
     (state : State) (request : Request) (found : Option Kept) (fault : Fault)
     → (step state request found).reply.outcome ≡ Err fault
     → has_row fault.code ≡ true
 
--- and so has what a line is refused with that asks nothing
+-- so has every refusal of a line without a request
 abbrev pub BadLinesAreInTheTable : Type 0
 BadLinesAreInTheTable =
     (line : List ℕ) (session : ℕ) (fault : Fault)

@@ -1,7 +1,7 @@
--- Worked rows of sessions: what runs reply, what lines ask, and the whole output.
--- The values were worked out by hand.
+-- Worked rows of sessions: replies, the requests of lines, and whole outputs. The values were
+-- worked out by hand.
 use Rattle.std.specs.Prelude.{◌≡◌, ℕ, List, [], ◌∷◌, take, drop, None, Result, Ok, Err, codes}
-use Rattle.ctf_model.specs.spaces.Kept.{kept_unsaid}
+use Rattle.ctf_model.specs.spaces.Kept.{as_kept}
 use Rattle.ctf_protocol.specs.answers.Answers.{Answer, Reply, says}
 use Rattle.ctf_protocol.specs.answers.Answers as answers
 use Rattle.ctf_protocol.specs.lines.Ask.{ask}
@@ -27,12 +27,12 @@ use Rattle.ctf_model.specs.format.Rows.{ctf_alone, fault, int_bytes}
 abbrev pub given_request : Request → Given
 given_request request = record { request = request; found = None }
 
--- the kind of a type of a slot
+-- a question for the kind of a type in a slot
 abbrev pub kind_asked : ℕ → ℕ → Request
 kind_asked d t = Asks d (OfType (record { 0 = t }) (about.Plain simple.Kind))
 
--- what a session asks, the newest first: it stages an int in two parts, opens it,
--- asks for types, and lets it go
+-- a session's requests, newest first: it stages an int in two parts, opens it, asks about types,
+-- and closes it
 abbrev pub questions : List Given
 questions =
     given_request (kind_asked 1 2) ∷ given_request (kind_asked 2 1) ∷ given_request (kind_asked 1 1)
@@ -55,7 +55,7 @@ pub record SessionRuns : Type 0 where
       ≡ record empty_state {
         slots = record {
           number = 1;
-          kept = kept_unsaid (ctf_alone int_bytes);
+          kept = as_kept (ctf_alone int_bytes);
           parent = None;
           draft = None;
         }
@@ -90,7 +90,7 @@ pub record LinesSay : Type 0 where
   pub ended : all_lines (codes "ab\n") ≡ codes "ab" ∷ []
   pub none : all_lines [] ≡ []
 
--- ---- what lines ask
+-- ---- the requests of lines
 
 pub record LinesAsk : Type 0 where
   pub reset : ask (codes "{\"s\":7,\"op\":\"reset\"}") ≡ Ok (7, Changes Reset)
@@ -110,8 +110,8 @@ pub record LinesAsk : Type 0 where
 
 -- ---- the whole output
 
--- two sessions ask in turn; memory is refused to one line, and reading another;
--- a line that asks nothing may be refused memory too
+-- two sessions alternate; one line runs out of memory, and so does reading another, and a line
+-- without a request
 pub record OutputIs : Type 0 where
   pub written : out (λ s. empty_state) []
       (codes "{\"s\":1,\"op\":\"part\",\"section\":\"ctf\",\"bytes\":\"f1cf\"}"

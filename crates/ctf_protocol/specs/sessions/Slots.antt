@@ -1,5 +1,5 @@
--- The slots of a session: which there may be, and how one is found, added and replaced.
--- Source: ours. Needs State and Outcomes.
+-- A session's slots: their limits, and look-up, addition and replacement. Source: ours. Needs State
+-- and Outcomes.
 use Rattle.std.specs.Prelude.{ℕ, ◌+◌, ◌==◌, ◌&&◌, Bool, List, [], ◌∷◌, ◌++◌, length, Option, None, Some, nat_lt, nat_le, codes, if◌then◌else◌}
 use Rattle.ctf_protocol.specs.answers.Answers.{says}
 use Rattle.ctf_protocol.specs.answers.Answers as answers
@@ -9,7 +9,7 @@ use Rattle.ctf_model.specs.format.Dictionary.{said_by}
 use Rattle.ctf_model.specs.spaces.Kept.{Kept}
 use Rattle.ctf_model.specs.declared.faults.TheConstants.Fault.{NO_SLOT}
 
--- how many slots may be in use, and the last number of a slot
+-- the most slots in use, and the last slot number
 abbrev pub most_slots : ℕ
 most_slots = 1023
 
@@ -19,7 +19,7 @@ last_number = 4294967295
 abbrev pub has_room : State → Bool
 has_room state = nat_lt (length state.slots) most_slots && nat_le state.next last_number
 
--- a new slot for a dictionary, under the next number
+-- adds a slot for a dictionary, with the next number
 abbrev pub adds_slot : Kept → State → Outcome
 adds_slot kept state =
     grants (says (codes "d") (answers.number state.next)
@@ -30,33 +30,33 @@ adds_slot kept state =
       next = state.next + 1;
     })
 
--- the slot of a number
+-- the slot with this number
 abbrev pub slot_at : ℕ → List Slot → Option Slot
 slot_at number [] = None
 slot_at number (slot ∷ slots) = if slot.number == number then Some slot else slot_at number slots
 
--- refused where there is no such slot
+-- refuses if there is no such slot
 abbrev pub on_slot : ℕ → State → (Slot → Outcome) → Outcome
 on_slot d state later = finding NO_SLOT (slot_at d state.slots) state later
 
--- the dictionary of a slot as it stands, if one is named
+-- the current dictionary of a slot, if one is named
 abbrev pub over_slot : Option ℕ → State → (Option Kept → Outcome) → Outcome
 over_slot None state later = later None
 over_slot (Some p) state later = on_slot p state (λ slot. later (Some slot.kept))
 
--- the slot of a number is gone
+-- without the slot of this number
 abbrev pub slots_without : ℕ → List Slot → List Slot
 slots_without number [] = []
 slots_without number (slot ∷ slots) =
     if slot.number == number then slots else slot ∷ slots_without number slots
 
--- the slot of a number is this one
+-- with this slot in place of the one with its number
 abbrev pub slots_with : ℕ → Slot → List Slot → List Slot
 slots_with number now [] = []
 slots_with number now (slot ∷ slots) =
     if slot.number == number then now ∷ slots else slot ∷ slots_with number now slots
 
--- the slot of a number has this parent, as it stands, in place of one that it had
+-- with the parent of slot `number` set to this dictionary
 abbrev pub slots_with_parent : ℕ → Kept → List Slot → List Slot
 slots_with_parent number parent [] = []
 slots_with_parent number parent (slot ∷ slots) =

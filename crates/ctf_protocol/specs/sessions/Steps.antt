@@ -1,6 +1,5 @@
--- What each word does that may change a session's library: a line for each of its refusals, in
--- their order, and then what is answered and what the library is. Source: ours.
--- Needs Outcomes, Slots, DraftSteps, Publications and SlotQuestions.
+-- What each request does to a session's library: its refusals in order, then its answer and the new
+-- library. Source: ours. Needs Outcomes, Slots, DraftSteps, Publications and SlotQuestions.
 use Rattle.std.specs.Prelude.{ℕ, ◌+◌, List, [], ◌∷◌, ◌++◌, length, Option, Some, Result, Ok, Err, is_some, unwrap_or, nat_lt, codes}
 use Rattle.ctf_protocol.specs.answers.Answers.{Answer, says}
 use Rattle.ctf_protocol.specs.answers.Answers as answers
@@ -35,19 +34,19 @@ use Rattle.ctf_protocol.specs.declared.requests.Request.TheVariants.{Changes, As
 abbrev pub longest_list : ℕ
 longest_list = 67108864
 
--- a list that no part named is empty
+-- the bytes of a staged list; empty if no part was staged
 abbrev pub list_in : ListName → Lists → List ℕ
 list_in Ctf stage = stage.ctf
 list_in Sym stage = unwrap_or stage.sym []
 list_in Str stage = unwrap_or stage.strs []
 
--- a list is staged from the first part that names it on, even where that has no bytes
+-- a list counts as staged from its first part on, even if that is empty
 abbrev pub with_staged : ListName → List ℕ → Lists → Lists
 with_staged Ctf bytes stage = record stage { ctf = bytes }
 with_staged Sym bytes stage = record stage { sym = Some bytes }
 with_staged Str bytes stage = record stage { strs = Some bytes }
 
--- a list becomes this one
+-- sets a staged list
 abbrev pub stages : ListName → List ℕ → State → Outcome
 stages list bytes state =
     refused_where (nat_lt longest_list (length bytes)) STAGE_FULL state
@@ -55,15 +54,15 @@ stages list bytes state =
     (grants (says (codes "length") (answers.number (length bytes)) ∷ [])
     (record state { stage = with_staged list bytes state.stage })) state)
 
--- a piece goes to the end of a list
+-- appends a part to a staged list
 abbrev pub parts : ListName → List ℕ → State → Outcome
 parts list piece state = stages list (list_in list state.stage ++ piece) state
 
--- the staged lists are judged
+-- checks the staged lists
 abbrev pub checks : State → Outcome
 checks state = refused_by (first_fault state.stage) state (grants [] state)
 
--- the staged lists become the dictionary of a slot, and nothing is staged then
+-- opens the staged lists in a new slot, and clears the stage
 abbrev pub opens : DataModel → State → Outcome
 opens model state =
     needs (has_room state) SLOTS_FULL state
@@ -76,7 +75,7 @@ clears state = grants [] (record state { stage = empty_stage })
 
 -- ---- slots: reset, close, import
 
--- what is published stays
+-- drops everything but the publications
 abbrev pub resets : State → Outcome
 resets state = grants [] (record empty_state { published = state.published })
 
@@ -85,7 +84,7 @@ closes d state =
     on_slot d state
     (λ slot. grants [] (record state { slots = slots_without d state.slots }))
 
--- the dictionary of the second slot, as it stands, is the parent of the first
+-- the current dictionary of the second slot becomes the parent of the first
 abbrev pub imports : ℕ → ℕ → State → Outcome
 imports d p state =
     on_slot d state (λ child.
@@ -101,13 +100,13 @@ adds_publication name kept state =
     grants []
     (record state { published = state.published ++ record { name = name; kept = kept } ∷ [] })
 
--- the operator has no quota
+-- adds a publication; the operator's have no quota
 abbrev pub publishes_kept : List ℕ → Kept → State → Outcome
 publishes_kept name kept state =
     refused_where (is_some (published_as name state.published)) NAME_TAKEN state
     (adds_publication name kept state)
 
--- the dictionary of a slot, as it stands, where that is all that its draft holds
+-- publishes the current dictionary of a slot, unless its draft has pending additions
 abbrev pub publishes : ℕ → List ℕ → State → Outcome
 publishes d name state =
     on_slot d state (λ slot.
@@ -115,13 +114,13 @@ publishes d name state =
     (refused_where (is_some (published_as name state.published)) NAME_TAKEN state
     (within_quota (adds_publication name slot.kept state) state)))
 
--- what the session has published under a name is published no more; who took it keeps it
+-- withdraws a publication; sessions that took it keep it
 abbrev pub withdraws : List ℕ → State → Outcome
 withdraws name state =
     needs (is_some (published_as name state.published)) NOT_PUBLISHED state
     (grants [] (record state { published = published_without name state.published }))
 
--- a slot is made of what was found, without any parent
+-- opens a found publication in a new slot, without a parent
 abbrev pub takes : Option Kept → State → Outcome
 takes found state =
     needs (has_room state) SLOTS_FULL state
@@ -130,14 +129,14 @@ takes found state =
 
 -- ---- drafts: create, add, update, discard
 
--- the slot of a new draft, under the next number
+-- adds the slot of a new draft, with the next number
 abbrev pub adds_draft : Slot → State → Outcome
 adds_draft slot state =
     within_quota
     (grants (says (codes "d") (answers.number state.next) ∷ [])
     (record state { slots = state.slots ++ slot ∷ []; next = state.next + 1 })) state
 
--- over the dictionary of a slot as it stands, or over none
+-- makes a draft over the current dictionary of a slot, or without a parent
 abbrev pub creates : Created → State → Outcome
 creates asked state =
     over_slot asked.parent state (λ parent.
@@ -149,7 +148,7 @@ abbrev pub slot_becomes : ℕ → SlotOutcome → State → Outcome
 slot_becomes d outcome state =
     outcome_of outcome.said (record state { slots = slots_with d outcome.slot state.slots })
 
--- what an update makes counts from then on
+-- the dictionary that an update writes counts against the quota
 abbrev pub updates_within : Result Answer Fault → Outcome → State → Outcome
 updates_within (Ok answer) outcome state = within_quota outcome state
 updates_within (Err fault) outcome state = outcome
@@ -160,14 +159,14 @@ becomes_by Update d outcome state =
     updates_within outcome.said (slot_becomes d outcome state) state
 becomes_by Discard d outcome state = slot_becomes d outcome state
 
--- the step of the draft in a slot
+-- a step of the draft in a slot
 abbrev pub steps_draft : ℕ → DraftStep → State → Outcome
 steps_draft d step state =
     on_slot d state (λ slot. becomes_by step d (slot_step step slot) state)
 
--- ---- every request
+-- ---- all requests
 
--- what a take found is read by a take alone
+-- only a take uses the found publication
 unfoldable pub change_step : State → Change → Option Kept → Outcome
 change_step state (change.Part list piece) found = parts list piece state
 change_step state change.Check found = checks state

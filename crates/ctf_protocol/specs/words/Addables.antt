@@ -1,10 +1,10 @@
--- The words for what may be added to a draft. Source: ours.
+-- The words for additions to a draft. Source: ours.
 use Rattle.std.specs.Prelude.{ℕ, List, Option, None, Some, codes, if◌then◌else◌}
 use Rattle.ctf_protocol.specs.words.Words.{is_text}
 use Rattle.ctf_protocol.specs.declared.addables.Addable.{Addable}
 use Rattle.ctf_protocol.specs.declared.addables.Addable.TheVariants as adds
 
--- a kind of types, or a part of a type or of a dictionary
+-- a kind of type, or a part of a type or a dictionary
 abbrev pub addable_named : List ℕ → Option Addable
 addable_named w =
     if is_text w (codes "unknown") then Some adds.Unknown

@@ -1,4 +1,4 @@
--- How many names a request brings, and how long they are.
+-- Limits on the number and length of names in a request.
 use Rattle.std.specs.Prelude.{ℕ, ◌≤◌, List, All, length}
 
 pub record AreShort (names : List (List ℕ)) : Type 0 where

@@ -1,5 +1,5 @@
--- Worked rows of words: how each is written. The texts were written by hand,
--- beside the table of the code.
+-- Worked rows of words and their spelling. The texts were written by hand, beside the table of the
+-- code.
 use Rattle.std.specs.Prelude.{◌≡◌, ℕ, List, [], ◌∷◌, Option, None, codes}
 use Rattle.ctf_protocol.specs.words.Words.{word_named, words}
 use Rattle.ctf_protocol.specs.declared.questions.HeldQuestion.TheVariants as held
@@ -7,11 +7,11 @@ use Rattle.ctf_protocol.specs.declared.questions.PlainQuestion.TheVariants as pl
 use Rattle.ctf_protocol.specs.declared.words.Word.{Word}
 use Rattle.ctf_protocol.specs.declared.words.Word.TheVariants as word
 
--- what a text asks
+-- the word that a text spells
 abbrev pub meant : List ℕ → Option Word
 meant text = word_named text words
 
--- every word, and how it is written
+-- every word with its spelling
 abbrev pub written_words : List (Word × List ℕ)
 written_words =
     (word.Part, codes "part")
@@ -55,7 +55,7 @@ written_words =
 
 pub record WordsAreWritten : Type 0 where
   pub table : words ≡ written_words
-  -- words are written in lower case, and whole
+  -- only the exact lower-case spelling counts
   pub upper_case : meant (codes "Kind") ≡ None
   pub cut : meant (codes "kin") ≡ None
   pub longer : meant (codes "kinds") ≡ None

@@ -7,7 +7,7 @@ use crate::words::Words;
 use ctf_model::TypeNum;
 use ctf_sections::{Differences, Strings};
 use ctf_views::{
-    Args, ArrayInfo, Encoding, Enumerator, Member, Members, Row, Rows, Variant, is_variadic,
+    Args, ArrayInfo, Encoding, Enumerator, Member, Members, Row, RowIter, Variant, is_variadic,
 };
 
 /// An item of a view, in the form of an answer.
@@ -44,7 +44,7 @@ fn tell<T: AnswerItem>(answer: &mut Answer, item: Option<T>) {
 }
 
 /// Asks a list for its rest; a number asks for the item with that number.
-fn ask<R: Row>(answer: &mut Answer, rows: &mut Rows<'_, R>, word: &str)
+fn ask<R: Row>(answer: &mut Answer, rows: &mut RowIter<'_, R>, word: &str)
 where
     R::Item: AnswerItem,
 {

@@ -1,6 +1,6 @@
 //! Runs in which each call of a sort fails in turn, or that end at each bound on reads.
 
-use crate::collected::Said;
+use crate::collected::AnswerWords;
 use crate::serving::cases::Case;
 use crate::serving::{Ran, served_in};
 use crate::transcripts::outcomes::Exchange;
@@ -9,7 +9,7 @@ use ctf_wire::{Broker, RunFault};
 /// More calls of each sort than any of the runs makes.
 const CALLS: u32 = 600;
 
-/// What is noted of the first `lines` replies: up to the bar after the last of these.
+/// The expected output for the first `lines` replies: up to the bar after the last of them.
 fn noted_of(want: &[u8], lines: usize) -> &[u8] {
     let mut left = lines;
     let mut len: usize = 0;
@@ -24,7 +24,7 @@ fn noted_of(want: &[u8], lines: usize) -> &[u8] {
     want.get(..len).unwrap_or(b"")
 }
 
-/// What is noted after so many reads, if no two lines end in the same read.
+/// The output expected after the first `reads` reads; no two lines may end in the same read.
 fn noted_after(told: &Exchange, size: usize, reads: u32) -> &[u8] {
     let len = size.wrapping_mul(reads as usize).min(told.input.len());
     let read = told.input.get(..len).unwrap_or(b"");
@@ -34,7 +34,8 @@ fn noted_after(told: &Exchange, size: usize, reads: u32) -> &[u8] {
     )
 }
 
-/// Whether a run ends as it has to if a call fails, or after so many reads.
+/// Checks the end and the output of a run whose call number `number` failed (`word` says which
+/// sort of call), or that was limited to `number` reads.
 fn is_cut(told: &Exchange, size: usize, word: &str, number: u32, ran: &Ran) -> bool {
     let (end, noted) = ran;
     match word {
@@ -55,7 +56,7 @@ fn is_cut(told: &Exchange, size: usize, word: &str, number: u32, ran: &Ran) -> b
 
 /// Counts the runs that end early: at the first call of a sort, at the second and so on, until a
 /// run reaches its end.
-pub fn each(said: &mut Said, told: &Exchange, words: &str) {
+pub fn each(said: &mut AnswerWords, told: &Exchange, words: &str) {
     let (size, word) = words.split_once(' ').unwrap_or((words, ""));
     let size = size.parse::<usize>().unwrap_or(0);
     let first = if word == "reads" { 0 } else { 1 };

@@ -1,6 +1,6 @@
 //! The calls below `serve` that answer a request: of a library, and of a broker.
 
-use crate::collected::Said;
+use crate::collected::AnswerWords;
 use crate::transcripts::outcomes::Exchange;
 use ctf_answers::Reply;
 use ctf_lines::{FromLine, Scratch, ToLine, write_change};
@@ -55,7 +55,7 @@ fn lines(bytes: &[u8]) -> &str {
 }
 
 /// The replies of a library to the lines, whatever sessions these name.
-pub fn library(said: &mut Said, told: &Exchange) {
+pub fn library(said: &mut AnswerWords, told: &Exchange) {
     let mut library = Library::new(said.alloc());
     let mut pool = Pool::new(said.alloc());
     let mut out = Vec::new(said.alloc());
@@ -66,7 +66,7 @@ pub fn library(said: &mut Said, told: &Exchange) {
 }
 
 /// The replies of a broker to the lines.
-pub fn broker(said: &mut Said, told: &Exchange) {
+pub fn broker(said: &mut AnswerWords, told: &Exchange) {
     let mut broker = Broker::new(said.alloc());
     let mut out = Vec::new(said.alloc());
     for line in lines(&told.input).lines() {

@@ -1,7 +1,7 @@
 //! What the operator publishes before any line is read.
 
 use crate::calls::runs::{case_of, put_run};
-use crate::collected::Said;
+use crate::collected::AnswerWords;
 use crate::transcripts::outcomes::Exchange;
 use ctf_protocol::{Bytes, DataModel, Fault, Parts, PublicationName, fault_name};
 use ctf_wire::{Broker, Counts, Loaded};
@@ -22,7 +22,7 @@ fn name_of(alloc: Global, text: &str) -> Option<PublicationName> {
     PublicationName::new(Vec::from_slice(alloc, text.as_bytes()).ok()?)
 }
 
-fn put_outcome(said: &mut Said, outcome: Result<Counts, Fault>) {
+fn put_outcome(said: &mut AnswerWords, outcome: Result<Counts, Fault>) {
     match outcome {
         Ok(_) => said.word("Ok"),
         Err(fault) => {
@@ -32,14 +32,19 @@ fn put_outcome(said: &mut Said, outcome: Result<Counts, Fault>) {
     }
 }
 
-fn load_dictionary(said: &mut Said, broker: &mut Broker, name: &PublicationName, ctf: &[u8]) {
+fn load_dictionary(
+    said: &mut AnswerWords,
+    broker: &mut Broker,
+    name: &PublicationName,
+    ctf: &[u8],
+) {
     match open_list(said.alloc(), ctf) {
         Some(dictionary) => put_outcome(said, broker.load(name, dictionary)),
         None => said.word("no dictionary"),
     }
 }
 
-fn load_section(said: &mut Said, broker: &mut Broker, name: &PublicationName, ctf: &[u8]) {
+fn load_section(said: &mut AnswerWords, broker: &mut Broker, name: &PublicationName, ctf: &[u8]) {
     match Vec::from_slice(said.alloc(), ctf) {
         Ok(ctf) => put_outcome(said, broker.load_section(name, ctf)),
         Err(_) => said.word("no memory"),
@@ -47,7 +52,7 @@ fn load_section(said: &mut Said, broker: &mut Broker, name: &PublicationName, ct
 }
 
 /// Loads a list as a dictionary or as a section, or an empty section, and says the outcome.
-fn load_as(said: &mut Said, broker: &mut Broker, sort: &str, name: &str, ctf: &[u8]) {
+fn load_as(said: &mut AnswerWords, broker: &mut Broker, sort: &str, name: &str, ctf: &[u8]) {
     let Some(name) = name_of(said.alloc(), name) else {
         return said.word("no name");
     };
@@ -60,7 +65,7 @@ fn load_as(said: &mut Said, broker: &mut Broker, sort: &str, name: &str, ctf: &[
 
 /// A row has the digits of a list; then what it is loaded as, and under which name, or a run over
 /// the lines.
-pub fn load(said: &mut Said, told: &Exchange, words: &str) {
+pub fn load(said: &mut AnswerWords, told: &Exchange, words: &str) {
     let (digits, steps) = words.split_once(", ").unwrap_or((words, ""));
     let Ok(ctf) = hex::decode(said.alloc(), digits) else {
         return said.word("no digits");

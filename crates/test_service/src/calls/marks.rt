@@ -1,13 +1,13 @@
 //! What a source and a sink say after a run, names of its faults, and numbers of slots.
 
 use crate::calls::runs::put_end;
-use crate::collected::Said;
+use crate::collected::AnswerWords;
 use crate::transcripts::outcomes::Exchange;
 use ctf_protocol::SlotNumber;
 use ctf_wire::{Broker, FromReader, RunFault, Sink, Source, ToWriter, serve_bounded};
 
 /// How a run of two reads ends, how many it made, and which marks it left.
-pub fn marks(said: &mut Said, told: &Exchange) {
+pub fn marks(said: &mut AnswerWords, told: &Exchange) {
     let alloc = said.alloc();
     let mut source = FromReader::new(told.input.as_slice());
     let mut sink = ToWriter::new(Vec::new(alloc));
@@ -24,7 +24,7 @@ pub fn marks(said: &mut Said, told: &Exchange) {
 }
 
 /// The names of all faults that end a run.
-pub fn faults(said: &mut Said) {
+pub fn faults(said: &mut AnswerWords) {
     put_end(said, Err(RunFault::Read));
     put_end(said, Err(RunFault::Write));
     put_end(said, Err(RunFault::ReadBound));
@@ -32,7 +32,7 @@ pub fn faults(said: &mut Said) {
 }
 
 /// The slot with a number.
-pub fn slot(said: &mut Said, words: &str) {
+pub fn slot(said: &mut AnswerWords, words: &str) {
     match SlotNumber::new(words.parse::<u32>().unwrap_or(0)) {
         Some(slot) => said.number(u64::from(slot.get())),
         None => said.word("none"),

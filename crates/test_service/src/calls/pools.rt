@@ -1,6 +1,6 @@
 //! Dictionaries that are opened again while a pool has them, or after it has dropped them.
 
-use crate::collected::Said;
+use crate::collected::AnswerWords;
 use ctf_protocol::{Bytes, DataModel, Parts, fault_name};
 use ctf_wire::Pool;
 use std::alloc::{AllocError, Global};
@@ -18,7 +18,7 @@ fn lists(alloc: Global, front: &[u8], rest: &[u8]) -> Result<Parts, AllocError> 
 
 /// Opens lists, and reports whether the dictionary ends as they do; or how they are refused, and
 /// how many bytes come back.
-fn put_opened(said: &mut Said, pool: &mut Pool, front: &[u8], rest: &[u8]) {
+fn put_opened(said: &mut AnswerWords, pool: &mut Pool, front: &[u8], rest: &[u8]) {
     let Ok(parts) = lists(said.alloc(), front, rest) else {
         return said.word("no memory");
     };
@@ -34,7 +34,7 @@ fn put_opened(said: &mut Said, pool: &mut Pool, front: &[u8], rest: &[u8]) {
 
 /// A row has the digits of the front of a list, and for each list that is opened the bytes that
 /// follow; a dash for none.
-pub fn pool(said: &mut Said, words: &str) {
+pub fn pool(said: &mut AnswerWords, words: &str) {
     let (digits, steps) = words.split_once(' ').unwrap_or((words, ""));
     let Ok(front) = hex::decode(said.alloc(), digits) else {
         return said.word("no digits");

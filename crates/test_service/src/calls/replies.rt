@@ -1,6 +1,6 @@
 //! Lines of replies: values of each sort, changes, refusals, and replies that are too long.
 
-use crate::collected::Said;
+use crate::collected::AnswerWords;
 use ctf_answers::{Answer, Counts, Reply, Single};
 use ctf_lines::{ToLine, memory_line, write_change};
 use ctf_protocol::{Fault, placeless};
@@ -99,7 +99,7 @@ fn change_line(
 }
 
 /// Reports a line without its newline, or its length, if it comes after the text before it.
-fn put_line(said: &mut Said, written: Result<Vec<u8>, AllocError>) {
+fn put_line(said: &mut AnswerWords, written: Result<Vec<u8>, AllocError>) {
     let Ok(written) = written else {
         return said.word("no memory");
     };
@@ -117,18 +117,18 @@ fn parts_of(words: &str) -> (u32, &str, &str) {
     (session.parse::<u32>().unwrap_or(0), sort, words)
 }
 
-pub fn reply(said: &mut Said, words: &str) {
+pub fn reply(said: &mut AnswerWords, words: &str) {
     let (session, sort, words) = parts_of(words);
     put_line(said, reply_line(said.alloc(), session, sort, words));
 }
 
-pub fn change(said: &mut Said, words: &str) {
+pub fn change(said: &mut AnswerWords, words: &str) {
     let (session, sort, words) = parts_of(words);
     put_line(said, change_line(said.alloc(), session, sort, words));
 }
 
 /// The line that says that memory was refused.
-pub fn memory(said: &mut Said, words: &str) {
+pub fn memory(said: &mut AnswerWords, words: &str) {
     let mut buffer = [0; 96];
     let len = memory_line(parts_of(words).0, &mut buffer);
     let line = buffer.get(..len).unwrap_or(b"");

@@ -1,13 +1,13 @@
 //! Lines that are read as requests, word by word.
 
-use crate::collected::Said;
+use crate::collected::AnswerWords;
 use ctf_lines::{FromLine, Scratch};
 use ctf_protocol::{
     Change, HeldQuestion, ListName, Names, PlainQuestion, Question, Request, SlotQuestion,
     TypeQuestion, Window,
 };
 
-fn put_list(said: &mut Said, list: ListName) {
+fn put_list(said: &mut AnswerWords, list: ListName) {
     said.word(match list {
         ListName::Ctf => "ctf",
         ListName::Sym => "sym",
@@ -15,7 +15,7 @@ fn put_list(said: &mut Said, list: ListName) {
     });
 }
 
-fn put_change(said: &mut Said, change: &Change) {
+fn put_change(said: &mut AnswerWords, change: &Change) {
     match change {
         Change::Part { section, bytes } => {
             said.word("part");
@@ -89,7 +89,7 @@ fn held_word(question: HeldQuestion) -> &'static str {
 }
 
 /// The window of a question: its first item and, if stated, its number of items.
-fn put_window(said: &mut Said, window: Window) {
+fn put_window(said: &mut AnswerWords, window: Window) {
     said.word("from");
     said.number(u64::from(window.from));
     if let Some(count) = window.count {
@@ -99,7 +99,7 @@ fn put_window(said: &mut Said, window: Window) {
 }
 
 /// The digits of each name.
-fn put_names(said: &mut Said, names: &Names) {
+fn put_names(said: &mut AnswerWords, names: &Names) {
     let names = names.as_joined();
     for place in 0..names.len() {
         said.digits(names.text(place));
@@ -107,7 +107,7 @@ fn put_names(said: &mut Said, names: &Names) {
 }
 
 /// What a question on a type has besides its word.
-fn put_rest(said: &mut Said, question: &TypeQuestion) {
+fn put_rest(said: &mut AnswerWords, question: &TypeQuestion) {
     match question {
         TypeQuestion::Members(window) => put_window(said, *window),
         TypeQuestion::Enumerators(window) => put_window(said, *window),
@@ -116,7 +116,7 @@ fn put_rest(said: &mut Said, question: &TypeQuestion) {
     }
 }
 
-fn put_question(said: &mut Said, d: u32, question: &Question) {
+fn put_question(said: &mut AnswerWords, d: u32, question: &Question) {
     match question {
         Question::OfType { t, question } => {
             said.word(type_word(question));
@@ -136,7 +136,7 @@ fn put_question(said: &mut Said, d: u32, question: &Question) {
 }
 
 /// The session of a line and what it asks, or the code of the refusal.
-pub fn read(said: &mut Said, line: &str) {
+pub fn read(said: &mut AnswerWords, line: &str) {
     let alloc = said.alloc();
     match Request::read(alloc, &mut Scratch::new(alloc), line.as_bytes()) {
         Ok((session, request)) => {

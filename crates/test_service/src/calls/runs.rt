@@ -1,6 +1,6 @@
 //! Runs in which a call fails, or that end at a bound on reads.
 
-use crate::collected::Said;
+use crate::collected::AnswerWords;
 use crate::serving::cases::Case;
 use crate::serving::served_in;
 use crate::transcripts::outcomes::Exchange;
@@ -19,7 +19,7 @@ pub fn case_of(words: &str) -> Case {
 }
 
 /// Reports how a run ended.
-pub fn put_end(said: &mut Said, end: Result<(), RunFault>) {
+pub fn put_end(said: &mut AnswerWords, end: Result<(), RunFault>) {
     match end {
         Ok(()) => said.word("Ok"),
         Err(fault) => said.push_word(format!(in said.alloc(); "{fault}")),
@@ -27,20 +27,20 @@ pub fn put_end(said: &mut Said, end: Result<(), RunFault>) {
 }
 
 /// Reports how a broker's run over the lines ends, and how much of the replies it writes.
-pub fn put_run(said: &mut Said, broker: &mut Broker, told: &Exchange, case: Case) {
+pub fn put_run(said: &mut AnswerWords, broker: &mut Broker, told: &Exchange, case: Case) {
     let (end, written) = served_in(said.alloc(), broker, &told.input, case);
     put_end(said, end);
     said.front(&told.want, &written);
 }
 
 /// A run in a case.
-pub fn run(said: &mut Said, told: &Exchange, words: &str) {
+pub fn run(said: &mut AnswerWords, told: &Exchange, words: &str) {
     let mut broker = Broker::new(said.alloc());
     put_run(said, &mut broker, told, case_of(words));
 }
 
 /// A run in a case, and then another in which no call fails.
-pub fn again(said: &mut Said, told: &Exchange, words: &str) {
+pub fn again(said: &mut AnswerWords, told: &Exchange, words: &str) {
     let mut broker = Broker::new(said.alloc());
     let case = case_of(words);
     put_run(said, &mut broker, told, case);

@@ -3,7 +3,7 @@ ghost use Rattle.std.specs.Prelude.{◌≡◌, Some, None, map};
 ghost use Rattle.ctf_wire.specs.Flushes.{Flushes};
 ghost use Rattle.ctf_wire.specs.Streams.{Pushed};
 
-use crate::collected::Said;
+use crate::collected::AnswerWords;
 use crate::transcripts::outcomes::Exchange;
 use ctf_wire::{Broker, FromReader, Sink, serve};
 use std::alloc::{AllocError, Global};
@@ -74,7 +74,7 @@ fn on_shelf(alloc: Global, before: &[u8], input: &[u8]) -> Result<Vec<u8>, Alloc
 }
 
 /// What is on the shelf after a run, after a text that waited there.
-pub fn put_shelf(said: &mut Said, told: &Exchange, before: &str) {
+pub fn put_shelf(said: &mut AnswerWords, told: &Exchange, before: &str) {
     let Ok(shelf) = on_shelf(said.alloc(), before.as_bytes(), &told.input) else {
         return said.word("no memory");
     };

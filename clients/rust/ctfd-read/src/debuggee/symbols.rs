@@ -99,8 +99,8 @@ fn symbols_of<'a>(entries: &[Entry], names: Names<'a>) -> Result<Vec<ProgramSymb
     let mut listed = Vec::new();
     let mut source: &[u8] = &[];
     for (number, one) in entries.iter().enumerate() {
-        let is_told = matches!(one.kind, elf::STT_OBJECT | elf::STT_FUNC);
-        if !is_told && one.kind != elf::STT_FILE {
+        let is_typed = matches!(one.kind, elf::STT_OBJECT | elf::STT_FUNC);
+        if !is_typed && one.kind != elf::STT_FILE {
             continue;
         }
         let name = names.at(one.name.into()).unwrap_or_default();

@@ -121,10 +121,10 @@ impl Sides<'_, '_, '_> {
         let other = self.after.catalog.record(new).of;
         let (was, now) = (self.before.text(one), self.after.text(other));
         let breaks = self.before.value(one) != self.after.value(other);
-        let is_told = was != now || breaks && !is_told(self.before, one);
+        let is_reported = was != now || breaks && !is_reported(self.before, one);
         let said =
             Difference { breaks, ..Difference::breaking("type", format!("is {now}, was {was}")) };
-        is_told.then(|| said.from(Datum::text(&*was), Datum::text(&*now)))
+        is_reported.then(|| said.from(Datum::text(&*was), Datum::text(&*now)))
     }
 
     fn numbers(&self, old: Number, new: Number) -> Vec<Difference> {
@@ -172,7 +172,7 @@ fn other_kind(before: Option<Kind>, after: Option<Kind>) -> Difference {
 }
 
 /// Whether changes of the type that a typedef names are reported for that type itself.
-fn is_told(side: &Side<'_, '_>, mut number: Number) -> bool {
+fn is_reported(side: &Side<'_, '_>, mut number: Number) -> bool {
     while is_renaming(side.catalog.kind(number)) && side.key(number).is_none() {
         number = side.catalog.record(number).of;
     }

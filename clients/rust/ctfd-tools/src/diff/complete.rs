@@ -13,12 +13,12 @@ pub fn incomparable(old: Lost<'_>, new: Lost<'_>) -> Vec<String> {
     let mut made = Vec::new();
     for (one, other) in [(old, new), (new, old)] {
         let (here, there) = (counts(one.1), counts(other.1));
-        let is_told = |line: &&String| {
+        let is_incomparable = |line: &&String| {
             let line = line.as_str();
             line.contains(LEFT_OUT) || here[line] > there.get(line).copied().unwrap_or(0)
         };
         let mut seen = HashSet::new();
-        let lines = one.1.iter().filter(|line| seen.insert(*line)).filter(is_told);
+        let lines = one.1.iter().filter(|line| seen.insert(*line)).filter(is_incomparable);
         made.extend(lines.map(|line| format!("{}: not compared: {line}", one.0)));
     }
     made

@@ -82,7 +82,7 @@ pub fn difference(sides: &Sides<'_, '_, '_>, one: &Export<'_>, other: &Export<'_
             found.said.extend(sides.qualifiers(*was, *now));
             found
         }
-        _ => Findings::of(untold(one, other, was.is_some(), now.is_some())),
+        _ => Findings::of(untyped(one, other, was.is_some(), now.is_some())),
     }
 }
 
@@ -96,13 +96,18 @@ pub fn size(one: &Export<'_>, other: &Export<'_>) -> Option<Difference> {
 }
 
 /// The differences of symbols if at least one has no known type.
-fn untold(one: &Export<'_>, other: &Export<'_>, was_told: bool, is_told: bool) -> Vec<Difference> {
+fn untyped(
+    one: &Export<'_>,
+    other: &Export<'_>,
+    was_typed: bool,
+    is_typed: bool,
+) -> Vec<Difference> {
     let mut said: Vec<Difference> = size(one, other).into_iter().collect();
     if one.is_of_threads && other.is_of_threads {
         let text = "CTF has no types of thread-local variables: it is not compared";
         said.push(Difference::harmless(UNTOLD, text).of(one.label()));
-    } else if was_told != is_told {
-        let which = if is_told { "old" } else { "new" };
+    } else if was_typed != is_typed {
+        let which = if is_typed { "old" } else { "new" };
         let text = format!("its type is missing in the {which}, and not compared");
         said.push(Difference::harmless(UNTOLD, text).of(one.label()));
     }

@@ -114,7 +114,7 @@ impl Guard<'_, '_, '_> {
             made.push(Change::new(node.label, node.kind, Fate::Changed, node.found.said));
         }
         let come = self.new.listed.iter().filter(|one| self.old.matching(one).is_none());
-        let come = come.filter(|one| self.is_told(one, SymbolChange::Added));
+        let come = come.filter(|one| self.is_compared(one, SymbolChange::Added));
         made.extend(come.map(exported::addition));
         made
     }
@@ -122,10 +122,10 @@ impl Guard<'_, '_, '_> {
     fn compare_symbols(&mut self) {
         for one in &self.old.listed {
             match self.new.matching(one) {
-                None if self.is_told(one, SymbolChange::Deleted) => {
+                None if self.is_compared(one, SymbolChange::Deleted) => {
                     self.removed.push(exported::removal(one));
                 }
-                Some(other) if self.is_told(one, SymbolChange::OfType) => {
+                Some(other) if self.is_compared(one, SymbolChange::OfType) => {
                     let found = exported::difference(&self.sides, one, other);
                     let size = exported::size(one, other);
                     let node = Node::new(exported::label(one), one.kind.word(), found);
@@ -137,7 +137,7 @@ impl Guard<'_, '_, '_> {
         self.symbols = self.nodes.len();
     }
 
-    fn is_told(&self, one: &Export<'_>, change: SymbolChange) -> bool {
+    fn is_compared(&self, one: &Export<'_>, change: SymbolChange) -> bool {
         !self.choice.leaves_out_symbol(&exported::plain_label(one), one, change)
     }
 

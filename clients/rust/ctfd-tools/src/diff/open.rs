@@ -10,7 +10,7 @@ use crate::types::crowded::{is_crowded, CROWDED};
 use crate::types::failure::{Failure, Outcome};
 use crate::types::names::Names;
 use crate::types::open::{display_path, judge_model, with_catalog, without_parent, Parents};
-use crate::types::symbol_lists::is_told;
+use crate::types::symbol_lists::has_symbol_types;
 use ctfd_read::beyond::Beyond;
 use ctfd_read::declared::SourceFiles;
 use ctfd_read::exports::{exports, Exports};
@@ -66,7 +66,7 @@ impl<'o, 'd> OpenFile<'o, 'd> {
         let (Some(table), true) = (&self.handed.symbols, self.image.is_elf()) else {
             return Ok(None);
         };
-        if !is_told(self.handed.origin) {
+        if !has_symbol_types(self.handed.origin) {
             return Ok(None);
         }
         let strings = self.handed.strings.as_deref().unwrap_or_default();

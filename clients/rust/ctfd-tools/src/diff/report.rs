@@ -175,8 +175,8 @@ impl Report<'_> {
             self.left.push("the pointers of the two differ in size".to_owned());
         }
         for (path, origin) in [(old.path(), old.handed.origin), (new.path(), new.handed.origin)] {
-            let is_told = !origin.warning().is_empty() && origin != Origin::Guessed;
-            self.left.extend(is_told.then(|| format!("{path}: {}", origin.warning())));
+            let has_warning = !origin.warning().is_empty() && origin != Origin::Guessed;
+            self.left.extend(has_warning.then(|| format!("{path}: {}", origin.warning())));
         }
         let (beyond_old, beyond_new) = (old.beyond(), new.beyond());
         let (old_path, new_path) = (old.path(), new.path());

@@ -215,12 +215,12 @@ impl Rule {
         let name = name.map_or(label.as_str(), |(_, name)| name);
         let kind = kind_of(record.kind);
         let mut files = sources.of_type(kind, name.as_bytes()).peekable();
-        let is_told = files.peek().is_some();
+        let has_source = files.peek().is_some();
         let files: Vec<&[u8]> = files.collect();
         let is_kept = |listed: &Vec<Vec<u8>>| {
-            !is_told || files.iter().any(|file| listed.iter().any(|one| one == file))
+            !has_source || files.iter().any(|file| listed.iter().any(|one| one == file))
         };
-        let is_elsewhere = |one: &Condition| is_told && files.iter().all(|file| one.meets(file));
+        let is_elsewhere = |one: &Condition| has_source && files.iter().all(|file| one.meets(file));
         self.names.iter().all(|one| one.meets(name.as_bytes()))
             && !self.kept_sources.as_ref().is_some_and(is_kept)
             && self.sources.iter().all(is_elsewhere)

@@ -84,8 +84,8 @@ fn run(words: &Words, output: &mut Output) -> Outcome<u8> {
         match report::file(words, &parents, path, &mut titled) {
             Ok(is_whole) => {
                 titled.begin()?;
-                let is_told = matches!(words.question, options::Question::Show(_));
-                status = if is_whole || is_told { status } else { FAILED };
+                let is_show = matches!(words.question, options::Question::Show(_));
+                status = if is_whole || is_show { status } else { FAILED };
             }
             Err(Failure::Unknown(said)) => missed.push(said),
             Err(failure) => return Err(failure),

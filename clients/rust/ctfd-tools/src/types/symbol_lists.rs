@@ -11,7 +11,7 @@ const OBJECT: u8 = 1;
 const FUNCTION: u8 = 2;
 
 /// Whether symbols of this origin have types.
-pub fn is_told(origin: Origin) -> bool {
+pub fn has_symbol_types(origin: Origin) -> bool {
     matches!(origin, Origin::Named | Origin::Linked | Origin::Guessed | Origin::Given)
 }
 
@@ -46,7 +46,7 @@ pub fn symbol_lists<'h>(handed: &'h LibraryInput<'_>) -> Vec<SymbolList<'h>> {
 
 /// The symbols with types, without those of repeated names.
 pub fn told_symbols(catalog: &Catalog<'_>, handed: &LibraryInput<'_>) -> Vec<ToldSymbol> {
-    if !is_told(handed.origin) {
+    if !has_symbol_types(handed.origin) {
         return Vec::new();
     }
     let mut known = HashSet::new();

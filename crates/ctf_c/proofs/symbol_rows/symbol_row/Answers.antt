@@ -34,6 +34,6 @@ returns c =
     let status = c.give_type-type_status.result in
     let tnum = c.give_type-type_status.new.out in
     symbol_told d c.args.number c.symbol_parts-parts.result.sym.now c.symbol_at-bytes.result.now (record { name_at = place.at; name_list = place.list; number = c.args.number; symbol_class = c.symbol_class-class.result; type_status = status; tnum = tnum }) table c.requires.there c.symbol_at-bytes.ensures refl c.symbol_class-class.ensures
-    (λ is. subst (λ (r : Result ℕ Fault). Gives r status 0 tnum) (c.type_told.ensures.function is) c.give_type-type_status.ensures)
-    (λ other. subst (λ (r : Result ℕ Fault). Gives r status 0 tnum) (c.type_told.ensures.object other) c.give_type-type_status.ensures)
+    (λ is. subst (λ (r : Result ℕ Fault). Gives r status 0 tnum) (c.symbol_type.ensures.function is) c.give_type-type_status.ensures)
+    (λ other. subst (λ (r : Result ℕ Fault). Gives r status 0 tnum) (c.symbol_type.ensures.object other) c.give_type-type_status.ensures)
     (rw c.u32_at.ensures at (c.symbol_position-place.ensures d.own.lists c.requires.ends))

@@ -41,7 +41,7 @@ returns-in_err-walked-clause-late c =
     let part = types_are s.ctf c.bytes_in-types.result.now c.bytes_in-types.ensures.bytes in
     rw (p.1, p.2) (inr (at_records s c.in_err-walked.field-0.0 c.in_ok-header.ensures.exact_ok (ap records_fault (sym part) ∙ c.in_err-walked.ensures.exact_err)))
 
--- the tables of names are those of the lists
+-- the string tables are those of the lists
 same_tables : (t : Tables) (s : Lists) (internal : List ℕ) → t ≡ record { internal = internal; elf = s.strs } → internal ≡ (tables_of s).internal → t ≡ tables_of s
 same_tables t s internal e i = rw (e, i) refl
 
@@ -68,7 +68,7 @@ returns-in-Some-clause-late c =
     let all = at_names s c.bad_name.result c.in_ok-header.ensures.exact_ok (ap records_fault (sym part) ∙ c.in_ok-walked.ensures.exact_ok) bad in
     inr (rw c.in-Some.is at all)
 
--- a dictionary is a child by its parent's name
+-- a dictionary with a parent's name is a child
 same_child : (n : ℕ) (g h : Fields) → n ≡ g.parname → g ≡ h → not (eqb n 0) ≡ is_child h
 same_child n g h e f = rw (e, f) refl
 

@@ -3,7 +3,7 @@ use Rattle.std.specs.Option.{IfSome, option_map}
 use Rattle.std.proofs.lemmas.List.{length-take, take_all}
 use Rattle.ctf_command.proofs.files.read_whole.Goals as goal
 
--- what fits in the limit and is not cut is all of it
+-- a file within the limit that is not cut off is complete
 whole : (left : Option (List ℕ)) (items : List ℕ) (limit longest : ℕ) → limit ≡ longest + 1 → length items ≤ longest
     → IfSome (option_map (take limit) left) (λ xs. items ≡ [] ++ xs) → IfSome left (λ bytes. items ≡ bytes)
 whole None items limit longest e few h = h

@@ -1,7 +1,7 @@
 use Rattle.std.proofs.Common.{List, ℕ, ap, ◌∙◌}
 use Rattle.std.specs.List.{list_any}
 use Rattle.std.specs.Str.{bytes_eq}
-use Rattle.ctf_draft.proofs.TakenNames.{enumerators_kept}
+use Rattle.ctf_draft.proofs.NamesInUse.{enumerators_kept}
 use Rattle.ctf_draft.proofs.pushing.push_enumerator.Goals as goal
 
 pub add-requires : goal.add-requires

@@ -18,7 +18,7 @@ use Rattle.ctf_dump.proofs.lists.dump_inputs.Goals as goal
 over_is : (i : Inputs) → (p : InputFile) → i.parent ≡ Some p → kept_space (own_kept i) (Some (parent_kept i p)) ≡ space_in i
 over_is i p parent = rw parent refl
 
--- the one over the other is judged last
+-- the check of the dictionary over its parent comes last
 refusal_is : (i : Inputs) → (p : InputFile) → i.parent ≡ Some p → first_fault (own_lists i) ≡ None → first_fault (parent_lists p) ≡ None → in_file i.ctf (fault_over (own_kept i) (parent_kept i p)) ≡ refusal i
 refusal_is i p parent own its = rw (parent, own, its) refl
 
@@ -45,25 +45,25 @@ returns-in-None-clause-begun g c =
 pub returns-clause-written : goal.returns-clause-written
 returns-clause-written g c =
     let same = over_is c.args.inputs.now c.in-Some.file c.in-Some.is in
-    let told = rw (c.in_ok-own.ensures.ok, c.in_ok-parent-in-Some.ensures.ok) at c.dump_over.ensures.written in
-    subst (λ (s : Space). OnOk c.dump_over.result (Appends (g.W.Write.contents c.args.out.now) (g.W.Write.contents c.dump_over.new.out) (dump s))) same told
+    let info = rw (c.in_ok-own.ensures.ok, c.in_ok-parent-in-Some.ensures.ok) at c.dump_over.ensures.written in
+    subst (λ (s : Space). OnOk c.dump_over.result (Appends (g.W.Write.contents c.args.out.now) (g.W.Write.contents c.dump_over.new.out) (dump s))) same info
 
 pub returns-clause-begun : goal.returns-clause-begun
 returns-clause-begun g c =
     let same = over_is c.args.inputs.now c.in-Some.file c.in-Some.is in
-    let told = rw (c.in_ok-own.ensures.ok, c.in_ok-parent-in-Some.ensures.ok) at c.dump_over.ensures.begun in
-    subst (λ (s : Space). IfErr c.dump_over.result (λ e. e ≡ Memory → HasBegun (g.W.Write.contents c.args.out.now) (g.W.Write.contents c.dump_over.new.out) (dump s))) same told
+    let info = rw (c.in_ok-own.ensures.ok, c.in_ok-parent-in-Some.ensures.ok) at c.dump_over.ensures.begun in
+    subst (λ (s : Space). IfErr c.dump_over.result (λ e. e ≡ Memory → HasBegun (g.W.Write.contents c.args.out.now) (g.W.Write.contents c.dump_over.new.out) (dump s))) same info
 
 pub returns-clause-exact_ok : goal.returns-clause-exact_ok
 returns-clause-exact_ok g c =
     let i = c.args.inputs.now in
     let same = refusal_is i c.in-Some.file c.in-Some.is c.in_ok-own.ensures.exact_ok c.in_ok-parent-in-Some.ensures.exact_ok in
-    let told = rw (c.in_ok-own.ensures.ok, c.in_ok-parent-in-Some.ensures.ok) at c.dump_over.ensures.exact_ok in
+    let info = rw (c.in_ok-own.ensures.ok, c.in_ok-parent-in-Some.ensures.ok) at c.dump_over.ensures.exact_ok in
     subst (λ (r : Option Refusal). OnOk c.dump_over.result (r ≡ None)) same
-    (on_ok_weaker c.dump_over.result (ap (in_file i.ctf)) told)
+    (on_ok_weaker c.dump_over.result (ap (in_file i.ctf)) info)
 
 pub returns-clause-exact_err : goal.returns-clause-exact_err
 returns-clause-exact_err g c =
     let same = refusal_is c.args.inputs.now c.in-Some.file c.in-Some.is c.in_ok-own.ensures.exact_ok c.in_ok-parent-in-Some.ensures.exact_ok in
-    let told = rw (c.in_ok-own.ensures.ok, c.in_ok-parent-in-Some.ensures.ok) at c.dump_over.ensures.exact_err in
-    subst (λ (r : Option Refusal). IfErr c.dump_over.result (λ e. EndsBy r e)) same told
+    let info = rw (c.in_ok-own.ensures.ok, c.in_ok-parent-in-Some.ensures.ok) at c.dump_over.ensures.exact_err in
+    subst (λ (r : Option Refusal). IfErr c.dump_over.result (λ e. EndsBy r e)) same info

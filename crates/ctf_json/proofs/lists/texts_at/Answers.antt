@@ -5,13 +5,13 @@ use Rattle.json.proofs.Grammar.{value_is}
 use Rattle.serde_json.specs.Data.{array, null}
 use Rattle.ctf_joined.specs.Joined.{texts}
 use Rattle.ctf_json.specs.Passed.{begun, tokens_behind, passed_value}
-use Rattle.ctf_json.specs.Told.{in_range, told, told_items}
-use Rattle.ctf_json.specs.Values.{is_text, text_said}
+use Rattle.ctf_json.specs.TreeData.{in_range, tree_data, items_data}
+use Rattle.ctf_json.specs.Values.{is_text, text_data}
 use Rattle.ctf_json.proofs.Listed.{SoFar, text_is, text_test, all_read, nothing_yet, one_more_read, other, refused_here, refused_later}
 use Rattle.ctf_json.proofs.lists.texts_at.Goals as goal
 
 pub loop-reader-init : goal.loop-reader-init
-loop-reader-init c = nothing_yet is_text text_test text_said c.args.depth c.args.reader.now (texts c.new-texts.result) c.new-texts.ensures
+loop-reader-init c = nothing_yet is_text text_test text_data c.args.depth c.args.reader.now (texts c.new-texts.result) c.new-texts.ensures
 
 pub returns-in_err-token-clause-refused : goal.returns-in_err-token-clause-refused
 returns-in_err-token-clause-refused c is =
@@ -19,7 +19,7 @@ returns-in_err-token-clause-refused c is =
     let going : (after_end_array l.reader ≡ None) × (c.take_end_array.new.self ≡ l.reader) = grind arith in
     let empty : c.take_end_array.new.self ≡ [] = grind arith in
     let none : passed_value c.args.depth l.reader ≡ None = ap (passed_value c.args.depth) (sym going.1 ∙ empty) ∙ ap (tokens_behind in_range) (value_is c.args.depth []) in
-    refused_here is_text text_test text_said c.args.depth c.args.reader.now l.reader (texts l.texts) l.invariant going.0 none
+    refused_here is_text text_test text_data c.args.depth c.args.reader.now l.reader (texts l.texts) l.invariant going.0 none
 
 pub returns-in_err-pass_from-clause-refused : goal.returns-in_err-pass_from-clause-refused
 returns-in_err-pass_from-clause-refused c is =
@@ -27,14 +27,14 @@ returns-in_err-pass_from-clause-refused c is =
     let going : (after_end_array l.reader ≡ None) × (c.take_end_array.new.self ≡ l.reader) = grind arith in
     let first : c.take_end_array.new.self ≡ token_of c.in_ok-token.token ∷ c.next_item.new.self = grind arith in
     let failed : passed_value c.args.depth (token_of c.in_ok-token.token ∷ c.next_item.new.self) ≡ None = c.in_err-pass_from.ensures.passed in
-    refused_here is_text text_test text_said c.args.depth c.args.reader.now l.reader (texts l.texts) l.invariant going.0 (ap (passed_value c.args.depth) (sym going.1 ∙ first) ∙ failed)
+    refused_here is_text text_test text_data c.args.depth c.args.reader.now l.reader (texts l.texts) l.invariant going.0 (ap (passed_value c.args.depth) (sym going.1 ∙ first) ∙ failed)
 
 pub returns-in_err-pass_items-clause-refused : goal.returns-in_err-pass_items-clause-refused
 returns-in_err-pass_items-clause-refused c is =
     let l = c.loop-reader in
     let going : (after_end_array l.reader ≡ None) × (c.take_end_array.new.self ≡ l.reader) = grind arith in
     let first : c.take_end_array.new.self ≡ token_of c.in_ok-token.token ∷ c.next_item.new.self = grind arith in
-    refused_later is_text text_test text_said c.args.depth c.args.reader.now l.reader (texts l.texts) (token_of c.in_ok-token.token) c.next_item.new.self c.pass_from.new.reader l.invariant going.0 (sym going.1 ∙ first) c.in_ok-pass_from.ensures.passed c.in_err-pass_items.ensures.passed
+    refused_later is_text text_test text_data c.args.depth c.args.reader.now l.reader (texts l.texts) (token_of c.in_ok-token.token) c.next_item.new.self c.pass_from.new.reader l.invariant going.0 (sym going.1 ∙ first) c.in_ok-pass_from.ensures.passed c.in_err-pass_items.ensures.passed
 
 pub returns-in_default-clause-ok : goal.returns-in_default-clause-ok
 returns-in_default-clause-ok c =
@@ -42,9 +42,9 @@ returns-in_default-clause-ok c =
     let t = token_of c.in_ok-token.token in
     let going : (after_end_array l.reader ≡ None) × (c.take_end_array.new.self ≡ l.reader) = grind arith in
     let first : c.take_end_array.new.self ≡ t ∷ c.next_item.new.self = grind arith in
-    let not : is_text (told (begun t)) ≡ false = ap is_some (sym c.in_default.ensures) in
-    let o = other is_text text_test text_said c.args.depth c.args.reader.now l.reader (texts l.texts) t c.next_item.new.self c.pass_from.new.reader c.pass_items.new.reader l.invariant going.0 (sym going.1 ∙ first) c.in_ok-pass_from.ensures.passed not c.in_ok-pass_items.ensures.passed in
-    (o.0, o.1, o.2, ap (λ b. cond b (array (told_items o.0)) null) o.3)
+    let not : is_text (tree_data (begun t)) ≡ false = ap is_some (sym c.in_default.ensures) in
+    let o = other is_text text_test text_data c.args.depth c.args.reader.now l.reader (texts l.texts) t c.next_item.new.self c.pass_from.new.reader c.pass_items.new.reader l.invariant going.0 (sym going.1 ∙ first) c.in_ok-pass_from.ensures.passed not c.in_ok-pass_items.ensures.passed in
+    (o.0, o.1, o.2, ap (λ b. cond b (array (items_data o.0)) null) o.3)
 
 pub loop-reader-preserved : goal.loop-reader-preserved
 loop-reader-preserved c =
@@ -53,13 +53,13 @@ loop-reader-preserved c =
     let going : (after_end_array l.reader ≡ None) × (c.take_end_array.new.self ≡ l.reader) = grind arith in
     let first : c.take_end_array.new.self ≡ t ∷ c.next_item.new.self = grind arith in
     let x = c.in-Some.text.now in
-    let is = text_is (told (begun t)) x c.in-Some.ensures in
+    let is = text_is (tree_data (begun t)) x c.in-Some.ensures in
     let pushed : texts c.push.new.self ≡ texts l.texts ++ x ∷ [] = grind arith in
-    subst (λ xs. SoFar is_text text_test text_said c.args.depth c.args.reader.now xs c.next_item.new.self) (sym pushed)
-    (one_more_read is_text text_test text_said c.args.depth c.args.reader.now l.reader (texts l.texts) x t c.next_item.new.self l.invariant going.0 (sym going.1 ∙ first) is.0 is.1)
+    subst (λ xs. SoFar is_text text_test text_data c.args.depth c.args.reader.now xs c.next_item.new.self) (sym pushed)
+    (one_more_read is_text text_test text_data c.args.depth c.args.reader.now l.reader (texts l.texts) x t c.next_item.new.self l.invariant going.0 (sym going.1 ∙ first) is.0 is.1)
 
 pub returns-clause-ok : goal.returns-clause-ok
 returns-clause-ok c =
     let l = c.loop-reader in
-    let a = all_read is_text text_test text_said c.args.depth c.args.reader.now l.reader c.take_end_array.new.self (texts l.texts) l.invariant (grind arith) in
-    (a.0, a.1, a.2, ap (λ b. cond b (array (told_items a.0)) null) a.3 ∙ ap array a.4)
+    let a = all_read is_text text_test text_data c.args.depth c.args.reader.now l.reader c.take_end_array.new.self (texts l.texts) l.invariant (grind arith) in
+    (a.0, a.1, a.2, ap (λ b. cond b (array (items_data a.0)) null) a.3 ∙ ap array a.4)

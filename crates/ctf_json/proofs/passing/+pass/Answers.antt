@@ -4,7 +4,7 @@ use Rattle.json.specs.Token.{Token}
 use Rattle.json.specs.Reads.{token_of}
 use Rattle.json.proofs.Grammar.{value_is, value-begin_array, value-begin_object, read_key-shorter, items_end, members_end, members_no_key}
 use Rattle.serde_json.specs.Read.{number_of}
-use Rattle.ctf_json.specs.Told.{in_range, items_in_range, members_in_range}
+use Rattle.ctf_json.specs.TreeData.{in_range, items_in_range, members_in_range}
 use Rattle.ctf_json.specs.Passed.{tokens_behind, passed_items, passed_members, passed_value}
 use Rattle.ctf_json.proofs.Left.{left_key}
 use Rattle.ctf_json.proofs.Turns.{passed-array, passed-object, pass_item, pass_member, refuse_item, refuse_member}

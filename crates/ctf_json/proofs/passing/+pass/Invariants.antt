@@ -1,7 +1,7 @@
 use Rattle.std.proofs.Common.{◌≡◌, ℕ, ◌+◌, ◌*◌, ◌≤◌, length}
 use Rattle.json.specs.Json.{items, members, value}
 use Rattle.ctf_json.specs.Memory.{IsLeft}
-use Rattle.ctf_json.specs.Told.{items_in_range, members_in_range}
+use Rattle.ctf_json.specs.TreeData.{items_in_range, members_in_range}
 use Rattle.ctf_json.specs.Passed.{tokens_behind, passed_items, passed_members}
 use Rattle.ctf_json.proofs.passing.+pass.Given as goal
 

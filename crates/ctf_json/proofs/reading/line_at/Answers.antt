@@ -4,9 +4,9 @@ use Rattle.json.specs.Token.{Token}
 use Rattle.json.specs.Reads.{token_of}
 use Rattle.json.proofs.Grammar.{value_is, value-begin_object}
 use Rattle.ctf_json.specs.Passed.{tokens_behind, passed_members, passed_value}
-use Rattle.ctf_json.specs.Told.{in_range}
+use Rattle.ctf_json.specs.TreeData.{in_range}
 use Rattle.ctf_json.specs.Kept.{AreKept}
-use Rattle.ctf_json.specs.Values.{IsNew, line_said}
+use Rattle.ctf_json.specs.Values.{IsNew, line_data}
 use Rattle.ctf_json.proofs.Kept.{nothing_kept}
 use Rattle.ctf_json.proofs.Turns.{passed-object}
 use Rattle.ctf_json.proofs.reading.line_at.Goals as goal
@@ -15,7 +15,7 @@ pub returns-then-take_object-clause-ok : goal.returns-then-take_object-clause-ok
 returns-then-take_object-clause-ok c =
     let ts = c.take_object.new.self in
     let opened = ap (value 127) c.if-take_object.ensures ∙ value-begin_object 127 ts (omega arith) in
-    let P : Option (Json × List Token) → Type 0 = λ read. OnOk c.members_at.result (AreKept (IsNew c.args.line.now) read (line_said c.members_at.new.line) c.members_at.new.reader) in
+    let P : Option (Json × List Token) → Type 0 = λ read. OnOk c.members_at.result (AreKept (IsNew c.args.line.now) read (line_data c.members_at.new.line) c.members_at.new.reader) in
     subst P (sym opened) c.members_at.ensures.ok
 
 pub returns-then-take_object-clause-refused : goal.returns-then-take_object-clause-refused
@@ -49,5 +49,5 @@ returns-clause-ok c =
     let ts = c.next.new.self in
     let rest = c.pass_from.new.reader in
     let first : c.args.reader.now ≡ token_of t ∷ ts = grind arith in
-    let k = nothing_kept 127 t ts rest (line_said c.args.line.now) c.in_default.not-BeginObject c.in_ok-pass_from.ensures.passed in
+    let k = nothing_kept 127 t ts rest (line_data c.args.line.now) c.in_default.not-BeginObject c.in_ok-pass_from.ensures.passed in
     (k.0, ap (value 127) first ∙ k.1, k.2, k.3)

@@ -5,12 +5,12 @@ use Rattle.serde_json.specs.Find.{get}
 use Rattle.ctf_json.specs.Keys.{place_in, wanted_at}
 use Rattle.ctf_json.specs.Kept.{kept_data}
 use Rattle.ctf_json.specs.Passed.{tokens_behind}
-use Rattle.ctf_json.specs.Told.{in_range, members_in_range, told}
-use Rattle.ctf_json.specs.Values.{keys, line_said}
+use Rattle.ctf_json.specs.TreeData.{in_range, members_in_range, tree_data}
+use Rattle.ctf_json.specs.Values.{keys, line_data}
 use Rattle.ctf_json.proofs.Fronts.{mapped, none_before, one_member_more, then_last, unmoved}
 use Rattle.ctf_json.proofs.Kept.{last_kept, not_one, other_kept}
 use Rattle.ctf_json.proofs.Left.{all_left, left_key}
-use Rattle.ctf_json.proofs.Telling.{get-told}
+use Rattle.ctf_json.proofs.Telling.{get-tree_data}
 use Rattle.ctf_json.proofs.Turns.{passed-some, refuse_member, refused_behind}
 use Rattle.ctf_json.proofs.reading.members_at.Goals as goal
 use Rattle.std.specs.Prelude.{option_map}
@@ -91,7 +91,7 @@ loop-key-preserved-in-Continue-branch-3 c =
       one_member_more s.2 s.3 k j.0 s.5 j.2,
       omega (arith, s.6, less, lesser),
       (λ h. s.7 (left_key l.reader (Some k) ts key (done.left h))),
-      λ new q one. done.ok.2 q ∙ last_kept k q j.0 s.3 d (get q (line_said l.line)) j.3 (s.8 new q one),
+      λ new q one. done.ok.2 q ∙ last_kept k q j.0 s.3 d (get q (line_data l.line)) j.3 (s.8 new q one),
     )
 
 pub loop-key-preserved : goal.loop-key-preserved
@@ -116,7 +116,7 @@ loop-key-preserved c =
       one_member_more s.2 s.3 k j.0 s.5 j.2,
       omega (arith, s.6, less, lesser),
       (λ h. s.7 (left_key l.reader (Some k) ts key (c.in_ok-pass_unknown.ensures.left h))),
-      λ new q one. other_kept k q j.0 s.3 (get q (line_said l.line)) (not_one k keys nowhere) one (s.8 new q one),
+      λ new q one. other_kept k q j.0 s.3 (get q (line_data l.line)) (not_one k keys nowhere) one (s.8 new q one),
     )
 
 pub returns-clause-ok : goal.returns-clause-ok
@@ -129,5 +129,5 @@ returns-clause-ok c =
       object ms,
       ap (parse_map object) (s.4 ∙ ap (parse_map s.2) (members_end p s.0 l.reader r s.1 (grind arith))),
       s.5.good no_members,
-      λ new q one. s.8 new q one ∙ ap (option_map (kept_data (wanted_at q))) (ap (option_map told) (sym (s.5.last q no_members)) ∙ get-told q (object ms)),
+      λ new q one. s.8 new q one ∙ ap (option_map (kept_data (wanted_at q))) (ap (option_map tree_data) (sym (s.5.last q no_members)) ∙ get-tree_data q (object ms)),
     )

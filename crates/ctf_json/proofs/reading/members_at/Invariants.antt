@@ -4,8 +4,8 @@ use Rattle.serde_json.specs.Find.{get}
 use Rattle.ctf_json.specs.Keys.{wanted_at}
 use Rattle.ctf_json.specs.Kept.{kept_data}
 use Rattle.ctf_json.specs.Memory.{IsLeft}
-use Rattle.ctf_json.specs.Told.{is_one_of, told}
-use Rattle.ctf_json.specs.Values.{IsNew, keys, line_said}
+use Rattle.ctf_json.specs.TreeData.{is_one_of, tree_data}
+use Rattle.ctf_json.specs.Values.{IsNew, keys, line_data}
 use Rattle.ctf_json.proofs.Fronts.{Before}
 use Rattle.ctf_json.proofs.reading.members_at.Given as goal
 
@@ -16,7 +16,7 @@ invariant-loop-key l =
     × (members (value l.depth) (length l.initial.reader) l.initial.reader ≡ parse_map f (members (value l.depth) n l.reader))
     × Before f g × (length l.reader ≤ length l.initial.reader)
     × IsLeft l.initial.reader l.reader
-    × (IsNew l.initial.line → (q : List ℕ) → is_one_of q keys ≡ true → get q (line_said l.line) ≡ option_map (kept_data (wanted_at q)) (option_map told (g q)))
+    × (IsNew l.initial.line → (q : List ℕ) → is_one_of q keys ≡ true → get q (line_data l.line) ≡ option_map (kept_data (wanted_at q)) (option_map tree_data (g q)))
 
 abbrev pub decreases-loop-key : goal.decreases-loop-key
 decreases-loop-key l = length l.reader

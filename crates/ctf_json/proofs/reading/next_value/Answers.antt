@@ -6,7 +6,7 @@ use Rattle.ctf_json.specs.Keys.{wanted_at}
 use Rattle.ctf_json.specs.Kept.{list_data}
 use Rattle.ctf_json.specs.Memory.{list_among}
 use Rattle.ctf_json.specs.Passed.{tokens_behind, passed_items, passed_value}
-use Rattle.ctf_json.specs.Told.{in_range, told_items}
+use Rattle.ctf_json.specs.TreeData.{in_range, items_data}
 use Rattle.ctf_json.specs.Values.{data_of}
 use Rattle.ctf_json.proofs.Kept.{plain_kept}
 use Rattle.ctf_json.proofs.Turns.{passed-array}
@@ -40,7 +40,7 @@ returns-in-BeginArray-clause-ok c =
     let first : c.args.reader.now ≡ token_of c.in_ok-token.token ∷ ts = grind arith in
     let opened = ap (value d) (first ∙ ap (λ k. token_of k ∷ ts) c.in-BeginArray.is) ∙ value-begin_array d ts (omega arith) in
     let found = c.in_ok-list_at.ensures.ok in
-    (array found.0, opened ∙ ap (parse_map array) found.1, found.2, ap (λ w. list_data w (told_items found.0)) (sym c.wanted_list.ensures) ∙ found.3)
+    (array found.0, opened ∙ ap (parse_map array) found.1, found.2, ap (λ w. list_data w (items_data found.0)) (sym c.wanted_list.ensures) ∙ found.3)
 
 pub returns : goal.returns
 returns c =

@@ -1,6 +1,6 @@
 use Rattle.std.proofs.Common.{◌≡◌, None, [], arith}
 use Rattle.ctf_json.specs.Passed.{passed_value}
-use Rattle.ctf_json.specs.Values.{IsNew, line_said}
+use Rattle.ctf_json.specs.Values.{IsNew, line_data}
 use Rattle.ctf_json.proofs.Kept.{read-kept, read-refused}
 use Rattle.ctf_json.proofs.reading.read_line.Goals as goal
 
@@ -13,4 +13,4 @@ pub returns-clause-ok : goal.returns-clause-ok
 returns-clause-ok c new =
     let rest = c.line_at.new.reader in
     let last : rest ≡ [] = grind arith in
-    read-kept (IsNew c.args.line.now) c.args.text.now (line_said c.line_at.new.line) rest (rw (← c.in-Ok.ensures.ok) c.in_ok-line_at.ensures.ok) last new
+    read-kept (IsNew c.args.line.now) c.args.text.now (line_data c.line_at.new.line) rest (rw (← c.in-Ok.ensures.ok) c.in_ok-line_at.ensures.ok) last new

@@ -24,7 +24,7 @@ extent-returns-in-Some-clause-filled g t c =
     visited_before (g.T.Types.space c.args.types.now) c.args.i (table_kept c.args.table.now) c.args.work.now c.requires.knows
     (rw c.in-Some.ensures.0 c.in-Some.ensures.1)
 
--- ---- nothing else
+-- ---- extents that depend on no other type
 
 pub visit-returns-in-Itself : goal.visit-returns-in-Itself
 visit-returns-in-Itself g t c =

@@ -3,7 +3,7 @@ use Rattle.std.specs.Prelude.{codes}
 use Rattle.ctf_check.specs.TypedView.{term_in}
 use Rattle.ctf_model.specs.figures.Figures.{align, referred_type, resolved_type, size}
 use Rattle.ctf_model.specs.format.Shown.{kind_of, shape}
-use Rattle.ctf_model.specs.names.Found.{pointer_to}
+use Rattle.ctf_model.specs.names.Lookups.{pointer_to}
 use Rattle.ctf_model.specs.names.KindNames.{name_of_kind}
 use Rattle.ctf_model.specs.opened.Questions.{array_answered, encoding_answered, signature_answered}
 use Rattle.ctf_protocol.specs.answers.Answers.{says, word}

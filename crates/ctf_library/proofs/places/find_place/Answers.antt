@@ -19,11 +19,11 @@ returns-then-place-slots c =
     let end = c.if-place-slots.true in
     sym (nowhere n xs (λ j d lt e. let low = ltb-true (get_or xs j d).number n (halves.0 j d (omega arith) (omega (arith, end, lt))) in absurd (omega (arith, low, e))))
 
--- the number at the place
+-- the number at the index
 at_place : (xs : List own.Slot) (i : ℕ) (d e : own.Slot) → i < length xs → (get_or xs i d).number ≡ (get_or xs i e).number
 at_place xs i d e lt = ap (λ (s : own.Slot). s.number) (get_or_default xs i d e lt)
 
--- a number that isn't at the place is nowhere
+-- a number that is not at the index is nowhere
 by_side : (xs : List own.Slot) (n i j : ℕ) (d x : own.Slot) → Halves xs n i → IsNonDecreasingBy (λ (s : own.Slot). s.number) xs → i < length xs → j < length xs → (get_or xs i x).number ≢ n → (get_or xs j d).number ≡ n → ⊥
 by_side xs n i j d x halves rising inside lt other e = before (ltb j i) refl
   where

@@ -59,7 +59,7 @@ returns-in_default-clause-slots c =
 pub returns-in-Some-clause-rise : goal.returns-in-Some-clause-rise
 returns-in-Some-clause-rise c = λ next h. rise_set 0 c.args.slots.now.items next c.in-Some.place c.index_mut-slot.result.now _ (ap (λ (s : own.Slot). s.number) c.index_mut-slot.ensures.value) h
 
--- what its bytes are then
+-- the new bytes of the slot
 counted_at : (n : ℕ) (p : Kept) (old new : List Slot) (o : Option Slot) → slot_at n old ≡ o → new ≡ slots_with_parent n p old → IfSome o (λ slot. sum_by slot_bytes new + parent_bytes slot.parent ≡ sum_by slot_bytes old + kept_bytes p)
 counted_at n p old new None at is = tt
 counted_at n p old new (Some slot) at is = ap (λ (xs : List Slot). sum_by slot_bytes xs + parent_bytes slot.parent) is ∙ parent_more n p slot old at

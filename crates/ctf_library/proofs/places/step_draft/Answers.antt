@@ -56,7 +56,7 @@ returns-clause-counted c =
     let after = c.bytes-2.ensures in
     omega (arith, moved, less, replaced, counted, before, after)
 
--- as large as before, or within the quota
+-- the sum is as before, or within the quota
 small_after : (others all before after old new : ℕ) → others + all < 340282366920938463463374607431768211456 → before ≡ old → after ≡ new → old ≤ all → (new ≡ old) ⊎ (others + (all - before) + new ≤ quota) → others + ((all - before) + after) < 340282366920938463463374607431768211456
 small_after others all before after old new small b a le (inl same) = omega (arith, small, b, a, le, same)
 small_after others all before after old new small b a le (inr room) = omega (arith, b, a, room)

@@ -3,7 +3,7 @@ use Rattle.std.proofs.lemmas.List.{take_all, take_more}
 use Rattle.std.specs.Prelude.{option_and_then}
 use Rattle.std.specs.Option.{option_map}
 use Rattle.ctf_joined.specs.Joined.{texts}
-use Rattle.ctf_json.specs.Values.{text_said, texts_said}
+use Rattle.ctf_json.specs.Values.{text_data, texts_data}
 use Rattle.ctf_protocol.specs.lines.LineFields.{name_spelled, names_spelled, not_too_many}
 use Rattle.ctf_protocol.specs.lines.Text.{bytes_spelled_by}
 use Rattle.ctf_lines.proofs.Pushed.{short_more, short_of, spelled_short}
@@ -17,10 +17,10 @@ loop-place-preserved c =
     let one = get_or all l.place [] in
     let yes : c.spells_itself.result ≡ true = grind arith in
     let said : Some one ≡ option_and_then not_too_many (bytes_spelled_by one) = ap Some (sym c.text.ensures) ∙ c.spells_itself.ensures yes ∙ ap (λ t. option_and_then not_too_many (bytes_spelled_by t)) c.text.ensures in
-    let next = next_said text_said name_spelled all l.place [] (take l.place all) one (grind arith) said l.invariant.spelled in
+    let next = next_said text_data name_spelled all l.place [] (take l.place all) one (grind arith) said l.invariant.spelled in
     let more = take_more all l.place [] (grind arith) in
     record {
-      spelled = next ∙ ap (λ (names : List (List ℕ)). option_map (λ more. names ++ more) (names_spelled (texts_said (drop (l.place + 1) all)))) (sym more);
+      spelled = next ∙ ap (λ (names : List (List ℕ)). option_map (λ more. names ++ more) (names_spelled (texts_data (drop (l.place + 1) all)))) (sym more);
       short = short_of (take (l.place + 1) all) (take l.place all ++ one ∷ []) more (short_more (take l.place all) one l.invariant.short (spelled_short one (bytes_spelled_by one) said));
     }
 
@@ -31,6 +31,6 @@ returns c =
     let end : length all ≤ l.place = grind arith in
     let whole = take_all l.place all end in
     record {
-      spelled = λ _. all_said text_said name_spelled all l.place (take l.place all) end l.invariant.spelled ∙ ap Some whole;
+      spelled = λ _. all_said text_data name_spelled all l.place (take l.place all) end l.invariant.spelled ∙ ap Some whole;
       short = λ _. short_of all (take l.place all) (sym whole) l.invariant.short;
     }

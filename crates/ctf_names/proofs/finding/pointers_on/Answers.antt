@@ -1,7 +1,7 @@
 use Rattle.std.proofs.Common.{◌+◌, ◌-◌, sym, ap, ◌∙◌, arith}
 use Rattle.std.specs.Result.{result_map_both}
 use Rattle.std.proofs.lemmas.Result.{err_from_is_err_and}
-use Rattle.ctf_model.specs.names.Found.{pointers_on as pointed_of}
+use Rattle.ctf_model.specs.names.Lookups.{pointers_on as pointed_of}
 use Rattle.ctf_space.specs.SpaceView.{space_of}
 use Rattle.ctf_names.proofs.Steps.{at_end, fault_stays, one_further}
 use Rattle.ctf_names.proofs.finding.pointers_on.Goals as goal

@@ -1,5 +1,5 @@
 use Rattle.std.proofs.Common.{◌≡◌, ◌-◌, Ok}
-use Rattle.ctf_model.specs.names.Found.{pointers_on as pointed_of}
+use Rattle.ctf_model.specs.names.Lookups.{pointers_on as pointed_of}
 use Rattle.ctf_space.specs.SpaceView.{space_of}
 use Rattle.ctf_names.proofs.finding.pointers_on.Given as goal
 

@@ -1,6 +1,6 @@
 use Rattle.std.proofs.Common.{◌≡◌, Some, sym, ap, ◌∙◌}
 use Rattle.ctf_model.specs.format.Dictionary.{said_by}
-use Rattle.ctf_model.specs.names.Found.{first_place}
+use Rattle.ctf_model.specs.names.Lookups.{first_place}
 use Rattle.ctf_model.specs.spaces.TypePlaces.{own_number}
 use Rattle.std.specs.Option.{option_map}
 use Rattle.ctf_space.specs.SpaceView.{own_lists}

@@ -1,6 +1,6 @@
 use Rattle.std.proofs.Common.{◌≡◌, ◌+◌, ◌-◌, true, false, length, take, get_or, sym, ap, ◌∙◌, arith}
 use Rattle.std.proofs.lemmas.List.{take_more}
-use Rattle.ctf_model.specs.names.Found.{base as base_of, is_star_or_blank}
+use Rattle.ctf_model.specs.names.Lookups.{base as base_of, is_star_or_blank}
 use Rattle.ctf_names.proofs.WrittenTexts.{base_all, base_same}
 use Rattle.ctf_names.proofs.written.base.Goals as goal
 

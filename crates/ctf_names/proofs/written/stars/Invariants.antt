@@ -1,6 +1,6 @@
 use Rattle.std.proofs.Common.{◌≡◌, ◌≤◌, take}
 use Rattle.std.specs.List.{count_by}
-use Rattle.ctf_model.specs.names.Found.{is_star}
+use Rattle.ctf_model.specs.names.Lookups.{is_star}
 use Rattle.ctf_names.proofs.written.stars.Given as goal
 
 abbrev pub invariant-loop-b : goal.invariant-loop-b

@@ -5,7 +5,7 @@ use Rattle.ctf_check.specs.TypedView.{term_in}
 use Rattle.ctf_model.specs.figures.Figures.{incomplete}
 use Rattle.ctf_model.specs.values.Pieces.{ends}
 use Rattle.ctf_print.specs.ImageView.{memory_of, shows, types_of}
-use Rattle.ctf_print.specs.Telling.{told_shown}
+use Rattle.ctf_print.specs.ShowRules.{text_by_rule}
 use Rattle.ctf_print.proofs.Placings.{told_is}
 use Rattle.ctf_print.proofs.Tellings.{no_type_shown, none_shown, too_deep, type_shown}
 use Rattle.ctf_print.proofs.value_form.by_record.Goals as goal
@@ -19,9 +19,9 @@ returns-then-nesting-eq0-clause-fault c p =
 
 pub returns-clause-found : goal.returns-clause-found
 returns-clause-found c = record {
-  told = told_is (types_of c.args.image.now) c.args.number.0 (term_in c.in_ok-term.term) (shape_view c.shape.result) (rw c.in_ok-term.was at c.term.ensures) c.shape.ensures ∙ sym c.told_by.ensures;
+  rule = told_is (types_of c.args.image.now) c.args.number.0 (term_in c.in_ok-term.term) (shape_view c.shape.result) (rw c.in_ok-term.was at c.term.ensures) c.shape.ensures ∙ sym c.rule_by.ensures;
   fewer = omega (arith, c.if-nesting-eq0.false);
-  shown = λ p. type_shown (types_of c.args.image.now) (memory_of c.args.image.now) c.args.nesting c.args.number.0 p (term_in c.in_ok-term.term) (shape_view c.shape.result) c.if-nesting-eq0.false c.if-number-eq0.false (rw c.in_ok-term.was at c.term.ensures) c.shape.ensures ∙ ap (told_shown (types_of c.args.image.now) (memory_of c.args.image.now) (shows c.args.image.now (c.args.nesting - 1)) p) (sym c.told_by.ensures);
+  shown = λ p. type_shown (types_of c.args.image.now) (memory_of c.args.image.now) c.args.nesting c.args.number.0 p (term_in c.in_ok-term.term) (shape_view c.shape.result) c.if-nesting-eq0.false c.if-number-eq0.false (rw c.in_ok-term.was at c.term.ensures) c.shape.ensures ∙ ap (text_by_rule (types_of c.args.image.now) (memory_of c.args.image.now) (shows c.args.image.now (c.args.nesting - 1)) p) (sym c.rule_by.ensures);
 }
 
 pub returns-in_err-term-clause-fault : goal.returns-in_err-term-clause-fault

@@ -55,24 +55,24 @@ show_elements-returns-in_err-put_comma-clause-err t c =
     let next = at_element (shows c.args.image.now c.args.nesting) c.args.at c.args.array.contents.0 c.args.array.count c.in_ok-size.size c.loop-i.i (size_of (types_of c.args.image.now) c.args.array.contents.0) c.in_ok-size.ensures.found.0 c.loop-i-test.true in
     rw p.1 (first_refused c.args.pen.now.out c.loop-i.pen.out _ _ _ _ (c.loop-i.invariant.rest ∙ ap (written c.loop-i.pen.out) next) c.in_err-put_comma.ensures.err)
 
-pub show_elements-show_told-requires : goal.show_elements-show_told-requires
-show_elements-show_told-requires t c = (omega (arith, c.decreases, c.in_ok-size.ensures.found.1.fewer), (c.put_comma.ensures.kept ∙ c.loop-i.invariant.known ∙ c.requires.known, c.in_ok-size.ensures.found.1.told))
+pub show_elements-show_by_rule-requires : goal.show_elements-show_by_rule-requires
+show_elements-show_by_rule-requires t c = (omega (arith, c.decreases, c.in_ok-size.ensures.found.1.fewer), (c.put_comma.ensures.kept ∙ c.loop-i.invariant.known ∙ c.requires.known, c.in_ok-size.ensures.found.1.rule))
 
-pub show_elements-returns-in_err-show_told-clause-err : goal.show_elements-returns-in_err-show_told-clause-err
-show_elements-returns-in_err-show_told-clause-err t c =
-    let p = err_from_is_err_and c.from_residual-in_err-show_told.result c.from_residual-in_err-show_told.ensures.1 in
+pub show_elements-returns-in_err-show_by_rule-clause-err : goal.show_elements-returns-in_err-show_by_rule-clause-err
+show_elements-returns-in_err-show_by_rule-clause-err t c =
+    let p = err_from_is_err_and c.from_residual-in_err-show_by_rule.result c.from_residual-in_err-show_by_rule.ensures.1 in
     let next = at_element (shows c.args.image.now c.args.nesting) c.args.at c.args.array.contents.0 c.args.array.count c.in_ok-size.size c.loop-i.i (size_of (types_of c.args.image.now) c.args.array.contents.0) c.in_ok-size.ensures.found.0 c.loop-i-test.true in
     let here = counted (types_of c.args.image.now) (memory_of c.args.image.now) c.args.nesting c.args.array.contents.0 (c.args.at + 8 * c.in_ok-size.size * c.loop-i.i) (2 ^ 128 - 1) c.loop-i.place (omega arith) (omega (arith, c.loop-i.invariant.place)) in
-    rw p.1 (second_refused c.args.pen.now.out c.loop-i.pen.out _ _ _ _ _ (c.loop-i.invariant.rest ∙ ap (written c.loop-i.pen.out) next) c.put_comma.new.self.out c.in_ok-put_comma.ensures.ok (rw (sym here ∙ c.in_ok-size.ensures.found.1.shown c.loop-i.place) c.in_err-show_told.ensures.err))
+    rw p.1 (second_refused c.args.pen.now.out c.loop-i.pen.out _ _ _ _ _ (c.loop-i.invariant.rest ∙ ap (written c.loop-i.pen.out) next) c.put_comma.new.self.out c.in_ok-put_comma.ensures.ok (rw (sym here ∙ c.in_ok-size.ensures.found.1.shown c.loop-i.place) c.in_err-show_by_rule.ensures.err))
 
 pub show_elements-loop-i-preserved : goal.show_elements-loop-i-preserved
 show_elements-loop-i-preserved t c =
     let next = at_element (shows c.args.image.now c.args.nesting) c.args.at c.args.array.contents.0 c.args.array.count c.in_ok-size.size c.loop-i.i (size_of (types_of c.args.image.now) c.args.array.contents.0) c.in_ok-size.ensures.found.0 c.loop-i-test.true in
     let here = counted (types_of c.args.image.now) (memory_of c.args.image.now) c.args.nesting c.args.array.contents.0 (c.args.at + 8 * c.in_ok-size.size * c.loop-i.i) (2 ^ 128 - 1) c.loop-i.place (omega arith) (omega (arith, c.loop-i.invariant.place)) in
     record {
-      rest = two_ok c.args.pen.now.out c.loop-i.pen.out _ _ _ _ (c.loop-i.invariant.rest ∙ ap (written c.loop-i.pen.out) next) c.put_comma.new.self.out c.in_ok-put_comma.ensures.ok c.show_told.new.pen.out (rw (sym here ∙ c.in_ok-size.ensures.found.1.shown c.loop-i.place) c.in_ok-show_told.ensures.ok);
+      rest = two_ok c.args.pen.now.out c.loop-i.pen.out _ _ _ _ (c.loop-i.invariant.rest ∙ ap (written c.loop-i.pen.out) next) c.put_comma.new.self.out c.in_ok-put_comma.ensures.ok c.show_by_rule.new.pen.out (rw (sym here ∙ c.in_ok-size.ensures.found.1.shown c.loop-i.place) c.in_ok-show_by_rule.ensures.ok);
       place = omega (arith, c.saturating_add-place.ensures, c.from.ensures, c.loop-i.invariant.place);
-      known = c.show_told.ensures.kept ∙ c.put_comma.ensures.kept ∙ c.loop-i.invariant.known;
+      known = c.show_by_rule.ensures.kept ∙ c.put_comma.ensures.kept ∙ c.loop-i.invariant.known;
     }
 
 pub show_elements-returns-clause-ok : goal.show_elements-returns-clause-ok
@@ -92,25 +92,25 @@ show_member-returns-in_err-offset-clause-err t c m here =
     let p = err_from_is_err_and c.from_residual.result c.from_residual.ensures.1 in
     rw p.1 (c.in_err-offset.ensures.refused m here c.args.at)
 
-pub show_member-show_told-requires : goal.show_member-show_told-requires
-show_member-show_told-requires t c =
+pub show_member-show_by_rule-requires : goal.show_member-show_by_rule-requires
+show_member-show_by_rule-requires t c =
     let there = some_at c.args.members.now c.args.i c.requires.inside in
     let begun = c.in_ok-offset.ensures.begun there.0 there.1 in
-    (omega (arith, c.decreases, begun.found.fewer), (c.begin_member.ensures.kept ∙ c.requires.known, begun.found.told))
+    (omega (arith, c.decreases, begun.found.fewer), (c.begin_member.ensures.kept ∙ c.requires.known, begun.found.rule))
 
 pub show_member-returns-clause-ok : goal.show_member-returns-clause-ok
 show_member-returns-clause-ok t c m here =
     let begun = c.in_ok-offset.ensures.begun m here in
     let there = counted (types_of c.args.image.now) (memory_of c.args.image.now) c.args.nesting m.tnum (c.args.at + m.offset) (2 ^ 128 - 1) c.saturating_add-place.result (omega arith) (omega (arith, c.saturating_add-place.ensures, c.from.ensures, begun.place)) in
     let all = next_ok c.args.pen.now.out c.begin_member.new.self.out (label m.name) (shows c.args.image.now c.args.nesting m.tnum (c.args.at + m.offset)) begun.named in
-    rw all (rw (sym there ∙ begun.found.shown c.saturating_add-place.result) c.show_told.ensures.ok)
+    rw all (rw (sym there ∙ begun.found.shown c.saturating_add-place.result) c.show_by_rule.ensures.ok)
 
 pub show_member-returns-clause-err : goal.show_member-returns-clause-err
 show_member-returns-clause-err t c m here =
     let begun = c.in_ok-offset.ensures.begun m here in
     let there = counted (types_of c.args.image.now) (memory_of c.args.image.now) c.args.nesting m.tnum (c.args.at + m.offset) (2 ^ 128 - 1) c.saturating_add-place.result (omega arith) (omega (arith, c.saturating_add-place.ensures, c.from.ensures, begun.place)) in
     let all = next_ok c.args.pen.now.out c.begin_member.new.self.out (label m.name) (shows c.args.image.now c.args.nesting m.tnum (c.args.at + m.offset)) begun.named in
-    later_ended c.show_told.result _ _ _ _ _ all (rw (sym there ∙ begun.found.shown c.saturating_add-place.result) c.show_told.ensures.err)
+    later_ended c.show_by_rule.result _ _ _ _ _ all (rw (sym there ∙ begun.found.shown c.saturating_add-place.result) c.show_by_rule.ensures.err)
 
 pub show_each_member-loop-i-init : goal.show_each_member-loop-i-init
 show_each_member-loop-i-init t c = record {

@@ -27,8 +27,8 @@ decreases-show_each_member l = 5 * l.nesting + 2
 abbrev pub decreases-show_members : goal.decreases-show_members
 decreases-show_members l = 5 * l.nesting + 3
 
-abbrev pub decreases-show_told : goal.decreases-show_told
-decreases-show_told l = 5 * l.found.now.nesting + 4
+abbrev pub decreases-show_by_rule : goal.decreases-show_by_rule
+decreases-show_by_rule l = 5 * l.found.now.nesting + 4
 
 abbrev pub invariant-show_elements-loop-i : goal.invariant-show_elements-loop-i
 invariant-show_elements-loop-i l = record {

@@ -1,5 +1,5 @@
 use Rattle.ctf_writer.proofs.chains.deep.Given as goal
 
--- the ledger is the one of the blank
+-- the ledger is that of `blank`
 abbrev pub ghosts-deep_with : goal.ghosts-deep_with
 ghosts-deep_with a = record { name = a.blank.name; parts = a.blank.parts }

@@ -11,4 +11,4 @@ pub returns-clause-stands : goal.returns-clause-stands
 returns-clause-stands c =
     let P : Vec ℕ Global → Type 0 = λ bytes. written (dictionary_of c.of.result) ≡ Ok bytes.items in
     let Q : Vec ℕ Global → Type 0 = λ bytes. StandsFor c.args.draft.now.draft bytes.items in
-    IfOk-weaker c.write_held.result P Q (λ bytes is. stands_for c.args.draft.now.draft bytes.items c.of.ensures.sound (ap written (sym c.of.ensures.dictionary) ∙ is)) c.write_held.ensures.ok
+    IfOk-weaker c.write_content.result P Q (λ bytes is. stands_for c.args.draft.now.draft bytes.items c.of.ensures.sound (ap written (sym c.of.ensures.dictionary) ∙ is)) c.write_content.ensures.ok

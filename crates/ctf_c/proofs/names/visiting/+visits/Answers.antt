@@ -11,7 +11,7 @@ use Rattle.ctf_c.specs.names.MembersView.{members_at}
 use Rattle.ctf_c.specs.names.Visits.{inside, members_of, visit_of, placed_with}
 use Rattle.ctf_c.proofs.names.visiting.+visits.Goals as goal
 
--- ---- what lies in a type
+-- ---- nested members
 
 pub visit_inside-returns-then-left-eq0 : goal.visit_inside-returns-then-left-eq0
 visit_inside-returns-then-left-eq0 t c = filled_none (TellsIn (Some c.args.dictionary.now)) _ c.args.count c.args.rows.now (inside_end c.args.left (space_in c.args.dictionary.now) c.args.row.offset c.args.row.depth c.args.row.tnum c.if-left-eq0.true) c.requires.room

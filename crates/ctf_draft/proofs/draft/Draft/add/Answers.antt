@@ -19,7 +19,7 @@ use Rattle.ctf_draft.proofs.Views.{added, all_terms, one_type, seen, type_accept
 use Rattle.ctf_draft.proofs.draft.Draft.add.Goals as goal
 use Rattle.ctf_draft.proofs.draft.Draft.add.Goals.{In_ok-push_type}
 
--- the type is accepted
+-- the addition succeeds
 accepted : (c : In_ok-push_type) → add_type c.args.self.now.draft (new_of c.args.new) ≡ Ok (record { draft = seen c.self.inside.parname c.self.inside.parlabel (parent_in c.self.inside.parent) c.self.inside.model c.self.inside.updated c.self.inside.updated_labels (map type_of c.push_type.new.types.items) c.self.inside.labels; answer = c.next_number-number.result.0 })
 accepted c =
     let d = c.self.inside in

@@ -15,7 +15,7 @@ use Rattle.ctf_draft.proofs.Views.{all_labels, label_free, labelled, one_label, 
 use Rattle.ctf_draft.proofs.draft.Draft.label.Goals as goal
 use Rattle.ctf_draft.proofs.draft.Draft.label.Goals.{In_ok-push}
 
--- the label is accepted
+-- the addition succeeds
 accepted : (c : In_ok-push) → add_label c.args.self.now.draft (record { name = c.args.name; last = c.args.last }) ≡ Ok (seen c.self.inside.parname c.self.inside.parlabel (parent_in c.self.inside.parent) c.self.inside.model c.self.inside.updated c.self.inside.updated_labels (map type_of c.self.inside.types.items) c.push.new.self)
 accepted c =
     let d = c.self.inside in

@@ -1,5 +1,5 @@
 use Rattle.std.proofs.Common.{◌∙◌}
-use Rattle.ctf_draft.proofs.TakenNames.{enumerators_kept}
+use Rattle.ctf_draft.proofs.NamesInUse.{enumerators_kept}
 use Rattle.ctf_draft.proofs.types.DraftType.has_enumerator.Goals as goal
 
 pub returns-in-Enum : goal.returns-in-Enum

@@ -1,5 +1,5 @@
 use Rattle.std.proofs.Common.{◌∙◌}
-use Rattle.ctf_draft.proofs.TakenNames.{members_kept}
+use Rattle.ctf_draft.proofs.NamesInUse.{members_kept}
 use Rattle.ctf_draft.proofs.types.DraftType.has_member.Goals as goal
 
 pub returns-in-Aggregate : goal.returns-in-Aggregate

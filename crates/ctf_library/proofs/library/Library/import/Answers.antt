@@ -27,7 +27,7 @@ find_slot-requires-2 c = in_order _ _ _ c.deref-2.ensures.value c.self.invariant
 pub set_parent-requires-clause-order : goal.set_parent-requires-clause-order
 set_parent-requires-clause-order c = non_decreasing _ _ _ c.self.invariant.1
 
--- no draft is there
+-- there is no draft
 undrafted : {X : Type 0} (draft : Option X) → is_some draft ≡ false → draft ≡ None
 undrafted None none = refl
 undrafted (Some x) none = absurd cc

@@ -15,7 +15,7 @@ use Rattle.ctf_library.specs.Charged.{IsCounted}
 use Rattle.ctf_library.proofs.library.Library.part.Goals.{After-add}
 use Rattle.ctf_library.proofs.library.Library.part.Goals as goal
 
--- the sums, whether the piece was added or not
+-- the sums, whether or not the part was added
 counted : (c : After-add) → IsCounted c.self.inside.slots.items c.self.inside.published c.add.new.self c.self.inside.slot_bytes
 counted c =
     let charged = c.charge.ensures ∙ counted_charge _ _ _ _ _ _ c.self.view_is c.self.invariant.2 in

@@ -20,7 +20,7 @@ use Rattle.ctf_library.proofs.library.Library.publish.Goals as goal
 pub find_slot-requires : goal.find_slot-requires
 find_slot-requires c = in_order _ _ _ c.deref.ensures.value c.self.invariant.1
 
--- none are pending
+-- nothing is pending
 nothing_pending : (slot : Slot) (n : ℕ) → n ≡ pending_in slot.draft → n ≤ 0 → nat_lt 0 (pending_in slot.draft) ≡ false
 nothing_pending slot n is le = le-ltb 0 (pending_in slot.draft) (omega (arith, is, le))
 

@@ -12,7 +12,7 @@ use Rattle.ctf_protocol.specs.declared.requests.Change.{Change}
 use Rattle.ctf_protocol.specs.declared.requests.Request.TheVariants.{Changes}
 use Rattle.ctf_library.proofs.library.Library.step.Goals as goal
 
--- a step that was made, or one for which memory was refused
+-- a step that was made, or ran out of memory
 stays : (old new : State) (c : Change) (found : Option Kept) (reply : Reply) → Answered old (change_step old c found) reply new → IsGood old → FitsChange c → ForSome found IsFaultless → IsGood new
 stays old new c found reply (inl done) g fits h = subst IsGood (sym done.1) (steps_keep_good old (Changes c) found g fits h)
 stays old new c found reply (inr none) g fits h = subst IsGood (sym none.1) g

@@ -6,7 +6,7 @@ use Rattle.ctf_writer.specs.Offsets.{Entry, names_in}
 use Rattle.ctf_writer.proofs.Offsets.{none_where, entry_more, names_more, strings_more}
 use Rattle.ctf_writer.proofs.strings.Strings.push.Goals as goal
 
--- the entries have one more behind them
+-- the entries have one more at the end
 grown : (c : goal.In-Ok) → c.insert.new.self.entries ≡ c.args.self.now.offsets.entries ++ (c.args.name, c.args.self.now.len) ∷ []
 grown c = c.in-Ok.ensures.entries ∙ insert_entry-new _ c.args.self.now.offsets c.args.name c.args.self.now.len (none_where c.args.name.now c.args.self.now.offsets.entries c.requires.fresh)
 
