@@ -385,7 +385,7 @@ SESSIONS = [
 
 HELD = [
     HeldBytes("memory: 30 dictionaries of 32,766 typedefs", small_types, SMALL_SLOTS * SMALL_BYTES,
-              4.0),
+              3.0),
 ]
 
 

@@ -202,7 +202,7 @@ enum ctfd_status ctfd_open(struct ctfd *handle, const void *ctf, size_t ctf_len,
  * stay where they are, unchanged, until no handle has the dictionary, or has it as a parent by
  * ctfd_import or ctfd_create_child. A handle gives it up if a call closes it, or opens, creates or
  * imports another in its place; a refused call does not count. Allocates memory for tables: at most
- * 48 bytes for each type and 20 for each symbol. */
+ * 34 bytes for each type and 20 for each symbol stay allocated. */
 enum ctfd_status ctfd_open_lent(struct ctfd *handle, const void *ctf, size_t ctf_len,
     const void *sym, size_t sym_len, const void *strs, size_t strs_len, bool has_sym, bool has_strs,
     bool ilp32, uint64_t *place);

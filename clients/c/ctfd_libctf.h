@@ -193,8 +193,8 @@ enum {
 /* The last error of a file. A successful call does not change it. */
 int ctf_errno(ctf_file_t *fp);
 
-/* The text of an error, which begins with the name of its fault: "NoType: no type has this
- * number". */
+/* The text of an error. It begins with the name of a fault that has the number, as "NoType: no type
+ * has this number", except for numbers of one question's refusal, such as ECTF_NOTENUM. */
 const char *ctf_errmsg(int error);
 
 /* Not in libctf: the fault of the last error of a file; for NULL, that of the last call on this

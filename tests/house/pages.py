@@ -29,7 +29,7 @@ FOR_USERS = {
     "README.md": 1290,
     "clients/gdb/README.md": 3170,
     "clients/python/README.md": 3750,
-    "docs/C.md": 4700,
+    "docs/C.md": 4840,
     "docs/COMING-FROM.md": 2880,
     "docs/COOKBOOK.md": 4320,
     "docs/DUMP.md": 1150,
@@ -39,13 +39,13 @@ FOR_USERS = {
     "docs/LIMITS.md": 1580,
     "docs/PROTOCOL.md": 7200,
     "docs/SERVING.md": 3800,
-    "docs/STORE.md": 1440,
+    "docs/STORE.md": 1500,
     "docs/THEOREM.md": 1780,
 }
 FOR_MAINTAINERS = {
     "docs/ARCHITECTURE.md": 5040,
     "docs/CONTRIBUTING.md": 2350,
-    "docs/DECISIONS.md": 6260,
+    "docs/DECISIONS.md": 6400,
     "docs/GATE.md": 1310,
     "docs/PERFORMANCE.md": 4950,
     "docs/PROMISES.md": 3170,
@@ -54,7 +54,7 @@ FOR_MAINTAINERS = {
 }
 MOST = {**FOR_USERS, **FOR_MAINTAINERS}
 MOST_OF_A_CRATE = 200
-MOST_OF_DOCS = 57_500
+MOST_OF_DOCS = 58_300
 MOST_OF_A_SENTENCE = {**dict.fromkeys(FOR_USERS, 35), **dict.fromkeys(FOR_MAINTAINERS, 40)}
 MOST_IN_THE_MEAN = 25
 # Phrases that readers would have to guess at; each was in a text once.

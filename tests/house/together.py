@@ -39,8 +39,8 @@ from house.checking import TOP, check_says, command_over  # noqa: E402
 from house.crate_functions import Function, all_functions, functions  # noqa: E402
 from house.further_edits import CRATES, Edit, further, of_the_gate  # noqa: E402
 
-OPEN_GOAL = re.compile(r"^(?:note: )?(?:\./)?((src/[^:\s]+\.rt):(\d+):\d+: it is not proved.*)",
-                       re.MULTILINE)
+OPEN_GOAL = re.compile(r"^(?:note: )?(?:\./)?((src/[^:\s]+\.rt):(\d+):\d+: "
+                       r"(?:it is not proved|`search` found no proof).*)", re.MULTILINE)
 AT_A_PROOF = re.compile(r"^(?:\./)?proofs/(\S+)/Answers\.antt:\d+:\d+: error", re.MULTILINE)
 UNREAD = re.compile(r"^.*error\[[a-z-]+\].*$", re.MULTILINE)
 NOT_PROVED = re.compile(r"^fn (\S+): (?:not proved|could not tell|no proof).*", re.MULTILINE)

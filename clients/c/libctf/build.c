@@ -3,7 +3,7 @@
 
 /* scripts/libctf.py defines it. */
 #ifndef CTFD_BUILD
-#define CTFD_BUILD "a build that nobody told of"
+#define CTFD_BUILD "an unknown build"
 #endif
 
 const char *ctf_build(void)

@@ -195,7 +195,7 @@ static void drop_table(struct ctfd_elf_lists *lists)
 }
 
 /* A label of ctfd-convert, which identifies the symbols that the dictionary's entries belong to. */
-struct told {
+struct symbols_label {
     char table[16];
     unsigned long checksum;
 };
@@ -263,21 +263,21 @@ static bool checksum_of(const struct ctfd_elf_lists *lists, unsigned long *check
 }
 
 /* Reads "TABLE,OBJECTS,FUNCTIONS,CHECKSUM"; false if the text is something else. */
-static bool read_label(const char *text, struct told *told)
+static bool read_label(const char *text, struct symbols_label *label)
 {
     const char *comma = strchr(text, ',');
     char *end;
-    if (comma == NULL || (size_t)(comma - text) >= sizeof told->table)
+    if (comma == NULL || (size_t)(comma - text) >= sizeof label->table)
         return false;
-    memcpy(told->table, text, (size_t)(comma - text));
-    told->table[comma - text] = '\0';
+    memcpy(label->table, text, (size_t)(comma - text));
+    label->table[comma - text] = '\0';
     comma = strrchr(text, ',');
-    told->checksum = strtoul(comma + 1, &end, 16);
+    label->checksum = strtoul(comma + 1, &end, 16);
     return end != comma + 1 && *end == '\0';
 }
 
 /* Looks for the label in a dictionary that is not checked yet; a damaged one has none. */
-static bool find_label(const struct ctfd_elf_list *ctf, struct told *told)
+static bool find_label(const struct ctfd_elf_list *ctf, struct symbols_label *label)
 {
     const unsigned char *bytes = (const unsigned char *)ctf->at;
     uint64_t at, end, strings, strings_end;
@@ -293,7 +293,7 @@ static bool find_label(const struct ctfd_elf_list *ctf, struct told *told)
         uint64_t name = strings + number_at(bytes + at);
         const char *text = (const char *)bytes + name;
         if (name + sizeof LABEL <= strings_end && memcmp(text, LABEL, sizeof LABEL - 1) == 0)
-            return read_label(text + sizeof LABEL - 1, told);
+            return read_label(text + sizeof LABEL - 1, label);
     }
     return false;
 }
@@ -314,29 +314,29 @@ static Elf_Scn *linked_table(const struct file *file, Elf_Scn *section)
 
 /* The table in a label. NULL if the dictionary itself has the names of its symbols, which then have
  * no numbers in the file. */
-static Elf_Scn *told_table(const struct file *file, const struct told *told)
+static Elf_Scn *table_in_label(const struct file *file, const struct symbols_label *label)
 {
-    if (strcmp(told->table, ".symtab") != 0 && strcmp(told->table, ".dynsym") != 0)
+    if (strcmp(label->table, ".symtab") != 0 && strcmp(label->table, ".dynsym") != 0)
         return NULL;
-    return named(file, told->table);
+    return named(file, label->table);
 }
 
 /* If the file's symbols are not the dictionary's, it gets none. */
 static int find_symbols(const struct file *file, Elf_Scn *section, struct ctfd_elf_lists *lists)
 {
-    struct told told;
-    bool is_told = find_label(&lists->ctf, &told);
-    Elf_Scn *table = is_told ? told_table(file, &told) : linked_table(file, section);
+    struct symbols_label label;
+    bool has_label = find_label(&lists->ctf, &label);
+    Elf_Scn *table = has_label ? table_in_label(file, &label) : linked_table(file, section);
     unsigned long checksum;
     int error;
     if (table == NULL)
         return 0;
     error = take_table(file, table, lists);
-    if (error != 0 || !is_told)
+    if (error != 0 || !has_label)
         return error;
     if (!checksum_of(lists, &checksum))
         return CTFD__BAD_ELF;
-    if (checksum != told.checksum)
+    if (checksum != label.checksum)
         drop_table(lists);
     return 0;
 }

@@ -97,7 +97,7 @@ static const struct error others[] = {
     { { 1024, 1022 }, "the type is no integer or float" },
     { { 1030, 1028 }, "the type is no function" },
     { { 1037, 1035 }, "no enumerator of this name or value" },
-    { { 1031, 1029 }, "nothing is told of the function" },
+    { { 1031, 1029 }, "the type of the function is not known" },
     { { 1035, 1033 }, "the dictionary has no labels" },
     { { 1043, 1041 }, "another type of this name is there already" },
     { { 1036, 1042 }, "a roll-back past what was written" },
@@ -105,11 +105,11 @@ static const struct error others[] = {
     { { 1036, 1053 }, "the iterator is of another call" },
     { { 1036, 1054 }, "the iterator is over another file" },
     { { 1008, 1045 }, "no dictionary of this name in the file: its only one is .ctf" },
-    { { 1033, 1031 }, "nothing is told of a symbol of this name" },
+    { { 1033, 1031 }, "no symbol of this name has a type" },
     { { 1036, 1047 }, "no section of this number to dump" },
     { { 1036, 1048 }, "the dump began with another section" },
     { { EREMOTEIO, EREMOTEIO },
-        "CTFD_STORE was asked, in vain: `ctfd-store fetch FILE -` says why" },
+        "the stores of CTFD_STORE gave no types: `ctfd-store fetch FILE -` says why" },
 };
 
 /* The last error of a call that failed to open a file. */

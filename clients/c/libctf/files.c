@@ -392,7 +392,7 @@ const char *ctf_parent_name(ctf_file_t *fp)
     const char *name;
     if (fp->recipe != NULL)
         return fp->parent != NULL ? "PARENT" : NULL;
-    name = ctfd__told(fp, ctfd_parent_name);
+    name = ctfd__text_of(fp, ctfd_parent_name);
     return name != NULL && *name != '\0' ? name : NULL;
 }
 
@@ -401,7 +401,7 @@ const char *ctf_parent_label(ctf_file_t *fp)
     const char *name;
     if (fp->recipe != NULL)
         return NULL;
-    name = ctfd__told(fp, ctfd_parent_label);
+    name = ctfd__text_of(fp, ctfd_parent_label);
     return name != NULL && *name != '\0' ? name : NULL;
 }
 

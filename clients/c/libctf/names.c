@@ -198,7 +198,7 @@ void ctfd__free_texts(struct ctfd__texts *texts)
     free(texts->heads);
 }
 
-const char *ctfd__told(ctf_file_t *fp, ctfd__text_f *call)
+const char *ctfd__text_of(ctf_file_t *fp, ctfd__text_f *call)
 {
     uint64_t len = 0;
     struct ctfd *types;

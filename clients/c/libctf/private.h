@@ -192,7 +192,7 @@ HIDDEN uint64_t ctfd__hash(struct ctfd__texts *texts, const char *text, size_t l
 typedef enum ctfd_status ctfd__text_f(struct ctfd *types, char *text, size_t size, uint64_t *len);
 typedef enum ctfd_status ctfd__numbered_f(
     struct ctfd *types, uint32_t number, char *text, size_t size, uint64_t *len);
-HIDDEN const char *ctfd__told(ctf_file_t *fp, ctfd__text_f *call);
+HIDDEN const char *ctfd__text_of(ctf_file_t *fp, ctfd__text_f *call);
 HIDDEN const char *ctfd__numbered(ctf_file_t *fp, ctfd__numbered_f *call, uint32_t number);
 
 /* The name in a type's record. */

@@ -45,6 +45,27 @@ static ctf_sect_t section_of(const struct ctfd_elf_list *list)
     return made;
 }
 
+/* Gives a file the model with pointers of 4 bytes. On an error the file is closed. */
+static ctf_file_t *as_ilp32(ctf_file_t *fp, int *error)
+{
+    int why;
+    if (ctf_setmodel(fp, CTF_MODEL_ILP32) == 0)
+        return fp;
+    why = fp->error;
+    ctf_close(fp);
+    return ctfd__refused(error, why);
+}
+
+/* Whether a label of ctfd-convert says that the program's pointers have 4 bytes. */
+static bool has_label_of_ilp32(ctf_file_t *fp)
+{
+    static const char label[] = "ctfd.model=ilp32";
+    struct ctfd *types;
+    uint32_t last;
+    return ctfd__opened(fp, &types) == CTFD_OK &&
+        ctfd_label_last(types, label, sizeof label - 1, &last) == CTFD_OK;
+}
+
 /* Opens lists and gives them to the file. On an error they are freed. */
 static ctf_file_t *open_owned(struct ctfd_elf_lists *lists, int *error)
 {
@@ -72,18 +93,14 @@ static ctf_file_t *open_owned(struct ctfd_elf_lists *lists, int *error)
     free(lists->ctf.at);
     free(lists->symbols.at);
     free(lists->strings.at);
-    if (fp != NULL && lists->ilp32 && ctf_setmodel(fp, CTF_MODEL_ILP32) != 0) {
-        int why = fp->error;
-        ctf_close(fp);
-        return ctfd__refused(error, why);
-    }
-    return fp;
+    return fp != NULL && lists->ilp32 ? as_ilp32(fp, error) : fp;
 }
 
 /* Opens a file that is a CTF section and nothing else. */
 static ctf_file_t *open_section(int fd, size_t size, int *error)
 {
     struct ctfd_elf_lists lists;
+    ctf_file_t *fp;
     int failed;
     if (size > LONGEST)
         return ctfd__refused(error, CTFD_DICT_TOO_BIG);
@@ -96,7 +113,8 @@ static ctf_file_t *open_section(int fd, size_t size, int *error)
         free(lists.ctf.at);
         return ctfd__refused(error, CTFD__SYSTEM + failed);
     }
-    return open_owned(&lists, error);
+    fp = open_owned(&lists, error);
+    return fp != NULL && has_label_of_ilp32(fp) ? as_ilp32(fp, error) : fp;
 }
 
 /* Reads the types that a store has for the build of a file. */

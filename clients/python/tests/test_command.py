@@ -48,8 +48,11 @@ class Command(unittest.TestCase):
         with tempfile.TemporaryDirectory() as folder:
             pipe = str(Path(folder, "pipe"))
             os.mkfifo(pipe)
-            with subprocess.Popen(["cp", LUA, pipe]):
-                self.assertEqual(self.output(pipe, "struct lua_Debug"), DEBUG + "\n")
+            with subprocess.Popen(["cp", LUA, pipe]) as copying:
+                try:
+                    self.assertEqual(self.output(pipe, "struct lua_Debug"), DEBUG + "\n")
+                finally:
+                    copying.kill()  # it waits for a reader, if no command opened the pipe
         for device in ("/dev/zero", "/dev/null"):
             self.assertEqual(self.refusal(device).splitlines(), [
                 f"ctfd-types: {device}: not a regular file: devices and the like are not read"])

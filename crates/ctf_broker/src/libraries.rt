@@ -74,6 +74,9 @@ pub fn step_in(
         → IsGranted (library_at libraries.old.entries) session (Changes change.now)
         (change_reply session result) (library_at libraries.new.entries) }
 {
+    if let Some(held) = libraries.get_mut(&session) {
+        return held.step(change, found, pool);
+    }
     let Ok(entry) = libraries.entry(session) else {
         return Err(placeless(Fault::MEMORY));
     };

@@ -81,6 +81,7 @@ impl Draft {
     }
 
     /// The index of the struct or union for a member, or a fault that does not depend on sizes.
+    #[inline(always)]
     pub(crate) fn aggregate_for(
         &self,
         n: TypeNum,
@@ -120,6 +121,7 @@ impl Draft {
     }
 
     /// Adds a member to the struct or union at an index, and sets its size.
+    #[inline(always)]
     pub(crate) fn put_member(
         &mut self,
         n: TypeNum,

@@ -96,6 +96,7 @@ impl Draft {
     }
 
     /// The alignment of a type, if no more than 512 steps by value begin at it.
+    #[inline(always)]
     pub(crate) fn alignment(
         &self,
         marks: &mut Marks,

@@ -67,6 +67,7 @@ impl Draft {
     }
 
     /// How many bits a value of a type takes.
+    #[inline(always)]
     pub(crate) fn bits_filled(&self, n: TypeNum) -> Result<u128, Fault>
         ensures bits { result ≡ bits_filled_in (space_of self.now.draft) n.0 }
         ensures small { IfOk result (λ bits. bits < 2 ^ 67) }

@@ -49,3 +49,9 @@ few_valued ds some few all =
     let limit : 10 ^ 19 < 2 ^ 64 = lit< tt in
     let first : slice_index ds 0 ≢ 45 = not_in_digits own ds 45 all (λ r. omega (arith, r)) 0 some in
     ap is_some (by_sign ds false (sym (not_minus (slice_index ds 0) first)) ∙ number_alone ds (digits_value 10 ds) some all (omega (arith, short, limit)) refl)
+
+-- a text of digits only is its number, without a sign
+pub number_of_alone : (ds : List ℕ) (n : ℕ) → 0 < length ds → AllDigits 10 ds → digits_value 10 ds < 2 ^ 64 → n ≡ digits_value 10 ds → number_of ds ≡ Some (unsigned n)
+number_of_alone ds n some all fits same =
+    let first : slice_index ds 0 ≢ 45 = not_in_digits own ds 45 all (λ r. omega (arith, r)) 0 some in
+    by_sign ds false (sym (not_minus (slice_index ds 0) first)) ∙ number_alone ds n some all fits same

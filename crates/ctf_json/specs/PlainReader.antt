@@ -1,5 +1,6 @@
 -- The model of a reader of texts without escapes. Only private clauses cite it.
-use Rattle.std.specs.Prelude.{◌≡◌, ◌≢◌, ℕ, List, [], ◌∷◌, Bool, true, false, ⊤}
+use Rattle.std.specs.Prelude.{◌≡◌, ◌≢◌, ℕ, List, [], ◌∷◌, Bool, true, false, ⊤, Option, None, Some}
+use Rattle.json.specs.Json.{read_key}
 use Rattle.json.specs.Token.{Token, bad, boolean, null, number, string}
 use Rattle.json.specs.Word.{head}
 use Rattle.json.specs.Lex.{between, lex, fresh, after_value, after_comma, may_begin, may_close, punctuate}
@@ -65,6 +66,16 @@ HasValue f = in_range (begun (field_token f)) ≡ true
 -- the tokens begin with a field, whose number is in range
 abbrev pub IsField : List Token → Field → List Token → Type 0
 IsField old f new = (old ≡ field_token f ∷ new) × HasValue f
+
+-- the tokens `old` are those of `new`, after the field if one was taken
+abbrev pub IsTaken : List Token → Option Field → List Token → Type 0
+IsTaken old None new = old ≡ new
+IsTaken old (Some f) new = IsField old f new
+
+-- a key was read, and its value if that was taken as a field
+abbrev pub IsMember : List Token → List ℕ → Option Field → List Token → Type 0
+IsMember old k taken new =
+    (ts : List Token) × (read_key old ≡ Some (Some k, ts)) × IsTaken ts taken new
 
 -- so does the text, wherever a value may begin
 abbrev pub BeginsField : List ℕ → Field → List ℕ → Type 0

@@ -40,7 +40,9 @@ fn digit(byte: u8) -> Option<u64>
 /// The value of a number that is digits only, as almost all are. `None` if it may not fit.
 #[inline(always)]
 fn digits_alone(bytes: &[u8]) -> Option<u64>
-    ensures { IfSome result (λ n. number_from false (scan bytes.now) ≡ Some (unsigned_number n)) }
+    ensures scanned { IfSome result
+        (λ n. number_from false (scan bytes.now) ≡ Some (unsigned_number n)) }
+    ensures number { IfSome result (λ n. number_of bytes.now ≡ Some (unsigned_number n)) }
 {
     if bytes.is_empty() {
         return None;
@@ -102,14 +104,18 @@ pub fn number(text: &str) -> Option<Number>
 pub(crate) fn natural(text: &str) -> Option<u64>
     ensures { result ≡ option_and_then unsigned_of (number_of text.now) }
 {
-    let bytes = text.as_bytes();
-    if has_minus(bytes) {
-        return number(text)?.as_u64();
-    }
-    match digits_alone(bytes) {
+    match digits_alone(text.as_bytes()) {
         Some(n) => Some(n),
-        None => number(text)?.as_u64(),
+        None => natural_of_any(text),
     }
+}
+
+/// The same, for any text. It is apart so that the memory that it uses is not cleared for digits.
+#[inline(never)]
+fn natural_of_any(text: &str) -> Option<u64>
+    ensures { result ≡ option_and_then unsigned_of (number_of text.now) }
+{
+    number(text)?.as_u64()
 }
 
 /// Whether a text is digits only, and so few that the value fits.

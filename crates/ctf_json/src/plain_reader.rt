@@ -8,7 +8,7 @@ ghost use Rattle.json.specs.Reads.{Yields, token_of};
 ghost use Rattle.json.specs.Token as spec;
 ghost use Rattle.json.specs.Word.{head};
 ghost use Rattle.ctf_json.specs.Plain.{HasNoEscape};
-ghost use Rattle.ctf_json.specs.PlainReader.{Begins, BeginsField, Closes, IsField, NotBeforeComma, begins_at, closes_at, refused_at, tokens_at};
+ghost use Rattle.ctf_json.specs.PlainReader.{Begins, BeginsField, Closes, IsField, IsMember, NotBeforeComma, begins_at, closes_at, refused_at, tokens_at};
 
 use crate::plain_lexer::Lexer;
 use crate::runs::is_white;
@@ -312,6 +312,24 @@ impl<'a> PlainReader<'a> {
             Token::Key(key) => Ok(Some(key)),
             Token::EndObject => Ok(None),
             _ => Err(Invalid),
+        }
+    }
+
+    /// A key, with its value if this is read in one step; or None at the brace that closes an
+    /// object.
+    #[inline(always)]
+    pub(crate) fn next_member(&mut self) -> Result<Option<(&'a str, Option<Field<'a>>)>, Invalid>
+        ensures value { MatchResult result
+            (λ read. MatchOption read (read_key self.old ≡ Some (None, self.new))
+            (λ member. IsMember self.old member.0.now member.1 self.new))
+            (λ _. read_key self.old ≡ None) }
+    {
+        if let Some(key) = self.take_key() {
+            return Ok(Some((key, self.take_field())));
+        }
+        match self.any_key()? {
+            Some(key) => Ok(Some((key, None))),
+            None => Ok(None),
         }
     }
 

@@ -1,13 +1,14 @@
 //! Readers of texts: of any text, with memory that they borrow, or of a text without escapes,
 //! without memory.
-ghost use Rattle.std.specs.Prelude.{◌≡◌, [], ◌∷◌, None, Some, true, IfOk, MatchOption, MatchResult, OnErr, option_map};
+ghost use Rattle.std.specs.Prelude.{◌≡◌, [], ◌∷◌, None, Some, true, IfOk, IsTrue, MatchOption, MatchResult, OnErr, option_map};
 ghost use Rattle.std.specs.Bool.{MatchBool};
 ghost use Rattle.json.specs.Json.{after_end_array, read_key};
 ghost use Rattle.json.specs.Lex.{tokens};
 ghost use Rattle.json.specs.Reads.{token_of};
 ghost use Rattle.json.specs.Token as spec;
 ghost use Rattle.ctf_json.specs.Memory.{has_byte};
-ghost use Rattle.ctf_json.specs.PlainReader.{IsField, field_token};
+ghost use Rattle.ctf_json.specs.Plain.{HasNoEscape};
+ghost use Rattle.ctf_json.specs.PlainReader.{IsField, IsMember, field_token};
 
 use crate::plain_reader::PlainReader;
 use crate::runs::backslashes_16;
@@ -83,6 +84,14 @@ fn is_sooner_plain(text: &[u8]) -> bool {
     text.len() <= SHORT || ends_object(text) || has(b'[', text)
 }
 
+/// Whether a text has no escapes and is faster to read in place.
+#[inline(always)]
+pub(crate) fn is_read_in_place(text: &str) -> bool
+    ensures { IsTrue result → HasNoEscape text.now }
+{
+    is_sooner_plain(text.as_bytes()) && !has_backslash(text.as_bytes())
+}
+
 #[derive(Drop)]
 pub(crate) enum TextSource<'a> {
     Lent(json::Reader<'a>),
@@ -151,12 +160,21 @@ fn without_scratch<'a>(text: &'a str) -> Result<Reader<'a>, AllocError>
     if has_backslash(text.as_bytes()) {
         return Err(AllocError);
     }
-    Ok(Reader {
-        source: TextSource::Plain(PlainReader::new(text)),
-    })
+    Ok(Reader::in_place(text))
 }
 
 impl<'a> Reader<'a> {
+    /// A text without escapes, which is read in place.
+    #[inline(always)]
+    pub(crate) fn in_place(text: &'a str) -> Reader<'a>
+        requires { HasNoEscape text.now }
+        ensures { result ≡ tokens text.now }
+    {
+        Reader {
+            source: TextSource::Plain(PlainReader::new(text)),
+        }
+    }
+
     /// A text without escapes is mostly read in place. For other texts, strings with escapes are
     /// written to the scratch, which grows to the length of the text. If it cannot grow, a text
     /// without escapes is read all the same.
@@ -208,6 +226,24 @@ impl<'a> Reader<'a> {
         match &mut self.source {
             TextSource::Plain(reader) => reader.next_key(),
             TextSource::Lent(reader) => Ok(lent_key(reader)?),
+        }
+    }
+
+    /// A key, with its value if this is read in one step; or None at the brace that closes an
+    /// object.
+    #[inline(always)]
+    pub(crate) fn next_member(&mut self) -> Result<Option<(&'a str, Option<Field<'a>>)>, Invalid>
+        ensures value { MatchResult result
+            (λ read. MatchOption read (read_key self.old ≡ Some (None, self.new))
+            (λ member. IsMember self.old member.0.now member.1 self.new))
+            (λ _. read_key self.old ≡ None) }
+    {
+        match &mut self.source {
+            TextSource::Plain(reader) => reader.next_member(),
+            TextSource::Lent(reader) => match lent_key(reader)? {
+                Some(key) => Ok(Some((key, None))),
+                None => Ok(None),
+            },
         }
     }
 

@@ -10,3 +10,4 @@ pub mod FoundMembers
 pub mod PathSteps
 pub mod Answered
 pub mod Entries
+pub mod Packing

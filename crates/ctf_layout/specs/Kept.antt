@@ -1,9 +1,10 @@
 -- Sizes, alignments and resolved types as they are stored. Source: ours.
 use Rattle.std.specs.Prelude.{◌≡◌, ℕ, List, length, map, Option, Some, None, slice_get}
 use Rattle.ctf_model.specs.spaces.Space.{Space}
+use Rattle.ctf_model.specs.spaces.TypePlaces.{own_number}
 use Rattle.ctf_layout.specs.Bases.{IsByOne}
-use Rattle.ctf_layout.specs.Extents.{IsExtent, refusal_extent}
-use Rattle.ctf_layout.specs.Table.{IsWhole, Table}
+use Rattle.ctf_layout.specs.Extents.{IsExtent}
+use Rattle.ctf_layout.specs.Table.{Table}
 use Rattle.ctf_layout.specs.declared.extents.Amount.{Amount}
 use Rattle.ctf_layout.specs.declared.extents.Amount.TheVariants.{Known, Refused}
 use Rattle.ctf_layout.specs.declared.extents.Extent.{Extent}
@@ -44,8 +45,8 @@ unless_open stands.NoType x = Some x
 unless_open stands.NoParent x = Some x
 
 -- the extent in an entry; an open entry gives `NoType`
-abbrev pub extent_of_entry : KeptExtent → Extent
-extent_of_entry e = record {
+abbrev pub extent_of_kept : KeptExtent → Extent
+extent_of_kept e = record {
   size = amount_kept e.sized e.size;
   align = amount_kept e.aligned e.align;
   target = target_kept e.resolved e.target;
@@ -53,7 +54,7 @@ extent_of_entry e = record {
 
 -- the extent, if it is known
 abbrev pub extent_kept : KeptExtent → Option Extent
-extent_kept e = unless_open e.sized (extent_of_entry e)
+extent_kept e = unless_open e.sized (extent_of_kept e)
 
 -- an entry with the correct size, alignment and resolved type of number `n`
 pub record IsKept (s : Space) (n : ℕ) (x : KeptExtent) : Type 0 where
@@ -71,15 +72,8 @@ pub record IsByKept (n : ℕ) (row : Option Row) (one : Extent) (x : KeptExtent)
 abbrev pub table_kept : List KeptExtent → Table
 table_kept entries = map extent_kept entries
 
-abbrev pub or_no_type : Option KeptExtent → Extent
-or_no_type None = refusal_extent NoType
-or_no_type (Some e) = extent_of_entry e
-
--- the extent of the own type with index `i`
-abbrev pub extent_at : List KeptExtent → ℕ → Extent
-extent_at entries i = or_no_type (slice_get entries i)
-
--- the entries are the extents of all own types
-pub record AreExtents (s : Space) (entries : List KeptExtent) : Type 0 where
-  pub count : length entries ≡ length s.own.terms
-  pub whole : IsWhole s (table_kept entries)
+-- these are the extents of all own types
+pub record AreExtents (s : Space) (extents : List Extent) : Type 0 where
+  pub count : length extents ≡ length s.own.terms
+  pub right : (i : ℕ) (e : Extent) → slice_get extents i ≡ Some e
+      → IsExtent s (own_number s.own.child i) e

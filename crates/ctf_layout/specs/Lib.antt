@@ -4,6 +4,7 @@ pub mod Table
 pub mod Work
 pub mod WorkRows
 pub mod Kept
+pub mod SmallExtents
 pub mod Over
 pub mod Fitting
 pub mod Following

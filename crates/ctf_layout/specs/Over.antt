@@ -4,10 +4,10 @@ use Rattle.std.specs.Option.{ForSome, is_some}
 use Rattle.ctf_model.specs.figures.FigureLaws.{parent_alone}
 use Rattle.ctf_model.specs.spaces.Space.{Space}
 use Rattle.ctf_layout.specs.Kept.{AreExtents}
-use Rattle.ctf_layout.specs.declared.entry.KeptExtent.{KeptExtent}
+use Rattle.ctf_layout.specs.declared.extents.Extent.{Extent}
 
 -- they exist exactly if there is a parent; that parent is no child, and they are correct
-pub record OverParent (s : Space) (entries : Option (List KeptExtent)) : Type 0 where
-  pub both : is_some entries ≡ is_some s.parent
+pub record OverParent (s : Space) (extents : Option (List Extent)) : Type 0 where
+  pub both : is_some extents ≡ is_some s.parent
   pub plain : ForSome s.parent (λ p. p.child ≡ false)
-  pub right : ForSome s.parent (λ p. ForSome entries (λ es. AreExtents (parent_alone s p) es))
+  pub right : ForSome s.parent (λ p. ForSome extents (λ es. AreExtents (parent_alone s p) es))

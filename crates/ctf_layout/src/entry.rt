@@ -1,9 +1,15 @@
-//! Entries of the table of sizes and alignments, 24 bytes each.
-ghost use Rattle.std.specs.Prelude.{◌≡◌, None, Some};
-ghost use Rattle.ctf_layout.specs.Kept.{amount_kept, extent_kept, extent_of_entry as said_by, target_kept, unless_open};
+//! Extents as they are found, and the wide ones as they are kept, each in 24 bytes.
+ghost use Rattle.std.specs.Prelude.{◌≡◌, ℕ, List, None, Some};
+ghost use Rattle.std.specs.Option.{ForSome};
+ghost use Rattle.ctf_layout.specs.Kept.{amount_kept, extent_kept, extent_of_kept, target_kept, unless_open};
+ghost use Rattle.ctf_layout.specs.SmallExtents.{extent_of_small};
+ghost use Rattle.ctf_layout.specs.declared.entry.KeptExtent.{KeptExtent as WideExtent};
 ghost use Rattle.ctf_layout.specs.declared.extents.Extent.{Extent as WholeExtent};
+ghost use Rattle.ctf_layout.specs.declared.extents.Amount.TheVariants.{Known};
+ghost use Rattle.ctf_layout.specs.declared.extents.Target.TheVariants as stands_for;
 
 use crate::extents::{Amount, Extent, Refusal, Target};
+use crate::small_extent::SmallExtent;
 use ctf_model::TypeNum;
 use std::mem::size_of;
 
@@ -29,7 +35,7 @@ pub struct KeptExtent {
     resolved: Standing,
 }
 
-/// The bytes of an entry.
+/// How many bytes a type takes while a layout is built, and a wide one in it.
 const ENTRY_LEN: usize = size_of::<KeptExtent>();
 
 const _: [(); 24] = [(); ENTRY_LEN];
@@ -104,6 +110,53 @@ impl Standing {
     }
 }
 
+/// A size and an alignment in 8 bytes, if they fit.
+#[inline(always)]
+fn small_known(size: u64, align: u64, target: TypeNum) -> Option<SmallExtent>
+    ensures { ForSome result (λ x. (wide : List WideExtent) → extent_of_small wide x
+        ≡ record { size = Known size; align = Known align; target = stands_for.Known target }) }
+{
+    if size > 0xffff_ffff {
+        return None;
+    }
+    if align > 0xff {
+        return None;
+    }
+    Some(SmallExtent::Known {
+        align: align as u8,
+        target,
+        size: size as u32,
+    })
+}
+
+/// The same for an extent of which something is refused. It is out of line, so that the loop over
+/// all types is short for most of them.
+#[inline(never)]
+fn small_refused(
+    sized: Standing,
+    aligned: Standing,
+    resolved: Standing,
+    target: TypeNum,
+) -> Option<SmallExtent>
+    ensures { ForSome result (λ x. (wide : List WideExtent) (size align : ℕ)
+        → extent_of_small wide x ≡ record {
+          size = amount_kept sized size;
+          align = amount_kept aligned align;
+          target = target_kept resolved target;
+        }) }
+{
+    match (sized, aligned, resolved) {
+        (Standing::Incomplete, Standing::Incomplete, Standing::Known) => {
+            Some(SmallExtent::Incomplete(target))
+        }
+        (Standing::NoType, Standing::NoType, Standing::NoType) => Some(SmallExtent::NoType),
+        (Standing::NoParent, Standing::NoParent, Standing::NoParent) => {
+            Some(SmallExtent::NoParent)
+        }
+        _ => None,
+    }
+}
+
 impl KeptExtent {
     /// An entry that is still to be computed.
     pub fn open() -> KeptExtent
@@ -141,13 +194,13 @@ impl KeptExtent {
     pub fn extent(self) -> Option<Extent>
         ensures { result ≡ extent_kept self }
     {
-        self.sized.extent_unless_open(self.extent_of_entry())
+        self.sized.extent_unless_open(self.extent_or_missing())
     }
 
     /// The extent; for an open entry, that of a missing type.
     #[inline(always)]
-    pub fn extent_of_entry(self) -> Extent
-        ensures { result ≡ said_by self }
+    pub fn extent_or_missing(self) -> Extent
+        ensures { result ≡ extent_of_kept self }
     {
         Extent {
             size: self.sized.amount(self.size),
@@ -156,18 +209,17 @@ impl KeptExtent {
         }
     }
 
-    /// The same, in fewer steps if nothing is refused.
+    /// The same in 8 bytes, if it fits.
     #[inline(always)]
-    pub fn figures(self) -> Extent
-        ensures { result ≡ said_by self }
+    pub fn to_small(self) -> Option<SmallExtent>
+        ensures { ForSome result (λ x. (wide : List WideExtent) → extent_of_small wide x
+            ≡ extent_of_kept self) }
     {
         match (self.sized, self.aligned, self.resolved) {
-            (Standing::Known, Standing::Known, Standing::Known) => Extent {
-                size: Amount::Known(self.size),
-                align: Amount::Known(self.align),
-                target: Target::Known(self.target),
-            },
-            _ => self.extent_of_entry(),
+            (Standing::Known, Standing::Known, Standing::Known) => {
+                small_known(self.size, self.align, self.target)
+            }
+            _ => small_refused(self.sized, self.aligned, self.resolved, self.target),
         }
     }
 

@@ -7,6 +7,7 @@ ghost use Rattle.ctf_layout.specs.Extents.{IsAnswered, IsExtent};
 ghost use Rattle.ctf_layout.specs.Kept.{AreExtents};
 ghost use Rattle.ctf_layout.specs.Fitting.{Fits, steps_of};
 ghost use Rattle.ctf_layout.specs.Over.{OverParent};
+ghost use Rattle.ctf_layout.specs.SmallExtents.{extents_in};
 ghost use Rattle.ctf_layout.specs.Work.{space_size, space_work, types_and_members, types_work};
 ghost use Rattle.ctf_model.specs.figures.FigureLaws.{parent_alone};
 ghost use Rattle.ctf_model.specs.opened.Questions.{align_answered, resolved_answered, size_answered};
@@ -25,11 +26,11 @@ use std::marker::Brand;
 use std::rc::Rc;
 use std::sync::ledger::{Blank, Ledger};
 
-/// The sizes, alignments and resolved types of a dictionary's types, and of its parent's if it has
-/// one, computed once: a look-up takes constant time, and no memory.
+/// The sizes and alignments of the types of a dictionary, and of its parent's where it has one, and
+/// the types that they stand for, found once: a look-up takes constant time, and no memory.
 ///
-/// It keeps plain numbers, 24 bytes for each own type, and borrows nothing. Those of a parent are
-/// shared with the parent's own layout.
+/// It keeps plain numbers, 8 bytes for most own types and 24 for each at most, and borrows nothing.
+/// Those of a parent are shared with the parent's own layout.
 #[derive(Drop)]
 pub struct Layout {
     child: bool,
@@ -55,7 +56,7 @@ fn beside<L: Ledger>(
     parent: Option<Rc<Extents>>,
     work: &mut Ticks<L>,
 ) -> Result<Layout, AllocError>
-    requires { OverParent (space_of space.now) (option_map (λ rc. rc.value.entries.items) parent) }
+    requires { OverParent (space_of space.now) (option_map (λ rc. extents_in rc.value) parent) }
     ensures fits { IfOk result (λ l. Fits (space_of space.now) l) }
     ensures steps { IfOk result (λ l. steps_of l ≡ cap work.new) }
     ensures work { OnOk result (work.new
@@ -98,7 +99,7 @@ fn by_itself<L: Ledger>(
     work: &mut Ticks<L>,
 ) -> Result<Rc<Extents>, AllocError>
     requires { (space_of space).parent ≡ None }
-    ensures right { IfOk result (λ rc. AreExtents (space_of space.entry) rc.value.entries.items) }
+    ensures right { IfOk result (λ rc. AreExtents (space_of space.entry) (extents_in rc.value)) }
     ensures work { OnOk result (work.new
         ≡ work.old + types_work (space_of space.entry).own.terms) }
 {
@@ -119,7 +120,7 @@ fn beside_shared<L: Ledger>(
     blank: Blank,
 ) -> Result<Layout, AllocError>
     requires over { OverParent (space_of space.now)
-        (option_map (λ rc. rc.value.entries.items) parent) }
+        (option_map (λ rc. extents_in rc.value) parent) }
     requires name { blank.name ≡ L.name }
     requires parts { blank.parts ≡ L.parts }
     requires some { 0 < blank.parts }
@@ -185,13 +186,13 @@ impl Layout {
         }
     }
 
-    /// The same, in fewer steps for an own type if nothing is refused.
+    /// The same, in fewer steps for an own type.
     #[inline(always)]
     fn quick_extent(&self, number: TypeNum) -> Extent
         ensures { (s : WholeSpace) → Fits s self.now → IsExtent s number.0 result }
     {
         match number.place(self.child) {
-            Place::Own(i) => self.own.figures_at(i),
+            Place::Own(i) => self.own.at(i),
             _ => self.extent(number),
         }
     }

@@ -13,7 +13,8 @@
 //! }
 //! ```
 //!
-//! The table is made once for a dictionary: 24 bytes a type. Offsets along a path are in bits.
+//! The table is made once for a dictionary: 8 bytes for most types, 24 for each at most. Offsets
+//! along a path are in bits.
 #![tactic(auto)]
 
 mod amounts;
@@ -27,6 +28,7 @@ mod layout;
 mod path_names;
 mod paths;
 mod rows;
+mod small_extent;
 mod source;
 mod types;
 

@@ -3,6 +3,7 @@ ghost use Rattle.std.specs.Prelude.{◌≡◌, slice_get, option_and_then, optio
 ghost use Rattle.ctf_check.specs.CheckedView.{dictionary_of};
 ghost use Rattle.ctf_check.specs.TypedView.{term_in};
 ghost use Rattle.ctf_layout.specs.Over.{OverParent};
+ghost use Rattle.ctf_layout.specs.SmallExtents.{extents_in};
 ghost use Rattle.ctf_space.specs.SpaceView.{space_of};
 
 use crate::bases::{Basis, basis_of};
@@ -23,7 +24,7 @@ pub struct LayoutInput<'a> {
     pub(crate) dictionary: Checked<'a>,
     pub(crate) parent: Option<&'a Extents>,
     ghost same: { dictionary_of dictionary ≡ (space_of space).own },
-    ghost over: { OverParent (space_of space) (option_map (λ e. e.now.entries.items) parent) },
+    ghost over: { OverParent (space_of space) (option_map (λ e. extents_in e.now) parent) },
 }
 
 /// The own type with a number from 0.

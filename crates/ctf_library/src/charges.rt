@@ -30,6 +30,7 @@ impl Slot {
     }
 
     /// The bytes of its dictionary and its parent.
+    #[inline(always)]
     pub(crate) fn bytes(&self) -> u128
         ensures { result ≡ slot_bytes (slot_of self.now) }
     {

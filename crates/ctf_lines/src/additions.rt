@@ -3,11 +3,12 @@ ghost use Rattle.std.specs.Prelude.{◌≡◌, ◌≢◌, IfOk, Some, codes, opt
 ghost use Rattle.ctf_json.specs.Values.{line_data as view, number_data, numbers_data};
 ghost use Rattle.ctf_protocol.specs.lines.LineFields.{text_in, type_under as type_asked_under};
 ghost use Rattle.ctf_protocol.specs.lines.AskAdditions.{addition_asked, addition_with as addition_asked_with, declared_named, kind_with, new_array_asked, new_enumerator_asked, new_function_asked, new_label_asked, new_member_asked, new_type_asked, offset_asked, root_asked, scalar_asked, size_or as size_or_asked, type_listed as type_listed_by, types_listed as types_listed_by, value_asked_for};
+ghost use Rattle.ctf_protocol.specs.words.Addables.{addable_named};
 ghost use Rattle.ctf_protocol.specs.declared.addables.Addable.TheVariants as adds;
 ghost use Rattle.ctf_protocol.specs.declared.additions.Addition.TheVariants as added;
 
 use crate::drafts::name_or_empty;
-use crate::reading::{number, number_within, text, type_number};
+use crate::field_values::{number, number_within, text, type_number};
 use ctf_json::{Line, as_bool, as_i64, get, take_args};
 use ctf_protocol::{
     Addable, Addition, Declared, NewArray, NewKind, NewScalar, Piece, TypeNum, TypeNums,
@@ -15,6 +16,7 @@ use ctf_protocol::{
 use std::alloc::{AllocError, Global};
 
 /// The type number under a key.
+#[inline(always)]
 fn type_under(line: &Line<'_>, key: &str) -> Option<TypeNum>
     ensures { result ≡ type_asked_under key.now (view line.now) }
 {
@@ -258,6 +260,16 @@ fn addition_with(
     }
 }
 
+/// What a word of a request adds, if it adds something. Members are the most frequent.
+fn addable(word: &str) -> Option<Addable>
+    ensures { result ≡ addable_named word.now }
+{
+    match word {
+        "member" => Some(Addable::Member),
+        _ => Addable::of_word(word),
+    }
+}
+
 /// What a line adds to a draft.
 pub(crate) fn addition(alloc: Global, line: &mut Line<'_>) -> Result<Option<Addition>, AllocError>
     ensures { IfOk result (λ addition. addition ≡ addition_asked (view line.old)) }
@@ -265,7 +277,7 @@ pub(crate) fn addition(alloc: Global, line: &mut Line<'_>) -> Result<Option<Addi
     let Some(word) = text(line, "what") else {
         return Ok(None);
     };
-    match Addable::of_word(word) {
+    match addable(word) {
         Some(what) => addition_with(alloc, line, what),
         None => Ok(None),
     }

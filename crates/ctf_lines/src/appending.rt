@@ -56,13 +56,49 @@ fn with_three_digits(out: Vec<u8>, number: u64) -> Vec<u8>
     )
 }
 
+#[inline(always)]
+fn with_four_digits(out: Vec<u8>, number: u64) -> Vec<u8>
+    requires number { (1000 ≤ number) × (number < 10000) }
+    requires room { HasRoom out (decimal number) }
+    ensures { Appended out result (decimal number) }
+{
+    append_bytes(with_three_digits(out, number / 10), &[digit(number % 10)])
+}
+
+#[inline(always)]
+fn with_five_digits(out: Vec<u8>, number: u64) -> Vec<u8>
+    requires number { (10000 ≤ number) × (number < 100000) }
+    requires room { HasRoom out (decimal number) }
+    ensures { Appended out result (decimal number) }
+{
+    append_bytes(with_four_digits(out, number / 10), &[digit(number % 10)])
+}
+
 /// Not inlined into its callers, since most numbers are short.
 #[inline(never)]
 fn with_long_number(out: Vec<u8>, number: u64) -> Vec<u8>
-    requires { HasRoom out (decimal number) }
+    requires number { 1000 ≤ number }
+    requires room { HasRoom out (decimal number) }
     ensures { Appended out result (decimal number) }
 {
-    append_bytes(out, Buffer::new().format(number).as_bytes())
+    if number < 10_000 {
+        with_four_digits(out, number)
+    } else if number < 100_000 {
+        with_five_digits(out, number)
+    } else {
+        append_bytes(out, Buffer::new().format(number).as_bytes())
+    }
+}
+
+/// The same. The memory for the result of a call is cleared where the call stands in the code: so
+/// it is not cleared for a short number.
+#[inline(always)]
+fn with_longer_number(out: Vec<u8>, number: u64) -> Vec<u8>
+    requires number { 1000 ≤ number }
+    requires room { HasRoom out (decimal number) }
+    ensures { Appended out result (decimal number) }
+{
+    with_long_number(out, number)
 }
 
 /// A list with a number appended.
@@ -78,7 +114,7 @@ pub fn with_number(out: Vec<u8>, number: u64) -> Vec<u8>
     } else if number < 1000 {
         with_three_digits(out, number)
     } else {
-        with_long_number(out, number)
+        with_longer_number(out, number)
     }
 }
 

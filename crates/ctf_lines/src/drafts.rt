@@ -5,14 +5,15 @@ ghost use Rattle.ctf_protocol.specs.lines.Ask.{add_asked, create_asked, discard_
 ghost use Rattle.ctf_protocol.specs.lines.LineFields.{name_or_empty as name_or_empty_asked};
 
 use crate::additions::addition;
+use crate::field_values::{as_slot_number, slot};
 use crate::models::model;
-use crate::reading::{as_slot_number, slot};
 use crate::spelling::name;
 use ctf_json::{Line, get};
 use ctf_protocol::{Change, Creation, DraftStep, Piece, Request, SlotNumber};
 use std::alloc::{AllocError, Global};
 
 /// A name that may be left out, and is empty then.
+#[inline(always)]
 pub(crate) fn name_or_empty(
     alloc: Global,
     line: &Line<'_>,

@@ -20,9 +20,11 @@
 
 mod additions;
 mod appending;
+mod changes;
 mod digits;
 mod drafts;
 mod escapes;
+mod field_values;
 mod fields;
 mod info_fields;
 mod line_buffers;
@@ -30,6 +32,7 @@ mod line_traits;
 mod measures;
 mod models;
 mod no_memory;
+mod questions;
 mod reading;
 mod refusals;
 mod room;
@@ -39,6 +42,7 @@ mod singles;
 mod spelling;
 mod text_sinks;
 mod texts;
+mod words;
 mod writing;
 
 /// Memory that is kept from line to line.

@@ -67,6 +67,7 @@ fn with_counts(out: Vec<u8>, session: u64, counts: Counts) -> Vec<u8>
 }
 
 /// Appends the line of the answer to a change, if there is room for the longest.
+#[inline(always)]
 pub fn put_counts(out: &mut Vec<u8>, session: u32, counts: Counts)
     requires { vec_len out.old + 96 ≤ vec_capacity out.old }
     ensures { Appended out.old out.new (answer_line session (counts_view counts)) }

@@ -131,6 +131,7 @@ fn write_answer(out: &mut Vec<u8>, session: u32, answer: &Answer<'_>) -> Result<
     write_measured(out, session, answer)
 }
 
+#[inline(always)]
 #[tactic(auto, using(crate::proofs::Short::counts_short))]
 fn write_counts(out: &mut Vec<u8>, session: u32, counts: Counts) -> Result<(), AllocError>
     ensures written { Writes out.old (fitting_answer session (counts_view counts)) result out.new }
@@ -144,6 +145,7 @@ fn write_counts(out: &mut Vec<u8>, session: u32, counts: Counts) -> Result<(), A
 }
 
 /// Appends the line of a reply to a change. If there is room for a short line, no memory is taken.
+#[inline(always)]
 pub fn write_change(
     out: &mut Vec<u8>,
     session: u32,

@@ -61,6 +61,7 @@ impl OpenDictionary {
     }
 
     /// The bytes of the dictionary and its parent.
+    #[inline(always)]
     pub fn bytes(&self) -> u128
         ensures { result ≡ kept_bytes self.now.own + parent_bytes self.now.parent }
     {

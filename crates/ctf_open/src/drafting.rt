@@ -182,6 +182,7 @@ impl OpenDictionary {
     }
 
     /// The same, if there is room for it.
+    #[inline(always)]
     pub fn create_within(
         alloc: Global,
         parent: Option<&Loaded>,

@@ -75,6 +75,7 @@ fn own_parts(dictionary: Judged<'static>) -> Parts
 
 impl Loaded {
     /// The opened form of a checked dictionary; the dictionary again if memory was refused.
+    #[inline(always)]
     fn of(alloc: Global, dictionary: Judged<'static>) -> Result<Loaded, Judged<'static>>
         ensures ok { IfOk result (λ l. l ≡ dictionary.entry.kept) }
         ensures back { IfErr result (λ d. d ≡ dictionary.entry) }

@@ -2,6 +2,7 @@
 ghost use Rattle.std.specs.Prelude.{◌≡◌, ◌≢◌, ◌⊎◌, ◌<◌, ◌^◌, ℕ, List, length, Err};
 ghost use Rattle.ctf_protocol.specs.lines.ReplyLines.{reply_line};
 ghost use Rattle.ctf_protocol.specs.sessions.Runs.{no_memory};
+ghost use Rattle.ctf_protocol.specs.declared.requests.Request.TheVariants.{Asks, Changes};
 ghost use Rattle.ctf_answers.specs.Replies.{reply_of, change_reply};
 ghost use Rattle.ctf_wire.specs.Endings.{IsReady, PullsAtMost};
 ghost use Rattle.ctf_wire.specs.Room.{HasReplyRoom, Replies};
@@ -18,10 +19,11 @@ use crate::turns::Run;
 use ctf_answers::{Counts, Reply};
 use ctf_broker::Broker;
 use ctf_lines::{FromLine, SHORT_LINE, Scratch, ToLine, memory_line, read_as, write_change};
-use ctf_protocol::{Fault, Request, placeless};
+use ctf_protocol::{Change, Fault, Question, Request, SlotNumber, placeless};
 use std::alloc::Global;
 
 /// Appends the line of a short reply.
+#[inline(always)]
 fn append_short(out: &mut Vec<u8>, session: u32, outcome: Result<Counts, Fault>)
     requires { HasReplyRoom out.old }
     ensures { Replies out.old (reply_line (change_reply session outcome)) out.new }
@@ -90,7 +92,46 @@ pub fn step_as(
     }
 }
 
+/// Answers a question of a session. The reply has a number of its own.
+#[inline(never)]
+fn answer_question(
+    broker: &Broker,
+    session: u32,
+    own: u32,
+    d: SlotNumber,
+    question: &Question,
+    out: &mut Vec<u8>,
+)
+    requires { HasReplyRoom out.old }
+    ensures { (written : List ℕ)
+        × AnswersAs (library_at broker.now) session own (Asks d question.now) written
+        (library_at broker.now)
+        × Replies out.old written out.new }
+{
+    let outcome = broker.answer(session, d, question);
+    let reply = Reply {
+        session: own,
+        outcome,
+    };
+    append_answer(out, &reply);
+}
+
+/// Makes a change of a session. The reply has a number of its own.
+#[inline(never)]
+fn make_change(broker: &mut Broker, session: u32, own: u32, change: &Change, out: &mut Vec<u8>)
+    requires session { session ≢ 0 }
+    requires room { HasReplyRoom out.old }
+    ensures { (written : List ℕ)
+        × AnswersAs (library_at broker.old) session own (Changes change.now) written
+        (library_at broker.new)
+        × Replies out.old written out.new }
+{
+    let outcome = broker.step(session, change);
+    append_short(out, own, outcome);
+}
+
 /// Answers a request of a session. The reply has the number `own`.
+#[inline(always)]
 fn answer_request(broker: &mut Broker, session: u32, own: u32, request: &Request, out: &mut Vec<u8>)
     requires session { session ≢ 0 }
     requires room { HasReplyRoom out.old }
@@ -101,17 +142,9 @@ fn answer_request(broker: &mut Broker, session: u32, own: u32, request: &Request
 {
     match request {
         Request::Asks { d, question } => {
-            let outcome = broker.answer(session, *d, question);
-            let reply = Reply {
-                session: own,
-                outcome,
-            };
-            append_answer(out, &reply);
+            answer_question(broker, session, own, *d, question, out);
         }
-        Request::Changes(change) => {
-            let outcome = broker.step(session, change);
-            append_short(out, own, outcome);
-        }
+        Request::Changes(change) => make_change(broker, session, own, change, out),
     }
 }
 

@@ -1,5 +1,5 @@
 //! The names of a dictionary, each once, and where each is in the string section.
-ghost use Rattle.std.specs.Prelude.{vec_len, vec_capacity, ◌≡◌, ◌<◌, ◌≤◌, ◌+◌, ◌++◌, [], ◌∷◌, false, length, IfErr, OnOk, OnErr, ◌⊎◌};
+ghost use Rattle.std.specs.Prelude.{vec_len, vec_capacity, ◌≡◌, ◌<◌, ◌≤◌, ◌+◌, ◌++◌, [], ◌∷◌, false, length, IfErr, IfOk, OnOk, OnErr, ◌⊎◌};
 ghost use Rattle.std.specs.List.{list_any};
 ghost use Rattle.std.specs.Str.{bytes_eq};
 ghost use Rattle.ctf_model.specs.writing.WritingLaws.{IsKept};
@@ -28,13 +28,12 @@ pub struct Strings<'a> {
 impl<'a> Strings<'a> {
     ghost use Rattle.ctf_writer.specs.Tables.{names};
 
-    pub fn new(alloc: Global) -> Strings<'a>
-        ensures { names result ≡ [] }
+    /// A table without names, with room for so many.
+    pub fn new(alloc: Global, count: usize) -> Result<Strings<'a>, AllocError>
+        ensures { IfOk result (λ s. names s ≡ []) }
     {
-        Strings {
-            offsets: IndexMap::new(alloc),
-            len: 1,
-        }
+        let offsets = IndexMap::with_capacity(alloc, count)?;
+        Ok(Strings { offsets, len: 1 })
     }
 
     /// The length of the string section.

@@ -94,7 +94,7 @@ pub(crate) fn strings_of<'a>(alloc: Global, held: DraftContent<'a>) -> Result<St
     ensures ok { IfOk result (λ s. names s ≡ strings_in (dictionary_of held.entry)) }
     ensures refused { IfErr result (IsRefused (strings_in (dictionary_of held.entry))) }
 {
-    let mut strings = Strings::new(alloc);
+    let mut strings = Strings::new(alloc, held.types.len())?;
     strings.add(held.parlabel)?;
     strings.add(held.parname)?;
     add_labels(&mut strings, held.labels)?;

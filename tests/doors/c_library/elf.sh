@@ -103,6 +103,11 @@ if gcc -m32 -g -fno-inline -o own own.c 2> said; then
         cat said
     "${programs[0]}" own.with32 "struct point" | head -n 1 > seen
     echo 'model 1, 12 bytes' | cmp -s - seen || { cat seen; failed=1; }
+    # A label has the model of a dictionary in a file of its own.
+    "${CARGO_TARGET_DIR:-$top/clients/rust/target}/release/ctfd-convert" own own.dict32 > said 2>&1 ||
+        cat said
+    "${programs[0]}" own.dict32 "struct point" | head -n 1 > seen
+    echo 'model 1, 12 bytes' | cmp -s - seen || { cat seen; failed=1; }
 fi
 
 # For a damaged file the program prints something and exits with status 0 or 1, whatever is damaged.

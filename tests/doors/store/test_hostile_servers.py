@@ -216,7 +216,7 @@ class Servers(StoreCase):
                 done = run(door, stripped, environment={**self.environment(kept),
                                                         "CTFD_STORE": self.url(kind)})
                 self.assertEqual(done.status, 1, (kind, done.text))
-                begins = (f"{errno.EREMOTEIO}: CTFD_STORE was asked, in vain"
+                begins = (f"{errno.EREMOTEIO}: the stores of CTFD_STORE gave no types"
                           if kind in BY_LIBCTF else "1008: no section .SUNW_ctf")
                 self.assertTrue(done.output.startswith(begins), (kind, done.output))
                 self.assertEqual(done.errors, "")

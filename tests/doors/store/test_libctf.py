@@ -15,7 +15,8 @@ from .support import BUILD_IDS, HEADERS, SOURCE, StoreCase, build_id, run
 
 # Error numbers, with a part of the message for each.
 NO_TYPES = "1008: ", "no section .SUNW_ctf or .ctf"
-IN_VAIN = f"{errno.EREMOTEIO}: ", "CTFD_STORE was asked, in vain: `ctfd-store fetch FILE -` says why"
+IN_VAIN = (f"{errno.EREMOTEIO}: ",
+           "the stores of CTFD_STORE gave no types: `ctfd-store fetch FILE -` says why")
 NOBODY = 65534
 
 

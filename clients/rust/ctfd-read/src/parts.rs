@@ -43,7 +43,8 @@ pub fn write<'a>(
     let mut losses = std::mem::take(&mut table.losses);
     table.is_cut = !spread.left.is_empty();
     losses.extend(left_out(&table, &spread.left, "a part of the file holds"));
-    let mut parts = Parts { table, symbols, told: ToldSymbols::default(), losses, image, output };
+    let mut parts =
+        Parts { table, symbols, described: DescribedSymbols::default(), losses, image, output };
     let parent = parts.bytes(&spread.parent, &[], None)?;
     let mut members = vec![(PARENT.to_owned(), parent.clone())];
     for (place, own) in spread.children.iter().enumerate() {
@@ -63,7 +64,7 @@ pub fn write<'a>(
 struct Parts<'p, 'a> {
     table: Table<'a>,
     symbols: Symbols<'a>,
-    told: ToldSymbols,
+    described: DescribedSymbols,
     losses: Vec<String>,
     image: &'p Image,
     output: &'p Path,
@@ -72,12 +73,12 @@ struct Parts<'p, 'a> {
 /// The objects and functions that earlier parts describe: each is in the first part that has its
 /// type.
 #[derive(Default)]
-struct ToldSymbols {
+struct DescribedSymbols {
     objects: Vec<bool>,
     functions: Vec<bool>,
 }
 
-impl ToldSymbols {
+impl DescribedSymbols {
     fn leave_out(&mut self, part: &mut Table<'_>) {
         self.objects.resize(part.objects.len(), false);
         self.functions.resize(part.functions.len(), false);
@@ -98,7 +99,7 @@ impl Parts<'_, '_> {
         let mut part = self.table.clone();
         let order: Vec<u32> = parents.iter().chain(own).copied().collect();
         part.keep(&order);
-        self.told.leave_out(&mut part);
+        self.described.leave_out(&mut part);
         if parent.is_some() {
             part.bases = parents.len() as u32;
             part.parent_name = Cow::Borrowed(PARENT.as_bytes());

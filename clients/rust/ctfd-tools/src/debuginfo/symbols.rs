@@ -148,7 +148,7 @@ pub fn by_name<'a>(
 
 /// The type or signature of a symbol; None if it has none.
 fn description_of(catalog: &Catalog<'_>, number: u32, is_function: bool) -> Option<SymbolAnswer> {
-    let told = catalog.told_of(number)?;
+    let told = catalog.symbol_answer(number)?;
     let is_typed = !matches!(told, SymbolAnswer::Object(0));
     (is_typed && is_function == matches!(told, SymbolAnswer::Function(_))).then_some(told)
 }

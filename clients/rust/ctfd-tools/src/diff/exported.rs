@@ -9,8 +9,8 @@ use crate::types::text::printable;
 use ctfd_read::exports::{Export, ExportKind, Exports};
 
 /// The type or signature of a symbol in the dictionary, if it has one.
-fn told_of(catalog: &Catalog<'_>, one: &Export<'_>) -> Option<SymbolAnswer> {
-    let told = catalog.told_of(one.number?)?;
+fn symbol_answer(catalog: &Catalog<'_>, one: &Export<'_>) -> Option<SymbolAnswer> {
+    let told = catalog.symbol_answer(one.number?)?;
     let is_of_kind = match told {
         SymbolAnswer::Function(_) => one.kind == ExportKind::Function,
         SymbolAnswer::Object(_) => one.kind == ExportKind::Object,
@@ -72,7 +72,8 @@ pub fn difference(sides: &Sides<'_, '_, '_>, one: &Export<'_>, other: &Export<'_
         let (was, now) = (Datum::Truth(one.is_of_threads), Datum::Truth(other.is_of_threads));
         return Findings::of([said.from(was, now)]);
     }
-    let (was, now) = (told_of(sides.before.catalog, one), told_of(sides.after.catalog, other));
+    let (was, now) =
+        (symbol_answer(sides.before.catalog, one), symbol_answer(sides.after.catalog, other));
     match (&was, &now) {
         (Some(SymbolAnswer::Function(was)), Some(SymbolAnswer::Function(now))) => {
             sides.signature(was, now)

@@ -4,7 +4,7 @@ use super::differences::{Change, Datum, Difference, Fate};
 use crate::types::catalog::Catalog;
 use crate::types::catalog::SymbolAnswer;
 use crate::types::declare;
-use crate::types::symbol_lists::{told_symbols, ToldSymbol};
+use crate::types::symbol_lists::{symbols_with_types, SymbolWithType};
 use crate::types::text::{printable, shorten, usual};
 use ctfd_read::opening::LibraryInput;
 use std::collections::HashMap;
@@ -16,8 +16,8 @@ struct SymbolDeclaration {
 }
 
 impl SymbolDeclaration {
-    fn of(catalog: &Catalog<'_>, one: &ToldSymbol) -> SymbolDeclaration {
-        let (kind, text) = match &one.told {
+    fn of(catalog: &Catalog<'_>, one: &SymbolWithType) -> SymbolDeclaration {
+        let (kind, text) = match &one.answer {
             SymbolAnswer::Function(signature) => {
                 ("function", declare::function(catalog, signature, &one.name))
             }
@@ -38,7 +38,7 @@ impl Symbols {
     /// The symbols of a dictionary; `handed` is the library's input for it.
     pub fn of(catalog: &Catalog<'_>, handed: &LibraryInput<'_>) -> Symbols {
         let mut made = Symbols::default();
-        for one in told_symbols(catalog, handed) {
+        for one in symbols_with_types(catalog, handed) {
             let declared = SymbolDeclaration::of(catalog, &one);
             made.names.push(one.name.clone());
             made.declared.insert(one.name, declared);

@@ -4,7 +4,7 @@
 use crate::types::catalog::{Catalog, Number, Record, SymbolAnswer};
 use crate::types::json::{list, text, word_of, Object};
 use crate::types::open::display_path;
-use crate::types::symbol_lists::told_symbols;
+use crate::types::symbol_lists::symbols_with_types;
 use crate::types::text::printable;
 use ctfd::Kind;
 use ctfd_read::opening::LibraryInput;
@@ -83,9 +83,9 @@ impl Rows {
     fn add_symbols(&mut self, catalog: &Catalog<'_>, handed: &LibraryInput<'_>, places: &Places) {
         let place = |number: Number| places.get(&number).copied().unwrap_or(0);
         let file = self.files.len() - 1;
-        for one in told_symbols(catalog, handed) {
+        for one in symbols_with_types(catalog, handed) {
             let name = text(printable(&one.name).as_bytes());
-            match one.told {
+            match one.answer {
                 SymbolAnswer::Object(of) => {
                     self.objects.push(format!("[{name},{},{file}]", place(of)))
                 }

@@ -223,8 +223,8 @@ fn operand_of(
 ) -> Result<Operand> {
     let listed = |number| ValueType::Dictionary { home, number };
     let told = match symbol.place {
-        0 => catalog.told_of(symbol.number),
-        place => catalog.told_in(place, symbol.number),
+        0 => catalog.symbol_answer(symbol.number),
+        place => catalog.symbol_answer_in(place, symbol.number),
     };
     match told {
         Some(SymbolAnswer::Function(found)) if symbol.is_function => {

@@ -115,12 +115,12 @@ impl<'d> Catalog<'d> {
     }
 
     /// The type of a symbol, by its number in the file; None if it has none.
-    pub fn told_of(&self, symbol: u32) -> Option<SymbolAnswer> {
+    pub fn symbol_answer(&self, symbol: u32) -> Option<SymbolAnswer> {
         self.volumes.entry(symbol).map(|found| self.symbol_type(found))
     }
 
     /// The type of a symbol, by its number in a part; None if it has none.
-    pub fn told_in(&self, place: usize, symbol: u32) -> Option<SymbolAnswer> {
+    pub fn symbol_answer_in(&self, place: usize, symbol: u32) -> Option<SymbolAnswer> {
         self.volumes.entry_in(place, symbol).map(|found| self.symbol_type(found))
     }
 

@@ -16,11 +16,11 @@ pub fn has_symbol_types(origin: Origin) -> bool {
 }
 
 /// A symbol with its type.
-pub struct ToldSymbol {
+pub struct SymbolWithType {
     /// Its name; bytes that are not UTF-8 are escaped.
     pub name: Vec<u8>,
     /// Its type.
-    pub told: SymbolAnswer,
+    pub answer: SymbolAnswer,
 }
 
 /// The symbols that a dictionary of a file was given.
@@ -45,7 +45,7 @@ pub fn symbol_lists<'h>(handed: &'h LibraryInput<'_>) -> Vec<SymbolList<'h>> {
 }
 
 /// The symbols with types, without those of repeated names.
-pub fn told_symbols(catalog: &Catalog<'_>, handed: &LibraryInput<'_>) -> Vec<ToldSymbol> {
+pub fn symbols_with_types(catalog: &Catalog<'_>, handed: &LibraryInput<'_>) -> Vec<SymbolWithType> {
     if !has_symbol_types(handed.origin) {
         return Vec::new();
     }
@@ -59,18 +59,20 @@ pub fn told_symbols(catalog: &Catalog<'_>, handed: &LibraryInput<'_>) -> Vec<Tol
             if at == 0 || is_nowhere || !matches!(kind, OBJECT | FUNCTION) {
                 continue;
             }
-            let Some(told) = catalog.told_in(list.place, number as u32) else { continue };
+            let Some(answer) = catalog.symbol_answer_in(list.place, number as u32) else {
+                continue;
+            };
             let name = name_at(list.strings, at as usize);
-            if is_of(&told, kind) && known.insert(name.clone()) {
-                made.push(ToldSymbol { name, told });
+            if is_of(&answer, kind) && known.insert(name.clone()) {
+                made.push(SymbolWithType { name, answer });
             }
         }
     }
     made
 }
 
-fn is_of(told: &SymbolAnswer, kind: u8) -> bool {
-    match told {
+fn is_of(answer: &SymbolAnswer, kind: u8) -> bool {
+    match answer {
         SymbolAnswer::Function(_) => kind == FUNCTION,
         SymbolAnswer::Object(_) => kind == OBJECT,
     }

@@ -43,7 +43,9 @@ pub fn functions(
     let mut found: Vec<(&[u8], Signature)> = Vec::new();
     for list in lists {
         for (number, name) in function_symbols(list.table, list.strings) {
-            if let Some(SymbolAnswer::Function(signature)) = catalog.told_in(list.place, number) {
+            if let Some(SymbolAnswer::Function(signature)) =
+                catalog.symbol_answer_in(list.place, number)
+            {
                 found.push((name, signature));
             }
         }

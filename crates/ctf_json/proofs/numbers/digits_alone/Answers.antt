@@ -2,7 +2,7 @@ use Rattle.std.proofs.Common.{◌≡◌, ◌<◌, length, take, subst, ap, ◌�
 use Rattle.std.proofs.lemmas.Int.Digits.{digits_more, digits_value_more}
 use Rattle.std.proofs.lemmas.List.{take_all}
 use Rattle.std.specs.Str.Parse.{AllDigits, digits_value}
-use Rattle.ctf_json.proofs.Digits.{number_alone}
+use Rattle.ctf_json.proofs.Digits.{number_alone, number_of_alone}
 use Rattle.ctf_json.proofs.numbers.digits_alone.Goals as goal
 
 pub loop-byte-preserved : goal.loop-byte-preserved
@@ -21,4 +21,8 @@ returns c =
     let same : c.loop-byte.value ≡ digits_value 10 bytes = c.loop-byte.invariant.1 ∙ ap (digits_value 10) whole in
     let fits = c.loop-byte.auto.value-fits in
     let some : 0 < length bytes = grind arith in
-    number_alone bytes c.loop-byte.value some (subst (AllDigits 10) whole c.loop-byte.invariant.0) (omega (arith, fits, same)) same
+    let all = subst (AllDigits 10) whole c.loop-byte.invariant.0 in
+    record {
+      scanned = number_alone bytes c.loop-byte.value some all (omega (arith, fits, same)) same;
+      number = number_of_alone bytes c.loop-byte.value some all (omega (arith, fits, same)) same;
+    }

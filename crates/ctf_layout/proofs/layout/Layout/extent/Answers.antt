@@ -1,5 +1,6 @@
 use Rattle.std.proofs.Common.{sym, ◌∙◌, arith}
 use Rattle.ctf_layout.proofs.Elsewhere.{extent_of_none, extent_of_nowhere, extent_of_parents}
+use Rattle.ctf_layout.specs.SmallExtents.{extents_in}
 use Rattle.ctf_layout.proofs.Tables.{own_extent, in_parents_table, in_no_table}
 use Rattle.ctf_layout.proofs.layout.Layout.extent.Goals as goal
 
@@ -8,7 +9,7 @@ returns-then-number-eq0 c = λ s fits. extent_of_none s c.args.number.0 c.of_no_
 
 pub returns-in-Own : goal.returns-in-Own
 returns-in-Own c = λ s fits.
-    own_extent s c.args.self.now.own.value.entries.items fits.own c.args.number.0 c.in-Own.i (rw fits.child at (sym c.place.ensures ∙ c.in-Own.is)) c.at.result (rw c.deref.ensures at c.at.ensures)
+    own_extent s (extents_in c.args.self.now.own.value) fits.own c.args.number.0 c.in-Own.i (rw fits.child at (sym c.place.ensures ∙ c.in-Own.is)) c.at.result (rw c.deref.ensures at c.at.ensures)
 
 pub returns-in-Some : goal.returns-in-Some
 returns-in-Some c = λ s fits.

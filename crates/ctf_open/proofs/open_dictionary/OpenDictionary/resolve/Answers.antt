@@ -1,0 +1,6 @@
+use Rattle.std.proofs.Common.{arith}
+use Rattle.ctf_model.specs.opened.Open.{space_in}
+use Rattle.ctf_open.proofs.open_dictionary.OpenDictionary.resolve.Goals as goal
+
+pub returns : goal.returns
+returns c = c.resolve.ensures.answered (space_in c.args.self.now) c.tables.ensures.layout (omega (arith, c.if-t-eq0.false))
