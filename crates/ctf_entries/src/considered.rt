@@ -5,6 +5,7 @@ ghost use Rattle.ctf_model.specs.symbols.Symbols.{with_types, considered_from, s
 ghost use Rattle.ctf_entries.specs.NamesView.{strings_of};
 ghost use Rattle.ctf_entries.specs.SymbolView.{number_and_symbol};
 
+use crate::ahead::read_ahead;
 use crate::symbol::Symbol;
 use crate::symbol_strings::SymbolNames;
 use std::marker::Model;
@@ -24,7 +25,7 @@ pub(crate) struct FirstSymbol<'a> {
 }
 
 /// The symbols after the first one.
-fn behind_first(sym: &[u8]) -> &[u8]
+pub(crate) fn behind_first(sym: &[u8]) -> &[u8]
     requires { 24 ≤ length sym.now }
     ensures { result.now ≡ drop 24 sym.now }
 {
@@ -33,6 +34,7 @@ fn behind_first(sym: &[u8]) -> &[u8]
 }
 
 /// The first considered symbol, among symbols that are numbered from `number` on.
+#[inline(always)]
 pub(crate) fn first_considered<'a>(
     sym: &'a [u8],
     names: SymbolNames<'a>,
@@ -70,6 +72,7 @@ pub struct Considered<'a> {
     sym: &'a [u8],
     names: SymbolNames<'a>,
     number: u64,
+    read_until: u64,
 }
 
 impl<'a> Model for Considered<'a> {
@@ -93,6 +96,7 @@ impl<'a> Considered<'a> {
             sym,
             names,
             number: 0,
+            read_until: 0,
         }
     }
 }
@@ -105,6 +109,7 @@ impl<'a> Iterator for Considered<'a> {
     ghost remaining = { item_count (λ rest. rest) };
 
     fn next(&mut self) -> Option<Numbered<'a>> {
+        self.read_until = read_ahead(self.sym, self.names, self.number, self.read_until);
         let found = first_considered(self.sym, self.names, self.number)?;
         self.sym = found.behind;
         self.number = found.first.number as u64 + 1;

@@ -23,6 +23,7 @@
 //! refuses the dictionary then. No call takes memory.
 #![tactic(auto)]
 
+mod ahead;
 mod considered;
 mod entries;
 mod function;
@@ -33,6 +34,7 @@ mod symbol;
 mod symbol_strings;
 mod unread;
 
+pub use ahead::read_ahead;
 pub use considered::{Considered, Numbered};
 pub use entries::{Entries, Entry, SymbolInfo};
 pub use function::{behind_function, is_bad_entry, signature_of};

@@ -76,6 +76,7 @@ impl<'a> Symbol<'a> {
 
     /// Whether a dictionary can have a type for it, if it has this number. Reads a few bytes of its
     /// name.
+    #[inline(always)]
     #[tactic(auto, unfolding(ctf_model::specs::symbols::Symbols::is_considered))]
     pub fn is_considered(self, number: u64) -> bool
         ensures test { result ≡ considered (numbered_symbol number self.entry) }

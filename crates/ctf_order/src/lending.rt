@@ -6,6 +6,7 @@ ghost use Rattle.ctf_order.specs.Naming.{naming};
 ghost use Rattle.ctf_order.specs.declared.texts.Texts.{Texts as AnyTexts};
 ghost use Rattle.ctf_order.specs.Lending.{goes_before, repeats, IsLent, IsNextLent, Ranks};
 
+use crate::ahead::read_ahead;
 use crate::comparing::rank;
 use crate::entries::{NamedItem, Ranked};
 use crate::texts::Texts;
@@ -124,7 +125,9 @@ fn ranked_within<'a>(
     let mut ranked = Vec::with_capacity(alloc, items.len())?;
     let mut before: Option<Named<'a>> = None;
     let mut left = most;
-    for item in items {
+    let mut read_until = 0;
+    for (number, item) in items.iter().enumerate() {
+        read_until = read_ahead(texts, items, number, read_until);
         if let Some(next) = next_named(texts, before, *item) {
             if next.name.len() > left {
                 return Ok(None);

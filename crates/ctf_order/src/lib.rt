@@ -30,6 +30,7 @@
 //! look-up takes none, and answers `None` where no item has the name.
 #![tactic(auto)]
 
+mod ahead;
 mod comparing;
 mod entries;
 mod lending;

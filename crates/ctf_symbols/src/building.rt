@@ -9,7 +9,7 @@ ghost use Rattle.ctf_symbols.specs.Named.{AreItems, called_symbol, program_names
 
 use crate::items::symbol_item;
 use crate::rows::behind_symbol;
-use ctf_entries::{Symbol, SymbolNames, behind_function, behind_object};
+use ctf_entries::{Symbol, SymbolNames, behind_function, behind_object, read_ahead};
 use ctf_order::NamedItem;
 use std::alloc::{AllocError, Global};
 
@@ -47,8 +47,10 @@ pub(crate) fn list(
     let mut rest = sym;
     let mut objects = objects;
     let mut functions = functions;
+    let mut read_until = 0;
     'symbols: while rest.len() >= 24 {
         let first = rest;
+        read_until = read_ahead(first, names, number, read_until);
         let symbol = Symbol::read(first, names);
         rest = behind_symbol(first);
         if !symbol.is_considered(number) {
