@@ -57,7 +57,7 @@ impl<'a> Checked<'a> {
     }
 
     /// The bytes of a section.
-    pub(crate) fn section(&self, section: Section) -> &'a [u8]
+    pub fn section(&self, section: Section) -> &'a [u8]
         ensures bytes { result.now ≡ section_of (lists_of self.now).ctf section }
         ensures short { length result.now < 2 ^ 32 }
     {

@@ -5,12 +5,14 @@ ghost use Rattle.ctf_check.specs.CheckedView.{lists_of};
 ghost use Rattle.ctf_check.specs.Holdings.{lent_holding as lent_for, lists_owned_by, owning};
 ghost use Rattle.ctf_check.specs.ListsView.{lists_in};
 ghost use Rattle.ctf_check.specs.Stages.{fault_before_chains};
+ghost use Rattle.ctf_model.specs.format.Dictionary.{said_by};
 ghost use Rattle.ctf_model.specs.format.Header.{fields, section as section_of};
 ghost use Rattle.ctf_model.specs.format.OwnedLists.{lists_owned};
 ghost use Rattle.ctf_model.specs.rules.Faults.{first_fault, types as types_of};
 ghost use Rattle.ctf_model.specs.rules.Refusals.{out_of_memory};
 
 use crate::checked::Checked;
+use crate::faultless::findings;
 use crate::holding::DictionaryLists;
 use crate::judge::{Findings, check};
 use crate::lists::{LentLists, lent_lists};
@@ -81,6 +83,29 @@ impl<'a> Judged<'a> {
             }),
             Err(fault) => Err((fault, parts)),
         }
+    }
+
+    /// Keeps lists that are known to break no rule, as those that were just written. They have so
+    /// many types. They are not checked again: only the header and the lengths of the records are
+    /// read.
+    pub fn of_faultless(
+        alloc: Global,
+        parts: Parts,
+        model: DataModel,
+        count: usize,
+    ) -> Result<Judged<'a>, Fault>
+        requires faultless { first_fault (lists_owned parts) ≡ None }
+        requires count { count ≡ length (said_by (lists_owned parts)).terms }
+        ensures ok { IfOk result (λ j. j ≡ owning (lists_owned parts) model) }
+        ensures err { IfErr result (λ f. f ≡ out_of_memory) }
+    {
+        let Findings { header, starts } = findings(alloc, parts.ctf.as_slice(), count)?;
+        Ok(Judged {
+            held: DictionaryLists::Owned(parts),
+            header,
+            starts,
+            model,
+        })
     }
 
     /// Checks borrowed lists and keeps them borrowed, or gives the first fault. If memory is

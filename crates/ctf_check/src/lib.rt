@@ -29,6 +29,7 @@ mod ends;
 mod enough;
 mod entries;
 mod facts;
+mod faultless;
 mod holding;
 mod judge;
 mod judged;

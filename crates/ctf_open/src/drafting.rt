@@ -7,12 +7,13 @@ ghost use Rattle.ctf_open.specs.Fitting.{AreTablesOf};
 ghost use Rattle.ctf_open.specs.Quotas.{IsRefused, IsUncreated, IsUnwritten, fits_in, open_bytes};
 ghost use Rattle.ctf_model.specs.opened.Open.{own_in};
 ghost use Rattle.ctf_model.specs.opened.Sizes.{kept_bytes, parent_bytes};
-ghost use Rattle.ctf_model.specs.drafts.Drafts.{content, new_draft as new_draft_of};
+ghost use Rattle.ctf_model.specs.drafts.Drafts.{content, new_draft as new_draft_of, rollback};
 ghost use Rattle.ctf_model.specs.format.Dictionary.{Denotes};
 ghost use Rattle.ctf_model.specs.rules.Refusals.{placeless as refusal, out_of_memory};
 ghost use Rattle.ctf_model.specs.declared.faults.TheConstants.Fault.{QUOTA_FULL};
 ghost use Rattle.ctf_model.specs.spaces.Kept.{Kept, fault_over, kept_dictionary, modelled_by};
 ghost use Rattle.ctf_model.specs.writing.Written.{written};
+ghost use Rattle.ctf_writer.specs.Updating.{StandsFor};
 
 use crate::bytes::bytes_above;
 use crate::imports::Imported;
@@ -22,7 +23,7 @@ use crate::rooms::{Room, has_room};
 use ctf_check::Judged;
 use ctf_draft::Draft;
 use ctf_model::{Bytes, DataModel, Fault, Parts, placeless};
-use ctf_writer::write;
+use ctf_writer::{write, write_over};
 use std::alloc::{AllocError, Global};
 use std::rc::Rc;
 
@@ -53,9 +54,30 @@ struct Updated {
     imported: Option<Imported>,
 }
 
+/// The bytes of a draft. If it was updated before, `before` is what that wrote.
+fn bytes_of(alloc: Global, draft: &Draft, before: Option<&Loaded>) -> Result<Vec<u8>, Fault>
+    requires { ForSome (option_copied before) (IsWritten (rollback draft.now.draft)) }
+    ensures ok { IfOk result (λ bytes. written (content draft.now.draft) ≡ Ok bytes.items) }
+    ensures stands { IfOk result (λ bytes. StandsFor draft.now.draft bytes.items) }
+    ensures exact_err { IfErr result (λ f. (f ≡ out_of_memory)
+        ⊎ (written (content draft.now.draft) ≡ Err f)) }
+{
+    match before {
+        Some(before) => write_over(alloc, draft, before.view()),
+        None => write(alloc, draft),
+    }
+}
+
 /// The dictionary of a draft's bytes, if there is room for it besides a parent of so many bytes.
-fn load(alloc: Global, draft: &Draft, parent: u128, room: Option<Room>) -> Result<Loaded, Fault>
-    requires { parent < 2 ^ 66 }
+fn load(
+    alloc: Global,
+    draft: &Draft,
+    before: Option<&Loaded>,
+    parent: u128,
+    room: Option<Room>,
+) -> Result<Loaded, Fault>
+    requires before { ForSome (option_copied before) (IsWritten (rollback draft.now.draft)) }
+    requires parent { parent < 2 ^ 66 }
     ensures written { IfOk result (λ l. IsWritten draft.now.draft l) }
     ensures denotes { IfOk result (λ l. Denotes l.lists (content draft.now.draft)) }
     ensures under { IfOk result
@@ -65,7 +87,7 @@ fn load(alloc: Global, draft: &Draft, parent: u128, room: Option<Room>) -> Resul
     ensures exact_err { IfErr result (λ f. (f ≡ out_of_memory)
         ⊎ IsUnwritten (written (content draft.now.draft)) parent room f) }
 {
-    let bytes = write(alloc, draft)?;
+    let bytes = bytes_of(alloc, draft, before)?;
     if !has_room(room, bytes.len() as u128 + parent) {
         return Err(placeless(Fault::QUOTA_FULL));
     }
@@ -74,10 +96,7 @@ fn load(alloc: Global, draft: &Draft, parent: u128, room: Option<Room>) -> Resul
         sym: None,
         strs: None,
     };
-    match Loaded::build(alloc, parts, draft.model()) {
-        Ok(loaded) => Ok(loaded),
-        Err((fault, _)) => Err(fault),
-    }
+    Loaded::of_faultless(alloc, parts, draft.model(), draft.types().len())
 }
 
 /// The new state of a draft's dictionary after an update, over the draft's parent, if there is room
@@ -85,10 +104,12 @@ fn load(alloc: Global, draft: &Draft, parent: u128, room: Option<Room>) -> Resul
 fn updated_over(
     alloc: Global,
     draft: &Draft,
+    before: Option<&Loaded>,
     parent: Option<&Loaded>,
     room: Option<Room>,
 ) -> Result<Updated, Fault>
-    requires { IsUnder draft.now.draft (option_copied parent) }
+    requires before { ForSome (option_copied before) (IsWritten (rollback draft.now.draft)) }
+    requires under { IsUnder draft.now.draft (option_copied parent) }
     ensures written { IfOk result (λ u. IsWritten draft.now.draft u.own) }
     ensures denotes { IfOk result (λ u. Denotes u.own.lists (content draft.now.draft)) }
     ensures judged { IfOk result (λ u. u.judged.value.kept ≡ u.own) }
@@ -103,7 +124,7 @@ fn updated_over(
         ⊎ IsUnwritten (written (content draft.now.draft))
         (parent_bytes (option_copied parent.entry)) room f) }
 {
-    let own = load(alloc, draft, bytes_above(parent), room)?;
+    let own = load(alloc, draft, before, bytes_above(parent), room)?;
     let imported = imported_over(alloc, &own, parent)?;
     let judged = own.share_judged()?;
     Ok(Updated {
@@ -201,7 +222,7 @@ impl OpenDictionary {
             (created (option_copied parent.entry) parname.now parlabel.now model) room f) }
     {
         let mut draft = new_draft(alloc, parent, parname, parlabel, model)?;
-        let update = updated_over(alloc, &draft, parent, room)?;
+        let update = updated_over(alloc, &draft, None, parent, room)?;
         draft.settle(update.judged);
         Ok(OpenDictionary {
             own: update.own,
@@ -252,7 +273,13 @@ impl OpenDictionary {
         if draft.pending() == 0 {
             return self.types_within(room);
         }
-        let update = updated_over(alloc, draft, parent_of(&self.imported), room)?;
+        let update = updated_over(
+            alloc,
+            draft,
+            Some(&self.own),
+            parent_of(&self.imported),
+            room,
+        )?;
         draft.settle(update.judged);
         self.own = update.own;
         self.imported = update.imported;

@@ -1,10 +1,11 @@
 //! A dictionary with the tables that it has by itself.
-ghost use Rattle.std.specs.Prelude.{◌≡◌, ◌⊎◌, None, Some, IfOk, IfErr, OnOk, true};
+ghost use Rattle.std.specs.Prelude.{◌≡◌, ◌⊎◌, None, Some, IfOk, IfErr, OnOk, length, true};
 ghost use Rattle.ctf_check.specs.CheckedView.{lists_of};
 ghost use Rattle.ctf_check.specs.ListsView.{lists_in};
 ghost use Rattle.ctf_check.specs.Stages.{fault_before_chains};
 ghost use Rattle.ctf_open.specs.Fitting.{AreTablesOf};
 ghost use Rattle.ctf_model.specs.rules.Faults.{first_fault};
+ghost use Rattle.ctf_model.specs.format.Dictionary.{said_by};
 ghost use Rattle.ctf_model.specs.format.OwnedLists.{lists_owned};
 ghost use Rattle.ctf_model.specs.rules.Refusals.{out_of_memory};
 ghost use Rattle.ctf_symbols.specs.Fitting.{Fits};
@@ -106,6 +107,26 @@ impl Loaded {
         match Loaded::of(alloc, dictionary) {
             Ok(loaded) => Ok(loaded),
             Err(dictionary) => Err((placeless(Fault::MEMORY), own_parts(dictionary))),
+        }
+    }
+
+    /// Opens lists that are known to break no rule, and have so many types. They are not checked
+    /// again.
+    pub fn of_faultless(
+        alloc: Global,
+        parts: Parts,
+        model: DataModel,
+        count: usize,
+    ) -> Result<Loaded, Fault>
+        requires faultless { first_fault (lists_owned parts) ≡ None }
+        requires count { count ≡ length (said_by (lists_owned parts)).terms }
+        ensures ok { IfOk result (λ l. l ≡ record { lists = lists_owned parts; model = model }) }
+        ensures err { IfErr result (λ f. f ≡ out_of_memory) }
+    {
+        let dictionary = Judged::of_faultless(alloc, parts, model, count)?;
+        match Loaded::of(alloc, dictionary) {
+            Ok(loaded) => Ok(loaded),
+            Err(_) => Err(placeless(Fault::MEMORY)),
         }
     }
 

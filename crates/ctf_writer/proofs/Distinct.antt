@@ -7,6 +7,7 @@ use Rattle.std.specs.Cmp.Lexicographic.{bytes_decides}
 use Rattle.std.proofs.lemmas.List.{append-nil, append_assoc}
 use Rattle.ctf_model.specs.writing.WrittenNames.{distinct, is_empty}
 use Rattle.ctf_writer.specs.Offsets.{with_name}
+use Rattle.ctf_writer.specs.TableNames.{joined}
 
 -- filtering by two tests is filtering by their conjunction
 filter_both : {A : Type 0} (p q r : A → Bool) → ((x : A) → r x ≡ (p x && q x)) → (xs : List A) → filter p (filter q xs) ≡ filter r xs
@@ -20,7 +21,7 @@ filter_both {A} p q r h (x ∷ xs) = at (p x) refl (q x) refl (filter_both p q r
     at false e false f more = let both : r x ≡ false = rw (h x, e) refl in rw (both, f) more
 
 -- the name is not in the list
-abbrev fresh : List (List ℕ) → List ℕ → Bool
+abbrev pub fresh : List (List ℕ) → List ℕ → Bool
 fresh done n = not (list_any (bytes_eq n) done)
 
 any_joined : (p : List ℕ → Bool) (xs ys : List (List ℕ)) → list_any p (xs ++ ys) ≡ (list_any p xs || list_any p ys)
@@ -31,7 +32,7 @@ any_joined p (x ∷ xs) ys = at (p x) (any_joined p xs ys)
     at true more = refl
     at false more = more
 
-same_either_way : (x n : List ℕ) → bytes_eq n x ≡ bytes_eq x n
+pub same_either_way : (x n : List ℕ) → bytes_eq n x ≡ bytes_eq x n
 same_either_way x n = at (bytes_eq n x) refl (bytes_eq x n) refl
   where
     at : (b : Bool) → bytes_eq n x ≡ b → (c : Bool) → bytes_eq x n ≡ c → b ≡ c
@@ -61,11 +62,11 @@ left_out done x n = ap not (any_joined (bytes_eq n) done (x ∷ [])) ∙ at (lis
     at false false true e = absurd cc
 
 -- the non-empty names without repetitions
-abbrev kept : List (List ℕ) → List (List ℕ)
+abbrev pub kept : List (List ℕ) → List (List ℕ)
 kept xs = distinct (filter (λ name. not (is_empty name)) xs)
 
 -- names added to a list come after it if they are new
-added : (xs done : List (List ℕ)) → fold with_name done xs ≡ done ++ filter (fresh done) (kept xs)
+pub added : (xs done : List (List ℕ)) → fold with_name done xs ≡ done ++ filter (fresh done) (kept xs)
 unfolding distinct
 added [] done = sym (append-nil done)
 added (x ∷ xs) done = at (is_empty x) refl (list_any (bytes_eq x) done) refl (λ d. added xs d)
@@ -87,3 +88,7 @@ all_fresh (x ∷ xs) = ap (λ (ys : List (List ℕ)). x ∷ ys) (all_fresh xs)
 -- names added to an empty list are there once, in the order of first use
 pub each_once : (xs : List (List ℕ)) → fold with_name [] xs ≡ distinct (filter (λ name. not (is_empty name)) xs)
 each_once xs = added xs [] ∙ all_fresh (kept xs)
+
+-- names used later are added to those before as new names in use
+pub joined_used : (names uses : List (List ℕ)) → joined names (fold with_name [] uses) ≡ fold with_name names uses
+joined_used names uses = ap (λ (xs : List (List ℕ)). names ++ filter (fresh names) xs) (each_once uses) ∙ sym (added uses names)

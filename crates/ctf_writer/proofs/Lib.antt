@@ -1,9 +1,10 @@
-pub mod Offsets
+pub mod TableNames
+pub mod Placing
 pub mod Distinct
+pub mod Growing
+pub mod Again
 pub mod Joining
 pub mod Lengths
-pub mod Growing
-pub mod ContentNames
 pub mod Header
 pub mod ContentParts
 pub mod Leading

@@ -1,9 +1,11 @@
 -- The dictionary that an update writes.
-use Rattle.std.proofs.Common.{◌≡◌, ℕ, List, ◌++◌, [], is_some, Ok, ap, ◌∙◌}
-use Rattle.std.proofs.lemmas.List.{append-nil}
-use Rattle.ctf_model.proofs.Denoted.{denotes_said}
+use Rattle.std.proofs.Common.{◌≡◌, ℕ, List, ◌++◌, [], is_some, length, map, Ok, ap, sym, ◌∙◌}
+use Rattle.std.proofs.lemmas.List.{append-nil, length-map}
+use Rattle.ctf_draft.specs.TypeView.{type_of}
+use Rattle.ctf_draft.specs.declared.types.DraftType.{DraftType}
+use Rattle.ctf_model.proofs.Denoted.{denotes_said, one_dictionary}
 use Rattle.ctf_model.proofs.WrittenDrafts.{draft_denoted, draft_imported}
-use Rattle.ctf_model.specs.format.Dictionary.{Label, said_by}
+use Rattle.ctf_model.specs.format.Dictionary.{Dictionary, Label, said_by}
 use Rattle.ctf_model.specs.drafts.DraftLaws.{IsSound}
 use Rattle.ctf_model.specs.drafts.Drafts.{Contents, Draft, all_of, followed_by, content, no_contents, commit}
 use Rattle.ctf_model.specs.format.Term.{Term}
@@ -32,3 +34,9 @@ held_stays d = ap (λ (all : Contents). record {
   symbols = [];
   entries = [];
 }) (none_behind (all_of d))
+
+-- the bytes encode as many types as the draft has
+pub written_count : (d : Draft) (bytes : List ℕ) (types : List DraftType) → StandsFor d bytes → map type_of types ≡ (all_of d).terms → length types ≡ length (said_by (lists_of bytes)).terms
+written_count d bytes types stands are =
+    sym (length-map types type_of) ∙ ap (λ (ts : List Term). length ts) are
+    ∙ ap (λ (e : Dictionary). length e.terms) (one_dictionary (lists_of bytes) (content d) (said_by (lists_of bytes)) stands.denotes (denotes_said (lists_of bytes) stands.denotes.faultless))

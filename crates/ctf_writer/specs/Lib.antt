@@ -1,7 +1,11 @@
 pub mod Offsets
 pub mod Uses
 pub mod Once
+pub mod TableNames
+pub mod Endings
+pub mod UsedView
 pub mod Tables
+pub mod Before
 pub mod DraftContentView
 pub mod Leading
 pub mod Updating

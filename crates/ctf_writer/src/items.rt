@@ -6,7 +6,7 @@ ghost use Rattle.ctf_model.specs.drafts.Fitting.{FitsMember};
 ghost use Rattle.ctf_model.specs.writing.WritingLaws.{IsKept};
 ghost use Rattle.ctf_model.specs.writing.WrittenRecords.{argument_bytes, member_bytes};
 ghost use Rattle.ctf_writer.specs.DraftContentView.{written_argument, written_enumerator, written_member};
-ghost use Rattle.ctf_writer.specs.Tables.{names};
+ghost use Rattle.ctf_writer.specs.Tables.{names, used};
 
 use crate::numbers::{put_halves, put_u16, put_u32};
 use crate::strings::Strings;
@@ -20,7 +20,7 @@ fn put_narrow_member(out: &mut Vec<u8>, strings: &Strings<'_>, size: u64, member
     requires room { vec_len out.old + 8 ≤ vec_capacity out.old }
     requires narrow { size < 8192 }
     requires fits { FitsMember size (member_of member.now) }
-    requires kept { IsKept (names strings.now) member.now.name }
+    requires kept { IsKept (used strings.now) member.now.name }
     ensures items { out.new.items
         ≡ out.old.items ++ member_bytes (names strings.now) size (member_of member.now) }
     ensures len { vec_len out.new ≡ vec_len out.old + 8 }
@@ -34,7 +34,7 @@ fn put_narrow_member(out: &mut Vec<u8>, strings: &Strings<'_>, size: u64, member
 fn put_wide_member(out: &mut Vec<u8>, strings: &Strings<'_>, size: u64, member: &Member)
     requires room { vec_len out.old + 16 ≤ vec_capacity out.old }
     requires wide { 8192 ≤ size }
-    requires kept { IsKept (names strings.now) member.now.name }
+    requires kept { IsKept (used strings.now) member.now.name }
     ensures items { out.new.items
         ≡ out.old.items ++ member_bytes (names strings.now) size (member_of member.now) }
     ensures len { vec_len out.new ≡ vec_len out.old + 16 }
@@ -50,7 +50,7 @@ fn put_member(out: &mut Vec<u8>, strings: &Strings<'_>, size: u64, member: &Memb
     requires room { vec_len out.old + length (written_member (names strings.now) size member.now)
         ≤ vec_capacity out.old }
     requires fits { FitsMember size (member_of member.now) }
-    requires kept { IsKept (names strings.now) member.now.name }
+    requires kept { IsKept (used strings.now) member.now.name }
     ensures items { out.new.items
         ≡ out.old.items ++ written_member (names strings.now) size member.now }
     ensures len { vec_len out.new
@@ -70,7 +70,7 @@ pub(crate) fn put_members(out: &mut Vec<u8>, strings: &Strings<'_>, size: u64, m
         + length (flat_map (written_member (names strings.now) size) members.now)
         ≤ vec_capacity out.old }
     requires fits { All (λ m. FitsMember size (member_of m)) members.now }
-    requires kept { All (λ m. IsKept (names strings.now) m.name) members.now }
+    requires kept { All (λ m. IsKept (used strings.now) m.name) members.now }
     ensures items { out.new.items
         ≡ out.old.items ++ flat_map (written_member (names strings.now) size) members.now }
     ensures len { vec_len out.new ≡ vec_len out.old
@@ -84,7 +84,7 @@ pub(crate) fn put_members(out: &mut Vec<u8>, strings: &Strings<'_>, size: u64, m
 
 fn put_enumerator(out: &mut Vec<u8>, strings: &Strings<'_>, enumerator: &Enumerator)
     requires room { vec_len out.old + 8 ≤ vec_capacity out.old }
-    requires kept { IsKept (names strings.now) enumerator.now.name }
+    requires kept { IsKept (used strings.now) enumerator.now.name }
     ensures items { out.new.items
         ≡ out.old.items ++ written_enumerator (names strings.now) enumerator.now }
     ensures len { vec_len out.new ≡ vec_len out.old + 8 }
@@ -99,7 +99,7 @@ pub(crate) fn put_enumerators(out: &mut Vec<u8>, strings: &Strings<'_>, enumerat
     requires room { vec_len out.old
         + length (flat_map (written_enumerator (names strings.now)) enumerators.now)
         ≤ vec_capacity out.old }
-    requires kept { All (λ e. IsKept (names strings.now) e.name) enumerators.now }
+    requires kept { All (λ e. IsKept (used strings.now) e.name) enumerators.now }
     ensures items { out.new.items
         ≡ out.old.items ++ flat_map (written_enumerator (names strings.now)) enumerators.now }
     ensures len { vec_len out.new ≡ vec_len out.old

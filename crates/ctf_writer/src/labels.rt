@@ -3,7 +3,7 @@ ghost use Rattle.std.specs.Prelude.{◌≡◌, ℕ, ◌*◌, ◌+◌, ◌<◌, �
 ghost use Rattle.std.specs.List.{flat_map, All};
 ghost use Rattle.ctf_model.specs.writing.Written.{label_bytes};
 ghost use Rattle.ctf_model.specs.writing.WritingLaws.{IsKept};
-ghost use Rattle.ctf_writer.specs.Tables.{names};
+ghost use Rattle.ctf_writer.specs.Tables.{names, used};
 ghost use Rattle.ctf_writer.specs.DraftContentView.{no_label};
 
 use crate::numbers::put_u32;
@@ -32,7 +32,7 @@ pub(crate) fn label_name(labels: &Labels, i: usize) -> &[u8]
 
 fn put_label(out: &mut Vec<u8>, strings: &Strings<'_>, name: &[u8], last: u32)
     requires room { vec_len out.old + 8 ≤ vec_capacity out.old }
-    requires kept { IsKept (names strings.now) name.now }
+    requires kept { IsKept (used strings.now) name.now }
     ensures items { out.new.items ≡ out.old.items
         ++ label_bytes (names strings.now) (record { name = name.now; last = last }) }
     ensures len { vec_len out.new ≡ vec_len out.old + 8 }
@@ -46,7 +46,7 @@ fn put_label(out: &mut Vec<u8>, strings: &Strings<'_>, name: &[u8], last: u32)
 pub(crate) fn put_labels(out: &mut Vec<u8>, strings: &Strings<'_>, labels: &Labels)
     requires room { vec_len out.old
         + length (flat_map (label_bytes (names strings.now)) labels.now) ≤ vec_capacity out.old }
-    requires kept { All (λ l. IsKept (names strings.now) l.name) labels.now }
+    requires kept { All (λ l. IsKept (used strings.now) l.name) labels.now }
     ensures items { out.new.items
         ≡ out.old.items ++ flat_map (label_bytes (names strings.now)) labels.now }
     ensures len { vec_len out.new ≡ vec_len out.old

@@ -21,19 +21,25 @@
 //! have (DictTooBig), or where memory is refused; it is then as before.
 #![tactic(auto)]
 
+mod before;
 mod chains;
 mod draft_view;
+mod endings;
 mod items;
 mod labels;
 mod laws;
 mod numbers;
+mod offsets;
 mod records;
+mod rewriting;
 mod sizes;
 mod strings;
 mod updating;
+mod used;
 mod uses;
 mod writing;
 
 pub use laws::{adding_gives_strings, updates_write_the_same};
+pub use rewriting::write_over;
 pub use updating::update;
 pub use writing::write;

@@ -8,7 +8,7 @@ ghost use Rattle.ctf_model.specs.writing.WritingLaws.{IsKept};
 ghost use Rattle.ctf_model.specs.writing.WrittenNames.{listed_names, names_of};
 ghost use Rattle.ctf_model.specs.writing.WrittenRecords.{element_bytes, field_of, info_of, list_len, number_of_kind, record_bytes, scalar_bytes, tag_number as tag_number_of, variant_bytes};
 ghost use Rattle.ctf_records.specs.RecordView.{tag_of};
-ghost use Rattle.ctf_writer.specs.Tables.{names};
+ghost use Rattle.ctf_writer.specs.Tables.{names, used};
 
 use crate::items::{put_arguments, put_enumerators, put_members};
 use crate::numbers::{put_field, put_u16, put_u32};
@@ -124,7 +124,7 @@ fn put_variant(out: &mut Vec<u8>, strings: &Strings<'_>, body: &Body)
     requires room { vec_len out.old
         + length (variant_bytes (names strings.now) (body_of body.now)) ≤ vec_capacity out.old }
     requires fits { FitsBody (body_of body.now) }
-    requires kept { AllByRecursion (IsKept (names strings.now)) (listed_names (body_of body.now)) }
+    requires kept { AllByRecursion (IsKept (used strings.now)) (listed_names (body_of body.now)) }
     ensures items { out.new.items
         ≡ out.old.items ++ variant_bytes (names strings.now) (body_of body.now) }
     ensures len { vec_len out.new
@@ -150,7 +150,7 @@ pub(crate) fn put_record(out: &mut Vec<u8>, strings: &Strings<'_>, source: &Draf
     requires room { vec_len out.old + length (record_bytes (names strings.now) (type_of source.now))
         ≤ vec_capacity out.old }
     requires fits { Fits (type_of source.now) }
-    requires kept { AllByRecursion (IsKept (names strings.now)) (names_of (type_of source.now)) }
+    requires kept { AllByRecursion (IsKept (used strings.now)) (names_of (type_of source.now)) }
     ensures items { out.new.items
         ≡ out.old.items ++ record_bytes (names strings.now) (type_of source.now) }
     ensures len { vec_len out.new

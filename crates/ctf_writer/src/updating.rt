@@ -1,6 +1,7 @@
 //! Makes the additions to a draft part of its dictionary.
-ghost use Rattle.std.specs.Prelude.{◌≡◌, ◌⊎◌, IfErr, IfOk, OnErr, OnOk, MatchOption, None, Err};
+ghost use Rattle.std.specs.Prelude.{◌≡◌, ◌⊎◌, IfErr, IfOk, OnErr, OnOk, MatchOption, None, Err, length};
 ghost use Rattle.ctf_model.specs.drafts.Drafts.{content as held_by, commit};
+ghost use Rattle.ctf_model.specs.format.Dictionary.{said_by};
 ghost use Rattle.ctf_model.specs.rules.Faults.{first_fault};
 ghost use Rattle.ctf_model.specs.rules.Refusals.{out_of_memory};
 ghost use Rattle.ctf_model.specs.writing.Written.{lists_of, written};
@@ -13,9 +14,15 @@ use ctf_model::{Bytes, DataModel, Fault, Parts, placeless};
 use std::alloc::Global;
 use std::rc::Rc;
 
-/// The dictionary of bytes without a fault.
-fn judge(alloc: Global, bytes: Vec<u8>, model: DataModel) -> Result<Rc<Judged<'static>>, Fault>
+/// The dictionary of bytes without a fault, which encode so many types.
+fn judge(
+    alloc: Global,
+    bytes: Vec<u8>,
+    model: DataModel,
+    count: usize,
+) -> Result<Rc<Judged<'static>>, Fault>
     requires faultless { first_fault (lists_of bytes.items) ≡ None }
+    requires count { count ≡ length (said_by (lists_of bytes.items)).terms }
     ensures ok { IfOk result
         (λ d. d.value.kept ≡ record { lists = lists_of bytes.items; model = model }) }
     ensures err { IfErr result (λ f. f ≡ out_of_memory) }
@@ -25,10 +32,7 @@ fn judge(alloc: Global, bytes: Vec<u8>, model: DataModel) -> Result<Rc<Judged<'s
         sym: None,
         strs: None,
     };
-    let dictionary = match Judged::build(alloc, parts, model) {
-        Ok(dictionary) => dictionary,
-        Err((fault, _)) => return Err(fault),
-    };
+    let dictionary = Judged::of_faultless(alloc, parts, model, count)?;
     match Rc::new(alloc, dictionary) {
         Ok(dictionary) => Ok(dictionary),
         Err(_) => Err(placeless(Fault::MEMORY)),
@@ -48,7 +52,7 @@ pub fn update(alloc: Global, draft: &mut Draft) -> Result<(), Fault>
     ensures kept { OnErr result (draft.new ≡ draft.old) }
 {
     let bytes = write(alloc, draft)?;
-    let dictionary = judge(alloc, bytes, draft.model())?;
+    let dictionary = judge(alloc, bytes, draft.model(), draft.types().len())?;
     draft.settle(dictionary);
     Ok(())
 }

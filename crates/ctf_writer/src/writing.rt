@@ -1,5 +1,5 @@
 //! Writes a draft as bytes.
-ghost use Rattle.std.specs.Prelude.{◌≡◌, ◌+◌, ◌<◌, ◌≤◌, ◌^◌, ◌⊎◌, ◌++◌, length, IfErr, IfOk, MatchOption, Err, Ok, vec_len, vec_capacity};
+ghost use Rattle.std.specs.Prelude.{[], ◌≡◌, ◌+◌, ◌<◌, ◌≤◌, ◌^◌, ◌⊎◌, ◌++◌, length, IfErr, IfOk, MatchOption, Err, Ok, vec_len, vec_capacity};
 ghost use Rattle.std.specs.List.{All, AllByRecursion, flat_map};
 ghost use Rattle.ctf_draft.specs.TypeView.{type_of};
 ghost use Rattle.ctf_model.specs.drafts.Drafts.{content as held_by};
@@ -9,13 +9,16 @@ ghost use Rattle.ctf_model.specs.writing.WritingLaws.{IsKept};
 ghost use Rattle.ctf_model.specs.writing.Written.{bytes_of, fields_over, header_bytes, labels_written, most_written, records_written, written};
 ghost use Rattle.ctf_model.specs.writing.WrittenNames.{strings_of as strings_in};
 ghost use Rattle.ctf_writer.specs.DraftContentView.{dictionary_of, uses, written_type};
-ghost use Rattle.ctf_writer.specs.Tables.{names};
+ghost use Rattle.ctf_writer.specs.Before.{IsBefore, later_uses};
+ghost use Rattle.ctf_writer.specs.Tables.{names, used};
 ghost use Rattle.ctf_writer.specs.Updating.{StandsFor};
+ghost use Rattle.ctf_writer.specs.Uses.{with_names};
 
+use crate::before::Before;
 use crate::chains::judge_chains;
 use crate::draft_view::DraftContent;
 use crate::labels::put_labels;
-use crate::numbers::{put, put_u32};
+use crate::numbers::{copy, put, put_u32};
 use crate::records::put_record;
 use crate::sizes::records_len;
 use crate::strings::{LONGEST, Strings};
@@ -63,7 +66,7 @@ fn put_records(out: &mut Vec<u8>, strings: &Strings<'_>, types: &[DraftType])
     requires room { vec_len out.old
         + length (flat_map (written_type (names strings.now)) types.now) ≤ vec_capacity out.old }
     requires fits { All (λ t. Fits (type_of t)) types.now }
-    requires kept { All (λ t. AllByRecursion (IsKept (names strings.now)) (uses t)) types.now }
+    requires kept { All (λ t. AllByRecursion (IsKept (used strings.now)) (uses t)) types.now }
     ensures items { out.new.items
         ≡ out.old.items ++ flat_map (written_type (names strings.now)) types.now }
     ensures len { vec_len out.new ≡ vec_len out.old
@@ -84,8 +87,9 @@ struct Lengths {
 }
 
 /// The lengths of the parts, if the whole is no more than a dictionary may have.
-fn lengths_of(held: DraftContent<'_>, strings: &Strings<'_>) -> Option<Lengths>
+fn lengths_of(held: DraftContent<'_>, before: Before<'_>, strings: &Strings<'_>) -> Option<Lengths>
     requires fits { AllByRecursion Fits (dictionary_of held).terms }
+    requires before { IsBefore (dictionary_of held) before }
     requires strings { names strings.now ≡ strings_in (dictionary_of held) }
     ensures { MatchOption result (most_written < length (bytes_of (dictionary_of held.entry)))
         (λ l. (l.labels ≡ length (labels_written (dictionary_of held.entry)))
@@ -96,9 +100,10 @@ fn lengths_of(held: DraftContent<'_>, strings: &Strings<'_>) -> Option<Lengths>
         return None;
     }
     let labels = 8 * held.labels.len();
-    let Some(records) = records_len(held.types) else {
+    let Some(more) = records_len(before.others(held.types)) else {
         return None;
     };
+    let records = before.records.len() + more;
     let whole = HEADER + labels + records + strings.len();
     if whole > LONGEST {
         return None;
@@ -111,9 +116,17 @@ fn lengths_of(held: DraftContent<'_>, strings: &Strings<'_>) -> Option<Lengths>
 }
 
 /// Appends the content of a draft, whose parts have these lengths.
-fn put_content(out: &mut Vec<u8>, held: DraftContent<'_>, strings: &Strings<'_>, lengths: Lengths)
+fn put_content(
+    out: &mut Vec<u8>,
+    held: DraftContent<'_>,
+    before: Before<'_>,
+    strings: &Strings<'_>,
+    lengths: Lengths,
+)
     requires fits { AllByRecursion Fits (dictionary_of held).terms }
+    requires before { IsBefore (dictionary_of held) before }
     requires strings { names strings.now ≡ strings_in (dictionary_of held) }
+    requires used { used strings.now ≡ with_names [] (later_uses (dictionary_of held) before.count) }
     requires labels { lengths.labels ≡ length (labels_written (dictionary_of held)) }
     requires records { lengths.records ≡ length (records_written (dictionary_of held)) }
     requires short { length (bytes_of (dictionary_of held)) ≤ most_written }
@@ -130,24 +143,31 @@ fn put_content(out: &mut Vec<u8>, held: DraftContent<'_>, strings: &Strings<'_>,
     };
     put_header(out, heading);
     put_labels(out, strings, held.labels);
-    put_records(out, strings, held.types);
+    copy(out, before.records);
+    put_records(out, strings, before.others(held.types));
     strings.put(out);
 }
 
-/// The content of a draft as bytes, or the fault for which it is not written.
-fn write_content(alloc: Global, held: DraftContent<'_>) -> Result<Vec<u8>, Fault>
-    requires { AllByRecursion Fits (dictionary_of held).terms }
+/// The content of a draft as bytes, or the fault for which it is not written. What was written
+/// before is copied.
+pub(crate) fn write_content(
+    alloc: Global,
+    held: DraftContent<'_>,
+    before: Before<'_>,
+) -> Result<Vec<u8>, Fault>
+    requires fits { AllByRecursion Fits (dictionary_of held).terms }
+    requires before { IsBefore (dictionary_of held) before }
     ensures ok { IfOk result (λ bytes. written (dictionary_of held.entry) ≡ Ok bytes.items) }
     ensures exact_err { IfErr result (λ f. (f ≡ out_of_memory)
         ⊎ (written (dictionary_of held.entry) ≡ Err f)) }
 {
     judge_chains(alloc, held)?;
-    let strings = strings_of(alloc, held)?;
-    let Some(lengths) = lengths_of(held, &strings) else {
+    let strings = strings_of(alloc, held, before)?;
+    let Some(lengths) = lengths_of(held, before, &strings) else {
         return Err(placeless(Fault::DICT_TOO_BIG));
     };
     let mut out = Vec::with_capacity(alloc, lengths.whole)?;
-    put_content(&mut out, held, &strings, lengths);
+    put_content(&mut out, held, before, &strings, lengths);
     Ok(out)
 }
 
@@ -161,5 +181,5 @@ pub fn write(alloc: Global, draft: &Draft) -> Result<Vec<u8>, Fault>
     ensures exact_err { IfErr result (λ f. (f ≡ out_of_memory)
         ⊎ (written (held_by draft.now.draft) ≡ Err f)) }
 {
-    write_content(alloc, DraftContent::of(draft))
+    write_content(alloc, DraftContent::of(draft), Before::nothing())
 }

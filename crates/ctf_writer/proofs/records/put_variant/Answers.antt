@@ -8,7 +8,7 @@ use Rattle.ctf_draft.specs.TypeView.{enumerator_of, member_of}
 use Rattle.ctf_draft.specs.declared.types.Enumerator.{Enumerator}
 use Rattle.ctf_draft.specs.declared.types.Member.{Member}
 use Rattle.ctf_writer.specs.DraftContentView.{written_enumerator, written_member}
-use Rattle.ctf_writer.specs.Tables.{names}
+use Rattle.ctf_writer.specs.Tables.{names, used}
 use Rattle.ctf_writer.proofs.Joining.{all_mapped, enumerators_joined}
 use Rattle.ctf_writer.proofs.Lengths.{aggregate_bytes, fits_aggregate, names_aggregate}
 use Rattle.ctf_writer.proofs.records.put_variant.Goals as goal
@@ -30,10 +30,10 @@ put_members-requires-clause-fits c =
 pub put_members-requires-clause-kept : goal.put_members-requires-clause-kept
 put_members-requires-clause-kept c =
     let given = rw c.in-Aggregate.is at c.requires.kept in
-    let kept = subst (λ (ns : List (List ℕ)). AllByRecursion (IsKept (names c.args.strings.now)) ns) (names_aggregate c.in-Aggregate.field-0 c.in-Aggregate.size (map member_of c.in-Aggregate.members.items)) given in
+    let kept = subst (λ (ns : List (List ℕ)). AllByRecursion (IsKept (used c.args.strings.now)) ns) (names_aggregate c.in-Aggregate.field-0 c.in-Aggregate.size (map member_of c.in-Aggregate.members.items)) given in
     let slice = c.as_slice-in-Aggregate.ensures.value in
-    rw slice (All-from_recursion (λ (m : Member). IsKept (names c.args.strings.now) m.name) c.in-Aggregate.members.items
-    (all_mapped (λ (m : term.Member). IsKept (names c.args.strings.now) m.name) member_of c.in-Aggregate.members.items (all_mapped (IsKept (names c.args.strings.now)) (λ (m : term.Member). m.name) (map member_of c.in-Aggregate.members.items) kept)))
+    rw slice (All-from_recursion (λ (m : Member). IsKept (used c.args.strings.now) m.name) c.in-Aggregate.members.items
+    (all_mapped (λ (m : term.Member). IsKept (used c.args.strings.now) m.name) member_of c.in-Aggregate.members.items (all_mapped (IsKept (used c.args.strings.now)) (λ (m : term.Member). m.name) (map member_of c.in-Aggregate.members.items) kept)))
 
 pub returns-in-Aggregate-clause-items : goal.returns-in-Aggregate-clause-items
 returns-in-Aggregate-clause-items c =
@@ -60,8 +60,8 @@ pub put_enumerators-requires-clause-kept : goal.put_enumerators-requires-clause-
 put_enumerators-requires-clause-kept c =
     let kept = rw c.in-Enum.is at c.requires.kept in
     let slice = c.as_slice-in-Enum.ensures.value in
-    rw slice (All-from_recursion (λ (e : Enumerator). IsKept (names c.args.strings.now) e.name) c.in-Enum.enumerators.items
-    (all_mapped (λ (e : term.Enumerator). IsKept (names c.args.strings.now) e.name) enumerator_of c.in-Enum.enumerators.items (all_mapped (IsKept (names c.args.strings.now)) (λ (e : term.Enumerator). e.name) (map enumerator_of c.in-Enum.enumerators.items) kept)))
+    rw slice (All-from_recursion (λ (e : Enumerator). IsKept (used c.args.strings.now) e.name) c.in-Enum.enumerators.items
+    (all_mapped (λ (e : term.Enumerator). IsKept (used c.args.strings.now) e.name) enumerator_of c.in-Enum.enumerators.items (all_mapped (IsKept (used c.args.strings.now)) (λ (e : term.Enumerator). e.name) (map enumerator_of c.in-Enum.enumerators.items) kept)))
 
 pub returns-in-Enum-clause-items : goal.returns-in-Enum-clause-items
 returns-in-Enum-clause-items c =

@@ -1,29 +1,34 @@
+use Rattle.std.proofs.Common.{ℕ, List, [], ◌∷◌, ◌++◌, map, ap, subst, ◌∙◌}
+use Rattle.std.specs.List.{flat_map}
 use Rattle.std.proofs.lemmas.Result.{err_from_is_err_and}
-use Rattle.ctf_writer.specs.Tables.{names}
-use Rattle.ctf_writer.proofs.ContentNames.{refused_label, refused_labels, refused_name, refused_types, with_all}
+use Rattle.ctf_writer.specs.Before.{later_uses}
+use Rattle.ctf_writer.specs.DraftContentView.{dictionary_of, uses}
+use Rattle.ctf_writer.specs.TableNames.{joined, names_within}
+use Rattle.ctf_writer.specs.Uses.{with_names, IsRefused}
+use Rattle.ctf_writer.proofs.ContentParts.{later_are}
+use Rattle.ctf_writer.proofs.Distinct.{joined_used}
 use Rattle.ctf_writer.proofs.uses.strings_of.Goals as goal
 
-pub returns-in_err-add-clause-refused : goal.returns-in_err-add-clause-refused
-returns-in_err-add-clause-refused c =
-    let p = err_from_is_err_and c.from_residual-in_err-add.result c.from_residual-in_err-add.ensures.1 in
-    rw (p.1, p.2) (refused_label c.args.held (names c.in_ok-strings.strings) c.in_err-add.field-0.0 c.in_ok-strings.ensures c.in_err-add.ensures.refused)
+pub returns-in_err-strings-clause-refused : goal.returns-in_err-strings-clause-refused
+returns-in_err-strings-clause-refused c =
+    let p = err_from_is_err_and c.from_residual-in_err-strings.result c.from_residual-in_err-strings.ensures.1 in
+    let h = c.args.held in
+    let old = names_within c.args.before.strings.now in
+    let used = c.in_ok-used.ensures
+    ∙ ap (λ (ns : List (List ℕ)). with_names [] (h.parlabel.now ∷ h.parname.now ∷ (map (λ l. l.name) h.labels.now ++ ns))) (ap (flat_map uses) c.others.ensures ∙ later_are h c.args.before.count) in
+    let all = ap (joined old) used ∙ joined_used old (later_uses (dictionary_of h) c.args.before.count) ∙ c.requires.names in
+    rw (p.1, p.2) (subst (λ (ns : List (List ℕ)). IsRefused ns c.in_err-strings.field-0.0) all c.in_err-strings.ensures.refused)
 
-pub returns-in_err-add-2-clause-refused : goal.returns-in_err-add-2-clause-refused
-returns-in_err-add-2-clause-refused c =
-    let p = err_from_is_err_and c.from_residual-in_err-add-2.result c.from_residual-in_err-add-2.ensures.1 in
-    rw (p.1, p.2) (refused_name c.args.held (names c.in_ok-strings.strings) (names c.add.new.self) c.in_err-add-2.field-0.0 c.in_ok-strings.ensures c.in_ok-add.ensures.ok c.in_err-add-2.ensures.refused)
+pub returns-clause-names : goal.returns-clause-names
+returns-clause-names c =
+    let h = c.args.held in
+    let old = names_within c.args.before.strings.now in
+    let used = c.in_ok-used.ensures
+    ∙ ap (λ (ns : List (List ℕ)). with_names [] (h.parlabel.now ∷ h.parname.now ∷ (map (λ l. l.name) h.labels.now ++ ns))) (ap (flat_map uses) c.others.ensures ∙ later_are h c.args.before.count) in
+    c.in_ok-strings.ensures.names ∙ ap (joined old) used ∙ joined_used old (later_uses (dictionary_of h) c.args.before.count) ∙ c.requires.names
 
-pub returns-in_err-add_labels-clause-refused : goal.returns-in_err-add_labels-clause-refused
-returns-in_err-add_labels-clause-refused c =
-    let p = err_from_is_err_and c.from_residual-in_err-add_labels.result c.from_residual-in_err-add_labels.ensures.1 in
-    rw (p.1, p.2) (refused_labels c.args.held (names c.in_ok-strings.strings) (names c.add.new.self) (names c.add-2.new.self) c.in_err-add_labels.field-0.0 c.in_ok-strings.ensures c.in_ok-add.ensures.ok c.in_ok-add-2.ensures.ok c.in_err-add_labels.ensures.refused)
-
-pub returns-in_err-add_types-clause-refused : goal.returns-in_err-add_types-clause-refused
-returns-in_err-add_types-clause-refused c =
-    let p = err_from_is_err_and c.from_residual-in_err-add_types.result c.from_residual-in_err-add_types.ensures.1 in
-    rw (p.1, p.2) (refused_types c.args.held (names c.in_ok-strings.strings) (names c.add.new.self) (names c.add-2.new.self) (names c.add_labels.new.strings) c.in_err-add_types.field-0.0 c.in_ok-strings.ensures c.in_ok-add.ensures.ok c.in_ok-add-2.ensures.ok c.in_ok-add_labels.ensures.ok c.in_err-add_types.ensures.refused)
-
-pub returns-clause-ok : goal.returns-clause-ok
-returns-clause-ok c =
-    with_all c.args.held (names c.in_ok-strings.strings) (names c.add.new.self) (names c.add-2.new.self) (names c.add_labels.new.strings) (names c.add_types.new.strings)
-    c.in_ok-strings.ensures c.in_ok-add.ensures.ok c.in_ok-add-2.ensures.ok c.in_ok-add_labels.ensures.ok c.in_ok-add_types.ensures.ok
+pub returns-clause-used : goal.returns-clause-used
+returns-clause-used c =
+    let h = c.args.held in
+    c.in_ok-strings.ensures.used ∙ c.in_ok-used.ensures
+    ∙ ap (λ (ns : List (List ℕ)). with_names [] (h.parlabel.now ∷ h.parname.now ∷ (map (λ l. l.name) h.labels.now ++ ns))) (ap (flat_map uses) c.others.ensures ∙ later_are h c.args.before.count)

@@ -1,6 +1,9 @@
 use Rattle.std.proofs.Common.{◌≡◌, ◌+◌, true, Option, ap, subst, ◌∙◌}
+use Rattle.std.proofs.lemmas.Option.{same_Some}
+use Rattle.ctf_model.specs.drafts.Drafts.{rollback}
 use Rattle.ctf_model.specs.spaces.Kept.{Kept}
 use Rattle.ctf_open.proofs.Creating.{written_fits}
+use Rattle.ctf_open.specs.Drafting.{IsWritten}
 use Rattle.ctf_open.specs.Quotas.{fits_in}
 use Rattle.ctf_model.specs.opened.Open.{Open}
 use Rattle.ctf_model.specs.opened.Sizes.{kept_bytes, parent_bytes}
@@ -14,3 +17,6 @@ returns-clause-room c =
 pub invariant_of-self-then-pending-eq0 : goal.invariant_of-self-then-pending-eq0
 invariant_of-self-then-pending-eq0 c =
     (c.self.invariant.0, c.self.invariant.1, λ y e. c.self.invariant.2 y (c.in-Some.is ∙ e), λ y e. c.self.invariant.3 y (c.in-Some.is ∙ e))
+
+pub updated_over-requires-clause-before : goal.updated_over-requires-clause-before
+updated_over-requires-clause-before c own e = subst (IsWritten (rollback c.in-Some.draft.draft)) (same_Some c.self.inside.own own e) (c.self.invariant.3 c.in-Some.draft c.in-Some.is)

@@ -1,0 +1,19 @@
+use Rattle.std.proofs.Common.{◌≡◌, ℕ, Vec, Ok, ap, subst, sym, ◌∙◌}
+use Rattle.std.specs.declared.alloc.Global.{Global}
+use Rattle.std.proofs.lemmas.Result.{IfOk-weaker}
+use Rattle.ctf_model.specs.writing.Written.{written}
+use Rattle.ctf_model.specs.format.Dictionary.{Dictionary}
+use Rattle.ctf_writer.specs.Before.{IsBefore}
+use Rattle.ctf_writer.specs.DraftContentView.{dictionary_of}
+use Rattle.ctf_writer.specs.Updating.{StandsFor}
+use Rattle.ctf_writer.proofs.Made.{stands_for}
+use Rattle.ctf_writer.proofs.rewriting.write_over.Goals as goal
+
+pub returns-clause-stands : goal.returns-clause-stands
+returns-clause-stands c =
+    let P : Vec ℕ Global → Type 0 = λ bytes. written (dictionary_of c.of.result) ≡ Ok bytes.items in
+    let Q : Vec ℕ Global → Type 0 = λ bytes. StandsFor c.args.draft.now.draft bytes.items in
+    IfOk-weaker c.write_content.result P Q (λ bytes is. stands_for c.args.draft.now.draft bytes.items c.of.ensures.sound (ap written (sym c.of.ensures.dictionary) ∙ is)) c.write_content.ensures.ok
+
+pub write_content-requires-clause-before : goal.write_content-requires-clause-before
+write_content-requires-clause-before c = subst (λ (e : Dictionary). IsBefore e c.before_in.result) (sym c.of.ensures.dictionary) c.before_in.ensures
