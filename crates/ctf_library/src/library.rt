@@ -373,13 +373,7 @@ impl Library {
         if !self.has_room() {
             return Err(placeless(Fault::SLOTS_FULL));
         }
-        Slot::create(
-            pool,
-            self.next as u32,
-            parent,
-            creation,
-            self.charge(),
-        )
+        Slot::create(pool, self.next as u32, parent, creation, self.charge())
     }
 
     fn step_draft(&mut self, d: u32, step: &DraftStep) -> Result<Counts, Fault>

@@ -39,10 +39,12 @@ invariant_of-result c =
     let is : IsEmptyOf c.args.model c.in_ok-own.own = subst (λ (k : Kept). IsEmptyOf c.args.model k) (sym c.in_ok-own.ensures) c.requires in
     let d = c.in_ok-draft.draft.draft in
     let under : IsUnder c.settle.new.self.draft None = settled_under None d _ c.in_ok-draft.ensures.under c.settle.ensures.draft in
-    let wrote : IsWritten (rollback c.settle.new.self.draft) c.in_ok-own.own = settled_empty c.args.model _ d _ is c.in_ok-draft.ensures.ok c.settle.ensures.draft in
-    (λ x e. absurd cc, λ x e. absurd cc,
-     λ x e. let same : c.settle.new.self ≡ x = cc in subst (λ (y : Owned). IsUnder y.draft None) same under,
-     λ x e. let same : c.settle.new.self ≡ x = cc in subst (λ (y : Owned). IsWritten (rollback y.draft) c.in_ok-own.own) same wrote)
+    let wrote : IsWritten (rollback c.settle.new.self.draft) c.in_ok-own.own = settled_empty c.args.model _ d _ is c.in_ok-draft.ensures.ok c.settle.ensures.draft in (
+      λ x e. absurd cc,
+      λ x e. absurd cc,
+      λ x e. let same : c.settle.new.self ≡ x = cc in subst (λ (y : Owned). IsUnder y.draft None) same under,
+      λ x e. let same : c.settle.new.self ≡ x = cc in subst (λ (y : Owned). IsWritten (rollback y.draft) c.in_ok-own.own) same wrote,
+    )
 
 pub returns-clause-ok : goal.returns-clause-ok
 returns-clause-ok c =
