@@ -12,9 +12,10 @@ ghost use Rattle.ctf_protocol.specs.sessions.Outcomes.{quota};
 ghost use Rattle.ctf_protocol.specs.declared.requests.DraftStep.TheVariants.{Update as Updates, Discard};
 
 use crate::charges::QUOTA;
+use crate::pool::Pool;
 use crate::slots::Slot;
 use ctf_answers::Counts;
-use ctf_open::{DEFAULT_MODEL, Loaded, OpenDictionary, Room};
+use ctf_open::{DEFAULT_MODEL, Loaded, Room};
 use ctf_protocol::{Creation, DataModel, DraftStep, Fault};
 use std::alloc::Global;
 
@@ -91,7 +92,7 @@ impl Slot {
     /// A slot with a new draft, over a parent if there is one, updated with nothing in it. It has
     /// to fit into the quota, with the bytes of all else.
     pub(crate) fn create(
-        alloc: Global,
+        pool: &mut Pool,
         number: u32,
         parent: Option<&Loaded>,
         creation: &Creation,
@@ -112,7 +113,7 @@ impl Slot {
         });
         let parname = creation.parname();
         let parlabel = creation.parlabel();
-        let draft = OpenDictionary::create_within(alloc, parent, parname, parlabel, model, room)?;
+        let draft = pool.create(parent, parname, parlabel, model, room)?;
         Ok(Slot {
             number,
             dictionary: draft,

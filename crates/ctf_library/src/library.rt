@@ -160,7 +160,7 @@ impl Library {
             Change::Publish { d, name } => self.publish(d.get(), name),
             Change::Withdraw { name } => self.withdraw(name),
             Change::Take { .. } => self.take(found),
-            Change::Create(creation) => self.create(creation),
+            Change::Create(creation) => self.create(creation, pool),
             Change::Draft { d, step } => self.step_draft(d.get(), step),
         }
     }
@@ -348,11 +348,11 @@ impl Library {
         }
     }
 
-    fn create(&mut self, creation: &Creation) -> Result<Counts, Fault>
+    fn create(&mut self, creation: &Creation, pool: &mut Pool) -> Result<Counts, Fault>
         ensures { Makes self.old (creates creation.now self.old) result self.new }
     {
         self.slots.reserve_exact(1)?;
-        let slot = self.new_slot(creation)?;
+        let slot = self.new_slot(creation, pool)?;
         let number = slot.number;
         self.slot_bytes += slot.bytes();
         push_slot(&mut self.slots, slot);
@@ -361,7 +361,7 @@ impl Library {
     }
 
     /// The slot of a new draft, with the next number.
-    fn new_slot(&self, creation: &Creation) -> Result<Slot, Fault>
+    fn new_slot(&self, creation: &Creation, pool: &mut Pool) -> Result<Slot, Fault>
         ensures ok { IfOk result (λ slot. (creates creation.now self.now
             ≡ adds_draft (slot_of slot) self.now) × (slot.number ≡ self.now.next)) }
         ensures free { OnOk result (room_in self.now ≡ true) }
@@ -373,13 +373,7 @@ impl Library {
         if !self.has_room() {
             return Err(placeless(Fault::SLOTS_FULL));
         }
-        Slot::create(
-            self.alloc,
-            self.next as u32,
-            parent,
-            creation,
-            self.charge(),
-        )
+        Slot::create(pool, self.next as u32, parent, creation, self.charge())
     }
 
     fn step_draft(&mut self, d: u32, step: &DraftStep) -> Result<Counts, Fault>

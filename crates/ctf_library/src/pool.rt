@@ -1,14 +1,16 @@
 //! Dictionaries that were opened last.
-ghost use Rattle.std.specs.Prelude.{◌≡◌, ◌⊎◌, ◌≤◌, ◌<◌, ◌^◌, [], IfOk, IfErr, IfSome, OnOk, Some, None, sum_by, true};
+ghost use Rattle.std.specs.Prelude.{◌≡◌, ◌==◌, ◌⊎◌, ◌+◌, ◌≤◌, ◌<◌, ◌^◌, [], IfOk, IfErr, IfSome, OnOk, Ok, Some, None, is_some, length, not, option_copied, sum_by, true};
 ghost use Rattle.ctf_check.specs.Stages.{fault_before_chains};
 ghost use Rattle.ctf_library.specs.Pooling.{Holds, have_room, most_bytes, with_room};
-ghost use Rattle.ctf_model.specs.opened.Sizes.{kept_bytes};
+ghost use Rattle.ctf_model.specs.opened.Sizes.{kept_bytes, parent_bytes};
+ghost use Rattle.ctf_model.specs.opened.Steps.{created};
+ghost use Rattle.ctf_open.specs.Quotas.{IsUncreated, fits_in};
 ghost use Rattle.ctf_model.specs.rules.Faults.{first_fault};
 ghost use Rattle.ctf_model.specs.format.OwnedLists.{lists_owned};
 ghost use Rattle.ctf_model.specs.rules.Refusals.{out_of_memory};
 
 use ctf_check::lent_lists;
-use ctf_open::Loaded;
+use ctf_open::{EmptyDictionaries, Loaded, OpenDictionary, Room};
 use ctf_protocol::{DataModel, Fault, Parts, placeless};
 use std::alloc::Global;
 use std::marker::Model;
@@ -23,12 +25,13 @@ const MOST_BYTES: u128 = 268_435_456;
 /// oldest first.
 ///
 /// Lists that are equal to those of a dictionary in the pool, for the same data model, are not
-/// checked again: they get that dictionary, whoever opened it. No answer depends on what a pool
-/// has.
+/// checked again: they get that dictionary, whoever opened it. New drafts share their empty
+/// dictionaries too. No answer depends on what a pool has.
 #[derive(Drop)]
 pub struct Pool {
     alloc: Global,
     held: Vec<Loaded>,
+    empty: EmptyDictionaries,
 }
 
 impl Model for Pool {
@@ -65,6 +68,7 @@ impl Pool {
         Pool {
             alloc,
             held: Vec::new(alloc),
+            empty: EmptyDictionaries::new(),
         }
     }
 
@@ -93,6 +97,37 @@ impl Pool {
         let loaded = Loaded::build(self.alloc, parts, model)?;
         self.hold(&loaded);
         Ok(loaded)
+    }
+
+    /// A new draft, over a parent if there is one, updated with nothing in it, if there is room for
+    /// it, whatever the pool has.
+    pub(crate) fn create(
+        &mut self,
+        parent: Option<&Loaded>,
+        parname: &[u8],
+        parlabel: &[u8],
+        model: DataModel,
+        room: Option<Room>,
+    ) -> Result<OpenDictionary, Fault>
+        requires { is_some parent ≡ not (length parname.now == 0) }
+        ensures ok { IfOk result (λ s.
+            created (option_copied parent.entry) parname.now parlabel.now model ≡ Ok s) }
+        ensures room { IfOk result (λ s. fits_in room (kept_bytes s.own
+            + parent_bytes (option_copied parent.entry)) ≡ true) }
+        ensures above { IfOk result (λ s. s.parent ≡ option_copied parent.entry) }
+        ensures exact_err { IfErr result (λ f. (f ≡ out_of_memory) ⊎ IsUncreated
+            (created (option_copied parent.entry) parname.now parlabel.now model) room f) }
+        ensures held { self.new ≡ self.old }
+    {
+        OpenDictionary::create_sharing(
+            self.alloc,
+            &mut self.empty,
+            parent,
+            parname,
+            parlabel,
+            model,
+            room,
+        )
     }
 
     /// The dictionary with exactly these lists and this data model, if the pool has it.

@@ -155,7 +155,7 @@ fn judged_parent(parent: Option<&Loaded>) -> Result<Option<Rc<Judged<'static>>>,
 }
 
 /// A draft with nothing in it.
-fn new_draft(
+pub(crate) fn new_draft(
     alloc: Global,
     parent: Option<&Loaded>,
     parname: &[u8],

@@ -48,6 +48,7 @@
 mod adding;
 mod bytes;
 mod drafting;
+mod empty_dictionaries;
 mod imports;
 mod loading;
 mod open_dictionary;
@@ -59,6 +60,7 @@ mod tables;
 
 pub use adding::Part;
 pub use bytes::owned_bytes;
+pub use empty_dictionaries::EmptyDictionaries;
 pub use imports::Imported;
 pub use loading::{DEFAULT_MODEL, Loaded};
 pub use open_dictionary::{OpenDictionary, parts_of};

@@ -11,8 +11,8 @@ use Rattle.ctf_protocol.specs.sessions.DraftSteps.{model_made}
 use Rattle.ctf_protocol.specs.sessions.Outcomes.{quota}
 use Rattle.ctf_library.proofs.slots.Slot.create.Goals as goal
 
-pub create_within-requires : goal.create_within-requires
-create_within-requires c = c.requires ∙ ap (λ (name : List ℕ). not (length name == 0)) (sym c.parname-parname.ensures)
+pub create-requires : goal.create-requires
+create-requires c = c.requires ∙ ap (λ (name : List ℕ). not (length name == 0)) (sym c.parname-parname.ensures)
 
 pub returns-clause-ok : goal.returns-clause-ok
 returns-clause-ok c =
