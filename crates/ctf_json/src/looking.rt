@@ -1,5 +1,5 @@
 //! Look-ups in a line, as serde_json has them for its values.
-ghost use Rattle.std.specs.Prelude.{◌≡◌, codes, option_map, option_and_then};
+ghost use Rattle.std.specs.Prelude.{◌≡◌, MatchOption, Some, codes, option_map, option_and_then};
 ghost use Rattle.serde_json.specs.Find.{get as found_under, as_array as array_said, as_bool as truth_said, as_i64 as signed_said, as_number as number_data, as_str as text_data, as_u64 as unsigned_said};
 ghost use Rattle.serde_json.specs.View.{number_view};
 ghost use Rattle.serde_json.specs.Data.{object};
@@ -20,16 +20,30 @@ use serde_json::Number;
 pub fn get<'v, 'a>(line: &'v Line<'a>, key: &str) -> Option<Value<'v, 'a>>
     ensures { option_map value_data result ≡ found_under key.now (line_data line.now) }
 {
+    match list_of(line, key) {
+        Some(list) => Some(list),
+        None => plain_value(line, key),
+    }
+}
+
+/// The list at a key, if there is one.
+#[inline(always)]
+fn list_of<'v, 'a>(line: &'v Line<'a>, key: &str) -> Option<Value<'v, 'a>>
+    ensures { MatchOption result
+        (found_under key.now (object (members_data keys line.now.fields.all))
+        ≡ found_under key.now (line_data line.now))
+        (λ list. Some (value_data list) ≡ found_under key.now (line_data line.now)) }
+{
     match wanted_list(key) {
         Wanted::Texts => match &line.names {
             Some(texts) => Some(Value::Texts(texts)),
-            None => plain_value(line, key),
+            None => None,
         },
         Wanted::Numbers => match &line.args {
             Some(numbers) => Some(Value::Numbers(numbers.as_slice())),
-            None => plain_value(line, key),
+            None => None,
         },
-        Wanted::Nothing => plain_value(line, key),
+        Wanted::Nothing => None,
     }
 }
 

@@ -59,7 +59,8 @@ impl<'a> Lexer<'a> {
         self.at = blanks_end(self.text.as_bytes(), self.at + 1);
     }
 
-    #[inline(always)]
+    /// A number or a name. It is not inlined: texts have few that do not directly follow a colon.
+    #[inline(never)]
     pub(crate) fn word(&mut self) -> Token<'a>
         requires { class (head self.old) ≡ other }
         ensures value { token_of result ≡ word self.old }

@@ -117,8 +117,17 @@ impl<'a> Model for Reader<'a> {
     ghost view = { λ a. left_of a.source };
 }
 
+/// The next token of a text with escapes.
+#[inline(never)]
+fn lent_token<'a>(reader: &mut json::Reader<'a>) -> Option<Token<'a>>
+    ensures { MatchOption result ((reader.old ≡ []) × (reader.new ≡ []))
+        (λ t. reader.old ≡ token_of t ∷ reader.new) }
+{
+    reader.next()
+}
+
 /// A key, or None at the brace that closes an object.
-#[inline(always)]
+#[inline(never)]
 fn lent_key<'a>(reader: &mut json::Reader<'a>) -> Result<Option<&'a str>, Invalid>
     ensures value { MatchResult result
         (λ k. read_key reader.old ≡ Some (option_map (λ s. s.now) k, reader.new))
@@ -200,7 +209,7 @@ impl<'a> Reader<'a> {
     {
         match &mut self.source {
             TextSource::Plain(reader) => reader.next(),
-            TextSource::Lent(reader) => reader.next(),
+            TextSource::Lent(reader) => lent_token(reader),
         }
     }
 

@@ -113,6 +113,21 @@ fn line_at<'a>(alloc: Global, reader: &mut Reader<'a>, line: &mut Line<'a>) -> R
     if reader.take_object() {
         return members_at(alloc, reader, MAX_DEPTH - 1, line);
     }
+    any_line_at(alloc, reader, line)
+}
+
+/// The same, wherever the value begins, and whatever it is.
+#[inline(never)]
+fn any_line_at<'a>(
+    alloc: Global,
+    reader: &mut Reader<'a>,
+    line: &mut Line<'a>,
+) -> Result<(), NotRead>
+    ensures ok { OnOk result (AreKept (IsNew line.old) (read_value 127 reader.old)
+        (line_data line.new) reader.new) }
+    ensures refused { result ≡ Err why.NotJson → passed_value 127 reader.old ≡ None }
+    ensures memory { result ≡ Err why.Memory → list_among reader.old ≡ true }
+{
     let token = reader.next().ok_or(Invalid)?;
     if let Token::BeginObject = token {
         members_at(alloc, reader, MAX_DEPTH - 1, line)?;
