@@ -1,6 +1,6 @@
 //! The last two bytes of names, by which most other names are told apart without a search.
-ghost use Rattle.std.specs.Prelude.{◌≡◌, ◌-◌, ◌<◌, ℕ, List, true, length, slice_index_or, vec_len, IfOk};
-ghost use Rattle.ctf_writer.specs.Endings.{byte_from_end as byte_from_end_of, is_marked, place_of};
+ghost use Rattle.std.specs.Prelude.{◌≡◌, ◌<◌, ℕ, List, true, vec_len, IfOk};
+ghost use Rattle.ctf_writer.specs.Endings.{is_marked, place_of};
 
 use std::alloc::{AllocError, Global};
 use std::marker::Model;
@@ -8,24 +8,17 @@ use std::marker::Model;
 /// How many endings are told apart.
 const ENDINGS: usize = 4_096;
 
-/// The byte that is so far from the end of a name; the first one if the name is shorter.
-fn byte_from_end(name: &[u8], distance: usize) -> usize
-    ensures exact { result ≡ byte_from_end_of name.now distance }
-    ensures small { result < 256 }
-{
-    match name.get(name.len().saturating_sub(distance)) {
-        Some(byte) => usize::from(*byte),
-        None => 0,
-    }
-}
-
-/// The place of a name's ending.
+/// The place of a name's ending; that of a shorter name is 0.
 #[tactic(auto, unfolding(crate::specs::Endings::place_of))]
 fn place(name: &[u8]) -> usize
     ensures exact { result ≡ place_of name.now }
     ensures inside { result < 4096 }
 {
-    byte_from_end(name, 1) % 64 * 64 + byte_from_end(name, 2) % 64
+    let len = name.len();
+    if len < 2 {
+        return 0;
+    }
+    usize::from(name[len - 1]) % 64 * 64 + usize::from(name[len - 2]) % 64
 }
 
 /// So many marks, none of which is set.

@@ -69,6 +69,9 @@ pub(crate) fn offsets_in<'a>(
 pub(crate) fn offset_of(offsets: &IndexMap<&[u8], u32>, name: &[u8]) -> Option<u32>
     ensures { result ≡ lookup (is_name name.now) offsets.now.entries }
 {
+    if offsets.is_empty() {
+        return None;
+    }
     match offsets.get(name) {
         Some(at) => Some(*at),
         None => None,
