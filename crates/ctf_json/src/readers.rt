@@ -127,13 +127,13 @@ fn lent_token<'a>(reader: &mut json::Reader<'a>) -> Option<Token<'a>>
 }
 
 /// A key, or None at the brace that closes an object.
-#[inline(never)]
+#[inline(always)]
 fn lent_key<'a>(reader: &mut json::Reader<'a>) -> Result<Option<&'a str>, Invalid>
     ensures value { MatchResult result
         (λ k. read_key reader.old ≡ Some (option_map (λ s. s.now) k, reader.new))
         (λ _. read_key reader.old ≡ None) }
 {
-    let token = reader.next().ok_or(Invalid)?;
+    let token = lent_token(reader).ok_or(Invalid)?;
     match token {
         Token::Key(key) => Ok(Some(key)),
         Token::EndObject => Ok(None),
