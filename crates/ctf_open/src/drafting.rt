@@ -53,6 +53,13 @@ struct Updated {
     imported: Option<Imported>,
 }
 
+/// A draft in memory of its own.
+fn box_draft(alloc: Global, draft: Draft) -> Result<Box<Draft>, AllocError>
+    ensures { IfOk result (λ b. b.value ≡ draft) }
+{
+    Ok(Box::new(alloc, draft)?)
+}
+
 /// The dictionary of a draft's bytes, if there is room for it besides a parent of so many bytes.
 fn load(alloc: Global, draft: &Draft, parent: u128, room: Option<Room>) -> Result<Loaded, Fault>
     requires { parent < 2 ^ 66 }
@@ -206,7 +213,7 @@ impl OpenDictionary {
         Ok(OpenDictionary {
             own: update.own,
             imported: update.imported,
-            draft: Some(draft),
+            draft: Some(box_draft(alloc, draft)?),
         })
     }
 
