@@ -1,5 +1,6 @@
 -- What an addition to a draft leaves unchanged.
-use Rattle.std.proofs.Common.{◌≡◌, ℕ, Option, Result, Ok, Err, refl, ap, sym, subst, ◌∙◌}
+use Rattle.std.proofs.Common.{◌≡◌, ℕ, Option, Result, Ok, Err, refl, ap, sym, subst, ◌∙◌, Box, Global, Some}
+use Rattle.std.specs.Box.{with_value}
 use Rattle.std.specs.Prelude.{IfOk, OnErr}
 use Rattle.ctf_model.specs.opened.Steps.{silent}
 use Rattle.ctf_open.specs.PartView.{part_in}
@@ -43,3 +44,7 @@ still_written number (Ok n) adds old new kept alike ok err w =
     subst (λ (d : Draft). IsWritten d kept) (sym same) w
 still_written number (Err f) adds old new kept alike ok err w =
     subst (λ (d : Owned). IsWritten (rollback d.draft) kept) (sym err) w
+
+-- what is written into a box is its new value
+pub value_put : {A : Type 0} (b y : Box A Global) (v : A) → Some (with_value b v) ≡ Some y → v ≡ y.value
+value_put b y v e = cc

@@ -54,6 +54,13 @@ struct Updated {
     imported: Option<Imported>,
 }
 
+/// A draft in memory of its own.
+pub(crate) fn box_draft(alloc: Global, draft: Draft) -> Result<Box<Draft>, AllocError>
+    ensures { IfOk result (λ b. b.value ≡ draft) }
+{
+    Ok(Box::new(alloc, draft)?)
+}
+
 /// The bytes of a draft. If it was updated before, `before` is what that wrote.
 fn bytes_of(alloc: Global, draft: &Draft, before: Option<&Loaded>) -> Result<Vec<u8>, Fault>
     requires { ForSome (option_copied before) (IsWritten (rollback draft.now.draft)) }
@@ -227,7 +234,7 @@ impl OpenDictionary {
         Ok(OpenDictionary {
             own: update.own,
             imported: update.imported,
-            draft: Some(draft),
+            draft: Some(box_draft(alloc, draft)?),
         })
     }
 

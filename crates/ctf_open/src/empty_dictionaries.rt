@@ -6,7 +6,7 @@ ghost use Rattle.ctf_model.specs.rules.Refusals.{out_of_memory};
 ghost use Rattle.ctf_open.specs.Drafting.{IsEmptyOf};
 ghost use Rattle.ctf_open.specs.Quotas.{IsUncreated, fits_in};
 
-use crate::drafting::new_draft;
+use crate::drafting::{box_draft, new_draft};
 use crate::loading::Loaded;
 use crate::open_dictionary::OpenDictionary;
 use crate::rooms::{Room, has_room};
@@ -85,7 +85,7 @@ fn create_over(
     Ok(OpenDictionary {
         own,
         imported: None,
-        draft: Some(draft),
+        draft: Some(box_draft(alloc, draft)?),
     })
 }
 

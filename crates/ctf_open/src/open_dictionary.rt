@@ -33,7 +33,7 @@ use std::marker::Model;
 pub struct OpenDictionary {
     pub(crate) own: Loaded,
     pub(crate) imported: Option<Imported>,
-    pub(crate) draft: Option<Draft>,
+    pub(crate) draft: Option<Box<Draft>>,
 }
 
 impl Model for OpenDictionary {
@@ -50,13 +50,13 @@ impl Model for OpenDictionary {
     ghost view = { λ s. record {
       own = s.own;
       parent = option_map (λ i. i.parent) s.imported;
-      draft = option_map (λ d. d.draft) s.draft;
+      draft = option_map (λ d. d.value.draft) s.draft;
     } };
 
     ghost invariant = { λ s. ForSome s.imported (λ i. fault_over s.own i.parent ≡ None)
         × ForSome s.imported (λ i. AreTablesOf s.own (Some i.parent) i.tables.value)
-        × ForSome s.draft (λ d. IsUnder d.draft (option_map (λ i. i.parent) s.imported))
-        × ForSome s.draft (λ d. IsWritten (rollback d.draft) s.own) };
+        × ForSome s.draft (λ d. IsUnder d.value.draft (option_map (λ i. i.parent) s.imported))
+        × ForSome s.draft (λ d. IsWritten (rollback d.value.draft) s.own) };
 }
 
 /// A copy of a list, if there is one.

@@ -15,7 +15,7 @@ returns-in_err-update-clause-exact_err c =
 
 pub returns-clause-ok : goal.returns-clause-ok
 returns-clause-ok c =
-    created_done (option_copied c.args.parent) _ c.args.parname.now c.args.parlabel.now c.args.model c.in_ok-draft.draft.draft _ c.in_ok-update.update.own c.in_ok-draft.ensures.ok c.in_ok-update.ensures.written c.in_ok-update.ensures.parent c.settle.ensures.draft
+    rw c.in_ok-box_draft.ensures (created_done (option_copied c.args.parent) _ c.args.parname.now c.args.parlabel.now c.args.model c.in_ok-draft.draft.draft _ c.in_ok-update.update.own c.in_ok-draft.ensures.ok c.in_ok-update.ensures.written c.in_ok-update.ensures.parent c.settle.ensures.draft)
 
 pub returns-clause-room : goal.returns-clause-room
 returns-clause-room c =
