@@ -38,18 +38,19 @@ pub invariant_of-result : goal.invariant_of-result
 invariant_of-result c =
     let is : IsEmptyOf c.args.model c.in_ok-own.own = subst (λ (k : Kept). IsEmptyOf c.args.model k) (sym c.in_ok-own.ensures) c.requires in
     let d = c.in_ok-draft.draft.draft in
+    let boxed = c.in_ok-box_draft.ensures in
     let under : IsUnder c.settle.new.self.draft None = settled_under None d _ c.in_ok-draft.ensures.under c.settle.ensures.draft in
     let wrote : IsWritten (rollback c.settle.new.self.draft) c.in_ok-own.own = settled_empty c.args.model _ d _ is c.in_ok-draft.ensures.ok c.settle.ensures.draft in (
       λ x e. absurd cc,
       λ x e. absurd cc,
-      λ x e. let same : c.settle.new.self ≡ x = cc in subst (λ (y : Owned). IsUnder y.draft None) same under,
-      λ x e. let same : c.settle.new.self ≡ x = cc in subst (λ (y : Owned). IsWritten (rollback y.draft) c.in_ok-own.own) same wrote,
+      λ x e. let same : c.settle.new.self ≡ x.value = cc in subst (λ (y : Owned). IsUnder y.draft None) same under,
+      λ x e. let same : c.settle.new.self ≡ x.value = cc in subst (λ (y : Owned). IsWritten (rollback y.draft) c.in_ok-own.own) same wrote,
     )
 
 pub returns-clause-ok : goal.returns-clause-ok
 returns-clause-ok c =
     let is : IsEmptyOf c.args.model c.in_ok-own.own = subst (λ (k : Kept). IsEmptyOf c.args.model k) (sym c.in_ok-own.ensures) c.requires in
-    created_over c.args.model c.in_ok-own.own c.in_ok-draft.draft.draft c.settle.new.self.draft is c.in_ok-draft.ensures.ok c.settle.ensures.draft
+    rw c.in_ok-box_draft.ensures (created_over c.args.model c.in_ok-own.own c.in_ok-draft.draft.draft c.settle.new.self.draft is c.in_ok-draft.ensures.ok c.settle.ensures.draft)
 
 pub returns-clause-room : goal.returns-clause-room
 returns-clause-room c =
