@@ -36,6 +36,8 @@ REACHED_BY: Mapping[str, tuple[str, ...]] = {
     "ctf_check check": ("check",),
     "ctf_check judge_chains": ("check",),
     "ctf_check build": ("open",),
+    "ctf_check findings": ("update",),
+    "ctf_check of_faultless": ("update",),
     "ctf_check judge": (LISTS,),
     "ctf_draft new": ("create",),
     "ctf_draft add": ("add type",),
@@ -57,12 +59,14 @@ REACHED_BY: Mapping[str, tuple[str, ...]] = {
     "ctf_open update_within": ("update",),
     "ctf_open over": ("import",),
     "ctf_open build": ("open",),
+    "ctf_open of_faultless": ("update",),
     "ctf_open load_lent": (LISTS,),
     "ctf_open name": ("name",),
     "ctf_open show": ("show",),
     "ctf_print show": ("show",),
     "ctf_writer write": ("update",),
     "ctf_writer update": ("update",),
+    "ctf_writer write_over": ("update",),
 }
 
 
