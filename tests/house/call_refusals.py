@@ -55,6 +55,7 @@ REACHED_BY: Mapping[str, tuple[str, ...]] = {
     "ctf_open add_part": ADDED,
     "ctf_open create": ("create",),
     "ctf_open create_within": ("create",),
+    "ctf_open create_sharing": ("create",),
     "ctf_open update": ("update",),
     "ctf_open update_within": ("update",),
     "ctf_open over": ("import",),
