@@ -48,3 +48,6 @@ still_written number (Err f) adds old new kept alike ok err w =
 -- what is written into a box is its new value
 pub value_put : {A : Type 0} (b y : Box A Global) (v : A) → Some (with_value b v) ≡ Some y → v ≡ y.value
 value_put b y v e = cc
+
+pub same_value : {A : Type 0} (b y : Box A Global) → Some b ≡ Some y → b.value ≡ y.value
+same_value b y e = cc

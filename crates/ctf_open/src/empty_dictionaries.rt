@@ -82,10 +82,11 @@ fn create_over(
     let own = own.share()?;
     let mut draft = new_draft(alloc, None, &[], &[], model)?;
     draft.settle(own.share_judged()?);
+    let draft_box = box_draft(alloc, draft)?;
     Ok(OpenDictionary {
         own,
         imported: None,
-        draft: Some(box_draft(alloc, draft)?),
+        draft: Some(draft_box),
     })
 }
 

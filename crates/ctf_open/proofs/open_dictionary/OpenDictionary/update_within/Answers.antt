@@ -19,4 +19,5 @@ invariant_of-self-then-pending-eq0 c =
     (c.self.invariant.0, c.self.invariant.1, λ y e. c.self.invariant.2 y (c.in-Some.is ∙ e), λ y e. c.self.invariant.3 y (c.in-Some.is ∙ e))
 
 pub updated_over-requires-clause-before : goal.updated_over-requires-clause-before
-updated_over-requires-clause-before c own e = subst (IsWritten (rollback c.in-Some.draft.draft)) (same_Some c.self.inside.own own e) (c.self.invariant.3 c.in-Some.draft c.in-Some.is)
+updated_over-requires-clause-before c own e =
+    rw c.deref-2.ensures (subst (IsWritten (rollback c.in-Some.draft.value.draft)) (same_Some c.self.inside.own own e) (c.self.invariant.3 c.in-Some.draft c.in-Some.is))
