@@ -38,23 +38,23 @@ FOR_USERS = {
     "docs/GLOSSARY.md": 860,
     "docs/LIMITS.md": 1580,
     "docs/PROTOCOL.md": 7200,
-    "docs/SERVING.md": 3800,
+    "docs/SERVING.md": 3840,
     "docs/STORE.md": 1500,
     "docs/THEOREM.md": 1780,
 }
 FOR_MAINTAINERS = {
-    "docs/ARCHITECTURE.md": 5040,
-    "docs/CONTRIBUTING.md": 2350,
-    "docs/DECISIONS.md": 6400,
+    "docs/ARCHITECTURE.md": 5150,
+    "docs/CONTRIBUTING.md": 2380,
+    "docs/DECISIONS.md": 6500,
     "docs/GATE.md": 1310,
-    "docs/PERFORMANCE.md": 4950,
+    "docs/PERFORMANCE.md": 5010,
     "docs/PROMISES.md": 3170,
     "docs/PROVING.md": 4320,
     "docs/READING.md": 1010,
 }
 MOST = {**FOR_USERS, **FOR_MAINTAINERS}
 MOST_OF_A_CRATE = 200
-MOST_OF_DOCS = 58_300
+MOST_OF_DOCS = 58_800
 MOST_OF_A_SENTENCE = {**dict.fromkeys(FOR_USERS, 35), **dict.fromkeys(FOR_MAINTAINERS, 40)}
 MOST_IN_THE_MEAN = 25
 # Phrases that readers would have to guess at; each was in a text once.
