@@ -40,12 +40,12 @@ FOR_USERS = {
     "docs/PROTOCOL.md": 7200,
     "docs/SERVING.md": 3840,
     "docs/STORE.md": 1500,
-    "docs/THEOREM.md": 1800,
+    "docs/THEOREM.md": 1850,
 }
 FOR_MAINTAINERS = {
-    "docs/ARCHITECTURE.md": 5150,
-    "docs/CONTRIBUTING.md": 2380,
-    "docs/DECISIONS.md": 6560,
+    "docs/ARCHITECTURE.md": 5220,
+    "docs/CONTRIBUTING.md": 2420,
+    "docs/DECISIONS.md": 6620,
     "docs/GATE.md": 1310,
     "docs/PERFORMANCE.md": 5010,
     "docs/PROMISES.md": 3170,
@@ -54,7 +54,7 @@ FOR_MAINTAINERS = {
 }
 MOST = {**FOR_USERS, **FOR_MAINTAINERS}
 MOST_OF_A_CRATE = 200
-MOST_OF_DOCS = 58_800
+MOST_OF_DOCS = 59_500
 MOST_OF_A_SENTENCE = {**dict.fromkeys(FOR_USERS, 35), **dict.fromkeys(FOR_MAINTAINERS, 40)}
 MOST_IN_THE_MEAN = 25
 # Phrases that readers would have to guess at; each was in a text once.
