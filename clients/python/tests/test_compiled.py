@@ -109,7 +109,7 @@ class CompiledCommands(unittest.TestCase):
         known = ctfd.Source(lua.read_bytes())
         judge_parent(f"{ctfd.read(str(lua)).label}", known)
         judge_parent("of others", known)
-        with self.assertRaisesRegex(ctfd.Unreadable, "not those that the child was made over"):
+        with self.assertRaisesRegex(ctfd.Unreadable, "not the types with which the child was made"):
             judge_parent("ctfd.types=00000000", known)
 
 

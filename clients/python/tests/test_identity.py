@@ -183,7 +183,7 @@ class Of(WithPrograms):
         self.assertIn("struct node *",
                       self.declaration_of(child, "struct own", "--parent", parents[0]))
         said = self.declaration_of(child, "struct own", "--parent", parents[1])
-        self.assertIn("its types are not those that the child was made over", said)
+        self.assertIn("these are not the types with which the child was made", said)
         kept = self.file("child.ctf", Path(child).read_bytes())
         self.convert(kept, "--base", parents[0], "--only", "struct own")
         told = self.convert(kept, "--base", parents[1], "--only", "struct own", status=2)[1]

@@ -62,5 +62,6 @@ def judge_parent(label: str, of: Source) -> None:
     from . import compiled  # imported here: that module imports this one
 
     if label.startswith(TYPES) and label != (of.label or compiled.label(of.ctf)):
-        raise Unreadable("its types are not those that the child was made over: name the parent's"
-                         " file of that day, or let ctfd-convert make the child anew over this one")
+        raise Unreadable("these are not the types with which the child was made: name the file that"
+                         " was its parent then, or let ctfd-convert make the child again with this"
+                         " one")

@@ -129,8 +129,8 @@ pub fn of_types(sections: &Sections<'_>) -> Vec<u8> {
 /// be.
 pub fn not_its_parent(label: &[u8], of_parent: &[u8]) -> Option<&'static str> {
     (label.starts_with(TYPES.as_bytes()) && label != of_parent).then_some(
-        "its types are not those that the child was made over: name the parent's file of that day, \
-         or let ctfd-convert make the child anew over this one",
+        "these are not the types with which the child was made: name the file that was its parent \
+         then, or let ctfd-convert make the child again with this one",
     )
 }
 
