@@ -47,7 +47,7 @@ FOR_MAINTAINERS = {
     "docs/CONTRIBUTING.md": 2420,
     "docs/DECISIONS.md": 6620,
     "docs/GATE.md": 1310,
-    "docs/PERFORMANCE.md": 5010,
+    "docs/PERFORMANCE.md": 5080,
     "docs/PROMISES.md": 3170,
     "docs/PROVING.md": 4320,
     "docs/READING.md": 1010,

@@ -187,7 +187,7 @@ class Of(WithPrograms):
         kept = self.file("child.ctf", Path(child).read_bytes())
         self.convert(kept, "--base", parents[0], "--only", "struct own")
         told = self.convert(kept, "--base", parents[1], "--only", "struct own", status=2)[1]
-        self.assertIn("its types are not those", told)
+        self.assertIn("these are not the types", told)
 
     def test_labels_of_others_stay(self) -> None:
         table = Table()

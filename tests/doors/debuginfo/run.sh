@@ -468,7 +468,7 @@ client ctfd-convert --lossy --parent parent.types --section stb.g child.ctf > sa
 objcopy --strip-debug child.ctf child
 count "a child without its parent" says 'child is a child of parent, .*: name .* by --parent' \
     child x.debug
-count "of another parent" says 'stb.types, as its parent|its types are not those that the child' \
+count "of another parent" says 'stb.types, as its parent|these are not the types with which the child' \
     child --parent stb.types x.debug
 count "a child" client ctfd-debuginfo child --parent parent.types child.debug
 count "which is right" llvm-dwarfdump --verify child.debug
