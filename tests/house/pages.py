@@ -38,7 +38,7 @@ FOR_USERS = {
     "docs/GLOSSARY.md": 890,
     "docs/LIMITS.md": 1580,
     "docs/PROTOCOL.md": 7200,
-    "docs/SERVING.md": 3840,
+    "docs/SERVING.md": 3890,
     "docs/STORE.md": 1500,
     "docs/THEOREM.md": 1850,
 }
