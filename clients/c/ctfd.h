@@ -25,8 +25,8 @@
  *   parent. They stay on the thread that opened them. Handles that share nothing may be used on
  *   different threads.
  * - No call is made from a signal handler.
- * - 256 KiB of stack are free. We measured at most 112 KiB, to show structs nested 512 deep, and
- *   200 KiB in a child of a parent with such structs.
+ * - 256 KiB of stack are free. On a thread we measured at most 112 KiB, to show structs nested 512
+ *   deep, and 200 KiB in a child of a parent with such structs.
  * Every other error is reported by a status, whatever the bytes, numbers, names and lines are.
  *
  * What the caller can rely on
