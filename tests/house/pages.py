@@ -45,8 +45,8 @@ FOR_USERS = {
 FOR_MAINTAINERS = {
     "docs/ARCHITECTURE.md": 5220,
     "docs/CONTRIBUTING.md": 2420,
-    "docs/DECISIONS.md": 6620,
-    "docs/GATE.md": 1310,
+    "docs/DECISIONS.md": 6660,
+    "docs/GATE.md": 1370,
     "docs/PERFORMANCE.md": 5080,
     "docs/PROMISES.md": 3170,
     "docs/PROVING.md": 4320,
