@@ -5,5 +5,5 @@ use Rattle.ctf_json.specs.declared.readers.TextSource.{TextSource}
 use Rattle.ctf_json.specs.declared.readers.TextSource.TheVariants.{Lent, Plain}
 
 abbrev pub left_of : TextSource → List Token
-left_of (Lent ts) = ts
+left_of (Lent reader) = reader.value
 left_of (Plain ts) = ts

@@ -94,7 +94,7 @@ pub(crate) fn is_read_in_place(text: &str) -> bool
 
 #[derive(Drop)]
 pub(crate) enum TextSource<'a> {
-    Lent(json::Reader<'a>),
+    Lent(Box<json::Reader<'a>>),
     Plain(PlainReader<'a>),
 }
 
@@ -157,8 +157,10 @@ fn token<'a>(field: Field<'a>) -> Token<'a>
 fn reader_over<'a>(text: &'a str, scratch: &'a mut Scratch) -> Result<Reader<'a>, AllocError>
     ensures { IfOk result (λ reader. reader ≡ tokens text.now) }
 {
+    let alloc = scratch.allocator();
+    let reader = json::Reader::new(text, scratch.lend()?)?;
     Ok(Reader {
-        source: TextSource::Lent(json::Reader::new(text, scratch.lend()?)?),
+        source: TextSource::Lent(Box::new(alloc, reader)?),
     })
 }
 

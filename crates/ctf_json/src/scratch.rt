@@ -16,6 +16,11 @@ impl Scratch {
         Scratch { alloc, kept: None }
     }
 
+    /// What its memory is taken from.
+    pub(crate) fn allocator(&self) -> Global {
+        self.alloc
+    }
+
     /// The memory, for a reader to borrow.
     pub(crate) fn lend(&mut self) -> Result<&mut json::Scratch, AllocError> {
         match &mut self.kept {

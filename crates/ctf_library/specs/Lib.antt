@@ -1,3 +1,4 @@
+pub mod NameOrder
 pub mod Charged
 pub mod Quotas
 pub mod Drafting

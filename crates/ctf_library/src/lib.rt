@@ -36,6 +36,7 @@ mod charges;
 mod dictionary_answers;
 mod drafting;
 mod library;
+mod name_keys;
 mod places;
 mod pool;
 mod publication;

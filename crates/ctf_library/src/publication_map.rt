@@ -1,12 +1,12 @@
-//! Dictionaries under names, in the order of the names.
+//! Dictionaries under names, each found by its name's hash.
 ghost use Rattle.std.specs.Prelude.{◌≡◌, ◌+◌, ◌<◌, ◌^◌, ◌++◌, [], ◌∷◌, true, false, Ok, IfOk, OnErr, is_some, not, option_map, sum_by, ◌↔◌, IsTrue};
 ghost use Rattle.std.specs.BTreeMap.{IsOrdered, get, insert_entry};
-ghost use Rattle.std.specs.Cmp.Lexicographic.{slice_cmp};
-ghost use Rattle.std.specs.Ordering.{nat_cmp};
 ghost use Rattle.ctf_model.specs.opened.Sizes.{kept_bytes};
+ghost use Rattle.ctf_library.specs.NameOrder.{by_hash};
 ghost use Rattle.ctf_protocol.specs.sessions.Charges.{publication_bytes};
 ghost use Rattle.ctf_protocol.specs.sessions.Publications.{published_as, published_without};
 
+use crate::name_keys::{NameKey, NameQuery};
 use crate::publication::Publication;
 use ctf_open::Loaded;
 use ctf_protocol::PublicationName;
@@ -15,12 +15,12 @@ use std::collections::BTreeMap;
 use std::collections::btree_map::Entry;
 use std::marker::Model;
 
-/// Publications and the sum of their bytes. They are stored in the order of names, and contracts
-/// see them in the order in which they were published.
+/// Publications and the sum of their bytes. They are stored in the order of their keys, and
+/// contracts see them in the order in which they were published.
 #[derive(Drop)]
 pub struct PublicationMap {
     alloc: Global,
-    by_name: BTreeMap<Vec<u8>, Publication>,
+    by_name: BTreeMap<NameKey, Publication>,
     turns: u64,
     bytes: u128,
 }
@@ -40,17 +40,17 @@ impl Model for PublicationMap {
 /// Puts a value under a key that is not in use, and returns whether it was not. The key is looked
 /// for once.
 fn put_new<V: Drop>(
-    map: &mut BTreeMap<Vec<u8>, V>,
-    key: Vec<u8>,
+    map: &mut BTreeMap<NameKey, V>,
+    key: NameKey,
     value: V,
 ) -> Result<bool, AllocError>
     ensures free { IfOk result (λ is_free. is_free
-        ≡ not (is_some (get (λ x y. slice_cmp nat_cmp x.items y.items) map.old key))) }
+        ≡ not (is_some (get by_hash map.old key))) }
     ensures put { result ≡ Ok true → map.new.entries
-        ≡ insert_entry (λ x y. slice_cmp nat_cmp x.items y.items) map.old.entries key value }
+        ≡ insert_entry by_hash map.old.entries key value }
     ensures taken { result ≡ Ok false → map.new.entries ≡ map.old.entries }
     ensures err { OnErr result (map.new.entries ≡ map.old.entries) }
-    ensures ordered { IsOrdered (λ x y. slice_cmp nat_cmp x.items y.items) map.new }
+    ensures ordered { IsOrdered by_hash map.new }
 {
     let Entry::Vacant(entry) = map.entry(key)? else {
         return Ok(false);
@@ -90,7 +90,8 @@ impl PublicationMap {
     pub fn find(&self, name: &[u8]) -> Option<&Loaded>
         ensures { option_map (λ l. l.now) result ≡ published_as name.now self.now }
     {
-        match self.by_name.get(name) {
+        let query = NameQuery::new(name);
+        match self.by_name.get(query) {
             Some(publication) => Some(&publication.loaded),
             None => None,
         }
@@ -116,7 +117,7 @@ impl PublicationMap {
             turn: self.turns,
             loaded,
         };
-        let key = Vec::from_slice(self.alloc, name.as_slice())?;
+        let key = NameKey::new(self.alloc, name.as_slice())?;
         if !put_new(&mut self.by_name, key, publication)? {
             return Ok(false);
         }
@@ -130,7 +131,8 @@ impl PublicationMap {
         ensures there { result ≡ is_some (published_as name.now self.old) }
         ensures left { self.new ≡ published_without name.now self.old }
     {
-        let Some(publication) = self.by_name.remove(name) else {
+        let query = NameQuery::new(name);
+        let Some(publication) = self.by_name.remove(query) else {
             return false;
         };
         self.bytes -= publication.loaded.bytes();

@@ -1,5 +1,5 @@
 -- The line of a refusal, part by part.
-use Rattle.std.proofs.Common.{◌≡◌, ℕ, ◌+◌, ◌<◌, ◌≤◌, ◌^◌, List, ◌++◌, length, append_assoc, codes, decimal, refl, sym, ap, ◌∙◌, arith}
+use Rattle.std.proofs.Common.{◌≡◌, ℕ, ◌<◌, ◌≤◌, ◌^◌, List, ◌++◌, length, append_assoc, codes, decimal, sym, ap, ◌∙◌, arith}
 use Rattle.ctf_model.specs.declared.faults.Fault.{Fault}
 use Rattle.ctf_model.specs.rules.FaultNames.{name_of_fault}
 use Rattle.ctf_protocol.specs.lines.ReplyLines.{fault_line, key_text, quote}

@@ -49,3 +49,13 @@ not_text line n false e = refl
 pub ask_or-not_text : (given : Option ℕ) (line : List ℕ) → length line ≤ 1048576 → (IsUtf8 line → ⊥) → ask_or given line ≡ Err (0, placeless NOT_JSON)
 unfolding ask_or
 ask_or-not_text given line h n = rw (le-ltb 1048576 (length line) h, not_text line n (is_utf8 line) refl) refl
+
+-- a line that is no text, or whose text is no JSON
+pub ask_or-not_json : (given : Option ℕ) (line : List ℕ) → length line ≤ 1048576 → (IsUtf8 line → read line ≡ None) → ask_or given line ≡ Err (0, placeless NOT_JSON)
+ask_or-not_json given line h none = by_text (is_utf8 line) refl
+  where
+    by_text : (b : Bool) → is_utf8 line ≡ b → ask_or given line ≡ Err (0, placeless NOT_JSON)
+    by_text true e =
+        let utf8 = IsUtf8-from_is_utf8 line e in
+        ask_or-text given line line None h refl utf8 (none utf8)
+    by_text false e = ask_or-not_text given line h (λ utf8. absurd (let is : false ≡ true = sym e ∙ is_utf8-from_IsUtf8 line utf8 in cc))

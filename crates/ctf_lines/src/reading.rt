@@ -1,14 +1,17 @@
 //! Reads the request of a line.
-ghost use Rattle.std.specs.Prelude.{◌≡◌, ◌≢◌, ◌<◌, IfSome, length, Some, IfOk, IfErr, Ok, Err, OnErr, true, false};
-ghost use Rattle.serde_json.specs.Read.{read as read_json};
-ghost use Rattle.ctf_json.specs.Values.{line_data as view};
+ghost use Rattle.std.specs.Prelude.{◌≡◌, ◌≢◌, ◌<◌, ◌≤◌, IfSome, length, None, Some, IfOk, IfErr, Ok, Err, OnErr, OnOk, true, false};
+ghost use Rattle.std.specs.Str.{IsUtf8};
+ghost use Rattle.serde_json.specs.Read.{read as read_text};
+ghost use Rattle.ctf_json.specs.Kept.{IsReadAt};
+ghost use Rattle.ctf_json.specs.Memory.{takes_memory as may_take};
+ghost use Rattle.ctf_json.specs.Values.{IsNew, line_data as view};
 ghost use Rattle.std.specs.Option.{ForSome};
 ghost use Rattle.ctf_lines.specs.Memory.{keeps_text, takes_memory, word_keeps_text};
 ghost use Rattle.ctf_lines.specs.Numbered.{ask_as, ask_or, begins_object as starts_object, given_to as number_given, is_blank as blank, number_or, value_asked_or};
 ghost use Rattle.ctf_protocol.specs.lines.Lines.{longest_line};
 ghost use Rattle.ctf_protocol.specs.lines.Ask.{ask, word_asked, asked_with};
 ghost use Rattle.ctf_model.specs.rules.Refusals.{placeless, out_of_memory};
-ghost use Rattle.ctf_model.specs.declared.faults.TheConstants.Fault.{MEMORY};
+ghost use Rattle.ctf_model.specs.declared.faults.TheConstants.Fault.{MEMORY, NOT_JSON};
 
 use crate::changes::{close, import, open, publish, read_part, take, withdraw};
 use crate::drafts::{add, create, discard, update};
@@ -97,7 +100,7 @@ pub fn read_as(
 }
 
 /// Reads a line. If it names no session, it has the one that is given.
-#[inline(never)]
+#[inline(always)]
 fn read_or(
     alloc: Global,
     scratch: &mut Scratch,
@@ -115,59 +118,82 @@ fn read_or(
         → takes_memory line.now ≡ true) }
     ensures long { longest_line < length line.now → ask_or given line.now ≡ result }
 {
+    if line.len() <= LONGEST_KEPT {
+        read_within(alloc, scratch, line, given)
+    } else {
+        read_long(alloc, line, given)
+    }
+}
+
+/// Reads a long line with memory of its own.
+#[inline(never)]
+fn read_long(alloc: Global, line: &[u8], given: Option<u32>) -> Result<(u32, Request), (u32, Fault)>
+    requires { ForSome given (λ n. n ≢ 0) }
+    ensures ok { IfOk result (λ said. ask_or given line.now ≡ Ok said) }
+    ensures session { IfOk result (λ said. said.0 ≢ 0) }
+    ensures refused { IfErr result (λ refusal. refusal.1.code ≢ MEMORY
+        → ask_or given line.now ≡ Err refusal) }
+    ensures memory { IfErr result (λ refusal. refusal.1.code ≡ MEMORY
+        → refusal ≡ (0, out_of_memory)) }
+    ensures needed { IfErr result (λ refusal. refusal.1.code ≡ MEMORY
+        → takes_memory line.now ≡ true) }
+    ensures long { longest_line < length line.now → ask_or given line.now ≡ result }
+{
     if line.len() > LONGEST_LINE {
         return Err((0, placeless(Fault::LONG_LINE)));
     }
-    let Ok(text) = str::from_utf8(line) else {
-        return Err((0, placeless(Fault::NOT_JSON)));
-    };
-    if line.len() <= LONGEST_KEPT {
-        read_text(alloc, scratch, text, given)
-    } else {
-        read_long(alloc, text, given)
-    }
+    read_within(alloc, &mut Scratch::new(alloc), line, given)
 }
 
-/// Reads a line with memory of its own. It is not inlined into its callers, so their frames stay
+/// Reads a line that is not too long. It is not inlined into its callers, so their frames stay
 /// small.
 #[inline(never)]
-fn read_long(alloc: Global, text: &str, given: Option<u32>) -> Result<(u32, Request), (u32, Fault)>
-    requires { ForSome given (λ n. n ≢ 0) }
-    ensures ok { IfOk result (λ said. value_asked_or given (read_json text.now) ≡ Ok said) }
-    ensures session { IfOk result (λ said. said.0 ≢ 0) }
-    ensures refused { IfErr result (λ refusal. refusal.1.code ≢ MEMORY
-        → value_asked_or given (read_json text.now) ≡ Err refusal) }
-    ensures memory { IfErr result (λ refusal. refusal.1.code ≡ MEMORY
-        → refusal ≡ (0, out_of_memory)) }
-    ensures needed { IfErr result (λ refusal. refusal.1.code ≡ MEMORY
-        → takes_memory text.now ≡ true) }
-{
-    read_text(alloc, &mut Scratch::new(alloc), text, given)
-}
-
-/// Reads a line that is a text.
-#[inline(always)]
-fn read_text(
+fn read_within(
     alloc: Global,
     scratch: &mut Scratch,
-    text: &str,
+    line: &[u8],
     given: Option<u32>,
 ) -> Result<(u32, Request), (u32, Fault)>
-    requires { ForSome given (λ n. n ≢ 0) }
-    ensures ok { IfOk result (λ said. value_asked_or given (read_json text.now) ≡ Ok said) }
+    requires given { ForSome given (λ n. n ≢ 0) }
+    requires short { length line.now ≤ longest_line }
+    ensures ok { IfOk result (λ said. ask_or given line.now ≡ Ok said) }
     ensures session { IfOk result (λ said. said.0 ≢ 0) }
     ensures refused { IfErr result (λ refusal. refusal.1.code ≢ MEMORY
-        → value_asked_or given (read_json text.now) ≡ Err refusal) }
+        → ask_or given line.now ≡ Err refusal) }
     ensures memory { IfErr result (λ refusal. refusal.1.code ≡ MEMORY
         → refusal ≡ (0, out_of_memory)) }
     ensures needed { IfErr result (λ refusal. refusal.1.code ≡ MEMORY
-        → takes_memory text.now ≡ true) }
+        → takes_memory line.now ≡ true) }
 {
-    let mut line = Line::new();
-    match ctf_json::read_line(alloc, text, scratch, &mut line) {
-        Ok(()) => read_fields(alloc, &mut line, given),
-        Err(NotRead::NotJson) => Err((0, placeless(Fault::NOT_JSON))),
-        Err(NotRead::Memory) => Err((0, placeless(Fault::MEMORY))),
+    let mut fields = Line::new();
+    if let Err(fault) = read_json(alloc, scratch, line, &mut fields) {
+        return Err((0, fault));
+    }
+    read_fields(alloc, &mut fields, given)
+}
+
+/// Reads the fields of a line that is JSON, or says why it is not.
+#[inline(always)]
+fn read_json<'a>(
+    alloc: Global,
+    scratch: &'a mut Scratch,
+    line: &'a [u8],
+    fields: &mut Line<'a>,
+) -> Result<(), Fault>
+    ensures text { OnOk result (IsUtf8 line.now) }
+    ensures ok { IsNew fields.old → OnOk result (IsReadAt line.now (view fields.new)) }
+    ensures refused { IfErr result (λ fault. fault.code ≢ MEMORY
+        → (fault ≡ placeless NOT_JSON) × (IsUtf8 line.now → read_text line.now ≡ None)) }
+    ensures memory { IfErr result (λ fault. fault.code ≡ MEMORY
+        → (fault ≡ out_of_memory) × (may_take line.now ≡ true)) }
+{
+    let Ok(text) = str::from_utf8(line) else {
+        return Err(placeless(Fault::NOT_JSON));
+    };
+    match ctf_json::read_line(alloc, text, scratch, fields) {
+        Ok(()) => Ok(()),
+        Err(NotRead::NotJson) => Err(placeless(Fault::NOT_JSON)),
+        Err(NotRead::Memory) => Err(placeless(Fault::MEMORY)),
     }
 }
 

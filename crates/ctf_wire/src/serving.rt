@@ -59,10 +59,9 @@ impl Machine for Broker {
     ghost Step = { BrokerStep };
 
     fn step(&mut self, scratch: &mut Scratch, line: &[u8], out: &mut Vec<u8>) {
-        let read = Request::read(self.allocator(), scratch, line);
-        match &read {
-            Ok((session, request)) => answer_request(self, *session, *session, request, out),
-            Err((session, fault)) => append_short(out, *session, Err(*fault)),
+        match Request::read(self.allocator(), scratch, line) {
+            Ok((session, request)) => answer_request(self, session, session, &request, out),
+            Err((session, fault)) => append_short(out, session, Err(fault)),
         }
     }
 
@@ -85,10 +84,9 @@ pub fn step_as(
     ensures { (written : List ℕ) × LineStepsAs broker.old session line.now written broker.new
         × Replies out.old written out.new }
 {
-    let read = read_as(broker.allocator(), scratch, session, line);
-    match &read {
-        Ok((own, request)) => answer_request(broker, session, *own, request, out),
-        Err((own, fault)) => append_short(out, *own, Err(*fault)),
+    match read_as(broker.allocator(), scratch, session, line) {
+        Ok((own, request)) => answer_request(broker, session, own, &request, out),
+        Err((own, fault)) => append_short(out, own, Err(fault)),
     }
 }
 
