@@ -1,17 +1,17 @@
 //! Reads what requests use of a line, with memory that each call borrows.
-ghost use Rattle.std.specs.Prelude.{◌≡◌, ◌<◌, List, IfOk, MatchResult, OnOk, None, Some, Err, length, true};
+ghost use Rattle.std.specs.Prelude.{◌≡◌, ◌<◌, ◌∷◌, List, MatchResult, OnOk, None, Some, Err, length, true};
 ghost use Rattle.json.specs.Json.{members as read_members, object, parse_map, value as read_value};
 ghost use Rattle.json.specs.Lex.{tokens};
 ghost use Rattle.json.specs.Reads.{token_of};
 ghost use Rattle.json.specs.Token.{Token as SpecToken};
 ghost use Rattle.serde_json.specs.Read.{read as read_text};
-ghost use Rattle.ctf_json.specs.Keys.{place_in, wanted_at};
-ghost use Rattle.ctf_json.specs.Kept.{AreKept, IsKept, IsKeptAt, IsReadAt};
+ghost use Rattle.ctf_json.specs.Keys.{place_in};
+ghost use Rattle.ctf_json.specs.Kept.{AreKept, IsKeptAt, IsReadAt};
 ghost use Rattle.ctf_json.specs.Memory.{IsLeft, list_among, takes_memory};
 ghost use Rattle.ctf_json.specs.Passed.{begun, passed_members, passed_value};
 ghost use Rattle.ctf_json.specs.PlainReader.{IsTaken};
 ghost use Rattle.ctf_json.specs.TreeData.{tree_data};
-ghost use Rattle.ctf_json.specs.Values.{IsNew, fits, keys, line_data, read_data, data_of};
+ghost use Rattle.ctf_json.specs.Values.{IsNew, keys, line_data, data_of};
 ghost use Rattle.ctf_json.specs.declared.reading.NotRead.TheVariants as why;
 
 use crate::keys::{place_of, wanted_list};
@@ -20,7 +20,7 @@ use crate::lists::list_at;
 use crate::passing::{pass, pass_from};
 use crate::readers::{Reader, is_read_in_place};
 use crate::scratch::Scratch;
-use crate::values::{Field, Read};
+use crate::values::Field;
 use json::{Invalid, Token};
 use std::alloc::{AllocError, Global};
 
@@ -244,36 +244,40 @@ fn keep_any<'a>(
     ensures memory { result ≡ Err why.Memory → list_among reader.old ≡ true }
     ensures left { OnOk result (IsLeft reader.old reader.new) }
 {
-    let value = next_value(alloc, reader, depth, key)?;
-    line.keep(key, place, value);
+    let token = reader.next().ok_or(Invalid)?;
+    if let Token::BeginArray = token {
+        return keep_list(alloc, reader, depth, key, place, line);
+    }
+    pass_from(token, reader, depth)?;
+    line.keep_at(key, place, field_of(token));
     Ok(())
 }
 
-/// What is stored of the next value, which is at a key.
-#[inline]
-fn next_value<'a>(
+/// Stores the items of an array that has begun. It is not inlined into its caller, since few lines
+/// have an array.
+#[inline(never)]
+fn keep_list<'a>(
     alloc: Global,
     reader: &mut Reader<'a>,
     depth: usize,
     key: &str,
-) -> Result<Read<'a>, NotRead>
-    ensures ok { IfOk result (λ v. IsKept (wanted_at key.now) (read_value depth reader.old)
-        (read_data v) reader.new) }
-    ensures fits { IfOk result (λ v. fits (wanted_at key.now) v ≡ true) }
+    place: usize,
+    line: &mut Line<'a>,
+) -> Result<(), NotRead>
+    requires { place_in key.now keys ≡ Some place }
+    ensures ok { OnOk result (IsKeptAt key.now
+        (read_value depth (SpecToken.begin_array ∷ reader.old)) (line_data line.old)
+        (line_data line.new) reader.new) }
     ensures shorter { OnOk result (length reader.new < length reader.old) }
-    ensures refused { result ≡ Err why.NotJson → passed_value depth reader.old ≡ None }
-    ensures memory { result ≡ Err why.Memory → list_among reader.old ≡ true }
-    ensures left { OnOk result (IsLeft reader.old reader.new) }
+    ensures refused { result ≡ Err why.NotJson
+        → passed_value depth (SpecToken.begin_array ∷ reader.old) ≡ None }
 {
-    let token = reader.next().ok_or(Invalid)?;
-    if let Token::BeginArray = token {
-        if depth == 0 {
-            return Err(NotRead::NotJson);
-        }
-        return Ok(list_at(alloc, reader, depth - 1, wanted_list(key))?);
+    if depth == 0 {
+        return Err(NotRead::NotJson);
     }
-    pass_from(token, reader, depth)?;
-    Ok(Read::Field(field_of(token)))
+    let value = list_at(alloc, reader, depth - 1, wanted_list(key))?;
+    line.keep(key, place, value);
+    Ok(())
 }
 
 /// What is stored of a value that begins with a token: nothing of an array or an object.
