@@ -4,6 +4,7 @@ use crate::printable::complain;
 use clap::ArgMatches;
 use ctf_command::{FromReader, ToWriter, end, serve_lines, start};
 use std::io;
+use std::mem::forget;
 
 /// Publishes the files that the words name, serves standard input, and returns the exit status.
 pub fn run(rt: &HostRuntime, words: &ArgMatches<'_>) -> u8 {
@@ -12,10 +13,13 @@ pub fn run(rt: &HostRuntime, words: &ArgMatches<'_>) -> u8 {
         Ok(mut broker) => {
             let mut source = FromReader::new(rt.reader());
             let mut sink = ToWriter::new(io::writer(rt));
-            end(
+            let status = end(
                 rt,
                 serve_lines(rt.alloc(), &mut broker, &mut source, &mut sink),
-            )
+            );
+            // The process ends here, and the system takes its memory back at once.
+            forget(broker);
+            status
         }
         Err(why) => {
             let status = why.status();
