@@ -27,7 +27,8 @@ returns-clause-ok c =
     let d = c.args.depth in
     let ts = c.args.reader.now in
     let opened = value-begin_array d ts (omega arith) in
-    let found = c.in_ok-value.ensures.ok in
-    (read_data c.in_ok-value.value,
+    let found = c.in_ok-value.ensures.ok in (
+      read_data c.in_ok-value.value,
       (array found.0, opened ∙ ap (parse_map array) found.1, found.2, ap (λ w. list_data w (items_data found.0)) (sym c.wanted_list.ensures) ∙ found.3),
-      λ q. c.keep.ensures q)
+      λ q. c.keep.ensures q,
+    )
