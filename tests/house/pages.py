@@ -28,7 +28,7 @@ from links import CODE, LINK, TOP, prose
 FOR_USERS = {
     "README.md": 1290,
     "clients/gdb/README.md": 3170,
-    "clients/python/README.md": 3790,
+    "clients/python/README.md": 3800,
     "docs/C.md": 4890,
     "docs/COMING-FROM.md": 2880,
     "docs/COOKBOOK.md": 4320,

@@ -223,9 +223,9 @@ class Dictionary:
     def find(self, name: Name) -> Type:
         """The type with a name as C writes it, such as "struct x **". Raises NotFound.
 
-        If several types have the name, it is the one with the least number; `struct x__17` is the
-        `struct x` that is type 17. Qualifiers are ignored. Pointer types that the dictionary does
-        not have are created here.
+        If several visible types have the name, it is the one with the least number, a child's own
+        types first; `struct x__17` is the `struct x` that is type 17. Qualifiers are ignored.
+        Pointer types that the dictionary does not have are created here.
         """
         base, stars = normal(name)
         found = self.type(0) if base == "void" else self._find(base)
