@@ -1,5 +1,5 @@
 -- The names of a type's members or enumerators, and their hashes. Source: ours.
-use Rattle.std.specs.Prelude.{ℕ, Bool, true, false, not, ◌&&◌, ◌||◌, ◌==◌, nat_eq, if◌then◌else◌, List, [], length, map}
+use Rattle.std.specs.Prelude.{ℕ, Bool, not, ◌&&◌, ◌||◌, ◌==◌, nat_eq, if◌then◌else◌, List, [], length, map}
 use Rattle.std.specs.Hash.FoldHasher as folding
 use Rattle.std.specs.List.{list_all, list_any}
 use Rattle.indexmap.specs.IndexSet.{insert_key}
