@@ -1,5 +1,4 @@
 pub mod ParentView
-pub mod KeysView
 pub mod NamesInUseView
 pub mod TypeView
 pub mod NewView

@@ -1,5 +1,7 @@
 //! The parts of a type, by its kind.
 ghost use Rattle.std.specs.Prelude.{◌≡◌, [], map, option_map, unwrap_or};
+ghost use Rattle.std.specs.List.{list_any};
+ghost use Rattle.std.specs.Str.{bytes_eq};
 ghost use Rattle.ctf_draft.specs.TypeView.{body_of, enumerator_of, member_of};
 ghost use Rattle.ctf_model.specs.drafts.Adders.{is_taken};
 ghost use Rattle.ctf_model.specs.format.Shown.{enumerators_in, members_in, shown};
@@ -37,7 +39,9 @@ impl DraftType {
             (unwrap_or (members_in (shown (body_of self.now.body))) [])) }
     {
         match &self.body {
-            Body::Aggregate(_, _, _) => self.taken.has(name),
+            Body::Aggregate(_, _, members) => {
+                self.taken.may_have(name) && any_member_has(members.as_slice(), name)
+            }
             _ => false,
         }
     }
@@ -48,8 +52,34 @@ impl DraftType {
             (unwrap_or (enumerators_in (shown (body_of self.now.body))) [])) }
     {
         match &self.body {
-            Body::Enum(_, _) => self.taken.has(name),
+            Body::Enum(_, enumerators) => {
+                self.taken.may_have(name) && any_enumerator_has(enumerators.as_slice(), name)
+            }
             _ => false,
         }
     }
+}
+
+/// Whether one of the members has the name.
+fn any_member_has(members: &[Member], name: &[u8]) -> bool
+    ensures { result ≡ list_any (bytes_eq name.now) (map (λ m. m.name) members.now) }
+{
+    for member in members {
+        if name == member.name.as_slice() {
+            return true;
+        }
+    }
+    false
+}
+
+/// Whether one of the enumerators has the name.
+fn any_enumerator_has(enumerators: &[Enumerator], name: &[u8]) -> bool
+    ensures { result ≡ list_any (bytes_eq name.now) (map (λ e. e.name) enumerators.now) }
+{
+    for enumerator in enumerators {
+        if name == enumerator.name.as_slice() {
+            return true;
+        }
+    }
+    false
 }

@@ -1,9 +1,9 @@
 //! Additions to a pending type.
-ghost use Rattle.std.specs.Prelude.{◌≡◌, ◌⊎◌, MatchOption, None, Some, true, false, map, Ok, Err, IfOk, IfErr, OnOk, OnErr};
+ghost use Rattle.std.specs.Prelude.{◌≡◌, ◌⊎◌, MatchOption, None, Some, true, Ok, Err, IfOk, IfErr, OnOk, OnErr};
 ghost use Rattle.ctf_draft.specs.Pending.{StandsPending};
 ghost use Rattle.ctf_draft.specs.Planning.{against_name};
 ghost use Rattle.ctf_draft.specs.TypeView.{body_of, enumerator_of, member_of};
-ghost use Rattle.ctf_model.specs.drafts.Adders.{add_enumerator, add_member, against_enumerator as against_enumerator_in, body_at, is_taken, present_enumerators, present_members, replace_body, with_enumerator, with_member};
+ghost use Rattle.ctf_model.specs.drafts.Adders.{add_enumerator, add_member, against_enumerator as against_enumerator_in, body_at, replace_body, with_enumerator, with_member};
 ghost use Rattle.ctf_model.specs.drafts.DraftLaws.{IsSound};
 ghost use Rattle.ctf_model.specs.drafts.Drafts.{is_settled};
 ghost use Rattle.ctf_model.specs.rules.Judgements.{first_met};
@@ -55,8 +55,6 @@ impl Draft {
             (first_met (against_enumerator_in self.now.draft n.0 name.now) ≡ None) }
         ensures err { IfErr result (λ f.
             first_met (against_enumerator_in self.now.draft n.0 name.now) ≡ Some f) }
-        ensures fresh { OnOk result (is_taken name.now
-            (map (λ e. e.name) (present_enumerators self.now.draft n.0)) ≡ false) }
     {
         if has_zero(name) {
             return Err(placeless(Fault::NAME_HAS_ZERO));
@@ -92,8 +90,6 @@ impl Draft {
         ensures ok { OnOk result (against_name self.now.draft n.0 name.now tnum.0 ≡ None) }
         ensures err { IfErr result (λ f. against_name self.now.draft n.0 name.now tnum.0
             ≡ Some f) }
-        ensures fresh { OnOk result (is_taken name.now
-            (map (λ m. m.name) (present_members self.now.draft n.0)) ≡ false) }
     {
         if has_zero(name) {
             return Err(placeless(Fault::NAME_HAS_ZERO));
@@ -130,8 +126,6 @@ impl Draft {
         size: u64,
     ) -> Result<(), Fault>
         requires pending { StandsPending self.old.draft n.0 i }
-        requires fresh { is_taken member.name
-            (map (λ m. m.name) (present_members self.old.draft n.0)) ≡ false }
         requires sound { IsSound self.old.draft → IsSound (replace_body self.old.draft n.0
             (with_member (member_of member) size (body_at self.old.draft n.0))) }
         ensures ok { OnOk result (self.new.draft ≡ replace_body self.old.draft n.0
@@ -144,7 +138,7 @@ impl Draft {
         let stays = self.stays_known(&self.marks, i, member.tnum);
         self.depths.make_ready(self.alloc, self.updated, i, held)?;
         self.marks.leave_unless(stays, i);
-        push_member(self.alloc, &mut self.types[i], member, size)
+        push_member(&mut self.types[i], member, size)
     }
 
     /// Adds a member to a pending struct or union, and returns its offset in bits. Without a stated
@@ -174,8 +168,6 @@ impl Draft {
     /// Adds an enumerator to the enum at an index.
     fn put_enumerator(&mut self, n: TypeNum, i: usize, enumerator: Enumerator) -> Result<(), Fault>
         requires pending { StandsPending self.old.draft n.0 i }
-        requires fresh { is_taken enumerator.name
-            (map (λ e. e.name) (present_enumerators self.old.draft n.0)) ≡ false }
         requires sound { IsSound self.old.draft → IsSound (replace_body self.old.draft n.0
             (with_enumerator (enumerator_of enumerator) (body_at self.old.draft n.0))) }
         ensures ok { OnOk result (self.new.draft ≡ replace_body self.old.draft n.0
@@ -185,7 +177,7 @@ impl Draft {
         ensures dictionary { self.new.dictionary ≡ self.old.dictionary }
     {
         self.marks.leave(i);
-        push_enumerator(self.alloc, &mut self.types[i], enumerator)
+        push_enumerator(&mut self.types[i], enumerator)
     }
 
     /// Adds an enumerator to a pending enum.

@@ -1,26 +1,24 @@
-//! The names that the members or enumerators of a type have.
-ghost use Rattle.std.specs.Prelude.{◌≡◌, ◌++◌, [], ◌∷◌, false, OnErr, OnOk};
-ghost use Rattle.std.specs.List.{list_any};
-ghost use Rattle.std.specs.Str.{bytes_eq};
-ghost use Rattle.ctf_draft.specs.NamesInUseView.{nonempty_names};
+//! The names that the members or enumerators of a type have, by their hashes.
+ghost use Rattle.std.specs.Prelude.{◌≡◌, [], OnErr, OnOk};
+ghost use Rattle.ctf_draft.specs.NamesInUseView.{may_be_in, name_hash, with_hash};
 
 use indexmap::IndexSet;
 use std::alloc::{AllocError, Global};
+use std::hash::{FoldHasher, Hasher};
 use std::marker::Model;
 
-/// Names, each found by its hash. None is empty, and none occurs twice.
+/// The hashes of names that are not empty. Two names may have the same hash.
 #[derive(Drop)]
 pub(crate) struct NamesInUse {
-    names: IndexSet<Vec<u8>>,
+    hashes: IndexSet<u64>,
 }
 
 impl Model for NamesInUse {
     ghost use Rattle.std.specs.Prelude.{ℕ, List};
-    ghost use Rattle.ctf_draft.specs.KeysView.{names_of};
 
-    ghost Value = { List (List ℕ) };
+    ghost Value = { List ℕ };
 
-    ghost view = { λ t. names_of t.names.keys };
+    ghost view = { λ t. t.hashes.keys };
 }
 
 impl NamesInUse {
@@ -28,29 +26,37 @@ impl NamesInUse {
         ensures { result ≡ [] }
     {
         NamesInUse {
-            names: IndexSet::new(alloc),
+            hashes: IndexSet::new(alloc),
         }
     }
 
-    pub(crate) fn has(&self, name: &[u8]) -> bool
-        ensures { result ≡ list_any (bytes_eq name.now) self.now }
+    /// Whether a name may be in use. If not, no name that was added is equal to it.
+    pub(crate) fn may_have(&self, name: &[u8]) -> bool
+        ensures { result ≡ may_be_in self.now name.now }
     {
-        self.names.contains(name)
+        !name.is_empty() && self.hashes.contains(&hash_of(name))
     }
 
-    /// Adds a name that is not in use, unless it is empty.
-    pub(crate) fn add(&mut self, alloc: Global, name: &[u8]) -> Result<(), AllocError>
-        requires fresh { list_any (bytes_eq name.now) self.old ≡ false }
-        ensures ok { OnOk result (self.new ≡ self.old ++ nonempty_names (name.now ∷ [])) }
+    /// Adds a name, unless it is empty.
+    pub(crate) fn add(&mut self, name: &[u8]) -> Result<(), AllocError>
+        ensures ok { OnOk result (self.new ≡ with_hash self.old name.now) }
         ensures err { OnErr result (self.new ≡ self.old) }
     {
         if name.is_empty() {
             return Ok(());
         }
-        let copy = Vec::from_slice(alloc, name)?;
-        let Ok(_) = self.names.insert(copy) else {
+        let Ok(_) = self.hashes.insert(hash_of(name)) else {
             return Err(AllocError);
         };
         Ok(())
     }
+}
+
+/// The hash of a name: a number that equal names share.
+fn hash_of(name: &[u8]) -> u64
+    ensures { result ≡ name_hash name.now }
+{
+    let mut hasher = FoldHasher::default();
+    hasher.write(name);
+    hasher.finish()
 }

@@ -1,12 +1,11 @@
 //! Adds types, members and enumerators at the end of lists.
-ghost use Rattle.std.specs.Prelude.{◌≡◌, ◌<◌, ◌+◌, ◌++◌, ◌∷◌, [], false, map, unwrap_or, vec_capacity, vec_len, IfErr, OnErr, OnOk};
+ghost use Rattle.std.specs.Prelude.{◌≡◌, ◌<◌, ◌+◌, ◌++◌, ◌∷◌, [], map, vec_capacity, vec_len, IfErr, OnErr, OnOk};
 ghost use Rattle.ctf_draft.specs.NewView.{new_body_of, new_of};
-ghost use Rattle.ctf_draft.specs.TypeView.{body_of, enumerator_of, member_of, type_of};
-ghost use Rattle.ctf_model.specs.drafts.Adders.{is_taken, with_body, with_enumerator, with_member};
+ghost use Rattle.ctf_draft.specs.TypeView.{enumerator_of, member_of, type_of};
+ghost use Rattle.ctf_model.specs.drafts.Adders.{with_body, with_enumerator, with_member};
 ghost use Rattle.ctf_model.specs.drafts.Fitting.{FitsNew};
 ghost use Rattle.ctf_model.specs.drafts.NewTypes.{new_term};
 ghost use Rattle.ctf_model.specs.rules.Refusals.{out_of_memory};
-ghost use Rattle.ctf_model.specs.format.Shown.{enumerators_in, members_in, shown};
 
 use crate::new_types::{NewType, draft_type};
 use crate::types::{Body, DraftType, Enumerator, Member};
@@ -43,15 +42,8 @@ pub(crate) fn push_type(
     Ok(())
 }
 
-/// Adds a member to a struct or union, and sets its size. No other member has its name.
-pub(crate) fn push_member(
-    alloc: Global,
-    to: &mut DraftType,
-    member: Member,
-    size: u64,
-) -> Result<(), Fault>
-    requires fresh { is_taken member.name (map (λ m. m.name)
-        (unwrap_or (members_in (shown (body_of to.old.body))) [])) ≡ false }
+/// Adds a member to a struct or union, and sets its size.
+pub(crate) fn push_member(to: &mut DraftType, member: Member, size: u64) -> Result<(), Fault>
     ensures ok { OnOk result (type_of to.new
         ≡ with_body (with_member (member_of member) size (type_of to.old).body) (type_of to.old)) }
     ensures err { IfErr result (λ f. f ≡ out_of_memory) }
@@ -60,7 +52,7 @@ pub(crate) fn push_member(
     match &mut to.body {
         Body::Aggregate(_, old, members) => {
             make_room(members)?;
-            to.taken.add(alloc, member.name.as_slice())?;
+            to.taken.add(member.name.as_slice())?;
             members.push_reserved(member);
             *old = size;
             Ok(())
@@ -69,14 +61,8 @@ pub(crate) fn push_member(
     }
 }
 
-/// Adds an enumerator to an enum. No other enumerator has its name.
-pub(crate) fn push_enumerator(
-    alloc: Global,
-    to: &mut DraftType,
-    enumerator: Enumerator,
-) -> Result<(), Fault>
-    requires fresh { is_taken enumerator.name (map (λ e. e.name)
-        (unwrap_or (enumerators_in (shown (body_of to.old.body))) [])) ≡ false }
+/// Adds an enumerator to an enum.
+pub(crate) fn push_enumerator(to: &mut DraftType, enumerator: Enumerator) -> Result<(), Fault>
     ensures ok { OnOk result (type_of to.new ≡ with_body
         (with_enumerator (enumerator_of enumerator) (type_of to.old).body) (type_of to.old)) }
     ensures err { IfErr result (λ f. f ≡ out_of_memory) }
@@ -85,7 +71,7 @@ pub(crate) fn push_enumerator(
     match &mut to.body {
         Body::Enum(_, enumerators) => {
             make_room(enumerators)?;
-            to.taken.add(alloc, enumerator.name.as_slice())?;
+            to.taken.add(enumerator.name.as_slice())?;
             enumerators.push_reserved(enumerator);
             Ok(())
         }

@@ -1,6 +1,6 @@
 //! Types of a draft, which own their names and their lists.
-ghost use Rattle.std.specs.Prelude.{◌≡◌};
-ghost use Rattle.ctf_draft.specs.NamesInUseView.{nonempty_names, names_in};
+ghost use Rattle.std.specs.Prelude.{◌≡◌, true};
+ghost use Rattle.ctf_draft.specs.NamesInUseView.{are_hashed, names_in};
 
 use crate::names_in_use::NamesInUse;
 use ctf_model::{Bytes, TypeNum};
@@ -74,5 +74,5 @@ pub struct DraftType {
     pub body: Body,
     /// The names that its members or enumerators have.
     pub(crate) taken: NamesInUse,
-    ghost kept: { taken ≡ nonempty_names (names_in body) },
+    ghost kept: { are_hashed taken (names_in body) ≡ true },
 }

@@ -1,15 +1,14 @@
-use Rattle.std.proofs.Common.{◌≤◌, List, [], length, map, unwrap_or, option_map, set, sym, ap, subst, ◌∙◌, arith}
+use Rattle.std.proofs.Common.{◌≤◌, List, length, map, option_map, set, sym, ap, subst, ◌∙◌, arith}
 use Rattle.std.proofs.lemmas.List.{map-set}
-use Rattle.ctf_model.specs.format.Shown.{enumerators_in, shown}
-use Rattle.ctf_model.specs.format.Term.{Body, Term}
+use Rattle.ctf_model.specs.format.Term.{Term}
 use Rattle.std.proofs.lemmas.Result.{on_ok_weaker, on_err_weaker}
-use Rattle.ctf_model.specs.drafts.Adders.{body_at, is_taken, replace_body, with_enumerator}
+use Rattle.ctf_model.specs.drafts.Adders.{body_at, replace_body, with_enumerator}
 use Rattle.ctf_draft.specs.ParentView.{parent_in}
 use Rattle.ctf_model.specs.drafts.DraftLaws.{IsSound}
 use Rattle.ctf_model.specs.drafts.Drafts.{Draft}
 use Rattle.ctf_draft.specs.DraftView.{Owned}
 use Rattle.ctf_draft.specs.TypeView.{enumerator_of, type_of}
-use Rattle.ctf_draft.proofs.Pending.{body_here, left_here, put_here}
+use Rattle.ctf_draft.proofs.Pending.{left_here, put_here}
 use Rattle.ctf_draft.specs.Reaching.{Knows}
 use Rattle.ctf_draft.proofs.Known.{left_known, other_known}
 use Rattle.ctf_draft.proofs.Sounding.{either_sound}
@@ -55,10 +54,3 @@ invariant_of-self c =
       knows,
       enumerated_bounded d.parname d.parlabel parent d.model d.depths d.updated d.updated_labels d.types.items d.labels c.args.i c.index_mut.result.now new (place_inside d.parname d.parlabel parent d.model d.updated d.updated_labels d.types.items d.labels n c.args.i e view c.requires.pending) c.index_mut.ensures.value c.self.invariant.6 c.push_enumerator.result (enumerator_of c.args.enumerator) c.push_enumerator.ensures.ok c.push_enumerator.ensures.as_before,
     )
-
-pub push_enumerator-requires : goal.push_enumerator-requires
-push_enumerator-requires c =
-    let d = c.self.inside in
-    let parent = parent_in d.parent in
-    let same = body_here d.parname d.parlabel parent d.model d.updated d.updated_labels d.types.items d.labels c.args.n.0 c.args.i c.index_mut.result.now c.index_mut.ensures.value (omega (arith, c.self.invariant.0, d.types.ok.0)) c.args.self.now.draft (ap (λ o. o.draft) c.self.view_is) c.requires.pending in
-    record { fresh = ap (λ (b : Body). is_taken c.args.enumerator.name (map (λ x. x.name) (unwrap_or (enumerators_in (shown b)) []))) same ∙ c.requires.fresh }

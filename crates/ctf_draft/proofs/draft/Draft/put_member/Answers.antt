@@ -1,16 +1,15 @@
-use Rattle.std.proofs.Common.{◌≡◌, ◌≤◌, Option, get_or, is_some, List, [], length, map, unwrap_or, option_map, set, sym, ap, subst, ◌∙◌, arith}
+use Rattle.std.proofs.Common.{◌≡◌, ◌≤◌, Option, get_or, is_some, List, length, map, option_map, set, sym, ap, subst, ◌∙◌, arith}
 use Rattle.std.proofs.lemmas.List.{get_or-map, length-map, length-take, map-set}
-use Rattle.ctf_model.specs.format.Shown.{members_in, shown}
-use Rattle.ctf_model.specs.format.Term.{Body, Term}
+use Rattle.ctf_model.specs.format.Term.{Term}
 use Rattle.std.proofs.lemmas.Result.{on_ok_weaker, on_err_weaker}
-use Rattle.ctf_model.specs.drafts.Adders.{body_at, is_taken, replace_body, with_member}
+use Rattle.ctf_model.specs.drafts.Adders.{body_at, replace_body, with_member}
 use Rattle.ctf_draft.specs.ParentView.{parent_in}
 use Rattle.ctf_model.specs.drafts.DraftLaws.{IsSound}
 use Rattle.ctf_model.specs.drafts.Drafts.{Draft, count_of}
 use Rattle.ctf_model.specs.rules.Chains.{own_index}
 use Rattle.ctf_draft.specs.DraftView.{Owned}
 use Rattle.ctf_draft.specs.TypeView.{member_of, type_of}
-use Rattle.ctf_draft.proofs.Pending.{body_here, left_here, put_here}
+use Rattle.ctf_draft.proofs.Pending.{left_here, put_here}
 use Rattle.ctf_model.specs.figures.FigureLaws.{nothing}
 use Rattle.ctf_draft.specs.declared.reach.Reach.{Reach}
 use Rattle.ctf_draft.specs.Reaching.{Knows, Stays}
@@ -78,10 +77,3 @@ invariant_of-self-2 c =
       knows,
       pushed_bounded d.parname d.parlabel parent d.model c.make_ready.new.self d.updated d.updated_labels d.types.items d.labels c.args.i c.index_mut.result.now new (place_inside d.parname d.parlabel parent d.model d.updated d.updated_labels d.types.items d.labels n c.args.i e view c.requires.pending) c.index_mut.ensures.value bounded c.push_member.result (member_of c.args.member) c.args.size c.own_index-held.result few own c.in_ok-make_ready.ensures.ready c.push_member.ensures.ok c.push_member.ensures.as_before,
     )
-
-pub push_member-requires : goal.push_member-requires
-push_member-requires c =
-    let d = c.self.inside in
-    let parent = parent_in d.parent in
-    let same = body_here d.parname d.parlabel parent d.model d.updated d.updated_labels d.types.items d.labels c.args.n.0 c.args.i c.index_mut.result.now c.index_mut.ensures.value (omega (arith, c.self.invariant.0, d.types.ok.0)) c.args.self.now.draft (ap (λ o. o.draft) c.self.view_is) c.requires.pending in
-    record { fresh = ap (λ (b : Body). is_taken c.args.member.name (map (λ x. x.name) (unwrap_or (members_in (shown b)) []))) same ∙ c.requires.fresh }
