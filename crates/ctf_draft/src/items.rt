@@ -11,10 +11,11 @@ ghost use Rattle.ctf_model.specs.rules.Refusals.{out_of_memory};
 
 use crate::adding::MOST_ITEMS;
 use crate::draft::Draft;
+use crate::names::Name;
 use crate::naming::has_zero;
 use crate::pushing::{push_enumerator, push_member};
 use crate::types::{Body, DraftType, Enumerator, Member};
-use ctf_model::{Bytes, Fault, Place, TypeNum, placeless};
+use ctf_model::{Fault, Place, TypeNum, placeless};
 
 impl Draft {
     /// The index of a pending type among all types, if the number is one's.
@@ -147,7 +148,7 @@ impl Draft {
     pub fn member(
         &mut self,
         n: TypeNum,
-        name: Bytes,
+        name: Name,
         tnum: TypeNum,
         offset: Option<u64>,
     ) -> Result<u64, Fault>
@@ -182,7 +183,7 @@ impl Draft {
 
     /// Adds an enumerator to a pending enum.
     #[tactic(auto, unfolding(ctf_model::specs::drafts::Adders::add_enumerator))]
-    pub fn enumerator(&mut self, n: TypeNum, name: Bytes, value: i32) -> Result<(), Fault>
+    pub fn enumerator(&mut self, n: TypeNum, name: Name, value: i32) -> Result<(), Fault>
         ensures ok { OnOk result (add_enumerator self.old.draft n.0
             (record { name = name; value = value }) ≡ Ok self.new.draft) }
         ensures exact_err { IfErr result (λ f. (f ≡ out_of_memory)

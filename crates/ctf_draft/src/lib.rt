@@ -1,7 +1,7 @@
 //! Drafts: dictionaries that types and labels are added to.
 //!
 //! ```rust
-//! use ctf_draft::{AggregateKind, Draft, NewBody, NewType, ReferenceKind};
+//! use ctf_draft::{AggregateKind, Draft, Name, NewBody, NewType, ReferenceKind};
 //! use ctf_model::{Bytes, DataModel, Fault};
 //! use std::alloc::Global;
 //!
@@ -10,16 +10,16 @@
 //!     let none = Bytes::new(alloc);
 //!     let mut draft = Draft::new(alloc, None, none, Bytes::new(alloc), DataModel::Lp64)?;
 //!     let node = draft.add(NewType {
-//!         name: Bytes::from_slice(alloc, name)?,
+//!         name: Name::from_slice(alloc, name)?,
 //!         root: true,
 //!         body: NewBody::Aggregate(AggregateKind::Struct, 0),
 //!     })?;
 //!     let pointer = draft.add(NewType {
-//!         name: Bytes::new(alloc),
+//!         name: Name::from_slice(alloc, b"")?,
 //!         root: true,
 //!         body: NewBody::Reference(ReferenceKind::Pointer, node),
 //!     })?;
-//!     draft.member(node, Bytes::from_slice(alloc, b"next")?, pointer, None)?;
+//!     draft.member(node, Name::from_slice(alloc, b"next")?, pointer, None)?;
 //!     Ok(draft)
 //! }
 //! ```
@@ -38,6 +38,7 @@ mod items;
 mod labels;
 mod mark;
 mod marks;
+mod names;
 mod names_in_use;
 mod naming;
 mod new_types;
@@ -55,5 +56,6 @@ mod widths;
 
 pub use draft::Draft;
 pub use labels::Labels;
+pub use names::Name;
 pub use new_types::{NewBody, NewType};
 pub use types::{AggregateKind, Body, DraftType, Enumerator, Member, ReferenceKind, ScalarKind};

@@ -6,9 +6,10 @@ ghost use Rattle.ctf_draft.specs.TypeView.{body_of, type_of};
 ghost use Rattle.ctf_model.specs.drafts.Fitting.{FitsNew};
 ghost use Rattle.ctf_model.specs.drafts.NewTypes.{new_body, new_term};
 
+use crate::names::Name;
 use crate::names_in_use::NamesInUse;
 use crate::types::{AggregateKind, Body, DraftType, ReferenceKind, ScalarKind};
-use ctf_model::{Bytes, TypeNum};
+use ctf_model::TypeNum;
 use ctf_records::Tag;
 use ctf_views::{ArrayInfo, Encoding};
 use std::alloc::{AllocError, Global};
@@ -32,7 +33,7 @@ pub enum NewBody<'a> {
 /// A new type.
 #[derive(Drop)]
 pub struct NewType<'a> {
-    pub name: Bytes,
+    pub name: Name,
     pub root: bool,
     pub body: NewBody<'a>,
 }

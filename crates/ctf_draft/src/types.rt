@@ -2,15 +2,16 @@
 ghost use Rattle.std.specs.Prelude.{◌≡◌, true};
 ghost use Rattle.ctf_draft.specs.NamesInUseView.{are_hashed, names_in};
 
+use crate::names::Name;
 use crate::names_in_use::NamesInUse;
-use ctf_model::{Bytes, TypeNum};
+use ctf_model::TypeNum;
 use ctf_records::Tag;
 use ctf_views::{ArrayInfo, Encoding};
 
 /// A member of a struct or union.
 #[derive(Drop)]
 pub struct Member {
-    pub name: Bytes,
+    pub name: Name,
     pub tnum: TypeNum,
     /// Where it begins, in bits.
     pub offset: u64,
@@ -19,7 +20,7 @@ pub struct Member {
 /// A name for a value of an enum.
 #[derive(Drop)]
 pub struct Enumerator {
-    pub name: Bytes,
+    pub name: Name,
     pub value: i32,
 }
 
@@ -68,7 +69,7 @@ pub enum Body {
 /// A type of a draft.
 #[derive(Drop)]
 pub struct DraftType {
-    pub name: Bytes,
+    pub name: Name,
     /// Whether it is visible to look-ups by name.
     pub root: bool,
     pub body: Body,

@@ -8,7 +8,7 @@ ghost use Rattle.ctf_model.specs.drafts.Adders.{add_enumerator as add_enumerator
 ghost use Rattle.ctf_model.specs.rules.Refusals.{out_of_memory};
 
 use crate::open_dictionary::OpenDictionary;
-use ctf_draft::{Draft, Member, NewBody, NewType};
+use ctf_draft::{Draft, Member, Name, NewBody, NewType};
 use ctf_model::{Bytes, Fault, TypeNum, placeless};
 use std::alloc::Global;
 
@@ -40,7 +40,7 @@ fn add_member(
         ⊎ (add_member_to draft.old.draft t.0 name.now tnum.0 offset ≡ Err f)) }
     ensures as_before { OnErr result (draft.new ≡ draft.old) }
 {
-    let name = Bytes::from_slice(alloc, name)?;
+    let name = Name::from_slice(alloc, name)?;
     draft.member(t, name, tnum, offset)
 }
 
@@ -61,7 +61,7 @@ fn add_member_at(
         (record { name = name.now; tnum = tnum.0; offset = offset }) size) ≡ Err f)) }
     ensures as_before { OnErr result (draft.new ≡ draft.old) }
 {
-    let name = Bytes::from_slice(alloc, name)?;
+    let name = Name::from_slice(alloc, name)?;
     draft.member_at(t, Member { name, tnum, offset }, size)?;
     Ok(0)
 }
@@ -81,7 +81,7 @@ fn add_enumerator(
         (record { name = name.now; value = value })) ≡ Err f)) }
     ensures as_before { OnErr result (draft.new ≡ draft.old) }
 {
-    let name = Bytes::from_slice(alloc, name)?;
+    let name = Name::from_slice(alloc, name)?;
     draft.enumerator(t, name, value)?;
     Ok(0)
 }
@@ -141,7 +141,7 @@ impl OpenDictionary {
         let Some(draft) = &mut self.draft else {
             return Err(placeless(Fault::READ_ONLY));
         };
-        let name = Bytes::from_slice(alloc, name)?;
+        let name = Name::from_slice(alloc, name)?;
         draft.add(NewType { name, root, body })
     }
 
