@@ -5,6 +5,7 @@ pub mod Views
 pub mod Pending
 pub mod ValueTypes
 pub mod Figuring
+pub mod ScalarWidths
 pub mod Reaches
 pub mod Kept
 pub mod Known

@@ -1,5 +1,5 @@
 //! How many bits a value of a type takes.
-ghost use Rattle.std.specs.Prelude.{◌≡◌, ◌<◌, ◌^◌, IfOk, Some, option_map, slice_get};
+ghost use Rattle.std.specs.Prelude.{◌≡◌, ◌<◌, ◌^◌, IfOk, MatchOption, Ok, Some, option_map, slice_get};
 ghost use Rattle.ctf_check.specs.CheckedView.{dictionary_of};
 ghost use Rattle.ctf_check.specs.TypedView.{term_in};
 ghost use Rattle.ctf_draft.specs.Sizing.{filled_bits as filled_of, width, width_found};
@@ -66,12 +66,25 @@ impl Draft {
         }
     }
 
+    /// The width of an own integer or float. It depends on no other type.
+    #[inline(always)]
+    fn own_width(&self, n: TypeNum) -> Option<u16>
+        ensures { MatchOption result (Unit {0}) (λ bits.
+            bits_filled_in (space_of self.now.draft) n.0 ≡ Ok bits) }
+    {
+        let i = self.own_index(n)?;
+        self.own_body(i).width()
+    }
+
     /// How many bits a value of a type takes.
     #[inline(always)]
     pub(crate) fn bits_filled(&self, n: TypeNum) -> Result<u128, Fault>
         ensures bits { result ≡ bits_filled_in (space_of self.now.draft) n.0 }
         ensures small { IfOk result (λ bits. bits < 2 ^ 67) }
     {
+        if let Some(width) = self.own_width(n) {
+            return Ok(u128::from(width));
+        }
         let size = self.size(n)?;
         let at = self.resolve_type(n)?;
         let width = self.width_at(at)?;
