@@ -1,13 +1,17 @@
 -- The names in use, and their hashes.
-use Rattle.std.proofs.Common.{◌≡◌, ℕ, Bool, true, false, cond, List, [], ◌∷◌, ◌++◌, length, map, Vec, refl, sym, ap, ◌∙◌, arith}
+use Rattle.std.proofs.Common.{◌≡◌, ℕ, Bool, true, false, cond, List, [], ◌∷◌, ◌++◌, length, map, Option, Some, is_some, Vec, refl, sym, ap, ◌∙◌, arith}
 use Rattle.std.specs.Prelude.{◌&&◌, ◌||◌, ◌==◌, not, nat_eq, unwrap_or}
 use Rattle.std.specs.List.{list_any}
+use Rattle.std.specs.Map.{keys_of, lookup}
 use Rattle.std.specs.Str.{bytes_eq}
 use Rattle.std.specs.Cmp.Lexicographic.{bytes_decides}
 use Rattle.std.specs.declared.alloc.Global.{Global}
 use Rattle.std.proofs.lemmas.Bool.{false≢true}
 use Rattle.std.proofs.lemmas.List.{map-append}
 use Rattle.std.proofs.lemmas.List.Folds.{list_all-append, list_any-append}
+use Rattle.indexmap.specs.IndexMap.{insert_entry}
+use Rattle.indexmap.specs.IndexSet.{insert_key}
+use Rattle.indexmap.proofs.SetLemmas.{keys_insert_entry}
 use Rattle.ctf_model.specs.drafts.Adders.{is_taken}
 use Rattle.ctf_model.specs.format.Shown.{enumerators_in, members_in, shown}
 use Rattle.ctf_model.specs.format.Term as term
@@ -109,3 +113,22 @@ enumerators_kept t size enumerators name is =
     taken_is t.taken name (map (λ e. e.name) enumerators.items) (ap (λ (b : Body). are_hashed t.taken (names_in b)) (sym is) ∙ t.kept)
     ∙ ap (is_taken name) (sym (map_twice enumerator_of (λ (e : term.Enumerator). e.name) enumerators.items))
     ∙ ap (λ (b : Body). is_taken name (map (λ e. e.name) (unwrap_or (enumerators_in (shown (body_of b))) []))) (sym is)
+
+-- ---- places of names
+
+-- a hash has a place exactly if it is among the hashes
+placed : (test : ℕ → Bool) (entries : List (ℕ × ℕ)) → is_some (lookup test entries) ≡ list_any test (keys_of entries)
+placed test [] = refl
+placed test (e ∷ entries) = at (test e.0) (placed test entries)
+  where
+    at : (b : Bool) → is_some (lookup test entries) ≡ list_any test (keys_of entries) → is_some (cond b (Some e.1) (lookup test entries)) ≡ (b || list_any test (keys_of entries))
+    at true rest = refl
+    at false rest = rest
+
+pub may_be_placed : (entries : List (ℕ × ℕ)) (name : List ℕ) (hash : ℕ) (found : Option ℕ) → hash ≡ name_hash name → (length name == 0) ≡ false → found ≡ lookup (nat_eq hash) entries → is_some found ≡ may_be_in (keys_of entries) name
+may_be_placed entries name hash found of_name some is =
+    ap is_some is ∙ placed (nat_eq hash) entries ∙ ap (λ h. list_any (nat_eq h) (keys_of entries)) of_name ∙ ap (λ b. not b && has_hash (keys_of entries) name) (sym some)
+
+pub entered : (entries all : List (ℕ × ℕ)) (name : List ℕ) (hash place : ℕ) → hash ≡ name_hash name → (length name == 0) ≡ false → all ≡ insert_entry nat_eq entries hash place → keys_of all ≡ with_hash (keys_of entries) name
+entered entries all name hash place of_name some is =
+    ap keys_of is ∙ keys_insert_entry nat_eq entries hash place ∙ ap (insert_key nat_eq (keys_of entries)) of_name ∙ ap (λ b. cond b (keys_of entries) (insert_key nat_eq (keys_of entries) (name_hash name))) (sym some)

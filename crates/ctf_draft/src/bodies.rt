@@ -39,9 +39,10 @@ impl DraftType {
             (unwrap_or (members_in (shown (body_of self.now.body))) [])) }
     {
         match &self.body {
-            Body::Aggregate(_, _, members) => {
-                self.taken.may_have(name) && any_member_has(members.as_slice(), name)
-            }
+            Body::Aggregate(_, _, members) => match self.taken.place_of(name) {
+                Some(place) => any_member_has(members.as_slice(), place, name),
+                None => false,
+            },
             _ => false,
         }
     }
@@ -52,18 +53,22 @@ impl DraftType {
             (unwrap_or (enumerators_in (shown (body_of self.now.body))) [])) }
     {
         match &self.body {
-            Body::Enum(_, enumerators) => {
-                self.taken.may_have(name) && any_enumerator_has(enumerators.as_slice(), name)
-            }
+            Body::Enum(_, enumerators) => match self.taken.place_of(name) {
+                Some(place) => any_enumerator_has(enumerators.as_slice(), place, name),
+                None => false,
+            },
             _ => false,
         }
     }
 }
 
-/// Whether one of the members has the name.
-fn any_member_has(members: &[Member], name: &[u8]) -> bool
+/// Whether one of the members has the name. The one at the place is compared first.
+fn any_member_has(members: &[Member], place: usize, name: &[u8]) -> bool
     ensures { result ≡ list_any (bytes_eq name.now) (map (λ m. m.name) members.now) }
 {
+    if place < members.len() && name == members[place].name.as_slice() {
+        return true;
+    }
     for member in members {
         if name == member.name.as_slice() {
             return true;
@@ -72,10 +77,13 @@ fn any_member_has(members: &[Member], name: &[u8]) -> bool
     false
 }
 
-/// Whether one of the enumerators has the name.
-fn any_enumerator_has(enumerators: &[Enumerator], name: &[u8]) -> bool
+/// Whether one of the enumerators has the name. The one at the place is compared first.
+fn any_enumerator_has(enumerators: &[Enumerator], place: usize, name: &[u8]) -> bool
     ensures { result ≡ list_any (bytes_eq name.now) (map (λ e. e.name) enumerators.now) }
 {
+    if place < enumerators.len() && name == enumerators[place].name.as_slice() {
+        return true;
+    }
     for enumerator in enumerators {
         if name == enumerator.name.as_slice() {
             return true;

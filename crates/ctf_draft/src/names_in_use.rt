@@ -1,24 +1,26 @@
 //! The names that the members or enumerators of a type have, by their hashes.
-ghost use Rattle.std.specs.Prelude.{◌≡◌, [], OnErr, OnOk};
+ghost use Rattle.std.specs.Prelude.{◌≡◌, [], is_some, OnErr, OnOk};
 ghost use Rattle.ctf_draft.specs.NamesInUseView.{may_be_in, name_hash, with_hash};
 
-use indexmap::IndexSet;
+use indexmap::IndexMap;
 use std::alloc::{AllocError, Global};
 use std::hash::{FoldHasher, Hasher};
 use std::marker::Model;
 
-/// The hashes of names that are not empty. Two names may have the same hash.
+/// The hash of each name that is not empty, with the place of a name that has this hash. Two names
+/// may have the same hash, so a place is only where to look first.
 #[derive(Drop)]
 pub(crate) struct NamesInUse {
-    hashes: IndexSet<u64>,
+    places: IndexMap<u64, u16>,
 }
 
 impl Model for NamesInUse {
     ghost use Rattle.std.specs.Prelude.{ℕ, List};
+    ghost use Rattle.std.specs.Map.{keys_of};
 
     ghost Value = { List ℕ };
 
-    ghost view = { λ t. t.hashes.keys };
+    ghost view = { λ t. keys_of t.places.entries };
 }
 
 impl NamesInUse {
@@ -26,26 +28,33 @@ impl NamesInUse {
         ensures { result ≡ [] }
     {
         NamesInUse {
-            hashes: IndexSet::new(alloc),
+            places: IndexMap::new(alloc),
         }
     }
 
-    /// Whether a name may be in use. If not, no name that was added is equal to it.
-    pub(crate) fn may_have(&self, name: &[u8]) -> bool
-        ensures { result ≡ may_be_in self.now name.now }
+    /// Where a name is, if it may be in use. If it may not, no name that was added is equal to it.
+    pub(crate) fn place_of(&self, name: &[u8]) -> Option<usize>
+        ensures { is_some result ≡ may_be_in self.now name.now }
     {
-        !name.is_empty() && self.hashes.contains(&hash_of(name))
+        if name.is_empty() {
+            return None;
+        }
+        match self.places.get(&hash_of(name)) {
+            Some(place) => Some(usize::from(*place)),
+            None => None,
+        }
     }
 
-    /// Adds a name, unless it is empty.
-    pub(crate) fn add(&mut self, name: &[u8]) -> Result<(), AllocError>
+    /// Adds a name that gets a place, unless it is empty.
+    pub(crate) fn add(&mut self, name: &[u8], place: usize) -> Result<(), AllocError>
         ensures ok { OnOk result (self.new ≡ with_hash self.old name.now) }
         ensures err { OnErr result (self.new ≡ self.old) }
     {
         if name.is_empty() {
             return Ok(());
         }
-        let Ok(_) = self.hashes.insert(hash_of(name)) else {
+        let place = u16::try_from(place).unwrap_or(0);
+        let Ok(_) = self.places.insert(hash_of(name), place) else {
             return Err(AllocError);
         };
         Ok(())

@@ -52,7 +52,7 @@ pub(crate) fn push_member(to: &mut DraftType, member: Member, size: u64) -> Resu
     match &mut to.body {
         Body::Aggregate(_, old, members) => {
             make_room(members)?;
-            to.taken.add(member.name.as_slice())?;
+            to.taken.add(member.name.as_slice(), members.len())?;
             members.push_reserved(member);
             *old = size;
             Ok(())
@@ -71,7 +71,7 @@ pub(crate) fn push_enumerator(to: &mut DraftType, enumerator: Enumerator) -> Res
     match &mut to.body {
         Body::Enum(_, enumerators) => {
             make_room(enumerators)?;
-            to.taken.add(enumerator.name.as_slice())?;
+            to.taken.add(enumerator.name.as_slice(), enumerators.len())?;
             enumerators.push_reserved(enumerator);
             Ok(())
         }
