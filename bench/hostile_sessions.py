@@ -287,6 +287,16 @@ def circle(count):
     yield member(1, 2)
 
 
+def taken_name(count, size):
+    """A member whose name another member has. The names of all members differ only at their
+    ends."""
+    yield line("create")
+    yield add_request(INT)
+    yield add_request('"what":"struct","name":"s"')
+    for i in [*range(count), count - 1]:
+        yield member(2, 1, ("%04d" % i).rjust(size, "n"))
+
+
 def updated_again(megabytes):
     """An update of a draft that has not changed since the last one. Its members have names of 1
     MB."""
@@ -377,6 +387,8 @@ SESSIONS = [
     Session("add: a member that makes 32,000 types deeper", lambda: deeper(32_000)),
     Session("add: the same, by 255 ways", lambda: deeper_by_each_way(255, 31_000)),
     Session("add: a member that closes a circle under 32,000 types", lambda: circle(32_000)),
+    Session("add: a member with one of 1,000 names unlike at the end",
+            lambda: taken_name(1000, 60_000)),
     Session("update: nothing pending, 60 MB", lambda: updated_again(60)),
     Session("check: 155 MB again", checked_again),
     Session("import: the same parent, 65 MB", lambda: imported_again(7940)),
