@@ -40,10 +40,10 @@ FOR_USERS = {
     "docs/PROTOCOL.md": 7200,
     "docs/SERVING.md": 3920,
     "docs/STORE.md": 1500,
-    "docs/THEOREM.md": 1850,
+    "docs/THEOREM.md": 1880,
 }
 FOR_MAINTAINERS = {
-    "docs/ARCHITECTURE.md": 5300,
+    "docs/ARCHITECTURE.md": 5330,
     "docs/CONTRIBUTING.md": 2460,
     "docs/DECISIONS.md": 6800,
     "docs/GATE.md": 1370,
