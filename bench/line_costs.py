@@ -6,11 +6,12 @@ usage: line_costs.py PROGRAM [--types COUNT].. [--streams] [ROW..]
 A session opens a dictionary of 110, 1,900 and 32,000 types of every kind, or of the numbers given,
 and gives lines of one row: a word, two that undo each other, or a line that is refused. `PROGRAM
 serve` runs under callgrind on a few of them and on more. Printed are the difference per line, and
-its ratio to what lean.rs takes for the same lines. lean.rs reads JSON and writes JSON, and answers
-`kind`, `part` and refused lines as PROGRAM does; for other words its reply is empty, so its cost is
-that of reading the line and writing a short one. For `part`, costs are per byte. With --streams the
-rows are streams of streams.py, of which the first 1,500 and the first 3,000 questions are counted,
-without a comparison. Needs valgrind and rustc.
+its ratio to what lean.rs takes for the same lines. lean.rs reads JSON and writes JSON. It answers
+`kind`, `part` and refused lines as PROGRAM does, and `pointer`, `enumerators` and `args` from the
+same dictionary: for these three the replies are compared. For other words its reply is empty, so
+its cost is that of reading the line and writing a short one. For `part`, costs are per byte. With
+--streams the rows are streams of streams.py, of which the first 1,500 and the first 3,000 questions
+are counted, without a comparison. Needs valgrind and rustc.
 """
 from __future__ import annotations
 
@@ -33,6 +34,8 @@ AT_ONCE = 2
 STREAMS = ("kinds", "kind", "record", "members", "find", "symbol", "sessions")
 FEW_OF_STREAM, MANY_OF_STREAM = 1_500, 3_000
 HANDS_IN = (b'"op":"part"', b'"op":"open"')
+# The rows that lean.rs answers from the dictionary.
+FROM_DICTIONARY = ("pointer", "enumerators", "args")
 
 
 @dataclass(frozen=True)
@@ -211,10 +214,20 @@ def stream_cost(program: str, stream: str) -> str:
     return f"{stream:20} {(more - less) / counted:10,.0f}"
 
 
+def replies(program: list[str], given: bytes) -> list[bytes]:
+    """The last replies of a program: those to the lines of a row."""
+    ran = subprocess.run(program, input=given, stdout=subprocess.PIPE, check=True)
+    return ran.stdout.splitlines()[-MANY:]
+
+
 def row_cost(program: str, floor: list[str], row: Row, types: int) -> str:
-    front = before(row, types)
-    ours = cost([program, "serve"], front, row, types)
-    theirs = cost(floor, b"", row, types)
+    front, serve = before(row, types), [program, "serve"]
+    ours = cost(serve, front, row, types)
+    theirs = cost(floor, front if row.name in FROM_DICTIONARY else b"", row, types)
+    if row.name in FROM_DICTIONARY:
+        given = front + lines_of(row, types, MANY)
+        if replies(serve, given) != replies(floor, given):
+            raise SystemExit(f"{row.name}: lean.rs and {program} have different replies")
     digits = 1 if row.bytes_a_line else 0
     return (f"{row.name:20} {types:6,} types {ours:10,.{digits}f} {theirs:10,.{digits}f} "
             f"{ours / theirs:6.2f}")

@@ -1,5 +1,5 @@
 -- What an answer shows, for each of its forms.
-use Rattle.std.specs.Prelude.{ℕ, List, [], ◌∷◌, codes}
+use Rattle.std.specs.Prelude.{[], ◌∷◌, codes}
 use Rattle.ctf_protocol.specs.answers.Answers as answers
 use Rattle.ctf_protocol.specs.answers.Answers.{says, lists, text, truth, number}
 use Rattle.ctf_answers.specs.Singles.{single_of}

@@ -1,5 +1,5 @@
 //! The answer to a request that is not refused.
-ghost use Rattle.std.specs.Prelude.{◌≡◌, ◌<◌, [], ◌∷◌, codes, length, IfSome, Some, slice_get};
+ghost use Rattle.std.specs.Prelude.{◌≡◌, ◌≢◌, ◌<◌, [], ◌∷◌, codes, length, IfSome, None, Some, slice_get};
 ghost use Rattle.ctf_protocol.specs.answers.Answers.{says, lists, number, truth, text as said_text};
 ghost use Rattle.ctf_answers.specs.Singles.{single_of};
 ghost use Rattle.ctf_answers.specs.Fields.{field_of};
@@ -151,10 +151,23 @@ impl<'a> Answer<'a> {
 
     /// The answer of `info`, if this is one.
     pub fn as_info(&self) -> Option<InfoAnswer<'a>>
-        ensures { IfSome result (λ told. self.now ≡ info_view told) }
+        ensures info { IfSome result (λ told. self.now ≡ info_view told) }
+        ensures none { result ≡ None → length self.now ≢ 8 }
     {
         match &self.said {
             AnswerContent::Info(told) => Some(*told),
+            _ => None,
+        }
+    }
+
+    /// The only field, if it has just one.
+    pub fn only_field(&self) -> Option<KeyedValue<'_>>
+        ensures field { IfSome result (λ field. self.now ≡ entry_view field ∷ []) }
+        ensures none { result ≡ None → length self.now ≢ 1 }
+    {
+        match &self.said {
+            AnswerContent::One(entry) => Some(*entry),
+            AnswerContent::Made { key, text } => Some(entry(*key, Single::Text(text.as_slice()))),
             _ => None,
         }
     }

@@ -1,12 +1,10 @@
 //! The items of a list that an answer has.
-ghost use Rattle.std.specs.Prelude.{◌≡◌, ◌<◌, ◌≤◌, length, take, Some, IfSome, slice_get};
-ghost use Rattle.ctf_protocol.specs.answers.Questions.{member_item as said_member, window_of};
-ghost use Rattle.ctf_views.specs.ItemsView.{member as member_view};
+ghost use Rattle.std.specs.Prelude.{◌≡◌, ◌<◌, ◌≤◌, length, take, Some, slice_get};
+ghost use Rattle.ctf_protocol.specs.answers.Questions.{window_of};
 ghost use Rattle.ctf_answers.specs.Items.{item_of, items_of};
 
 use crate::items::{Item, Items};
 use ctf_protocol::Window;
-use ctf_views::Member;
 use std::marker::Model;
 
 /// Some items of a list, beginning at one of them, as many as the answer has.
@@ -63,18 +61,11 @@ impl<'a> ItemWindow<'a> {
     }
 
     /// The item with a number, from 0.
+    #[inline(always)]
     pub fn get(&self, index: usize) -> Item<'a>
         requires { index < length self.now }
         ensures { Some (item_of result) ≡ slice_get self.now index }
     {
         self.items.get(self.from + index)
-    }
-    /// The member with a number, from 0, if the list is of members.
-    pub fn member(&self, index: usize) -> Option<Member<'a>>
-        requires { index < length self.now }
-        ensures { IfSome result (λ member.
-            Some (said_member (member_view member)) ≡ slice_get self.now index) }
-    {
-        self.items.member(self.from + index)
     }
 }

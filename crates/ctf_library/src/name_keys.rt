@@ -133,7 +133,8 @@ impl<'a> Comparable<NameKey> for NameQuery<'a> {
 
     ghost compare = { λ q k. order_of (q.hash, q.name.now) (hashed k) };
 
-    ghost respects_cmp = { λ q x y. order_of-total.congr (q.hash, q.name.now) (hashed x) (hashed y) };
+    ghost respects_cmp = { λ q x y.
+        order_of-total.congr (q.hash, q.name.now) (hashed x) (hashed y) };
 
     ghost below_greater = { λ q x y.
         order_of-below (q.hash, q.name.now) (hashed x) (hashed y) };

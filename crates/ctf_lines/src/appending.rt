@@ -74,9 +74,27 @@ fn with_five_digits(out: Vec<u8>, number: u64) -> Vec<u8>
     append_bytes(with_four_digits(out, number / 10), &[digit(number % 10)])
 }
 
-/// Not inlined into its callers, since most numbers are short.
+/// Not inlined into its callers, since few numbers are that long.
 #[inline(never)]
-fn with_long_number(out: Vec<u8>, number: u64) -> Vec<u8>
+fn with_longest_number(out: Vec<u8>, number: u64) -> Vec<u8>
+    requires { HasRoom out (decimal number) }
+    ensures { Appended out result (decimal number) }
+{
+    append_bytes(out, Buffer::new().format(number).as_bytes())
+}
+
+/// The same. The memory for the result of a call is cleared where the call stands in the code: so
+/// it is not cleared for a shorter number.
+#[inline(always)]
+fn with_any_number(out: Vec<u8>, number: u64) -> Vec<u8>
+    requires { HasRoom out (decimal number) }
+    ensures { Appended out result (decimal number) }
+{
+    with_longest_number(out, number)
+}
+
+#[inline(always)]
+fn with_more_digits(out: Vec<u8>, number: u64) -> Vec<u8>
     requires number { 1000 ≤ number }
     requires room { HasRoom out (decimal number) }
     ensures { Appended out result (decimal number) }
@@ -86,12 +104,21 @@ fn with_long_number(out: Vec<u8>, number: u64) -> Vec<u8>
     } else if number < 100_000 {
         with_five_digits(out, number)
     } else {
-        append_bytes(out, Buffer::new().format(number).as_bytes())
+        with_any_number(out, number)
     }
 }
 
-/// The same. The memory for the result of a call is cleared where the call stands in the code: so
-/// it is not cleared for a short number.
+/// Not inlined into its callers, since most numbers are short.
+#[inline(never)]
+fn with_long_number(out: Vec<u8>, number: u64) -> Vec<u8>
+    requires number { 1000 ≤ number }
+    requires room { HasRoom out (decimal number) }
+    ensures { Appended out result (decimal number) }
+{
+    with_more_digits(out, number)
+}
+
+/// The same, cleared only for long numbers.
 #[inline(always)]
 fn with_longer_number(out: Vec<u8>, number: u64) -> Vec<u8>
     requires number { 1000 ≤ number }
@@ -118,6 +145,23 @@ pub fn with_number(out: Vec<u8>, number: u64) -> Vec<u8>
     }
 }
 
+/// The same, without a call for a number of up to five digits.
+#[inline(always)]
+fn with_number_here(out: Vec<u8>, number: u64) -> Vec<u8>
+    requires { HasRoom out (decimal number) }
+    ensures { Appended out result (decimal number) }
+{
+    if number < 10 {
+        with_digit(out, number)
+    } else if number < 100 {
+        with_two_digits(out, number)
+    } else if number < 1000 {
+        with_three_digits(out, number)
+    } else {
+        with_more_digits(out, number)
+    }
+}
+
 /// A list with a text between two others appended.
 #[inline(always)]
 pub fn between(out: Vec<u8>, front: &[u8], text: &[u8], back: &[u8]) -> Vec<u8>
@@ -136,6 +180,15 @@ pub fn append_number(out: Vec<u8>, front: &[u8], number: u64, back: &[u8]) -> Ve
     append_bytes(with_number(append_bytes(out, front), number), back)
 }
 
+/// The same, without a call for a number of up to five digits.
+#[inline(always)]
+pub fn append_number_here(out: Vec<u8>, front: &[u8], number: u64, back: &[u8]) -> Vec<u8>
+    requires { HasRoom out (front.now ++ (decimal number ++ back.now)) }
+    ensures { Appended out result (front.now ++ (decimal number ++ back.now)) }
+{
+    append_bytes(with_number_here(append_bytes(out, front), number), back)
+}
+
 /// A list with a member appended, whose name needs no escapes.
 #[inline(always)]
 pub fn with_member(out: Vec<u8>, name: &[u8], offset: u64, number: u64) -> Vec<u8>
@@ -143,6 +196,6 @@ pub fn with_member(out: Vec<u8>, name: &[u8], offset: u64, number: u64) -> Vec<u
     ensures { Appended out result (member_row name.now offset number) }
 {
     let out = between(out, b"{\"name\":\"", name, b"\",\"offset\":");
-    let out = append_number(out, b"", offset, b",\"type\":");
-    append_number(out, b"", number, b"}")
+    let out = append_number_here(out, b"", offset, b",\"type\":");
+    append_number_here(out, b"", number, b"}")
 }

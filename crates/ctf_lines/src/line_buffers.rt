@@ -3,7 +3,7 @@ ghost use Rattle.std.specs.Prelude.{◌≡◌, ◌+◌, ◌≤◌, ◌++◌, fal
 ghost use Rattle.ctf_lines.specs.Appending.{HasRoom, Appended};
 ghost use Rattle.ctf_lines.specs.Rows.{member_row};
 
-use crate::appending::{append_bytes, append_number, between, with_member};
+use crate::appending::{append_bytes, append_number_here, between, with_member};
 use crate::escapes::append_hex;
 use crate::text_sinks::TextSink;
 use core::mem::replace_with;
@@ -135,7 +135,7 @@ impl TextSink for LineBuffer {
     fn put_numbered(&mut self, front: &[u8], number: u64, back: &[u8]) {
         if front.len() + back.len() + 20 <= self.room() {
             let empty = Vec::new(*self.out.allocator());
-            self.out = append_number(replace(&mut self.out, empty), front, number, back);
+            self.out = append_number_here(replace(&mut self.out, empty), front, number, back);
         } else {
             self.is_full = true;
         }

@@ -1,13 +1,13 @@
 //! Single values and the parts of objects in a line.
 ghost use Rattle.std.specs.Prelude.{◌≡◌, ◌++◌};
-ghost use Rattle.ctf_protocol.specs.lines.ReplyLines.{single_text, entry_text, key_text, quote, truth as truth_text};
+ghost use Rattle.ctf_protocol.specs.lines.ReplyLines.{single_text, key_text, quote, truth as truth_text};
 ghost use Rattle.ctf_protocol.specs.lines.Text.{text_of, hex_of};
-ghost use Rattle.ctf_answers.specs.Singles.{single_of, entry_of};
+ghost use Rattle.ctf_answers.specs.Singles.{single_of};
 
 use crate::escapes::{are_plain, put_name};
 use crate::text_sinks::TextSink;
 use crate::texts::put_signed;
-use ctf_answers::{KeyedValue, Single};
+use ctf_answers::Single;
 
 fn truth(value: bool) -> &'static str
     ensures { result.now ≡ truth_text value }
@@ -68,12 +68,4 @@ pub fn put_key<P: TextSink>(sink: &mut P, key: &str)
     ensures { P.Took sink.old (key_text key.now) sink.new }
 {
     sink.put_between(b"\"", key.as_bytes(), b"\":");
-}
-
-/// Writes a key and its value.
-pub fn put_entry<P: TextSink>(sink: &mut P, entry: &KeyedValue<'_>)
-    ensures { P.Took sink.old (entry_text (entry_of entry.now)) sink.new }
-{
-    put_key(sink, entry.key);
-    put_single(sink, &entry.value);
 }

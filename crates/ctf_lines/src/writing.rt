@@ -5,12 +5,12 @@ ghost use Rattle.ctf_answers.specs.Counts.{counts_view};
 ghost use Rattle.ctf_answers.specs.Replies.{reply_of, change_reply};
 ghost use Rattle.ctf_lines.specs.Appending.{Appended, IsAsBefore, Writes, and_text};
 
+use crate::fields::put_fields;
 use crate::line_buffers::LineBuffer;
 use crate::line_traits::ToLine;
 use crate::measures::Measure;
 use crate::refusals::put_fault;
 use crate::room::put_counts;
-use crate::rows::put_fields;
 use crate::text_sinks::TextSink;
 use crate::texts::LONGEST_REPLY;
 use ctf_answers::{Answer, Counts, Reply, Single};

@@ -9,4 +9,4 @@ use Rattle.ctf_lines.proofs.appending.with_member.Goals as goal
 pub returns : goal.returns
 returns c =
     let text = pieces (codes "{\"name\":\"") c.args.name.now (codes "\",\"offset\":") (decimal c.args.offset) (codes ",\"type\":") (decimal c.args.number ++ codes "}") in
-    as_text (λ (old : Vec ℕ Global) (text : List ℕ) (new : Vec ℕ Global). Appended old new text) text (two_appended c.between-out.ensures (two_appended c.append_number-out.ensures c.append_number.ensures))
+    as_text (λ (old : Vec ℕ Global) (text : List ℕ) (new : Vec ℕ Global). Appended old new text) text (two_appended c.between-out.ensures (two_appended c.append_number_here-out.ensures c.append_number_here.ensures))

@@ -3,7 +3,7 @@ use Rattle.ctf_views.specs.ItemsView.{member as member_view}
 use Rattle.ctf_lines.proofs.MemberTexts.{member_text}
 use Rattle.ctf_lines.proofs.Walks.{as_text}
 use Rattle.ctf_lines.specs.Rows.{member_row}
-use Rattle.ctf_lines.proofs.rows.put_plain_member.Goals as goal
+use Rattle.ctf_lines.proofs.items.put_plain_member.Goals as goal
 
 pub returns : goal.returns
 returns g c =

@@ -1,4 +1,4 @@
-use Rattle.ctf_lines.proofs.rows.put_list.Goals as goal
+use Rattle.ctf_lines.proofs.fields.put_list.Goals as goal
 
 pub returns : goal.returns
 returns g c =

@@ -1,4 +1,0 @@
-use Rattle.ctf_lines.proofs.singles.put_entry.Goals as goal
-
-pub returns : goal.returns
-returns g c = g.met.P.TextSink.joined _ _ _ _ _ c.put_key.ensures c.put_single.ensures
