@@ -285,8 +285,9 @@ class Memory(WithFront):
         others = [self.talker(front) for _ in range(40)]
         for other in others:
             with contextlib.suppress(OSError):
-                other.send(1_048_000 * b" ")
-        until(lambda: "memory " in front.tell())
+                other.send(1_000_000 * b" ")
+        # 32 of them fit; half a megabyte is left, so an honest reader's next replies have room.
+        until(lambda: "memory 8" in front.tell())
         for _ in range(lines):
             self.assertIn(b'"length"', honest.line())
         self.assertIn(b'"name":"HeldFull"', b"".join(map(receive, others)))
