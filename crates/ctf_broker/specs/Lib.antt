@@ -1,2 +1,3 @@
 pub mod Table
+pub mod Pages
 pub mod Loading

@@ -12,8 +12,8 @@ ghost use Rattle.ctf_broker.specs.Table.{kept_for, library_at};
 ghost use Rattle.ctf_laws.specs.Good.{AreGood, FitsChange};
 ghost use Rattle.ctf_library.specs.Telling.{makes_text};
 
-use crate::libraries::{drop_new, found_by, publish_in, step_in};
-use crate::session_library::SessionLibrary;
+use crate::libraries::{drop_new, forget, found_by, library_of, publish_in, step_in};
+use crate::page::Page;
 use ctf_answers::{Answer, Counts};
 use ctf_library::{DEFAULT_MODEL, Loaded, Pool};
 use ctf_protocol::{Bytes, Change, Fault, Parts, PublicationName, Question, SlotNumber, placeless};
@@ -29,7 +29,7 @@ const OPERATOR: u32 = 0;
 #[derive(Drop)]
 pub struct Broker {
     alloc: Global,
-    libraries: BTreeMap<u32, SessionLibrary>,
+    libraries: BTreeMap<u32, Page>,
     pool: Pool,
 }
 
@@ -112,7 +112,7 @@ impl Broker {
             → kept_for self.new other ≡ kept_for self.old other }
         ensures good { AreGood (library_at self.old) → AreGood (library_at self.new) }
     {
-        self.libraries.remove(&session);
+        forget(&mut self.libraries, session);
     }
 
     /// Makes the step of a change in the session's own library; a take gets what its owner has
@@ -179,8 +179,8 @@ impl Broker {
         ensures lent { makes_text question.now ≡ false
             → result ≡ answer_to d question.now (library_at self.now session) }
     {
-        match self.libraries.get(&session) {
-            Some(held) => held.library().answer(d, question),
+        match library_of(&self.libraries, session) {
+            Some(library) => library.answer(d, question),
             None => Err(placeless(Fault::NO_SLOT)),
         }
     }

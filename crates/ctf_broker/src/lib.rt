@@ -22,6 +22,7 @@
 
 mod broker;
 mod libraries;
+mod page;
 mod session_library;
 
 pub use broker::Broker;

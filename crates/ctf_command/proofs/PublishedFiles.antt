@@ -1,12 +1,12 @@
 -- Files published one after another, and one that is not.
-use Rattle.std.proofs.Common.{◌≡◌, inr, ℕ, ◌+◌, ◌<◌, List, [], ◌∷◌, ◌++◌, length, map, take, drop, get_or, Option, Some, Result, Ok, Err, sym, ap, subst, ◌∙◌, arith}
+use Rattle.std.proofs.Common.{◌≡◌, inr, ℕ, ◌+◌, ◌<◌, List, [], ◌∷◌, ◌++◌, length, map, take, drop, get_or, Option, Some, Result, Ok, Err, refl, sym, ap, subst, ◌∙◌, arith}
 use Rattle.std.specs.Prelude.{IsSome}
 use Rattle.std.proofs.lemmas.List.{drop_more, take_more, take-append-drop, map-append}
 use Rattle.std.proofs.lemmas.List.Elements.{All-append, All-cons}
 use Rattle.ctf_model.specs.spaces.Kept.{as_kept}
 use Rattle.ctf_protocol.specs.sessions.State.{Publication, State, empty_state}
 use Rattle.ctf_broker.specs.Loading.{section_alone}
-use Rattle.ctf_broker.specs.Table.{Libraries}
+use Rattle.ctf_broker.specs.Table.{Libraries, library_at}
 use Rattle.ctf_dump.specs.declared.ends.DumpEnd.{DumpEnd}
 use Rattle.ctf_command.specs.declared.starts.NotStarted.{NotStarted}
 use Rattle.ctf_command.specs.declared.starts.NotStarted.TheVariants.{Misused, File}
@@ -14,6 +14,16 @@ use Rattle.ctf_command.specs.declared.publications.Wanted.{Wanted}
 use Rattle.ctf_command.specs.Argument.{Argument, all_arguments, argument_shown}
 use Rattle.ctf_command.specs.Files.{Readings}
 use Rattle.ctf_command.specs.Started.{HasPublished, IsCutOff, IsPublishedFile, IsUnpublished, IsUnpublishedFile, IsUnstarted, PublishedFile, argument_for, publication_of}
+
+-- no file is published yet
+pub none_published : (gave : Readings) (new : Libraries) → ((session : ℕ) → library_at new session ≡ empty_state) → HasPublished gave [] new
+none_published gave new empty = record {
+  files = [];
+  asks = refl;
+  given = λ k d below. absurd (omega (arith, below));
+  own = empty 0;
+  others = λ session other. empty session;
+}
 
 -- one more file is published
 one_more : (gave : Readings) (front : List Argument) (asked : Argument) (old new : Libraries) → HasPublished gave front old → IsPublishedFile gave asked old new → HasPublished gave (front ++ asked ∷ []) new

@@ -1,10 +1,12 @@
 -- The step of the draft in the slot at an index.
 use Rattle.std.proofs.Common.{◌≡◌, ℕ, ◌+◌, ◌-◌, sum_by, subst, List, [], ◌∷◌, map, set, Bool, true, false, Option, Some, None, Result, Ok, Err, codes, eqb, refl, ap, sym, ◌∙◌, ◌⊎◌, inl, inr, arith}
+use Rattle.std.proofs.lemmas.List.Sums.{sum_by-cons}
 use Rattle.ctf_answers.specs.Replies.{change_answer}
 use Rattle.ctf_answers.specs.declared.counts.Counts.{Counts}
 use Rattle.ctf_library.proofs.Numbered.{IsPlace}
-use Rattle.ctf_library.specs.Drafting.{HaveStepped, IsStepped, step_in}
+use Rattle.ctf_library.specs.Drafting.{HaveStepped, HaveSteppedAt, IsStepped, step_in}
 use Rattle.ctf_library.specs.Quotas.{step_beside}
+use Rattle.ctf_protocol.proofs.Charged.{without_bytes}
 use Rattle.ctf_protocol.specs.sessions.Charges.{slot_bytes}
 use Rattle.ctf_library.specs.SlotView.{slot_of}
 use Rattle.ctf_library.specs.declared.slots.Slot as own
@@ -51,6 +53,28 @@ have_stepped others rest step n items i old new result p at same h = rw at (by (
         → ((change_answer result ≡ stepped.said) × (map slot_of (set items i new) ≡ slots_with n stepped.slot slots)) ⊎ ((result ≡ Err out_of_memory) × (map slot_of (set items i new) ≡ slots))
     by (inl done) = inl (done.0, becomes stepped.slot done.1)
     by (inr none) = inr (none.0, becomes (slot_of old) none.1 ∙ slot_kept n (slot_of old) slots at)
+
+-- ---- a step of a slot after the first
+
+later_at : (others : ℕ) (step : DraftStep) (n : ℕ) (x : Slot) (xs ys : List Slot) (result : Result Counts Fault) (o : Option Slot) → eqb x.number n ≡ false → slot_at n xs ≡ o → HaveSteppedAt (others + slot_bytes x) o step n result xs ys → HaveSteppedAt others o step n result (x ∷ xs) (x ∷ ys)
+later_at others step n x xs ys result None other at h = (h.0, ap (λ (ss : List Slot). x ∷ ss) h.1)
+later_at others step n x xs ys result (Some slot) other at h = by h
+  where
+    same : step_in (others + slot_bytes x) step slot xs ≡ step_in others step slot (x ∷ xs)
+    same =
+        let less = without_bytes n slot xs at in
+        ap (λ (k : ℕ). step_beside k step slot) (omega (arith, less, sum_by-cons slot_bytes x xs))
+
+    with_later : (s : Slot) → x ∷ slots_with n s xs ≡ slots_with n s (x ∷ xs)
+    with_later s = rw other refl
+
+    by : ((change_answer result ≡ (step_in (others + slot_bytes x) step slot xs).said) × (ys ≡ slots_with n (step_in (others + slot_bytes x) step slot xs).slot xs)) ⊎ ((result ≡ Err out_of_memory) × (ys ≡ xs))
+        → ((change_answer result ≡ (step_in others step slot (x ∷ xs)).said) × (x ∷ ys ≡ slots_with n (step_in others step slot (x ∷ xs)).slot (x ∷ xs))) ⊎ ((result ≡ Err out_of_memory) × (x ∷ ys ≡ x ∷ xs))
+    by (inl done) = inl (done.0 ∙ ap (λ (o : SlotOutcome). o.said) same, ap (λ (ss : List Slot). x ∷ ss) done.1 ∙ with_later _ ∙ ap (λ (o : SlotOutcome). slots_with n o.slot (x ∷ xs)) same)
+    by (inr none) = inr (none.0, ap (λ (ss : List Slot). x ∷ ss) none.1)
+
+pub later_stepped : (others : ℕ) (step : DraftStep) (n : ℕ) (x : Slot) (xs ys : List Slot) (result : Result Counts Fault) → eqb x.number n ≡ false → HaveStepped (others + slot_bytes x) step n result xs ys → HaveStepped others step n result (x ∷ xs) (x ∷ ys)
+later_stepped others step n x xs ys result other h = rw other (later_at others step n x xs ys result (slot_at n xs) other refl h)
 
 -- a discard takes no memory
 abbrev code_of : Result Answer Fault → ℕ

@@ -1,11 +1,14 @@
 -- The index of the slot with a number.
-use Rattle.std.proofs.Common.{◌≡◌, ℕ, ◌+◌, ◌<◌, List, [], ◌∷◌, map, set, get_or, length, Bool, true, false, Option, None, Some, eqb, refl, ◌∙◌, ap, sym, subst, arith, add-one, suc}
+use Rattle.std.proofs.Common.{◌≡◌, ℕ, ◌+◌, ◌<◌, List, [], ◌∷◌, map, set, get_or, length, Bool, true, false, Option, None, Some, eqb, refl, ◌∙◌, ap, sym, subst, arith, add-one, suc, sum_by, IfSome}
 use Rattle.std.specs.Prelude.{option_map}
 use Rattle.std.specs.List.{remove}
 use Rattle.ctf_library.specs.SlotPlaces.{place_of}
 use Rattle.ctf_library.specs.SlotView.{slot_of}
 use Rattle.ctf_library.specs.declared.slots.Slot as own
+use Rattle.ctf_model.specs.opened.Sizes.{kept_bytes, parent_bytes}
 use Rattle.ctf_model.specs.spaces.Kept.{Kept}
+use Rattle.ctf_protocol.proofs.Charged.{parent_more}
+use Rattle.ctf_protocol.specs.sessions.Charges.{slot_bytes}
 use Rattle.ctf_protocol.specs.sessions.State.{Slot}
 use Rattle.ctf_protocol.specs.sessions.Slots.{slots_with}
 use Rattle.ctf_protocol.specs.sessions.Slots.{slot_at, slots_without, slots_with_parent}
@@ -67,3 +70,9 @@ nowhere_case n x xs h later false t =
 pub is_nowhere : (n : ℕ) (slots : List Slot) → place_of n slots ≡ None → IsNowhere n slots
 is_nowhere n [] h = record { found = refl; without = refl; with_parent = λ parent. refl }
 is_nowhere n (x ∷ xs) h = nowhere_case n x xs h (λ e. is_nowhere n xs e) (eqb x.number n) refl
+
+-- ---- the new bytes of a slot with a parent
+
+pub parent_counted : (n : ℕ) (p : Kept) (old new : List Slot) (o : Option Slot) → slot_at n old ≡ o → new ≡ slots_with_parent n p old → IfSome o (λ slot. sum_by slot_bytes new + parent_bytes slot.parent ≡ sum_by slot_bytes old + kept_bytes p)
+parent_counted n p old new None at is = tt
+parent_counted n p old new (Some slot) at is = ap (λ (xs : List Slot). sum_by slot_bytes xs + parent_bytes slot.parent) is ∙ parent_more n p slot old at

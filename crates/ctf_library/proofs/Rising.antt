@@ -1,5 +1,6 @@
 -- Slots are ordered by their numbers.
-use Rattle.std.proofs.Common.{◌≡◌, ◌≢◌, ℕ, zero, suc, ◌+◌, ◌<◌, ◌≤◌, List, [], ◌∷◌, ◌++◌, map, set, get_or, length, Bool, true, false, None, Some, eqb, leb, ltb, refl, ◌∙◌, ap, arith, add-one}
+use Rattle.std.proofs.Common.{◌≡◌, ◌≢◌, ℕ, zero, suc, ◌+◌, ◌<◌, ◌≤◌, List, [], ◌∷◌, ◌++◌, map, set, get_or, length, Bool, true, false, Option, None, Some, eqb, leb, ltb, refl, ◌∙◌, ap, arith, add-one}
+use Rattle.std.specs.Option.{option_to_list}
 use Rattle.std.specs.Prelude.{◌&&◌, option_map}
 use Rattle.std.specs.Cmp.Derive.{both_true}
 use Rattle.std.specs.List.{remove}
@@ -102,6 +103,20 @@ placed n (x ∷ xs) zero before lt here = rw (eq-eqb x.number n (here x)) refl
 placed n (x ∷ xs) (suc i) before lt here =
     rw (other_number x.number n (before 0 x (omega arith) (omega arith)) (eqb x.number n) refl) (ap (option_map (λ (k : ℕ). k + 1)) (placed n xs i (λ j d l m. before (suc j) d (omega arith) (omega arith)) (omega arith) here) ∙ ap Some (add-one i))
 
--- the same for lent slots
-pub in_order : (xs ys : List own.Slot) (high : ℕ) → ys ≡ xs → rise_between 0 xs high ≡ true → IsNonDecreasingBy (λ (s : own.Slot). s.number) ys
-in_order xs ys high same h = rw same (non_decreasing 0 xs high h)
+-- ---- the slots after the first
+
+later_in_order : (x : own.Slot) (xs : List own.Slot) → IsNonDecreasingBy (λ (s : own.Slot). s.number) (x ∷ xs) → IsNonDecreasingBy (λ (s : own.Slot). s.number) xs
+later_in_order x xs h i j d le lt = h (suc i) (suc j) d (omega (arith, le)) (omega (arith, lt))
+
+pub rise_later : (low : ℕ) (x : own.Slot) (xs ys : List own.Slot) (high : ℕ) → ((least next : ℕ) → rise_between least xs next ≡ true → rise_between least ys next ≡ true) → rise_between low (x ∷ xs) high ≡ true → rise_between low (x ∷ ys) high ≡ true
+rise_later low x xs ys high keeps h =
+    let f = first low x xs high h in
+    rises low x ys high f.above f.below (keeps (x.number + 1) high f.later)
+
+pub others_in_order : (first : Option own.Slot) (xs ys : List own.Slot) → ys ≡ xs → IsNonDecreasingBy (λ (s : own.Slot). s.number) (option_to_list first ++ xs) → IsNonDecreasingBy (λ (s : own.Slot). s.number) ys
+others_in_order None xs ys same h = rw same h
+others_in_order (Some x) xs ys same h = rw same (later_in_order x xs h)
+
+pub rise_pushed_later : (first : Option own.Slot) (xs ys : List own.Slot) (x : own.Slot) → ys ≡ xs ++ x ∷ [] → rise_between 0 (option_to_list first ++ xs) x.number ≡ true → rise_between 0 (option_to_list first ++ ys) (x.number + 1) ≡ true
+rise_pushed_later None xs ys x same h = rw same (rise_pushed 0 xs x x.number (omega arith) refl h)
+rise_pushed_later (Some y) xs ys x same h = rw same (rise_pushed 0 (y ∷ xs) x x.number (omega arith) refl h)

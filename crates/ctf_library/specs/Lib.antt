@@ -10,5 +10,6 @@ pub mod Staged
 pub mod Stepping
 pub mod SlotPlaces
 pub mod SlotOrder
+pub mod SlotItems
 pub mod Telling
 pub mod Pooling

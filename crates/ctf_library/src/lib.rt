@@ -43,6 +43,7 @@ mod publication;
 mod publication_map;
 mod publications;
 mod slot_answers;
+mod slot_list;
 mod slots;
 mod stage;
 mod staging;

@@ -18,9 +18,9 @@ ghost use Rattle.std.specs.Option.{ForSome};
 ghost use Rattle.ctf_library.specs.Telling.{makes_text};
 
 use crate::charges::fits;
-use crate::places::{find_slot, push_slot, remove_slot, set_parent, step_draft};
 use crate::pool::Pool;
 use crate::publications::Publications;
+use crate::slot_list::SlotList;
 use crate::slots::Slot;
 use crate::stage::Stage;
 use ctf_answers::{Answer, Counts};
@@ -39,7 +39,7 @@ const MOST_SLOTS: usize = 1023;
 /// published. The sum of the slots' bytes is stored too.
 #[derive(Drop)]
 pub struct Library {
-    slots: Vec<Slot>,
+    slots: SlotList,
     slot_bytes: u128,
     alloc: Global,
     next: u64,
@@ -74,7 +74,7 @@ impl Library {
         ensures { result ≡ empty_state }
     {
         Library {
-            slots: Vec::new(alloc),
+            slots: SlotList::new(alloc),
             slot_bytes: 0,
             alloc,
             next: 1,
@@ -108,6 +108,7 @@ impl Library {
 
     /// Makes the step of a change, with what was found for a take, whatever the pool holds. Running
     /// out of memory changes nothing.
+    #[inline(always)]
     pub fn step(
         &mut self,
         change: &Change,
@@ -132,9 +133,7 @@ impl Library {
     fn give_back_room(&mut self)
         ensures { self.new ≡ self.old }
     {
-        if self.slots.is_empty() {
-            self.slots = Vec::new(self.alloc);
-        }
+        self.slots.give_back_room(self.alloc);
     }
 
     #[tactic(auto, unfolding(ctf_protocol::specs::sessions::Steps::change_step))]
@@ -204,12 +203,12 @@ impl Library {
         if let Some(fault) = self.stage.known_fault() {
             return Err(fault);
         }
-        self.slots.reserve_exact(1)?;
+        self.slots.reserve()?;
         let loaded = self.stage.open(self.alloc, model, pool)?;
         let number = self.next as u32;
         let count = loaded.view().count() as u64;
         self.slot_bytes += loaded.bytes();
-        push_slot(&mut self.slots, Slot::of(number, loaded));
+        self.slots.push(Slot::of(number, loaded));
         self.next += 1;
         Ok(Counts::two("d", u64::from(number), "types", count))
     }
@@ -233,7 +232,7 @@ impl Library {
     fn close(&mut self, d: u32) -> Result<Counts, Fault>
         ensures { Does (closes d self.old) result self.new }
     {
-        let Some(closed) = remove_slot(&mut self.slots, d) else {
+        let Some(closed) = self.slots.remove(d) else {
             return Err(placeless(Fault::NO_SLOT));
         };
         self.slot_bytes -= closed.bytes();
@@ -243,10 +242,10 @@ impl Library {
     fn import(&mut self, d: u32, parent: u32) -> Result<Counts, Fault>
         ensures { Makes self.old (imports d parent self.old) result self.new }
     {
-        let Some(child) = find_slot(&self.slots, d) else {
+        let Some(child) = self.slots.find(d) else {
             return Err(placeless(Fault::NO_SLOT));
         };
-        let Some(source) = find_slot(&self.slots, parent) else {
+        let Some(source) = self.slots.find(parent) else {
             return Err(placeless(Fault::NO_SLOT));
         };
         if child.dictionary.is_drafted() {
@@ -257,7 +256,7 @@ impl Library {
         let new = parent.bytes();
         let has_room = fits(self.charge() - old, new);
         let imported = child.dictionary.over(self.alloc, parent, has_room)?;
-        set_parent(&mut self.slots, d, imported);
+        self.slots.set_parent(d, imported);
         self.slot_bytes = self.slot_bytes - old + new;
         Ok(Counts::of_success())
     }
@@ -265,7 +264,7 @@ impl Library {
     fn publish(&mut self, d: u32, name: &PublicationName) -> Result<Counts, Fault>
         ensures { Makes self.old (publishes d name.now self.old) result self.new }
     {
-        let Some(slot) = find_slot(&self.slots, d) else {
+        let Some(slot) = self.slots.find(d) else {
             return Err(placeless(Fault::NO_SLOT));
         };
         if slot.dictionary.pending() > 0 {
@@ -322,11 +321,11 @@ impl Library {
         if !fits(self.charge(), bytes) {
             return Err(placeless(Fault::QUOTA_FULL));
         }
-        self.slots.reserve_exact(1)?;
+        self.slots.reserve()?;
         let number = self.next as u32;
         let types = loaded.view().count() as u64;
         self.slot_bytes += bytes;
-        push_slot(&mut self.slots, Slot::of(number, loaded));
+        self.slots.push(Slot::of(number, loaded));
         self.next += 1;
         Ok(Counts::two("d", u64::from(number), "types", types))
     }
@@ -342,7 +341,7 @@ impl Library {
         let Some(d) = d else {
             return Ok(None);
         };
-        match find_slot(&self.slots, d.get()) {
+        match self.slots.find(d.get()) {
             Some(slot) => Ok(Some(slot.dictionary.own())),
             None => Err(placeless(Fault::NO_SLOT)),
         }
@@ -351,11 +350,11 @@ impl Library {
     fn create(&mut self, creation: &Creation, pool: &mut Pool) -> Result<Counts, Fault>
         ensures { Makes self.old (creates creation.now self.old) result self.new }
     {
-        self.slots.reserve_exact(1)?;
+        self.slots.reserve()?;
         let slot = self.new_slot(creation, pool)?;
         let number = slot.number;
         self.slot_bytes += slot.bytes();
-        push_slot(&mut self.slots, slot);
+        self.slots.push(slot);
         self.next += 1;
         Ok(Counts::one("d", u64::from(number)))
     }
@@ -382,14 +381,8 @@ impl Library {
             → Does (steps_draft d step.now self.old) result self.new }
     {
         let others = self.charge() - self.slot_bytes;
-        step_draft(
-            self.alloc,
-            &mut self.slots,
-            &mut self.slot_bytes,
-            others,
-            d,
-            step,
-        )
+        self.slots
+            .step_draft(self.alloc, &mut self.slot_bytes, others, d, step)
     }
 
     /// Answers a question to a slot. Names and lists are borrowed from its dictionary, or its
@@ -402,7 +395,7 @@ impl Library {
         ensures lent { makes_text question.now ≡ false
             → result ≡ answer_to d question.now self.now }
     {
-        let Some(slot) = find_slot(&self.slots, d.get()) else {
+        let Some(slot) = self.slots.find(d.get()) else {
             return Err(placeless(Fault::NO_SLOT));
         };
         slot.answer(self.alloc, question)

@@ -1,7 +1,8 @@
-//! Slots, found by their numbers.
-ghost use Rattle.std.specs.Prelude.{◌≡◌, ◌≢◌, Err, ◌<◌, ◌+◌, ◌^◌, ◌++◌, ◌∷◌, [], ℕ, true, map, option_map, option_copied, IfNone, IfSome, None, Some, vec_len, vec_capacity};
+//! Lists of slots by rising numbers: how they are searched and changed.
+ghost use Rattle.std.specs.Prelude.{◌≡◌, ◌≢◌, Err, ◌<◌, ◌≤◌, ◌+◌, ◌-◌, ◌^◌, ◌++◌, ◌∷◌, [], ℕ, true, map, option_map, option_copied, IfNone, IfSome, None, Some, vec_len, vec_capacity};
 ghost use Rattle.ctf_library.specs.Charged.{bytes_in};
-ghost use Rattle.ctf_library.specs.Drafting.{HaveStepped};
+ghost use Rattle.ctf_library.specs.Drafting.{HaveStepped, IsStepped};
+ghost use Rattle.ctf_library.specs.Quotas.{step_beside};
 ghost use Rattle.ctf_protocol.specs.sessions.Charges.{slot_bytes};
 ghost use Rattle.ctf_model.specs.opened.Sizes.{kept_bytes, parent_bytes};
 ghost use Rattle.ctf_model.specs.rules.Refusals.{out_of_memory};
@@ -52,8 +53,7 @@ pub fn push_slot(slots: &mut Vec<Slot>, slot: Slot)
     ensures slots { map slot_of slots.new.items ≡ map slot_of slots.old.items ++ slot_of slot ∷ [] }
     ensures bytes { bytes_in slots.new.items
         ≡ bytes_in slots.old.items + slot_bytes (slot_of slot) }
-    ensures rise { rise_between 0 slots.old.items slot.number ≡ true
-        → rise_between 0 slots.new.items (slot.number + 1) ≡ true }
+    ensures items { slots.new.items ≡ slots.old.items ++ slot ∷ [] }
 {
     slots.push_reserved(slot);
 }
@@ -67,8 +67,8 @@ pub fn remove_slot(slots: &mut Vec<Slot>, number: u32) -> Option<Slot>
     ensures bytes { IfSome result (λ slot. bytes_in slots.new.items + slot_bytes (slot_of slot)
         ≡ bytes_in slots.old.items) }
     ensures none { IfNone result (slots.new.items ≡ slots.old.items) }
-    ensures rise { (next : ℕ) → rise_between 0 slots.old.items next ≡ true
-        → rise_between 0 slots.new.items next ≡ true }
+    ensures rise { (least next : ℕ) → rise_between least slots.old.items next ≡ true
+        → rise_between least slots.new.items next ≡ true }
 {
     match find_place(slots, number) {
         Some(place) => Some(slots.remove(place)),
@@ -90,13 +90,41 @@ pub fn set_parent(slots: &mut Vec<Slot>, number: u32, imported: Imported)
     ensures bytes { IfSome (slot_at number (map slot_of slots.old.items))
         (λ slot. bytes_in slots.new.items + parent_bytes slot.parent
         ≡ bytes_in slots.old.items + kept_bytes imported.parent) }
-    ensures rise { (next : ℕ) → rise_between 0 slots.old.items next ≡ true
-        → rise_between 0 slots.new.items next ≡ true }
+    ensures rise { (least next : ℕ) → rise_between least slots.old.items next ≡ true
+        → rise_between least slots.new.items next ≡ true }
 {
     if let Some(place) = find_place(slots, number) {
         let slot = &mut slots[place];
-        slot.dictionary.adopt(imported);
+        slot.adopt(imported);
     }
+}
+
+/// Makes a step of the draft in a slot, and updates the sum of the slots' bytes; `others` are the
+/// bytes of all but slots. Running out of memory changes nothing.
+#[inline(always)]
+pub fn step_slot(
+    alloc: Global,
+    slot: &mut Slot,
+    bytes: &mut u128,
+    others: u128,
+    step: &DraftStep,
+) -> Result<Counts, Fault>
+    requires part { slot_bytes (slot_of slot.old) ≤ bytes.old }
+    requires small { others + bytes.old < 2 ^ 128 }
+    ensures step { IsStepped
+        (step_beside (others + (bytes.old - slot_bytes (slot_of slot.old))) step.now
+        (slot_of slot.old)) result (slot_of slot.old) (slot_of slot.new) }
+    ensures number { slot.new.number ≡ slot.old.number }
+    ensures counted { bytes.new + slot_bytes (slot_of slot.old)
+        ≡ bytes.old + slot_bytes (slot_of slot.new) }
+    ensures small { others + bytes.new < 2 ^ 128 }
+    // This takes no memory.
+    ensures quiet { step.now ≡ Discard → result ≢ Err out_of_memory }
+{
+    let other_slots = *bytes - slot.bytes();
+    let stepped = slot.step(alloc, step, others + other_slots);
+    *bytes = other_slots + slot.bytes();
+    stepped
 }
 
 /// Makes a step of the draft in the slot with a number, and updates the sum of the slots' bytes;
@@ -116,17 +144,13 @@ pub fn step_draft(
         (map slot_of slots.new.items) }
     ensures counted { bytes.new ≡ bytes_in slots.new.items }
     ensures small { others + bytes.new < 2 ^ 128 }
-    ensures rise { (next : ℕ) → rise_between 0 slots.old.items next ≡ true
-        → rise_between 0 slots.new.items next ≡ true }
+    ensures rise { (least next : ℕ) → rise_between least slots.old.items next ≡ true
+        → rise_between least slots.new.items next ≡ true }
     // This takes no memory.
     ensures quiet { step.now ≡ Discard → result ≢ Err out_of_memory }
 {
     let Some(place) = find_place(slots, number) else {
         return Err(placeless(Fault::NO_SLOT));
     };
-    let slot = &mut slots[place];
-    let other_slots = *bytes - slot.bytes();
-    let stepped = slot.step(alloc, step, others + other_slots);
-    *bytes = other_slots + slot.bytes();
-    stepped
+    step_slot(alloc, &mut slots[place], bytes, others, step)
 }

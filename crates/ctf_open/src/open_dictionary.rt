@@ -29,11 +29,13 @@ use std::marker::Model;
 /// A dictionary, and its parent if it imported one. Both may be shared with other sessions. If
 /// there is a draft, the dictionary is what the draft's last update wrote, and the parent is the
 /// draft's.
+///
+/// Fields lie in memory in this order, so that most questions read its beginning alone.
 #[derive(Drop)]
 pub struct OpenDictionary {
     pub(crate) own: Loaded,
-    pub(crate) imported: Option<Imported>,
     pub(crate) draft: Option<Box<Draft>>,
+    pub(crate) imported: Option<Imported>,
 }
 
 impl Model for OpenDictionary {
@@ -203,8 +205,8 @@ impl OpenDictionary {
     {
         OpenDictionary {
             own,
-            imported: None,
             draft: None,
+            imported: None,
         }
     }
 

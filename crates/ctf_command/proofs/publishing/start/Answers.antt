@@ -2,8 +2,14 @@ use Rattle.std.proofs.Common.{List, map, Some, ap, ◌∙◌}
 use Rattle.std.proofs.lemmas.Result.{err_from_is_err_and}
 use Rattle.ctf_command.specs.declared.publications.Wanted.{Wanted}
 use Rattle.ctf_command.specs.Argument.{argument_shown}
-use Rattle.ctf_command.proofs.PublishedFiles.{published_next, unstarted_at}
+use Rattle.ctf_command.proofs.PublishedFiles.{none_published, published_next, unstarted_at}
 use Rattle.ctf_command.proofs.publishing.start.Goals as goal
+
+pub loop-wanted-init : goal.loop-wanted-init
+loop-wanted-init g c = record {
+  good = c.new-broker.ensures.good;
+  published = none_published (g.F.FileReader.gave c.args.files.now) c.new-broker.result c.new-broker.ensures.empty;
+}
 
 pub loop-wanted-preserved : goal.loop-wanted-preserved
 loop-wanted-preserved g c = record {

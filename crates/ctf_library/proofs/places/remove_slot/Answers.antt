@@ -39,7 +39,7 @@ pub returns-in-Some-clause-rise : goal.returns-in-Some-clause-rise
 returns-in-Some-clause-rise c =
     let placed = ap (λ (xs : List own.Slot). place_of c.args.number (map slot_of xs)) (sym c.deref.ensures.value) ∙ sym c.in-Some.ensures in
     let inside = (is_place c.args.number c.args.slots.now.items c.in-Some.place placed).inside in
-    λ next h. rw c.remove.ensures.items (rise_removed 0 c.args.slots.now.items next c.in-Some.place inside h)
+    λ least next h. rw c.remove.ensures.items (rise_removed least c.args.slots.now.items next c.in-Some.place inside h)
 
 pub returns-in-Some-clause-bytes : goal.returns-in-Some-clause-bytes
 returns-in-Some-clause-bytes c =

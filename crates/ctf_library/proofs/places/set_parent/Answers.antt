@@ -11,7 +11,7 @@ use Rattle.ctf_library.specs.SlotPlaces.{place_of}
 use Rattle.ctf_library.specs.SlotView.{slot_of}
 use Rattle.ctf_protocol.specs.sessions.Opened.{slot_with}
 use Rattle.ctf_library.specs.declared.slots.Slot as own
-use Rattle.ctf_library.proofs.Numbered.{is_place, is_nowhere}
+use Rattle.ctf_library.proofs.Numbered.{is_place, is_nowhere, parent_counted}
 use Rattle.ctf_library.proofs.Rising.{rise_set}
 use Rattle.ctf_library.proofs.places.set_parent.Goals as goal
 
@@ -45,11 +45,7 @@ adopt-requires-clause-made c =
 pub returns-in-Some-clause-slots : goal.returns-in-Some-clause-slots
 returns-in-Some-clause-slots c =
     let placed = ap (λ (xs : List own.Slot). place_of c.args.number (map slot_of xs)) (sym c.deref.ensures.value) ∙ sym c.in-Some.ensures in
-    let here = (is_place c.args.number c.args.slots.now.items c.in-Some.place placed).found c.index_mut-slot.result.now ∙ ap (λ (s : own.Slot). Some (slot_of s)) (sym c.index_mut-slot.ensures.value) in
-    let D : Option Slot → Type 0 = λ o. IfSome o (λ slot. slot.draft ≡ None) in
-    let undrafted : c.index_mut-slot.result.now.dictionary.draft ≡ None = subst D here c.requires.undrafted in
-    let new = ap (slot_with c.index_mut-slot.result.now.number) c.adopt.ensures ∙ ap (λ (o : Option Draft). record (slot_of c.index_mut-slot.result.now) { parent = Some c.args.imported.parent; draft = o }) (sym undrafted) in
-    sym ((is_place c.args.number c.args.slots.now.items c.in-Some.place placed).with_parent c.args.imported.parent c.index_mut-slot.result.now _ (new ∙ ap (λ (s : own.Slot). record (slot_of s) { parent = Some c.args.imported.parent }) c.index_mut-slot.ensures.value))
+    sym ((is_place c.args.number c.args.slots.now.items c.in-Some.place placed).with_parent c.args.imported.parent c.index_mut-slot.result.now _ (c.adopt.ensures.slot ∙ ap (λ (s : own.Slot). record (slot_of s) { parent = Some c.args.imported.parent }) c.index_mut-slot.ensures.value))
 
 pub returns-in_default-clause-slots : goal.returns-in_default-clause-slots
 returns-in_default-clause-slots c =
@@ -57,15 +53,10 @@ returns-in_default-clause-slots c =
     sym ((is_nowhere c.args.number (map slot_of c.args.slots.now.items) placed).with_parent c.args.imported.parent)
 
 pub returns-in-Some-clause-rise : goal.returns-in-Some-clause-rise
-returns-in-Some-clause-rise c = λ next h. rise_set 0 c.args.slots.now.items next c.in-Some.place c.index_mut-slot.result.now _ (ap (λ (s : own.Slot). s.number) c.index_mut-slot.ensures.value) h
-
--- the new bytes of the slot
-counted_at : (n : ℕ) (p : Kept) (old new : List Slot) (o : Option Slot) → slot_at n old ≡ o → new ≡ slots_with_parent n p old → IfSome o (λ slot. sum_by slot_bytes new + parent_bytes slot.parent ≡ sum_by slot_bytes old + kept_bytes p)
-counted_at n p old new None at is = tt
-counted_at n p old new (Some slot) at is = ap (λ (xs : List Slot). sum_by slot_bytes xs + parent_bytes slot.parent) is ∙ parent_more n p slot old at
+returns-in-Some-clause-rise c = λ least next h. rise_set least c.args.slots.now.items next c.in-Some.place c.index_mut-slot.result.now _ (c.adopt.ensures.number ∙ ap (λ (s : own.Slot). s.number) c.index_mut-slot.ensures.value) h
 
 pub returns-in-Some-clause-bytes : goal.returns-in-Some-clause-bytes
-returns-in-Some-clause-bytes c = counted_at c.args.number c.args.imported.parent (map slot_of c.args.slots.now.items) _ _ refl (returns-in-Some-clause-slots c)
+returns-in-Some-clause-bytes c = parent_counted c.args.number c.args.imported.parent (map slot_of c.args.slots.now.items) _ _ refl (returns-in-Some-clause-slots c)
 
 pub returns-in_default-clause-bytes : goal.returns-in_default-clause-bytes
-returns-in_default-clause-bytes c = counted_at c.args.number c.args.imported.parent (map slot_of c.args.slots.now.items) _ _ refl (returns-in_default-clause-slots c)
+returns-in_default-clause-bytes c = parent_counted c.args.number c.args.imported.parent (map slot_of c.args.slots.now.items) _ _ refl (returns-in_default-clause-slots c)

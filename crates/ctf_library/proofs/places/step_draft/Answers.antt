@@ -18,60 +18,40 @@ returns-in_default-clause-slots c =
     let none = (is_nowhere c.args.number (map slot_of c.args.slots.now.items) placed).found in
     rw none (ap Err c.placeless.ensures, refl)
 
-pub index_mut-slot-requires : goal.index_mut-slot-requires
-index_mut-slot-requires c =
+pub index_mut-requires : goal.index_mut-requires
+index_mut-requires c =
     let placed = ap (λ (xs : List own.Slot). place_of c.args.number (map slot_of xs)) (sym c.deref.ensures.value) ∙ sym c.in-Some.ensures in
     let inside = (is_place c.args.number c.args.slots.now.items c.in-Some.place placed).inside in
     grind (arith, inside)
 
-pub overflow_sub-other_slots : goal.overflow_sub-other_slots
-overflow_sub-other_slots c =
+pub step_slot-requires-clause-part : goal.step_slot-requires-clause-part
+step_slot-requires-clause-part c =
     let placed = ap (λ (xs : List own.Slot). place_of c.args.number (map slot_of xs)) (sym c.deref.ensures.value) ∙ sym c.in-Some.ensures in
-    let here = (is_place c.args.number c.args.slots.now.items c.in-Some.place placed).found c.index_mut-slot.result.now ∙ ap (λ (s : own.Slot). Some (slot_of s)) (sym c.index_mut-slot.ensures.value) in
-    let less = without_bytes c.args.number (slot_of c.index_mut-slot.result.now) (map slot_of c.args.slots.now.items) here in
+    let here = (is_place c.args.number c.args.slots.now.items c.in-Some.place placed).found c.index_mut.result.now ∙ ap (λ (s : own.Slot). Some (slot_of s)) (sym c.index_mut.ensures.value) in
+    let less = without_bytes c.args.number (slot_of c.index_mut.result.now) (map slot_of c.args.slots.now.items) here in
     let counted = c.requires.counted in
-    let one = c.bytes.ensures in
-    omega (arith, less, counted, one)
+    omega (arith, less, counted)
 
 pub returns-clause-slots : goal.returns-clause-slots
 returns-clause-slots c =
     let placed = ap (λ (xs : List own.Slot). place_of c.args.number (map slot_of xs)) (sym c.deref.ensures.value) ∙ sym c.in-Some.ensures in
     let p = is_place c.args.number c.args.slots.now.items c.in-Some.place placed in
-    let here = p.found c.index_mut-slot.result.now ∙ ap (λ (s : own.Slot). Some (slot_of s)) (sym c.index_mut-slot.ensures.value) in
-    let same = ap (λ (k : ℕ). c.args.others + (k - c.bytes.result)) c.requires.counted ∙ ap (λ (k : ℕ). c.args.others + (bytes_in c.args.slots.now.items - k)) c.bytes.ensures in
-    have_stepped c.args.others _ c.args.step.now c.args.number c.args.slots.now.items c.in-Some.place c.index_mut-slot.result.now _ _ p here same c.step-stepped.ensures.step
+    let here = p.found c.index_mut.result.now ∙ ap (λ (s : own.Slot). Some (slot_of s)) (sym c.index_mut.ensures.value) in
+    let same = ap (λ (k : ℕ). c.args.others + (k - slot_bytes (slot_of c.index_mut.result.now))) c.requires.counted in
+    have_stepped c.args.others _ c.args.step.now c.args.number c.args.slots.now.items c.in-Some.place c.index_mut.result.now _ _ p here same c.step_slot.ensures.step
 
 pub returns-clause-counted : goal.returns-clause-counted
 returns-clause-counted c =
     let placed = ap (λ (xs : List own.Slot). place_of c.args.number (map slot_of xs)) (sym c.deref.ensures.value) ∙ sym c.in-Some.ensures in
     let p = is_place c.args.number c.args.slots.now.items c.in-Some.place placed in
-    let here = p.found c.index_mut-slot.result.now ∙ ap (λ (s : own.Slot). Some (slot_of s)) (sym c.index_mut-slot.ensures.value) in
-    let old = slot_of c.index_mut-slot.result.now in
-    let new = slot_of c.step-stepped.new.self in
+    let here = p.found c.index_mut.result.now ∙ ap (λ (s : own.Slot). Some (slot_of s)) (sym c.index_mut.ensures.value) in
+    let old = slot_of c.index_mut.result.now in
+    let new = slot_of c.step_slot.new.slot in
     let moved = with_bytes c.args.number old new (map slot_of c.args.slots.now.items) here in
-    let less = without_bytes c.args.number old (map slot_of c.args.slots.now.items) here in
-    let replaced = ap (λ (xs : List Slot). sum_by slot_bytes xs) (p.replaced c.step-stepped.new.self) in
+    let replaced = ap (λ (xs : List Slot). sum_by slot_bytes xs) (p.replaced c.step_slot.new.slot) in
     let counted = c.requires.counted in
-    let before = c.bytes.ensures in
-    let after = c.bytes-2.ensures in
-    omega (arith, moved, less, replaced, counted, before, after)
-
--- the sum is as before, or within the quota
-small_after : (others all before after old new : ℕ) → others + all < 340282366920938463463374607431768211456 → before ≡ old → after ≡ new → old ≤ all → (new ≡ old) ⊎ (others + (all - before) + new ≤ quota) → others + ((all - before) + after) < 340282366920938463463374607431768211456
-small_after others all before after old new small b a le (inl same) = omega (arith, small, b, a, le, same)
-small_after others all before after old new small b a le (inr room) = omega (arith, b, a, room)
-
-pub returns-clause-small : goal.returns-clause-small
-returns-clause-small c =
-    let placed = ap (λ (xs : List own.Slot). place_of c.args.number (map slot_of xs)) (sym c.deref.ensures.value) ∙ sym c.in-Some.ensures in
-    let p = is_place c.args.number c.args.slots.now.items c.in-Some.place placed in
-    let here = p.found c.index_mut-slot.result.now ∙ ap (λ (s : own.Slot). Some (slot_of s)) (sym c.index_mut-slot.ensures.value) in
-    let less = without_bytes c.args.number (slot_of c.index_mut-slot.result.now) (map slot_of c.args.slots.now.items) here in
-    let counted = c.requires.counted in
-    small_after c.args.others c.args.bytes.now c.bytes.result c.bytes-2.result (slot_bytes (slot_of c.index_mut-slot.result.now)) (slot_bytes (slot_of c.step-stepped.new.self)) c.requires.small c.bytes.ensures c.bytes-2.ensures (omega (arith, less, counted)) c.step-stepped.ensures.room
+    let after = c.step_slot.ensures.counted in
+    omega (arith, moved, replaced, counted, after)
 
 pub returns-clause-rise : goal.returns-clause-rise
-returns-clause-rise c = λ next h. rise_set 0 c.args.slots.now.items next c.in-Some.place c.index_mut-slot.result.now _ (c.step-stepped.ensures.number ∙ ap (λ (s : own.Slot). s.number) c.index_mut-slot.ensures.value) h
-
-pub returns-clause-quiet : goal.returns-clause-quiet
-returns-clause-quiet c = λ e want. discard_is_quiet (slot_of c.index_mut-slot.result.now) c.args.step.now _ e (c.step-stepped.ensures.quiet e) want
+returns-clause-rise c = λ least next h. rise_set least c.args.slots.now.items next c.in-Some.place c.index_mut.result.now _ (c.step_slot.ensures.number ∙ ap (λ (s : own.Slot). s.number) c.index_mut.ensures.value) h

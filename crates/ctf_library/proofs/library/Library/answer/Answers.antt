@@ -1,5 +1,5 @@
-use Rattle.ctf_library.proofs.Rising.{in_order}
+use Rattle.ctf_library.proofs.Rising.{non_decreasing}
 use Rattle.ctf_library.proofs.library.Library.answer.Goals as goal
 
-pub find_slot-requires : goal.find_slot-requires
-find_slot-requires c = in_order _ _ _ c.deref.ensures.value c.self.invariant.1
+pub find-requires : goal.find-requires
+find-requires c = non_decreasing _ _ _ c.self.invariant.1

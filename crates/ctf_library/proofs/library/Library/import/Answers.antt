@@ -6,7 +6,7 @@ use Rattle.ctf_library.specs.declared.slots.Slot as own
 use Rattle.ctf_library.proofs.Counting.{counted_charge}
 use Rattle.ctf_library.proofs.Quota.{imports_done, imports_refused}
 use Rattle.ctf_library.proofs.Rooms.{room_le, room_lt}
-use Rattle.ctf_library.proofs.Rising.{in_order, non_decreasing}
+use Rattle.ctf_library.proofs.Rising.{non_decreasing}
 use Rattle.ctf_protocol.proofs.Charged.{slot_counts, without_bytes}
 use Rattle.ctf_protocol.specs.sessions.Charges.{charge}
 use Rattle.ctf_model.specs.rules.Refusals.{out_of_memory}
@@ -18,11 +18,11 @@ use Rattle.ctf_protocol.specs.sessions.Outcomes.{quota}
 use Rattle.ctf_protocol.specs.sessions.Slots.{slot_at}
 use Rattle.ctf_library.proofs.library.Library.import.Goals as goal
 
-pub find_slot-requires : goal.find_slot-requires
-find_slot-requires c = in_order _ _ _ c.deref.ensures.value c.self.invariant.1
+pub find-requires : goal.find-requires
+find-requires c = non_decreasing _ _ _ c.self.invariant.1
 
-pub find_slot-requires-2 : goal.find_slot-requires-2
-find_slot-requires-2 c = in_order _ _ _ c.deref-2.ensures.value c.self.invariant.1
+pub find-requires-2 : goal.find-requires-2
+find-requires-2 c = non_decreasing _ _ _ c.self.invariant.1
 
 pub set_parent-requires-clause-order : goal.set_parent-requires-clause-order
 set_parent-requires-clause-order c = non_decreasing _ _ _ c.self.invariant.1
@@ -34,13 +34,13 @@ undrafted (Some x) none = absurd cc
 
 pub set_parent-requires-clause-undrafted : goal.set_parent-requires-clause-undrafted
 set_parent-requires-clause-undrafted c =
-    let own_child = ap (λ (xs : List own.Slot). slot_at c.args.d (map slot_of xs)) (sym c.deref.ensures.value) ∙ sym c.in-Some.ensures in
+    let own_child = sym c.in-Some.ensures in
     let plain : is_some (slot_of c.in-Some.child.now).draft ≡ false = sym c.is_drafted.ensures ∙ c.if-is_drafted.false in
     subst (λ (o : Option Slot). IfSome o (λ slot. slot.draft ≡ None)) (sym own_child) (undrafted (slot_of c.in-Some.child.now).draft plain)
 
 pub overflow_sub-charge : goal.overflow_sub-charge
 overflow_sub-charge c =
-    let own_child = ap (λ (xs : List own.Slot). slot_at c.args.d (map slot_of xs)) (sym c.deref.ensures.value) ∙ sym c.in-Some.ensures in
+    let own_child = sym c.in-Some.ensures in
     let child_at = ap (λ (s : State). slot_at c.args.d s.slots) (sym c.self.view_is) ∙ own_child in
     let old = c.parent_bytes-old.ensures.count in
     let new = c.bytes-new.ensures.count ∙ ap kept_bytes c.own-parent.ensures in
@@ -50,12 +50,12 @@ overflow_sub-charge c =
 
 pub returns-in_err-imported : goal.returns-in_err-imported
 returns-in_err-imported c =
-    let own_child = ap (λ (xs : List own.Slot). slot_at c.args.d (map slot_of xs)) (sym c.deref.ensures.value) ∙ sym c.in-Some.ensures in
+    let own_child = sym c.in-Some.ensures in
     let child_at = ap (λ (s : State). slot_at c.args.d s.slots) (sym c.self.view_is) ∙ own_child in
-    let parent_at = ap (λ (s : State). slot_at c.args.parent s.slots) (sym c.self.view_is) ∙ ap (λ (xs : List own.Slot). slot_at c.args.parent (map slot_of xs)) (sym c.deref-2.ensures.value) ∙ sym c.in-Some-find_slot.ensures in
+    let parent_at = ap (λ (s : State). slot_at c.args.parent s.slots) (sym c.self.view_is) ∙ sym c.in-Some-find.ensures in
     let plain = sym c.is_drafted.ensures ∙ c.if-is_drafted.false in
     let child = slot_of c.in-Some.child.now in
-    let parent = slot_of c.in-Some-find_slot.source.now in
+    let parent = slot_of c.in-Some-find.source.now in
     let old = c.parent_bytes-old.ensures.count in
     let new = c.bytes-new.ensures.count ∙ ap kept_bytes c.own-parent.ensures in
     let known = c.charge.ensures in
@@ -67,7 +67,7 @@ returns-in_err-imported c =
 
 pub overflow_sub-self : goal.overflow_sub-self
 overflow_sub-self c =
-    let own_child = ap (λ (xs : List own.Slot). slot_at c.args.d (map slot_of xs)) (sym c.deref.ensures.value) ∙ sym c.in-Some.ensures in
+    let own_child = sym c.in-Some.ensures in
     let child_at = ap (λ (s : State). slot_at c.args.d s.slots) (sym c.self.view_is) ∙ own_child in
     let old = c.parent_bytes-old.ensures.count in
     let less = without_bytes c.args.d (slot_of c.in-Some.child.now) (map slot_of c.self.inside.slots.items) own_child in
@@ -82,7 +82,7 @@ overflow_add-self c =
 
 pub invariant_of-self : goal.invariant_of-self
 invariant_of-self c =
-    let own_child = ap (λ (xs : List own.Slot). slot_at c.args.d (map slot_of xs)) (sym c.deref.ensures.value) ∙ sym c.in-Some.ensures in
+    let own_child = sym c.in-Some.ensures in
     let child_at = ap (λ (s : State). slot_at c.args.d s.slots) (sym c.self.view_is) ∙ own_child in
     let old = c.parent_bytes-old.ensures.count in
     let new = c.bytes-new.ensures.count ∙ ap kept_bytes c.own-parent.ensures in
@@ -90,7 +90,7 @@ invariant_of-self c =
     let le = room_le ((c.charge.result - c.parent_bytes-old.result) + c.bytes-new.result) (sym c.fits-has_room.ensures ∙ c.in_ok-imported.ensures.fits) in
     let charged = c.charge.ensures ∙ counted_charge _ _ _ _ _ _ c.self.view_is c.self.invariant.2 in
     let child = slot_of c.in-Some.child.now in
-    let moved : bytes_in c.set_parent.new.slots.items + parent_bytes child.parent ≡ bytes_in c.self.inside.slots.items + kept_bytes c.in_ok-imported.imported.parent = subst (λ (o : Option Slot). IfSome o (λ slot. bytes_in c.set_parent.new.slots.items + parent_bytes slot.parent ≡ bytes_in c.self.inside.slots.items + kept_bytes c.in_ok-imported.imported.parent)) own_child c.set_parent.ensures.bytes in
+    let moved : bytes_in c.set_parent.new.self.items + parent_bytes child.parent ≡ bytes_in c.self.inside.slots.items + kept_bytes c.in_ok-imported.imported.parent = subst (λ (o : Option Slot). IfSome o (λ slot. bytes_in c.set_parent.new.self.items + parent_bytes slot.parent ≡ bytes_in c.self.inside.slots.items + kept_bytes c.in_ok-imported.imported.parent)) own_child c.set_parent.ensures.bytes in
     let shared = ap kept_bytes (c.in_ok-imported.ensures.parent ∙ c.own-parent.ensures) in
     let less = without_bytes c.args.d child (map slot_of c.self.inside.slots.items) own_child in
     let slots = c.self.invariant.2.slots in
@@ -99,12 +99,12 @@ invariant_of-self c =
 
 pub returns : goal.returns
 returns c =
-    let own_child = ap (λ (xs : List own.Slot). slot_at c.args.d (map slot_of xs)) (sym c.deref.ensures.value) ∙ sym c.in-Some.ensures in
+    let own_child = sym c.in-Some.ensures in
     let child_at = ap (λ (s : State). slot_at c.args.d s.slots) (sym c.self.view_is) ∙ own_child in
-    let parent_at = ap (λ (s : State). slot_at c.args.parent s.slots) (sym c.self.view_is) ∙ ap (λ (xs : List own.Slot). slot_at c.args.parent (map slot_of xs)) (sym c.deref-2.ensures.value) ∙ sym c.in-Some-find_slot.ensures in
+    let parent_at = ap (λ (s : State). slot_at c.args.parent s.slots) (sym c.self.view_is) ∙ sym c.in-Some-find.ensures in
     let plain = sym c.is_drafted.ensures ∙ c.if-is_drafted.false in
     let child = slot_of c.in-Some.child.now in
-    let parent = slot_of c.in-Some-find_slot.source.now in
+    let parent = slot_of c.in-Some-find.source.now in
     let old = c.parent_bytes-old.ensures.count in
     let new = c.bytes-new.ensures.count ∙ ap kept_bytes c.own-parent.ensures in
     let known = c.charge.ensures in

@@ -7,7 +7,7 @@ use Rattle.ctf_model.specs.opened.Open.{pending_in}
 use Rattle.ctf_protocol.specs.sessions.Publications.{published_as}
 use Rattle.ctf_protocol.specs.sessions.State.{Slot, State}
 use Rattle.std.proofs.Common.{map, ◌≡◌, ◌≤◌, ◌+◌, ℕ, List, false, rules, refl, inl, ap, sym, subst, ◌∙◌, arith}
-use Rattle.ctf_library.proofs.Rising.{in_order}
+use Rattle.ctf_library.proofs.Rising.{non_decreasing}
 use Rattle.ctf_library.proofs.Quota.{publishes_done, publishes_over, publishes_taken}
 use Rattle.ctf_library.proofs.Rooms.{room_le, room_lt}
 use Rattle.ctf_protocol.specs.sessions.Slots.{slot_at}
@@ -17,8 +17,8 @@ use Rattle.ctf_model.specs.spaces.Kept.{Kept}
 use Rattle.ctf_model.specs.opened.Sizes.{kept_bytes}
 use Rattle.ctf_library.proofs.library.Library.publish.Goals as goal
 
-pub find_slot-requires : goal.find_slot-requires
-find_slot-requires c = in_order _ _ _ c.deref.ensures.value c.self.invariant.1
+pub find-requires : goal.find-requires
+find-requires c = non_decreasing _ _ _ c.self.invariant.1
 
 -- nothing is pending
 nothing_pending : (slot : Slot) (n : ℕ) → n ≡ pending_in slot.draft → n ≤ 0 → nat_lt 0 (pending_in slot.draft) ≡ false
@@ -26,7 +26,7 @@ nothing_pending slot n is le = le-ltb 0 (pending_in slot.draft) (omega (arith, i
 
 pub returns-then-is_some : goal.returns-then-is_some
 returns-then-is_some c =
-    let slot_at_d = ap (λ (s : State). slot_at c.args.d s.slots) (sym c.self.view_is) ∙ ap (λ (xs : List own.Slot). slot_at c.args.d (map slot_of xs)) (sym c.deref.ensures.value) ∙ sym c.in-Some.ensures in
+    let slot_at_d = ap (λ (s : State). slot_at c.args.d s.slots) (sym c.self.view_is) ∙ sym c.in-Some.ensures in
     let none = nothing_pending (slot_of c.in-Some.slot.now) c.pending.result c.pending.ensures c.if-pending-gt0.false in
     let taken = ap (λ (n : List ℕ). is_some (published_as n c.args.self.now.published)) (sym c.as_slice.ensures) ∙ ap is_some (sym c.publication.ensures) ∙ map_there _ c.publication.result ∙ sym c.is_some.ensures ∙ c.if-is_some.true in
     let to = publishes_taken c.args.d c.args.name.now (slot_of c.in-Some.slot.now) c.args.self.now slot_at_d none taken in
@@ -34,7 +34,7 @@ returns-then-is_some c =
 
 pub returns-then-not-fits : goal.returns-then-not-fits
 returns-then-not-fits c =
-    let slot_at_d = ap (λ (s : State). slot_at c.args.d s.slots) (sym c.self.view_is) ∙ ap (λ (xs : List own.Slot). slot_at c.args.d (map slot_of xs)) (sym c.deref.ensures.value) ∙ sym c.in-Some.ensures in
+    let slot_at_d = ap (λ (s : State). slot_at c.args.d s.slots) (sym c.self.view_is) ∙ sym c.in-Some.ensures in
     let none = nothing_pending (slot_of c.in-Some.slot.now) c.pending.result c.pending.ensures c.if-pending-gt0.false in
     let free = ap (λ (n : List ℕ). is_some (published_as n c.args.self.now.published)) (sym c.as_slice.ensures) ∙ ap is_some (sym c.publication.ensures) ∙ map_there _ c.publication.result ∙ sym c.is_some.ensures ∙ c.if-is_some.false in
     let lt = room_lt (c.charge.result + c.bytes.result) (sym c.fits.ensures ∙ c.if-not-fits.true) in
@@ -45,7 +45,7 @@ returns-then-not-fits c =
 
 pub returns : goal.returns
 returns c =
-    let slot_at_d = ap (λ (s : State). slot_at c.args.d s.slots) (sym c.self.view_is) ∙ ap (λ (xs : List own.Slot). slot_at c.args.d (map slot_of xs)) (sym c.deref.ensures.value) ∙ sym c.in-Some.ensures in
+    let slot_at_d = ap (λ (s : State). slot_at c.args.d s.slots) (sym c.self.view_is) ∙ sym c.in-Some.ensures in
     let none = nothing_pending (slot_of c.in-Some.slot.now) c.pending.result c.pending.ensures c.if-pending-gt0.false in
     let le = room_le (c.charge.result + c.bytes.result) (sym c.fits.ensures ∙ c.if-not-fits.false) in
     let charged = c.charge.ensures in

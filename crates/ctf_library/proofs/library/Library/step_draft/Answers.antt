@@ -30,5 +30,5 @@ returns-clause-step c =
     let same : charge inside ≡ charge c.args.self.now = ap charge c.self.view_is in
     let known = c.charge.ensures in
     let slots = c.self.invariant.2.slots in
-    let new = map slot_of c.step_draft.new.slots.items in
+    let new = map slot_of c.step_draft.new.self.items in
     subst (λ (s : State). Makes s (steps_draft c.args.d c.args.step.now s) c.step_draft.result (record inside { slots = new })) c.self.view_is (made (c.charge.result - c.self.inside.slot_bytes) c.args.step.now c.args.d inside new c.step_draft.result (omega (arith, charged, same, known, slots)) c.step_draft.ensures.slots)

@@ -27,9 +27,9 @@ invariant_of-self-2 c =
     let le = room_le (c.charge.result + c.bytes-bytes.result) (sym c.fits.ensures ∙ c.if-not-fits.false) in
     let charged = c.charge.ensures ∙ counted_charge _ _ _ _ _ _ c.self.view_is c.self.invariant.2 in
     let count = c.bytes-bytes.ensures.count in
-    let pushed = c.push_slot.ensures.bytes in
+    let pushed = c.push.ensures.bytes in
     let slot : slot_bytes (slot_of c.of.result) ≡ kept_bytes c.in-Some.loaded + 0 = ap slot_bytes c.of.ensures in
-    let items : bytes_in c.reserve_exact.new.self.items ≡ bytes_in c.self.inside.slots.items = ap bytes_in c.reserve_exact.ensures.items in
+    let items : bytes_in c.reserve.new.self.items ≡ bytes_in c.self.inside.slots.items = ap bytes_in c.reserve.ensures.items in
     let was = c.self.invariant.2.slots in
     (search rules, search rules, record { slots = omega (arith, pushed, slot, items, was, count); small = omega (arith, le, charged) })
 

@@ -1,0 +1,9 @@
+use Rattle.std.proofs.Common.{subst, sym}
+use Rattle.std.specs.List.Sorted.{IsNonDecreasingBy}
+use Rattle.ctf_library.proofs.Rising.{others_in_order}
+use Rattle.ctf_library.specs.SlotItems.{SlotItems}
+use Rattle.ctf_library.specs.declared.slots.Slot as own
+use Rattle.ctf_library.proofs.slot_list.SlotList.find.Goals as goal
+
+pub find_slot-requires : goal.find_slot-requires
+find_slot-requires c = others_in_order c.self.inside.first c.self.inside.others.items _ c.deref.ensures.value (subst (λ (s : SlotItems). IsNonDecreasingBy (λ (x : own.Slot). x.number) s.items) (sym c.self.view_is) c.requires)
